@@ -1,0 +1,15 @@
+-- What grew by a beginning of a text.
+use Rattle.std.proofs.Common.{◌≡◌, ℕ, List, [], ◌∷◌, ◌++◌, length, eqb, false}
+use Rattle.std.proofs.lemmas.List.{append-nil}
+use Rattle.pfr_capture.specs.Device.{Added, GrewByPart}
+
+-- something is still to come, so at least the last byte is missing
+pub part_from_added : (old new text rest : List ℕ) → Added old new text rest → eqb (length rest) 0 ≡ false → GrewByPart old new text
+part_from_added old new text [] added some = absurd (cc)
+part_from_added old new text (byte ∷ rest) added some = record { last = byte; missing = rest; grew = added }
+
+-- the same after a call that added nothing
+pub part_after_fault : (old mid new text rest : List ℕ) → Added old mid text rest → eqb (length rest) 0 ≡ false → new ≡ mid ++ [] → GrewByPart old new text
+part_after_fault old mid new text rest added some same =
+    let stayed : new ≡ mid = rw append-nil at same in
+    rw stayed (part_from_added old mid text rest added some)

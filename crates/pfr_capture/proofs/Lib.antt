@@ -1,0 +1,4 @@
+pub mod DeviceLemmas
+pub mod ListLemmas
+pub mod ReadingLemmas
+pub mod RecordLemmas

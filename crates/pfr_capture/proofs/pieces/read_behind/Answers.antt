@@ -1,0 +1,20 @@
+use Rattle.std.proofs.Common.{◌≡◌, ◌∙◌, ◌+◌, ◌≤◌, length, take, arith}
+use Rattle.pfr_capture.proofs.ListLemmas.{longer_front, read_behind}
+use Rattle.pfr_capture.proofs.pieces.read_behind.Goals as goal
+
+pub returns-in-Ok-clause-extends : goal.returns-in-Ok-clause-extends
+returns-in-Ok-clause-extends g c =
+    let long : length c.args.buffer.now.items ≡ c.len-held.result = omega arith in
+    let front = longer_front c.deref_mut.result.now c.args.buffer.now.items _ c.len-held.result 65536 (c.deref_mut.ensures.value ∙ c.in_ok-resize.ensures.items) long in
+    let within : c.in-Ok.came ≤ length c.read.new.buffer = omega (arith, c.in-Ok.ensures.within, c.read.auto.buffer) in
+    let below : c.len-held.result + c.in-Ok.came ≤ c.resize.new.self.len = omega (arith, c.in-Ok.ensures.within, c.in_ok-resize.ensures.len) in
+    record {
+      more = take c.in-Ok.came c.read.new.buffer;
+      is = c.truncate.ensures.items ∙ read_behind c.deref_mut.result.now c.args.buffer.now.items c.read.new.buffer _ _ c.len-held.result c.in-Ok.came c.resize.new.self.len front long within below;
+    }
+
+pub returns-in-Ok-clause-came : goal.returns-in-Ok-clause-came
+unfolding returns-in-Ok-clause-extends
+returns-in-Ok-clause-came g c =
+    λ told.
+    record { came = take c.in-Ok.came c.read.new.buffer; gave = c.in-Ok.ensures.unread told; behind = (returns-in-Ok-clause-extends g c).is }

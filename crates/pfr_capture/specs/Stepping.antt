@@ -1,0 +1,68 @@
+-- What stands next in a capture, by the bytes that are left of it.
+use Rattle.std.specs.Prelude.{◌≡◌, ℕ, ◌+◌, ◌^◌, ◌<◌, ◌≤◌, List, [], ◌++◌, length, Result, Ok, Err, ⊤}
+use Rattle.pfr_capture.specs.declared.order.ByteOrder.{ByteOrder}
+use Rattle.pfr_capture.specs.declared.capture.Form.{Form}
+use Rattle.pfr_capture.specs.declared.capture.CaptureError.{CaptureError}
+use Rattle.pfr_capture.specs.declared.capture.CaptureError.TheVariants.{BadMagic, BadVersion, LinkType, RecordTooLong}
+use Rattle.pfr_capture.specs.declared.reader.Look.{Look}
+use Rattle.pfr_capture.specs.declared.reader.Look.TheVariants.{Captured, End}
+use Rattle.pfr_capture.specs.declared.reader.Step.{Step}
+use Rattle.pfr_capture.specs.declared.reader.Step.TheVariants.{Found, Ended}
+use Rattle.pfr_capture.specs.Records.{IsRecord, IsTooLong, EndsAs, captured_of, text_of}
+use Rattle.pfr_capture.specs.Reading.{FieldsOf, bytes_of}
+
+-- the header of a next record is there, and asks for so many bytes, which a record may have
+pub record HasHeader (order : ByteOrder) (count : ℕ) (ahead : List ℕ) (captured : ℕ) : Type 0 where
+  pub may_follow : count < 2 ^ 40
+  pub header : 16 ≤ length ahead
+  pub asks : captured_of order ahead ≡ captured
+  pub within : captured ≤ 262144
+
+-- a look found such a header, or an end
+abbrev pub LookSays : ByteOrder → ℕ → List ℕ → Look → Type 0
+LookSays order count ahead (Captured captured) = HasHeader order count ahead captured
+LookSays order count ahead (End tail) = ⊤
+
+-- what an end says of the bytes that are left
+abbrev pub LookEnds : ByteOrder → ℕ → List ℕ → Look → Type 0
+LookEnds order count rest (Captured captured) = ⊤
+LookEnds order count rest (End tail) = EndsAs order count rest (Ok tail)
+
+-- all of that record is there
+abbrev pub IsWhole : List ℕ → Look → Type 0
+IsWhole ahead (Captured captured) = 16 + captured ≤ length ahead
+IsWhole ahead (End tail) = ⊤
+
+-- the source gave bytes, and of those that were there and these, so many were taken from the front
+pub record Takes (old new before left taken : List ℕ) : Type 0 where
+  pub came : List ℕ
+  pub gave : before ≡ came ++ left
+  pub took : old ++ came ≡ taken ++ new
+
+-- the bytes that a step takes
+abbrev pub taken_by : Result Step CaptureError → List ℕ
+taken_by (Ok (Found r)) = text_of (bytes_of r)
+taken_by (Ok (Ended tail)) = []
+taken_by (Err e) = []
+
+-- what a step says of the record that it found
+abbrev pub StepSays : Form → ℕ → Step → Type 0
+StepSays form count (Found r) = (count < 2 ^ 40) × IsRecord form.order (bytes_of r) × FieldsOf form r
+StepSays form count (Ended tail) = ⊤
+
+-- what an end says of the bytes that were left
+abbrev pub StepEnds : ByteOrder → ℕ → List ℕ → Step → Type 0
+StepEnds order count rest (Found r) = ⊤
+StepEnds order count rest (Ended tail) = EndsAs order count rest (Ok tail)
+
+-- a record that is too long is so by the bytes that were left
+abbrev pub StepRefuses : ByteOrder → ℕ → List ℕ → CaptureError → Type 0
+StepRefuses order count rest (RecordTooLong asked) = IsTooLong order count rest asked
+StepRefuses order count rest e = ⊤
+
+-- the faults of a header's text
+abbrev pub IsHeaderFault : CaptureError → Type 0
+IsHeaderFault BadMagic = ⊤
+IsHeaderFault BadVersion = ⊤
+IsHeaderFault (LinkType link) = ⊤
+IsHeaderFault _ = ⊥

@@ -1,0 +1,26 @@
+//! Devices, and the records of a packet capture.
+//!
+//! A [`Source`] gives bytes, a [`Sink`] takes them, and either may fail at any call. [`Mem`] is both, over
+//! bytes in memory; [`ReaderSource`] and [`WriterSink`] are devices over std's readers and writers.
+//!
+//! [`Capture`] reads the classic pcap format from a source. Its contract says that the records given so
+//! far, followed by the bytes not given yet, are those of the source's bytes, that a refusal comes only
+//! where the format has it or the source failed, and that a refusal is for good.
+#![tactic(auto)]
+
+pub mod capture;
+pub mod device;
+pub mod memory;
+pub mod order;
+mod pieces;
+pub mod reader;
+pub mod stream;
+pub mod transfer;
+
+pub use capture::{CaptureError, Form, Record, Resolution, Tail};
+pub use device::{Fault, Sink, Source};
+pub use memory::Mem;
+pub use order::ByteOrder;
+pub use reader::Capture;
+pub use stream::{ReaderSource, WriterSink};
+pub use transfer::write_all;

@@ -1,0 +1,86 @@
+//! Devices over std's readers and writers. They don't tell their bytes: nothing can promise what a file, a
+//! socket or a terminal gives or holds. They count their failures.
+ghost use Rattle.std.specs.Prelude.{◌≡◌, List, ℕ, Bool, false, []};
+
+use crate::device::{Fault, Sink, Source};
+use std::io::{Read, Write};
+
+/// A source that reads from a reader.
+#[derive(Drop)]
+pub struct ReaderSource<R: Read + Drop> {
+    reader: R,
+    failures: u64,
+}
+
+impl<R: Read + Drop> ReaderSource<R> {
+    pub fn new(reader: R) -> ReaderSource<R> {
+        ReaderSource {
+            reader,
+            failures: 0,
+        }
+    }
+}
+
+impl<R: Read + Drop> Source for ReaderSource<R> {
+    ghost told = { λ _. false };
+
+    ghost unread = { λ _. [] };
+
+    ghost failures = { λ s. s.failures };
+
+    fn read(&mut self, buffer: &mut [u8]) -> Result<usize, Fault> {
+        match self.reader.read(buffer) {
+            Ok(count) => Ok(count),
+            Err(_) => {
+                self.failures = self.failures.saturating_add(1);
+                Err(Fault)
+            }
+        }
+    }
+
+    fn tells(&self) -> bool {
+        false
+    }
+}
+
+/// A sink that writes to a writer.
+#[derive(Drop)]
+pub struct WriterSink<W: Write + Drop> {
+    writer: W,
+    failures: u64,
+}
+
+impl<W: Write + Drop> WriterSink<W> {
+    pub fn new(writer: W) -> WriterSink<W> {
+        WriterSink {
+            writer,
+            failures: 0,
+        }
+    }
+}
+
+impl<W: Write + Drop> Sink for WriterSink<W> {
+    ghost told = { λ _. false };
+
+    ghost written = { λ _. [] };
+
+    ghost failures = { λ s. s.failures };
+
+    fn write(&mut self, piece: &[u8]) -> Result<usize, Fault> {
+        match self.writer.write(piece) {
+            Ok(0) if !piece.is_empty() => {
+                self.failures = self.failures.saturating_add(1);
+                Ok(0)
+            }
+            Ok(count) => Ok(count),
+            Err(_) => {
+                self.failures = self.failures.saturating_add(1);
+                Err(Fault)
+            }
+        }
+    }
+
+    fn tells(&self) -> bool {
+        false
+    }
+}
