@@ -1,0 +1,3 @@
+pub mod Address
+pub mod Notation
+pub mod View

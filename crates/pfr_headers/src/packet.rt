@@ -1,0 +1,36 @@
+//! What a frame of a capture is.
+use crate::address::Ipv4Address;
+
+/// The protocol that an IPv4 packet carries, by its number.
+#[derive(Clone, Copy, Debug, PartialEq, Eq, PartialOrd, Ord, Hash)]
+pub struct Protocol(pub u8);
+
+/// An IPv4 packet, by its header (RFC 791, section 3.1).
+#[derive(Clone, Copy, Debug, PartialEq, Eq)]
+pub struct Packet {
+    /// The header's length in bytes, options included: 20 to 60.
+    pub header_length: u8,
+    /// The length of header and payload in bytes, as the header says.
+    pub total_length: u16,
+    pub protocol: Protocol,
+    pub source: Ipv4Address,
+    pub destination: Ipv4Address,
+}
+
+/// What a frame of a capture is.
+#[derive(Clone, Copy, Debug, PartialEq, Eq)]
+pub enum View {
+    /// An IPv4 packet whose header was captured whole.
+    Ipv4(Packet),
+    /// No IPv4 packet.
+    Skip,
+    /// An IPv4 packet whose header was not captured whole or contradicts itself.
+    Short,
+}
+
+/// Which way a packet goes, seen from the firewall.
+#[derive(Clone, Copy, Debug, PartialEq, Eq)]
+pub enum Direction {
+    In,
+    Out,
+}

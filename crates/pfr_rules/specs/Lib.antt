@@ -1,0 +1,3 @@
+pub mod Filter
+pub mod Numbers
+pub mod Rules
