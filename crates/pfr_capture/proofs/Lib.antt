@@ -1,3 +1,4 @@
+pub mod CaptureLemmas
 pub mod DeviceLemmas
 pub mod ListLemmas
 pub mod ReadingLemmas

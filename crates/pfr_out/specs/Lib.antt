@@ -1,3 +1,5 @@
-pub mod Parts
-pub mod RulesetText
 pub mod Lines
+pub mod Lining
+pub mod Parts
+pub mod Plain
+pub mod RulesetText

@@ -3,6 +3,8 @@
 
 pub mod fault;
 mod parts;
+mod plain;
+pub mod report;
 mod ruleset_text;
 pub mod verdict;
 

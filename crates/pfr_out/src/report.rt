@@ -1,0 +1,36 @@
+//! How a run ends.
+use pfr_capture::{CaptureError, Tail};
+use thiserror::Error;
+
+use crate::fault::ConfError;
+
+/// A run that went to the end of its capture.
+#[derive(Clone, Copy, Debug, PartialEq, Eq)]
+pub struct Report {
+    /// How many packets were replayed.
+    pub committed: u64,
+    /// How the capture ends.
+    pub tail: Tail,
+}
+
+/// The outputs of a run.
+#[derive(Clone, Copy, Debug, PartialEq, Eq)]
+pub enum Output {
+    Verdicts,
+}
+
+/// Why a run ended before that. The number is that of the packets committed: of those whose lines the sink
+/// holds whole.
+#[derive(Clone, Copy, Debug, PartialEq, Eq, Error)]
+pub enum Stop {
+    #[error("{0}")]
+    Ruleset(ConfError),
+    #[error("capture: {0}, committed {1}")]
+    Capture(CaptureError, u64),
+    #[error("read failed, committed {0}")]
+    Read(u64),
+    #[error("write failed, committed {1}")]
+    Write(Output, u64),
+    #[error("no memory, committed {0}")]
+    Memory(u64),
+}
