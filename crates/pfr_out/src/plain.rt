@@ -94,3 +94,58 @@ fn write_line<S: Sink>(
     write_all(verdicts, text.as_bytes())?;
     Ok(())
 }
+
+/// The stop for a refusal of the capture's reader.
+fn stop_for(refusal: CaptureError, committed: u64) -> Stop
+    ensures { result ≡ stop_for refusal committed }
+{
+    match refusal {
+        CaptureError::Read => Stop::Read(committed),
+        CaptureError::Memory => Stop::Memory(committed),
+        refusal => Stop::Capture(refusal, committed),
+    }
+}
+
+/// Writes a line for each record that a capture's reader has still to give. The reader has given none.
+fn replay_records<R: Source, S: Sink>(
+    alloc: Global,
+    rules: &Ruleset,
+    inside: &[Net],
+    capture: &mut Capture,
+    source: &mut R,
+    verdicts: &mut S,
+) -> Result<Report, Stop>
+    requires reading { capture.old.over ≡ None }
+    requires start { capture.old.count ≡ 0 }
+    requires raw { capture.old.form.link ≡ 101 }
+    ensures told { (R.told source.new ≡ R.told source.old) × (S.told verdicts.new ≡ S.told verdicts.old) }
+    ensures ok { IfOk result (λ report. IsTrue (R.told source.old) → IsTrue (S.told verdicts.old) → (read : List ℕ) → HasGiven capture.old read [] → Replayed rules.now inside.now (read ++ R.unread source.old) (S.written verdicts.old) (S.written verdicts.new) report) }
+    ensures begun { IsTrue (R.told source.old) → IsTrue (S.told verdicts.old) → (read : List ℕ) → HasGiven capture.old read [] → OfEvery (read ++ R.unread source.old) (R.unread source.new) (Begun rules.now inside.now (S.written verdicts.old) (S.written verdicts.new)) }
+    ensures stopped { IfErr result (λ stop. IsTrue (R.told source.old) → IsTrue (S.told verdicts.old) → (read : List ℕ) → HasGiven capture.old read [] → Stopped rules.now inside.now (read ++ R.unread source.old) (R.unread source.new) (S.written verdicts.old) (S.written verdicts.new) stop) }
+    ensures no_failure { OnOk result ((R.failures source.new ≡ R.failures source.old) × (S.failures verdicts.new ≡ S.failures verdicts.old)) }
+    ensures failure { IfErr result (λ stop. StopFails stop (R.failures source.old) (R.failures source.new) (S.failures verdicts.old) (S.failures verdicts.new)) }
+{
+    let mut text = String::new(alloc);
+    let mut committed: u64 = 0;
+    let mut clock: u32 = 0;
+    loop {
+        let record = match capture.next(source) {
+            Ok(Some(record)) => record,
+            Ok(None) => {
+                return Ok(Report {
+                    committed,
+                    tail: capture.tail(),
+                });
+            }
+            Err(refusal) => return Err(stop_for(refusal, committed)),
+        };
+        clock = clock.max(record.seconds);
+        let bytes = record.bytes.as_slice();
+        match write_line(alloc, rules, inside, committed + 1, clock, bytes, &mut text, verdicts) {
+            Ok(()) => {}
+            Err(LineError::Write) => return Err(Stop::Write(Output::Verdicts, committed)),
+            Err(LineError::Memory) => return Err(Stop::Memory(committed)),
+        }
+        committed += 1;
+    }
+}
