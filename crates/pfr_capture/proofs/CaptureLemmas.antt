@@ -1,5 +1,6 @@
 -- A capture reads in one way, and what a reader has given begins it.
-use Rattle.std.proofs.Common.{◌≡◌, ℕ, zero, suc, ◌+◌, ◌-◌, ◌^◌, ◌<◌, ◌≤◌, List, [], ◌∷◌, ◌++◌, length, take, drop, get_or, Result, Ok, Err, refl, sym, ◌∙◌, ap, subst, add-zero, zero-add, arith}
+use Rattle.std.proofs.Common.{◌≡◌, ℕ, zero, suc, ◌+◌, ◌-◌, ◌^◌, ◌<◌, ◌≤◌, List, [], ◌∷◌, ◌++◌, length, take, drop, get_or, Result, Ok, Err, refl, sym, ◌∙◌, ap, subst, add-zero, zero-add, ltb, false, arith}
+use Rattle.std.proofs.lemmas.Bool.{le-ltb}
 use Rattle.std.specs.List.{flat_map, All}
 use Rattle.std.proofs.lemmas.List.{append_assoc, append-nil, append_cancel_left, length-append, take_at, drop_at}
 use Rattle.pfr_capture.specs.declared.order.ByteOrder.{ByteOrder}
@@ -8,9 +9,9 @@ use Rattle.pfr_capture.specs.declared.capture.Tail.{Tail}
 use Rattle.pfr_capture.specs.declared.capture.Tail.TheVariants.{Clean, Cut}
 use Rattle.pfr_capture.specs.declared.capture.CaptureError.{CaptureError}
 use Rattle.pfr_capture.specs.declared.capture.CaptureError.TheVariants.{HeaderCut, BadMagic, BadVersion, LinkType, RecordTooLong, Read, Memory}
-use Rattle.pfr_capture.specs.Header.{form_of}
+use Rattle.pfr_capture.specs.Header.{form_of, opening_of}
 use Rattle.pfr_capture.specs.Records.{RecordBytes, EndsAs, IsCapture, IsRecord, captured_of, text_of}
-use Rattle.pfr_capture.specs.Reading.{Reading, HasGiven}
+use Rattle.pfr_capture.specs.Reading.{Reading, HasGiven, Opens}
 use Rattle.pfr_capture.proofs.RecordLemmas.{captured_of-append}
 
 -- two fronts of one text that are equally long are the same
@@ -140,3 +141,13 @@ given_first reading read more given form records ending h c =
       form_is = form_is;
       first = first_records reading.form.order given records _ c.rest 0 ending h.each (rw (← form_is) c.each) bodies (rw (← form_is, zero-add) c.ends) (omega arith)
     }
+
+-- an opened reader has the form that the text's beginning says
+pub opening_is_form : (text left : List ℕ) (reading : Reading) → Opens text left reading → opening_of text ≡ Ok reading.form
+opening_is_form text left reading o =
+    let h = o.given in
+    let whole : text ≡ reading.header ++ (reading.ahead ++ left) = o.gave ∙ ap (λ (t : List ℕ). t ++ left) h.read_is ∙ append_assoc reading.header reading.ahead left in
+    let header : take 24 text ≡ reading.header = rw whole (take_at reading.header (reading.ahead ++ left) 24 h.header_length) in
+    let long = h.header_length in
+    let enough : ltb (length text) 24 ≡ false = le-ltb _ _ (rw whole (omega (arith, length-append reading.header (reading.ahead ++ left)))) in
+    rw (enough, header) h.says

@@ -1,5 +1,5 @@
 -- The lines of records, and how far a plain run has come.
-use Rattle.std.proofs.Common.{◌≡◌, ℕ, zero, suc, ◌+◌, ◌-◌, ◌<◌, ◌≤◌, max, List, [], ◌∷◌, ◌++◌, length, take, drop, Result, Ok, Err, refl, sym, ◌∙◌, ap, subst, add-zero, add_assoc, arith}
+use Rattle.std.proofs.Common.{◌≡◌, ℕ, zero, suc, ◌+◌, ◌-◌, ◌<◌, ◌≤◌, max, List, [], ◌∷◌, ◌++◌, length, take, drop, Result, Ok, Err, refl, sym, ◌∙◌, ap, subst, add-zero, eqb, false, arith}
 use Rattle.std.proofs.lemmas.List.{append_assoc, append-nil, length-append, length_push, take-append-drop, take-take, take_all, take_at}
 use Rattle.pfr_capture.specs.declared.order.ByteOrder.{ByteOrder}
 use Rattle.pfr_capture.specs.declared.capture.Form.{Form}
@@ -7,13 +7,17 @@ use Rattle.pfr_capture.specs.declared.capture.Tail.{Tail}
 use Rattle.pfr_capture.specs.declared.capture.CaptureError.{CaptureError}
 use Rattle.pfr_capture.specs.declared.capture.CaptureError.TheVariants.{HeaderCut, BadMagic, BadVersion, LinkType, RecordTooLong, Read, Memory}
 use Rattle.pfr_capture.specs.Device.{Added, GrewByBeginning, GrewByPart}
+use Rattle.pfr_capture.specs.Header.{opening_of}
 use Rattle.pfr_capture.specs.Records.{RecordBytes, IsCapture, clock_after, seconds_of}
-use Rattle.pfr_capture.specs.Reading.{Reading, HasGiven, ReadsOn, EndsCapture, NextFails, Refuses}
-use Rattle.pfr_capture.proofs.CaptureLemmas.{GivenFirst, IsFront, given_first}
+use Rattle.pfr_capture.specs.Reading.{Reading, Gave, HasGiven, OpenFails, Opens, ReadsOn, EndsCapture, NextFails, Refuses}
+use Rattle.pfr_capture.proofs.CaptureLemmas.{GivenFirst, IsFront, given_first, opening_is_form}
 use Rattle.pfr_headers.specs.declared.network.Net.{Net}
 use Rattle.pfr_rules.specs.declared.rule.Rule.{Rule}
 use Rattle.pfr_out.specs.declared.report.Report.{Report}
-use Rattle.pfr_out.specs.Plain.{Begun, HoldsLines, HoldsPart, OfEvery, Replayed, Stopped, line_of, lines_from, lines_of, stop_for}
+use Rattle.pfr_out.specs.declared.report.Stop.{Stop}
+use Rattle.pfr_out.specs.declared.report.Stop.TheVariants as stop
+use Rattle.pfr_out.specs.RulesetText.{rules_of}
+use Rattle.pfr_out.specs.Plain.{Begun, HoldsLines, HoldsPart, OfEvery, RefusesOpening, Replayed, StopOf, Stopped, UnderRules, only_raw, line_of, lines_from, lines_of, stop_for}
 
 -- the lines of records and of those behind them
 pub lines_from-append : (rules : List Rule) (inside : List Net) (order : ByteOrder) (number clock : ℕ) (xs ys : List RecordBytes) → lines_from rules inside order number clock (xs ++ ys) ≡ lines_from rules inside order number clock xs ++ lines_from rules inside order (number + length xs) (clock_after order clock xs) ys
@@ -241,3 +245,44 @@ part_of_line rules inside capture text left old mid new lined r committed clock 
 -- nothing of it was
 pub none_of_line : (rules : List Rule) (inside : List Net) (capture : Reading) (text left old mid new : List ℕ) (lined : List RecordBytes) (r : RecordBytes) (committed clock : ℕ) → Ready rules inside capture text left old mid lined r committed clock → new ≡ mid → SoFar rules inside capture text left old new (lined ++ r ∷ []) lined
 none_of_line rules inside capture text left old mid new lined r committed clock y same = rw same y.so_far
+
+-- a capture of another link type than raw IP
+pub not_raw : (text left : List ℕ) (reading : Reading) → Opens text left reading → eqb reading.form.link 101 ≡ false → only_raw (opening_of text) ≡ Err (LinkType reading.form.link)
+not_raw text left reading o other = rw (opening_is_form text left reading o, other) refl
+
+-- nothing was written
+pub nothing_begun : (rules : List Rule) (inside : List Net) (text left old : List ℕ) → Gave text left → OfEvery text left (Begun rules inside old old)
+nothing_begun rules inside text left old g = record {
+  read = g.came;
+  is = g.gave;
+  every = λ more form records ending c. (lines_of rules inside form.order records, record { added = []; text_is = refl; new_is = sym (append-nil old) })
+}
+
+pub nothing_held : (rules : List Rule) (inside : List Net) (text left old : List ℕ) → Gave text left → OfEvery text left (HoldsLines rules inside old old 0)
+unfolding lines_of
+nothing_held rules inside text left old g = record {
+  read = g.came;
+  is = g.gave;
+  every = λ more form records ending c. record { within = omega arith; lines = sym (append-nil old) }
+}
+
+pub nothing_read : (text : List ℕ) → Gave text text
+nothing_read text = record { came = []; gave = refl }
+
+-- the capture was not opened
+pub refused_opening : (rules : List Rule) (inside : List Net) (text left old : List ℕ) (e : CaptureError) (before after : ℕ) → RefusesOpening text e → Gave text left → OpenFails e before after → Stopped rules inside text left old old (stop_for e 0)
+refused_opening rules inside text left old Read before after refuses g fails = nothing_held rules inside text left old g
+refused_opening rules inside text left old Memory before after refuses g fails = nothing_held rules inside text left old g
+refused_opening rules inside text left old (RecordTooLong asked) before after refuses g fails = absurd fails
+refused_opening rules inside text left old HeaderCut before after refuses g fails = (refuses, refl, refl)
+refused_opening rules inside text left old BadMagic before after refuses g fails = (refuses, refl, refl)
+refused_opening rules inside text left old BadVersion before after refuses g fails = (refuses, refl, refl)
+refused_opening rules inside text left old (LinkType link) before after refuses g fails = (refuses, refl, refl)
+
+-- a stop under the text's rules
+pub under_rules : (text : List ℕ) (rules : List Rule) (inside : List Net) (before left old new : List ℕ) (s : Stop) → rules_of text ≡ Ok rules → Stopped rules inside before left old new s → StopOf text inside before left old new s
+under_rules text rules inside before left old new (stop.Ruleset fault) are stopped = absurd stopped
+under_rules text rules inside before left old new (stop.Capture e committed) are stopped = record { rules = rules; are = are; hold = stopped }
+under_rules text rules inside before left old new (stop.Read committed) are stopped = record { rules = rules; are = are; hold = stopped }
+under_rules text rules inside before left old new (stop.Write output committed) are stopped = record { rules = rules; are = are; hold = stopped }
+under_rules text rules inside before left old new (stop.Memory committed) are stopped = record { rules = rules; are = are; hold = stopped }

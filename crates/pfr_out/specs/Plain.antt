@@ -1,5 +1,5 @@
 -- The plain run: every packet of a capture of raw IP through pass and block rules, one line for each.
-use Rattle.std.specs.Prelude.{◌≡◌, ℕ, ◌+◌, ◌<◌, ◌≤◌, ◌==◌, max, if◌then◌else◌, List, [], ◌∷◌, ◌++◌, length, take, Result, Ok, Err}
+use Rattle.std.specs.Prelude.{◌≡◌, ℕ, ◌+◌, ◌<◌, ◌≤◌, ◌==◌, max, if◌then◌else◌, List, [], ◌∷◌, ◌++◌, length, take, Result, Ok, Err, ⊤}
 use Rattle.pfr_capture.specs.declared.order.ByteOrder.{ByteOrder}
 use Rattle.pfr_capture.specs.declared.capture.Form.{Form}
 use Rattle.pfr_capture.specs.declared.capture.Tail.{Tail}
@@ -100,3 +100,20 @@ abbrev pub stop_for : CaptureError → ℕ → Stop
 stop_for capture.Read committed = stop.Read committed
 stop_for capture.Memory committed = stop.Memory committed
 stop_for e committed = stop.Capture e committed
+
+-- a fact of the text's rules, and that it has such
+pub record UnderRules (text : List ℕ) (P : List Rule → Type 0) : Type 0 where
+  pub rules : List Rule
+  pub are : rules_of text ≡ Ok rules
+  pub hold : P rules
+
+-- what each stop of a plain run says. A fault of the ruleset leaves the source unread and the sink as it was.
+abbrev pub StopOf : (text : List ℕ) → List Net → (before left old new : List ℕ) → Stop → Type 0
+StopOf text inside before left old new (stop.Ruleset fault) = IsFaultOf fault text × (left ≡ before) × (new ≡ old)
+StopOf text inside before left old new s = UnderRules text (λ rules. Stopped rules inside before left old new s)
+
+-- a capture is refused as its beginning says; a failed read and want of memory say nothing of it
+abbrev pub RefusesOpening : List ℕ → CaptureError → Type 0
+RefusesOpening text capture.Read = ⊤
+RefusesOpening text capture.Memory = ⊤
+RefusesOpening text e = only_raw (opening_of text) ≡ Err e

@@ -9,3 +9,6 @@ mod ruleset_text;
 pub mod verdict;
 
 pub use fault::{ConfError, ConfErrorKind};
+pub use plain::replay_plain;
+pub use report::{Output, Report, Stop};
+pub use verdict::{Judgement, Reason, Verdict, VerdictLine};

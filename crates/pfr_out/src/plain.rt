@@ -1,12 +1,11 @@
 //! The plain run.
 ghost use Rattle.std.specs.Prelude.{◌≡◌, ◌+◌, ◌++◌, List, ℕ, [], None, Ok, IsTrue, IfOk, IfErr, OnOk, OnErr};
 ghost use Rattle.std.specs.String.{string_bytes};
-ghost use Rattle.pfr_capture.specs.Device.{Rose};
-ghost use Rattle.pfr_capture.specs.Header.{opening_of};
 ghost use Rattle.pfr_capture.specs.Reading.{Gave, HasGiven, OpenFails, Opens};
 ghost use Rattle.pfr_out.specs.Lining.{LineCounts, LineFails};
-ghost use Rattle.pfr_out.specs.Plain.{Begun, OfEvery, Replayed, StopFails, Stopped, line_of, stop_for};
-ghost use Rattle.pfr_out.specs.RulesetText.{IsFaultOf, rules_of};
+ghost use Rattle.pfr_out.specs.Plain.{Begun, OfEvery, RefusesOpening, Replayed, StopFails, StopOf, Stopped, UnderRules, line_of, stop_for};
+ghost use Rattle.pfr_rules.specs.declared.rule.Rule.{Rule};
+ghost use Rattle.pfr_out.specs.RulesetText.{rules_of};
 
 use std::alloc::{AllocError, Global};
 use std::fmt::Write;
@@ -16,6 +15,7 @@ use pfr_headers::{Net, view};
 use pfr_rules::Ruleset;
 
 use crate::report::{Output, Report, Stop};
+use crate::ruleset_text::read_rules;
 use crate::verdict::{Judgement, VerdictLine};
 
 /// The link type of raw IP, the one that the plain run reads.
@@ -148,4 +148,62 @@ fn replay_records<R: Source, S: Sink>(
         }
         committed += 1;
     }
+}
+
+/// Opens a capture of raw IP; another link type is refused.
+fn open_raw<R: Source>(alloc: Global, source: &mut R) -> Result<Capture, CaptureError>
+    ensures told { R.told source.new ≡ R.told source.old }
+    ensures opens { IfOk result (λ capture. IsTrue (R.told source.old) → Opens (R.unread source.old) (R.unread source.new) capture) }
+    ensures starts { IfOk result (λ capture. (capture.over ≡ None) × (capture.count ≡ 0) × (capture.form.link ≡ 101)) }
+    ensures ok { OnOk result (R.failures source.new ≡ R.failures source.old) }
+    ensures read { OnErr result (IsTrue (R.told source.old) → Gave (R.unread source.old) (R.unread source.new)) }
+    ensures refused { IfErr result (λ e. IsTrue (R.told source.old) → RefusesOpening (R.unread source.old) e) }
+    ensures failed { IfErr result (λ e. OpenFails e (R.failures source.old) (R.failures source.new)) }
+{
+    let capture = Capture::open(alloc, source)?;
+    let link = capture.form().link;
+    if link != RAW {
+        return Err(CaptureError::LinkType(link));
+    }
+    Ok(capture)
+}
+
+/// Replays a capture of raw IP through a ruleset of pass and block rules, and writes a line for each packet
+/// to the sink, one line a write.
+///
+/// The text's rules are read first, and a fault of theirs leaves the source unread. A packet whose source
+/// lies in an inside network goes out. Ok comes where the capture was read to its end; the sink then has
+/// grown by just the lines of all its packets. At every stop it has grown by a beginning of them, and holds
+/// whole just the lines of the packets that the stop reports as committed.
+///
+/// The clauses on bytes hold where source and sink tell them.
+pub fn replay_plain<R: Source, S: Sink>(
+    alloc: Global,
+    source: &mut R,
+    text: &[u8],
+    inside: &[Net],
+    verdicts: &mut S,
+) -> Result<Report, Stop>
+    ensures told { (R.told source.new ≡ R.told source.old) × (S.told verdicts.new ≡ S.told verdicts.old) }
+
+    // A run to the end.
+    ensures ok { IfOk result (λ report. IsTrue (R.told source.old) → IsTrue (S.told verdicts.old) → UnderRules text.now (λ rules. Replayed rules inside.now (R.unread source.old) (S.written verdicts.old) (S.written verdicts.new) report)) }
+    ensures no_failure { OnOk result ((R.failures source.new ≡ R.failures source.old) × (S.failures verdicts.new ≡ S.failures verdicts.old)) }
+
+    // However it ends, for every capture that begins with the bytes read.
+    ensures begun { IsTrue (R.told source.old) → IsTrue (S.told verdicts.old) → (rules : List Rule) → rules_of text.now ≡ Ok rules → OfEvery (R.unread source.old) (R.unread source.new) (Begun rules inside.now (S.written verdicts.old) (S.written verdicts.new)) }
+
+    // A stop.
+    ensures stopped { IfErr result (λ stop. IsTrue (R.told source.old) → IsTrue (S.told verdicts.old) → StopOf text.now inside.now (R.unread source.old) (R.unread source.new) (S.written verdicts.old) (S.written verdicts.new) stop) }
+    ensures failure { IfErr result (λ stop. StopFails stop (R.failures source.old) (R.failures source.new) (S.failures verdicts.old) (S.failures verdicts.new)) }
+{
+    let rules = match read_rules(alloc, text) {
+        Ok(rules) => rules,
+        Err(fault) => return Err(Stop::Ruleset(fault)),
+    };
+    let mut capture = match open_raw(alloc, source) {
+        Ok(capture) => capture,
+        Err(refusal) => return Err(stop_for(refusal, 0)),
+    };
+    replay_records(alloc, &rules, inside, &mut capture, source, verdicts)
 }
