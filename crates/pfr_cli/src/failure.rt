@@ -1,0 +1,76 @@
+//! What the program says when something is wrong, in one line, and the statuses that it ends with.
+use std::fmt;
+
+use pfr_capture::CaptureError;
+use pfr_out::{ConfError, ConfErrorKind, Stop};
+
+/// All was done.
+pub const DONE: u8 = 0;
+/// The command line, the ruleset or the capture was refused.
+pub const REFUSED: u8 = 1;
+/// All was done, and the capture ends inside a record.
+pub const CUT: u8 = 2;
+/// A device failed, or a file could not be opened.
+pub const DEVICE: u8 = 3;
+/// Memory was refused.
+pub const NO_MEMORY: u8 = 4;
+
+/// Why the program did not do what was asked. A number is that of the packets whose lines are written.
+#[derive(Debug, Drop)]
+pub enum Failure<'a> {
+    /// The words of the command line don't fit, as this text says.
+    Usage(String),
+    /// A word is no network.
+    BadNetwork(&'a str),
+    /// A file can't be opened or read.
+    CannotOpen(&'a str),
+    Rules(ConfError),
+    Capture(CaptureError, u64),
+    ReadFailed(u64),
+    WriteFailed(u64),
+    NoMemory(u64),
+}
+
+impl<'a> Failure<'a> {
+    /// The failure for a stop of the run, after which so many lines are written.
+    pub fn of(stop: Stop, lines: u64) -> Failure<'a> {
+        match stop {
+            Stop::Ruleset(fault) => Failure::Rules(fault),
+            Stop::Capture(refusal, _) => Failure::Capture(refusal, lines),
+            Stop::Read(_) => Failure::ReadFailed(lines),
+            Stop::Write(_, _) => Failure::WriteFailed(lines),
+            Stop::Memory(_) => Failure::NoMemory(lines),
+        }
+    }
+
+    /// The status that the program ends with.
+    pub fn status(&self) -> u8 {
+        match self {
+            Failure::Usage(_) | Failure::BadNetwork(_) | Failure::Capture(_, _) => REFUSED,
+            Failure::CannotOpen(_) | Failure::ReadFailed(_) | Failure::WriteFailed(_) => DEVICE,
+            Failure::NoMemory(_) => NO_MEMORY,
+            Failure::Rules(fault) => match fault.kind {
+                ConfErrorKind::UnknownWord => REFUSED,
+                ConfErrorKind::Memory => NO_MEMORY,
+            },
+        }
+    }
+}
+
+impl fmt::Display for Failure<'_> {
+    fn fmt<W: fmt::Write>(&self, f: &mut fmt::Formatter<W>) -> fmt::Result {
+        match self {
+            Failure::Usage(text) => f.write_str(text.as_str()),
+            Failure::BadNetwork(word) => write!(f, "no network: {word}"),
+            Failure::CannotOpen(name) => write!(f, "cannot open: {name}"),
+            Failure::Rules(fault) => write!(f, "{fault}"),
+            Failure::Capture(refusal, lines) => match refusal {
+                CaptureError::RecordTooLong(_) => write!(f, "capture: {refusal}, committed {lines}"),
+                _ => write!(f, "capture: {refusal}"),
+            },
+            Failure::ReadFailed(lines) => write!(f, "read failed, committed {lines}"),
+            Failure::WriteFailed(lines) => write!(f, "write failed: verdicts, committed {lines}"),
+            Failure::NoMemory(lines) => write!(f, "no memory, committed {lines}"),
+        }
+    }
+}
