@@ -18,6 +18,8 @@ pub const NO_MEMORY: u8 = 4;
 /// Why the program did not do what was asked. A number is that of the packets whose lines are written.
 #[derive(Debug, Drop)]
 pub enum Failure<'a> {
+    /// The words of the command line can't be read as text.
+    NoWords,
     /// The words of the command line don't fit, as this text says.
     Usage(String),
     /// A word is no network.
@@ -46,7 +48,10 @@ impl<'a> Failure<'a> {
     /// The status that the program ends with.
     pub fn status(&self) -> u8 {
         match self {
-            Failure::Usage(_) | Failure::BadNetwork(_) | Failure::Capture(_, _) => REFUSED,
+            Failure::NoWords
+            | Failure::Usage(_)
+            | Failure::BadNetwork(_)
+            | Failure::Capture(_, _) => REFUSED,
             Failure::CannotOpen(_) | Failure::ReadFailed(_) | Failure::WriteFailed(_) => DEVICE,
             Failure::NoMemory(_) => NO_MEMORY,
             Failure::Rules(fault) => match fault.kind {
@@ -60,6 +65,7 @@ impl<'a> Failure<'a> {
 impl fmt::Display for Failure<'_> {
     fn fmt<W: fmt::Write>(&self, f: &mut fmt::Formatter<W>) -> fmt::Result {
         match self {
+            Failure::NoWords => write!(f, "the command line is no text"),
             Failure::Usage(text) => f.write_str(text.as_str()),
             Failure::BadNetwork(word) => write!(f, "no network: {word}"),
             Failure::CannotOpen(name) => write!(f, "cannot open: {name}"),

@@ -26,8 +26,14 @@ impl From<AllocError> for Failure<'_> {
 }
 
 /// The words that the process was started with, the program's name first.
-pub fn of_process<R: Env + AllocGlobal>(rt: &R) -> io::Result<Vec<String>> {
-    Ok(env::args(rt)?.collect(rt.alloc())?)
+pub fn of_process<'a, R: Env + AllocGlobal>(rt: &R) -> Result<Vec<String>, Failure<'a>> {
+    match env::args(rt) {
+        Ok(words) => Ok(words.collect(rt.alloc())?),
+        Err(error) => match error.kind() {
+            io::ErrorKind::OutOfMemory => Err(Failure::NoMemory(0)),
+            _ => Err(Failure::NoWords),
+        },
+    }
 }
 
 /// Reads the words of a command line, the program's name first.
@@ -50,7 +56,7 @@ pub fn parse<'a>(alloc: Global, words: &'a [String]) -> Result<Asked<'a>, Failur
             return match error.kind() {
                 ErrorKind::OutOfMemory => Err(Failure::NoMemory(0)),
                 ErrorKind::DisplayHelp => Ok(Asked::Help(error.to_string(alloc)?)),
-                _ => Err(Failure::Usage(first_line(alloc, &error)?)),
+                _ => Err(Failure::Usage(one_line(alloc, &error)?)),
             };
         }
     };
@@ -75,10 +81,21 @@ fn networks<'a>(alloc: Global, word: &'a str) -> Result<Vec<Net>, Failure<'a>> {
     Ok(networks)
 }
 
-/// The first line of what is wrong with the words.
-fn first_line(alloc: Global, error: &clap::Error) -> Result<String, AllocError> {
+/// What is wrong with the words, in one line: the text up to its first empty line.
+fn one_line(alloc: Global, error: &clap::Error) -> Result<String, AllocError> {
     let text = error.to_string(alloc)?;
-    let line = text.as_str().lines().next().unwrap_or("");
-    let line = line.strip_prefix("error: ").unwrap_or(line);
-    String::from_str(alloc, line)
+    let text = text.as_str();
+    let text = text.strip_prefix("error: ").unwrap_or(text);
+    let mut message = String::new(alloc);
+    for line in text.lines() {
+        let line = line.trim();
+        if line.is_empty() {
+            break;
+        }
+        if !message.is_empty() {
+            message.push(' ')?;
+        }
+        message.push_str(line)?;
+    }
+    Ok(message)
 }

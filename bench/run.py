@@ -1,0 +1,124 @@
+#!/usr/bin/env python3
+"""Measures the program beside tcpdump on the same captures and prints a table.
+
+    run.py [PROGRAM] [--packets N ..]
+"""
+
+import argparse
+import os
+import shutil
+import struct
+import subprocess
+import sys
+import tempfile
+import time
+from pathlib import Path
+
+sys.dont_write_bytecode = True
+
+from make_capture import write_capture
+
+ROOT = Path(__file__).resolve().parent.parent
+PROGRAM = ROOT / "crates" / "pfr_cli" / "out" / "pfr_cli"
+INSIDE = "10.0.0.0/8"
+# the ruleset and the filter pass the same packets
+RULES = "block in all\npass in from 198.51.100.0/24 to any no state\npass out all no state\n"
+FILTER = "src net 10.0.0.0/8 or src net 198.51.100.0/24"
+RUNS = 3
+MEGABYTE = 1000000
+
+
+class Contest:
+    """One capture and the commands that are measured on it."""
+
+    def __init__(self, folder, program, count):
+        self.count = count
+        self.capture = folder / "capture.pcap"
+        self.lines = folder / "verdicts"
+        self.passed = folder / "passed.pcap"
+        rules = folder / "rules"
+        rules.write_text(RULES)
+        with open(self.capture, "wb") as file:
+            write_capture(count, file)
+        self.program = [str(program), str(rules), INSIDE]
+        # as root, tcpdump would give up the right to write into this folder
+        user = ["-Z", "root"] if os.geteuid() == 0 else []
+        self.tcpdump = ["tcpdump", *user, "-r", str(self.capture), "-w", str(self.passed), FILTER]
+
+    def seconds(self, command, out=os.devnull):
+        """The time of one run from its start to its end."""
+        with open(self.capture, "rb") as source, open(out, "wb") as out_file:
+            start = time.perf_counter()
+            subprocess.run(command, stdin=source, stdout=out_file, stderr=subprocess.PIPE, check=True)
+            return time.perf_counter() - start
+
+    def best_seconds(self):
+        """The best times of the program and of tcpdump, run in turn."""
+        times = [(self.seconds(self.program, self.lines), self.seconds(self.tcpdump)) for _ in range(RUNS)]
+        return map(min, zip(*times))
+
+    def peak_memory(self, command):
+        """The peak memory of one run in megabytes, as a word."""
+        # a child of this script would start with the script's own memory as its peak
+        timer = shutil.which("time")
+        if timer is None:
+            return "-"
+        with tempfile.NamedTemporaryFile() as report:
+            self.seconds([timer, "-f", "%M", "-o", report.name, *command])
+            return f"{int(report.read()) * 1024 / MEGABYTE:.1f}"
+
+    def check(self):
+        """Both have passed the same number of packets, and the program has a line for each."""
+        verdicts = self.lines.read_bytes()
+        passed = verdicts.count(b" pass ")
+        kept = count_records(self.passed.read_bytes())
+        if verdicts.count(b"\n") != self.count or passed != kept:
+            sys.exit(f"of {self.count} packets the program passes {passed}, tcpdump {kept}")
+
+
+def count_records(capture):
+    """The records of a capture in this machine's byte order."""
+    place, count = 24, 0
+    while place < len(capture):
+        place += 16 + struct.unpack_from("=I", capture, place + 8)[0]
+        count += 1
+    return count
+
+
+def row(folder, program, count):
+    """The measures of one capture, as words."""
+    contest = Contest(folder, program, count)
+    size = contest.capture.stat().st_size / MEGABYTE
+    seconds, other_seconds = contest.best_seconds()
+    contest.check()
+    return [f"{count}", f"{size:.1f}",
+            f"{count / seconds:.0f}", f"{size / seconds:.0f}", contest.peak_memory(contest.program),
+            f"{count / other_seconds:.0f}", f"{size / other_seconds:.0f}", contest.peak_memory(contest.tcpdump),
+            f"{other_seconds / seconds:.2f}"]
+
+
+def print_row(words):
+    print("| " + " | ".join(words) + " |", flush=True)
+
+
+def main():
+    parser = argparse.ArgumentParser(description="Measures the program beside tcpdump.")
+    parser.add_argument("--packets", type=int, nargs="+", default=[10**4, 10**5, 10**6])
+    parser.add_argument("program", nargs="?", type=Path, default=PROGRAM)
+    words = parser.parse_args()
+    if not words.program.is_file():
+        sys.exit(f"{words.program} isn't there: build the program first")
+    if shutil.which("tcpdump") is None:
+        sys.exit("tcpdump isn't there: apt-get update && apt-get install -y tcpdump")
+    if shutil.which("time") is None:
+        print("without the program 'time' (apt-get install -y time) no peak memory is shown")
+    print_row(["packets", "MB", "pfreplay packets/s", "MB/s", "peak MB", "tcpdump packets/s", "MB/s", "peak MB",
+               "pfreplay / tcpdump"])
+    print_row(["---:"] * 9)
+    with tempfile.TemporaryDirectory() as folder:
+        for count in words.packets:
+            print_row(row(Path(folder), words.program.resolve(), count))
+
+
+if __name__ == "__main__":
+    main()

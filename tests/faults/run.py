@@ -1,0 +1,102 @@
+#!/usr/bin/env python3
+"""Runs a command once for each fault at each of its allocations, reads and writes, and judges each run.
+
+    run.py [--judge MODULE] [--calls] COMMAND WORDS.. < INPUT
+
+It prints how many runs ended each way, and exits with 1 where one ended in an unlawful way.
+"""
+
+import argparse
+import importlib
+import os
+import resource
+import sys
+import tempfile
+from collections import Counter
+from concurrent.futures import ThreadPoolExecutor
+from pathlib import Path
+
+sys.dont_write_bytecode = True
+
+from trial import Fault, Trial, Unlawful
+
+MOST_SHOWN = 10
+MOST_OUTPUT = 1 << 28
+NOT_REACHED = "not reached"
+
+
+def count_calls(trial, targets):
+    """The number of calls of each target in a run without a fault."""
+    calls = {}
+    for target in targets:
+        seen, counts = trial.counted(target)
+        if seen != trial.clean:
+            raise OSError("two runs without a fault differ")
+        calls[target] = counts.calls
+    writes = [calls[target] for target in targets if target.call == "write"]
+    if trial.clean.out and writes and not any(writes):
+        raise OSError("the command writes, but by no call that the library counts")
+    return calls
+
+
+def judged(trial, judge, fault):
+    """The ending of a run with this fault, and what is to be shown of it where it is unlawful."""
+    seen, counts = trial.counted(fault.target, fault)
+    try:
+        if seen.status is None:
+            raise Unlawful("it took too long")
+        if not counts.fired:
+            # with several threads the number of calls may vary
+            if seen != trial.clean:
+                raise Unlawful("it differs, though the fault was not reached")
+            return NOT_REACHED, None
+        return judge(trial, fault, counts, seen), None
+    except Unlawful as reason:
+        return "unlawful", f"""{' '.join(trial.command)}
+  fault: {fault}
+  {reason}
+  status {seen.status}, standard error {seen.err!r}
+  {seen.out.count(10)} lines of output, the last bytes {seen.out[-120:]!r}"""
+
+
+def run(command, source, judge):
+    """Runs all faults: the calls of each target, the number of runs by ending, the unlawful ones in words."""
+    with tempfile.TemporaryDirectory() as folder:
+        trial = Trial(command, source, folder)
+        calls = count_calls(trial, judge.TARGETS)
+        faults = [Fault(target, deed, number) for target in judge.TARGETS for deed in target.deeds
+                  for number in range(1, calls[target] + 1)]
+        with ThreadPoolExecutor(os.cpu_count()) as pool:
+            results = list(pool.map(lambda fault: judged(trial, judge.judge, fault), faults))
+    return calls, Counter(ending for ending, _ in results), [text for _, text in results if text]
+
+
+def main():
+    parser = argparse.ArgumentParser(description="Runs a command with a fault at each call.")
+    parser.add_argument("--judge", default="plain", help="the module that judges the runs")
+    parser.add_argument("--calls", action="store_true", help="print the number of calls of each kind")
+    parser.add_argument("command", nargs=argparse.REMAINDER, help="the command and its words")
+    words = parser.parse_args()
+    if not words.command:
+        parser.error("a command is missing")
+    judge = importlib.import_module(words.judge)
+    # a run that writes without end is ended by the system
+    resource.setrlimit(resource.RLIMIT_FSIZE, (MOST_OUTPUT, MOST_OUTPUT))
+    with tempfile.TemporaryDirectory() as folder:
+        source = Path(folder) / "input"
+        source.write_bytes(sys.stdin.buffer.read())
+        try:
+            calls, endings, unlawful = run(words.command, source, judge)
+        except OSError as error:
+            parser.exit(2, f"{error}\n")
+    if words.calls:
+        print(", ".join(f"{target}: {number}" for target, number in calls.items()))
+    for text in unlawful[:MOST_SHOWN]:
+        print(text)
+    names = [*judge.ENDINGS, NOT_REACHED, "unlawful"]
+    print(f"{endings.total()} runs: " + ", ".join(f"{endings[name]} {name}" for name in names if endings[name]))
+    return 1 if unlawful else 0
+
+
+if __name__ == "__main__":
+    sys.exit(main())

@@ -1,0 +1,111 @@
+"""Runs a command under the preloaded library, without a fault or with one."""
+
+import os
+import struct
+import subprocess
+import tempfile
+from pathlib import Path
+from typing import NamedTuple
+
+TIME_LIMIT = 10
+# as in `struct report`: loaded, fired, three counts of calls, three of bytes moved
+REPORT = struct.Struct("8Q")
+CALLS = ("allocation", "read", "write")
+
+
+class Target(NamedTuple):
+    """A kind of call, each of which is to meet each of the deeds.
+
+    Reads and writes count on these descriptors alone: `!0,1` is all but 0 and 1, no text is all.
+    """
+    call: str
+    descriptors: str
+    deeds: tuple
+
+    def variables(self):
+        names = {"read": "FAULT_READS", "write": "FAULT_WRITES"}
+        return {names[self.call]: self.descriptors} if self.descriptors else {}
+
+    def __str__(self):
+        return f"{self.call} on {self.descriptors}" if self.descriptors else self.call
+
+
+class Fault(NamedTuple):
+    """A deed at one call of a target, numbered from 1."""
+    target: Target
+    deed: str
+    number: int
+
+    def variables(self):
+        return {"FAULT_CALL": self.target.call, "FAULT_DEED": self.deed, "FAULT_NUMBER": str(self.number)}
+
+    def __str__(self):
+        return f"{self.target}, number {self.number}, {self.deed}"
+
+
+class Seen(NamedTuple):
+    """How a run ended: a status below 0 is the signal that ended it, None the time limit."""
+    status: int | None
+    out: bytes
+    err: bytes
+
+
+class Counts(NamedTuple):
+    """What the library counted: whether the fault came, the calls of the target, and the bytes that
+    these calls moved before the fault."""
+    fired: bool
+    calls: int
+    moved: int
+
+
+class Unlawful(Exception):
+    """A run ended in a way that its judge doesn't allow."""
+
+
+class Trial:
+    """A command with its standard input, and the library built for it."""
+
+    def __init__(self, command, source, folder):
+        self.command = command
+        self.source = source
+        self.folder = folder
+        self.library = Path(folder) / "faults.so"
+        code = Path(__file__).with_name("faults.c")
+        subprocess.run(["cc", "-shared", "-fPIC", "-O2", "-o", str(self.library), str(code), "-ldl"], check=True)
+        self.clean = self.without_fault()
+        if self.clean.status is None:
+            raise OSError(f"{command[0]} takes too long without any fault")
+
+    def without_fault(self, command=None, source=None, environment=None):
+        """The command as it ends by itself, or another command or input."""
+        with (open(source or self.source, "rb") as file, tempfile.TemporaryFile() as out,
+              tempfile.TemporaryFile() as err):
+            try:
+                status = subprocess.run(command or self.command, stdin=file, stdout=out, stderr=err,
+                                        timeout=TIME_LIMIT, env=environment, check=False).returncode
+            except subprocess.TimeoutExpired:
+                status = None
+            out.seek(0)
+            err.seek(0)
+            return Seen(status, out.read(), err.read())
+
+    def beginning(self, name, length):
+        """A file, open in a `with`, that holds so many bytes of the one named."""
+        file = tempfile.NamedTemporaryFile(dir=self.folder)
+        file.write(Path(name).read_bytes()[:length])
+        file.flush()
+        return file
+
+    def counted(self, target, fault=None):
+        """Runs the command with the fault, if any: what was seen, and what was counted of the target."""
+        with tempfile.NamedTemporaryFile(dir=self.folder) as report:
+            report.write(bytes(REPORT.size))
+            report.flush()
+            seen = self.without_fault(environment={
+                **os.environ, **target.variables(), **(fault.variables() if fault else {}),
+                "LD_PRELOAD": str(self.library), "FAULT_REPORT": report.name})
+            loaded, fired, *numbers = REPORT.unpack(Path(report.name).read_bytes())
+        if not loaded:
+            raise OSError(f"{self.command[0]} didn't load the library: is it a dynamically linked program?")
+        place = CALLS.index(target.call)
+        return seen, Counts(bool(fired), numbers[place], numbers[3 + place])
