@@ -1,8 +1,7 @@
 //! What the program says when something is wrong, in one line, and the statuses that it ends with.
-use std::fmt;
-
 use pfr_capture::CaptureError;
 use pfr_out::{ConfError, ConfErrorKind, Stop};
+use std::fmt;
 
 /// All was done.
 pub const DONE: u8 = 0;
@@ -71,7 +70,10 @@ impl fmt::Display for Failure<'_> {
             Failure::CannotOpen(name) => write!(f, "cannot open: {name}"),
             Failure::Rules(fault) => write!(f, "{fault}"),
             Failure::Capture(refusal, lines) => match refusal {
-                CaptureError::RecordTooLong(_) => write!(f, "capture: {refusal}, committed {lines}"),
+                CaptureError::RecordTooLong(_) => write!(
+                    f,
+                    "capture: {refusal}, committed {lines}"
+                ),
                 _ => write!(f, "capture: {refusal}"),
             },
             Failure::ReadFailed(lines) => write!(f, "read failed, committed {lines}"),

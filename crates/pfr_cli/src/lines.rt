@@ -1,10 +1,9 @@
 //! Where the verdict lines go.
 ghost use Rattle.std.specs.Prelude.{◌≡◌};
 
+use pfr_capture::{Fault, Sink};
 use std::alloc::{AllocError, Global};
 use std::io::Write;
-
-use pfr_capture::{Fault, Sink};
 
 /// How many bytes are kept before they are written.
 const KEPT: usize = 65536;

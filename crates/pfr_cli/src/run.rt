@@ -1,15 +1,12 @@
 //! What the program does.
-use std::fs;
-use std::io;
-use std::io::{ErrorKind, Write};
-use std::rt::Files;
-
-use pfr_capture::{Source, Tail};
-use pfr_out::{ConfError, ConfErrorKind, replay_plain};
-
 use crate::failure::{CUT, DONE, Failure};
 use crate::lines::LineWriter;
 use crate::words::{Asked, parse};
+use pfr_capture::{Source, Tail};
+use pfr_out::{ConfError, ConfErrorKind, replay_plain};
+use std::io::{ErrorKind, Write};
+use std::rt::Files;
+use std::{fs, io};
 
 /// Does what the words ask, the program's name first among them, and answers the status to end with. What
 /// is wrong goes to `err`, in one line.
@@ -60,10 +57,7 @@ fn work<'a, R: Files + AllocGlobal, S: Source, O: Write + Drop>(
 }
 
 /// The text of a ruleset's file.
-fn ruleset_text<'a, R: Files + AllocGlobal>(
-    rt: &R,
-    name: &'a str,
-) -> Result<Vec<u8>, Failure<'a>> {
+fn ruleset_text<'a, R: Files + AllocGlobal>(rt: &R, name: &'a str) -> Result<Vec<u8>, Failure<'a>> {
     match fs::read(rt, name) {
         Ok(text) => Ok(text),
         Err(error) => match error.kind() {

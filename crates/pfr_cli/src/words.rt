@@ -1,14 +1,11 @@
 //! The words of the command line.
-use std::alloc::{AllocError, Global};
-use std::env;
-use std::io;
-use std::rt::Env;
-
+use crate::failure::Failure;
 use clap::error::ErrorKind;
 use clap::{Arg, ArgAction, Command};
 use pfr_headers::Net;
-
-use crate::failure::Failure;
+use std::alloc::{AllocError, Global};
+use std::rt::Env;
+use std::{env, io};
 
 /// What the command line asks for.
 #[derive(Debug, Drop)]

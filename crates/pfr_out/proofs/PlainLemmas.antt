@@ -32,10 +32,9 @@ lines_from-append rules inside order number clock (x ∷ xs) ys =
 pub lines_of-front : (rules : List Rule) (inside : List Net) (order : ByteOrder) (given records : List RecordBytes) → IsFront given records → (more : List ℕ) × (lines_of rules inside order records ≡ lines_of rules inside order given ++ more)
 unfolding lines_of
 lines_of-front rules inside order given records f =
-    let whole : given ++ drop (length given) records ≡ records = ap (λ (t : List RecordBytes). t ++ drop (length given) records) f.front ∙ take-append-drop (length given) records in
-    (
+    let whole : given ++ drop (length given) records ≡ records = ap (λ (t : List RecordBytes). t ++ drop (length given) records) f.front ∙ take-append-drop (length given) records in (
       lines_from rules inside order (1 + length given) (clock_after order 0 given) (drop (length given) records),
-      ap (λ (t : List RecordBytes). lines_from rules inside order 1 0 t) (sym whole) ∙ lines_from-append rules inside order 1 0 given (drop (length given) records)
+      ap (λ (t : List RecordBytes). lines_from rules inside order 1 0 t) (sym whole) ∙ lines_from-append rules inside order 1 0 given (drop (length given) records),
     )
 
 -- the lines of one record more
@@ -65,7 +64,7 @@ after_next rules inside capture capture' text left left' old new records lined g
   read = s.read ++ on.came;
   text_is = s.text_is ∙ (rw on.gave (sym (append_assoc s.read on.came left')));
   given = on.on s.read records s.given;
-  lines = rw form s.lines
+  lines = rw form s.lines;
 }
 
 -- nothing was given yet
@@ -74,7 +73,7 @@ unfolding lines_of
 at_start rules inside capture read left old h = record {
   records = [];
   so_far = record { read = read; text_is = refl; given = h; lines = sym (append-nil old) };
-  clock_is = refl
+  clock_is = refl;
 }
 
 -- the front of a front is a front
@@ -84,7 +83,7 @@ front_of_front a b c ab bc =
     let second = bc.within in
     record {
       within = omega arith;
-      front = ab.front ∙ ap (λ (t : List RecordBytes). take (length a) t) bc.front ∙ take-take (length a) (length b) c first
+      front = ab.front ∙ ap (λ (t : List RecordBytes). take (length a) t) bc.front ∙ take-take (length a) (length b) c first;
     }
 
 pub front_of_push : (a : List RecordBytes) (r : RecordBytes) → IsFront a (a ++ r ∷ [])
@@ -99,9 +98,9 @@ begun_so_far rules inside capture text left old new records lined s f = record {
   read = s.read;
   is = s.text_is;
   every = λ more form rs ending c.
-    let g = given_first capture s.read more records form rs ending s.given c in
-    let m = lines_of-front rules inside capture.form.order lined rs (front_of_front lined records rs f g.first) in
-    rw g.form_is (m.0, record { added = lines_of rules inside capture.form.order lined; text_is = m.1; new_is = s.lines })
+      let g = given_first capture s.read more records form rs ending s.given c in
+      let m = lines_of-front rules inside capture.form.order lined rs (front_of_front lined records rs f g.first) in
+      rw g.form_is (m.0, record { added = lines_of rules inside capture.form.order lined; text_is = m.1; new_is = s.lines });
 }
 
 -- and holds just the lines of those committed
@@ -110,13 +109,13 @@ holds_so_far rules inside capture text left old new records lined committed s f 
   read = s.read;
   is = s.text_is;
   every = λ more form rs ending c.
-    let g = given_first capture s.read more records form rs ending s.given c in
-    let first = front_of_front lined records rs f g.first in
-    let within = first.within in
-    record {
-      within = omega arith;
-      lines = rw (g.form_is, ← count, ← first.front) s.lines
-    }
+      let g = given_first capture s.read more records form rs ending s.given c in
+      let first = front_of_front lined records rs f g.first in
+      let within = first.within in
+      record {
+        within = omega arith;
+        lines = rw (g.form_is, ← count, ← first.front) s.lines;
+      };
 }
 
 -- a part of the next line stands behind the lines of those committed
@@ -133,7 +132,7 @@ part_written rules inside order old mid new lined r line was more p = record {
   last = p.last;
   missing = p.missing;
   holds = p.grew.new_is ∙ (rw was (append_assoc old (lines_of rules inside order lined) p.grew.added));
-  next = more ∙ ap (λ (t : List ℕ). lines_of rules inside order lined ++ t) p.grew.text_is
+  next = more ∙ ap (λ (t : List ℕ). lines_of rules inside order lined ++ t) p.grew.text_is;
 }
 
 pub holds_part : (rules : List Rule) (inside : List Net) (capture : Reading) (text left old mid new : List ℕ) (lined : List RecordBytes) (r : RecordBytes) (committed : ℕ) → SoFar rules inside capture text left old mid (lined ++ r ∷ []) lined → PartWritten rules inside capture.form.order old new lined r → length lined ≡ committed → OfEvery text left (HoldsPart rules inside old new committed)
@@ -141,20 +140,20 @@ holds_part rules inside capture text left old mid new lined r committed s p coun
   read = s.read;
   is = s.text_is;
   every = λ more form rs ending c.
-    let g = given_first capture s.read more (lined ++ r ∷ []) form rs ending s.given c in
-    let first = front_of_front lined (lined ++ r ∷ []) rs (front_of_push lined r) g.first in
-    let within = g.first.within in
-    let long : length (lined ++ r ∷ []) ≡ committed + 1 = length_push lined r ∙ ap (λ (n : ℕ). n + 1) count in
-    let taken : take committed rs ≡ lined = rw (← count) (sym first.front) in
-    let taken' : take (committed + 1) rs ≡ lined ++ r ∷ [] = rw (← long) (sym g.first.front) in
-    record {
-      part = p.part;
-      last = p.last;
-      missing = p.missing;
-      within = omega arith;
-      holds = rw (g.form_is, taken) p.holds;
-      next = rw (g.form_is, taken, taken') p.next
-    }
+      let g = given_first capture s.read more (lined ++ r ∷ []) form rs ending s.given c in
+      let first = front_of_front lined (lined ++ r ∷ []) rs (front_of_push lined r) g.first in
+      let within = g.first.within in
+      let long : length (lined ++ r ∷ []) ≡ committed + 1 = length_push lined r ∙ ap (λ (n : ℕ). n + 1) count in
+      let taken : take committed rs ≡ lined = rw (← count) (sym first.front) in
+      let taken' : take (committed + 1) rs ≡ lined ++ r ∷ [] = rw (← long) (sym g.first.front) in
+      record {
+        part = p.part;
+        last = p.last;
+        missing = p.missing;
+        within = omega arith;
+        holds = rw (g.form_is, taken) p.holds;
+        next = rw (g.form_is, taken, taken') p.next;
+      };
 }
 
 regroup : (a b c d : List ℕ) → (a ++ (b ++ c)) ++ d ≡ (a ++ b) ++ (c ++ d)
@@ -165,14 +164,16 @@ begun_part rules inside capture text left old mid new lined r s p = record {
   read = s.read;
   is = s.text_is;
   every = λ more form rs ending c.
-    let g = given_first capture s.read more (lined ++ r ∷ []) form rs ending s.given c in
-    let m = lines_of-front rules inside capture.form.order (lined ++ r ∷ []) rs g.first in
-    rw g.form_is
-    ((p.last ∷ p.missing) ++ m.0, record {
-      added = lines_of rules inside capture.form.order lined ++ p.part;
-      text_is = m.1 ∙ (rw p.next (regroup (lines_of rules inside capture.form.order lined) p.part (p.last ∷ p.missing) m.0));
-      new_is = p.holds
-    })
+      let g = given_first capture s.read more (lined ++ r ∷ []) form rs ending s.given c in
+      let m = lines_of-front rules inside capture.form.order (lined ++ r ∷ []) rs g.first in
+      rw g.form_is (
+        (p.last ∷ p.missing) ++ m.0,
+        record {
+          added = lines_of rules inside capture.form.order lined ++ p.part;
+          text_is = m.1 ∙ (rw p.next (regroup (lines_of rules inside capture.form.order lined) p.part (p.last ∷ p.missing) m.0));
+          new_is = p.holds;
+        },
+      );
 }
 
 -- the capture ended, and the sink holds the lines of all its records
@@ -183,7 +184,7 @@ replayed rules inside capture text left old new records report s ends raw count 
   capture = rw s.text_is (ends s.read records s.given);
   raw = raw;
   counted = s.given.counted ∙ count;
-  lines = s.lines
+  lines = s.lines;
 }
 
 pub front_of_nil : (a : List RecordBytes) → IsFront a (a ++ [])
@@ -221,7 +222,7 @@ ready rules inside capture capture' text left left' old mid lined r committed cl
       so_far = after_next rules inside capture capture' text left left' old mid lined lined (r ∷ []) s on form;
       more = lines_of-push rules inside capture'.form.order lined r (committed + 1) clock' (ap (λ (n : ℕ). n + 1) (sym counted)) clock_is;
       counted = counted;
-      clock_is = clock_is ∙ sym (clock_after-push capture'.form.order 0 lined r)
+      clock_is = clock_is ∙ sym (clock_after-push capture'.form.order 0 lined r);
     }
 
 -- its line was written
@@ -232,9 +233,9 @@ line_written rules inside capture text left old mid new lined r committed clock 
     read = y.so_far.read;
     text_is = y.so_far.text_is;
     given = y.so_far.given;
-    lines = grew ∙ (rw (y.so_far.lines, y.more) (append_assoc old (lines_of rules inside capture.form.order lined) (line_of rules inside (committed + 1) clock r.bytes)))
+    lines = grew ∙ (rw (y.so_far.lines, y.more) (append_assoc old (lines_of rules inside capture.form.order lined) (line_of rules inside (committed + 1) clock r.bytes)));
   };
-  clock_is = y.clock_is
+  clock_is = y.clock_is;
 }
 
 -- a part of it was
@@ -255,7 +256,7 @@ pub nothing_begun : (rules : List Rule) (inside : List Net) (text left old : Lis
 nothing_begun rules inside text left old g = record {
   read = g.came;
   is = g.gave;
-  every = λ more form records ending c. (lines_of rules inside form.order records, record { added = []; text_is = refl; new_is = sym (append-nil old) })
+  every = λ more form records ending c. (lines_of rules inside form.order records, record { added = []; text_is = refl; new_is = sym (append-nil old) });
 }
 
 pub nothing_held : (rules : List Rule) (inside : List Net) (text left old : List ℕ) → Gave text left → OfEvery text left (HoldsLines rules inside old old 0)
@@ -263,7 +264,7 @@ unfolding lines_of
 nothing_held rules inside text left old g = record {
   read = g.came;
   is = g.gave;
-  every = λ more form records ending c. record { within = omega arith; lines = sym (append-nil old) }
+  every = λ more form records ending c. record { within = omega arith; lines = sym (append-nil old) };
 }
 
 pub nothing_read : (text : List ℕ) → Gave text text

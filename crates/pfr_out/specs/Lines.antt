@@ -33,7 +33,7 @@ decided direction decision = record {
   direction = Some direction;
   verdict = verdict_of decision.action;
   reason = reason_of decision.rule;
-  rule = decision.rule
+  rule = decision.rule;
 }
 
 -- what becomes of a packet: the filter decides on a packet that is seen whole, what is no IPv4 packet is

@@ -1,4 +1,9 @@
-//! x
+//! A capture through a ruleset, and the lines that say what becomes of each packet.
+//!
+//! [`replay_plain`] is the whole run, over any source and any sink. Its contract is the theorem of this
+//! crate: at a run to the end the sink has grown by exactly the lines of all packets of the source's bytes;
+//! however it ends, by a beginning of them; and it holds whole just the lines of the packets that a stop
+//! reports as committed.
 #![tactic(auto)]
 
 pub mod fault;

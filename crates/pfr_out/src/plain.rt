@@ -7,16 +7,14 @@ ghost use Rattle.pfr_out.specs.Plain.{Begun, OfEvery, RefusesOpening, Replayed, 
 ghost use Rattle.pfr_rules.specs.declared.rule.Rule.{Rule};
 ghost use Rattle.pfr_out.specs.RulesetText.{rules_of};
 
-use std::alloc::{AllocError, Global};
-use std::fmt::Write;
-
-use pfr_capture::{Capture, CaptureError, Fault, Record, Sink, Source, write_all};
-use pfr_headers::{Net, view};
-use pfr_rules::Ruleset;
-
 use crate::report::{Output, Report, Stop};
 use crate::ruleset_text::read_rules;
 use crate::verdict::{Judgement, VerdictLine};
+use pfr_capture::{Capture, CaptureError, Fault, Record, Sink, Source, write_all};
+use pfr_headers::{Net, view};
+use pfr_rules::Ruleset;
+use std::alloc::{AllocError, Global};
+use std::fmt::Write;
 
 /// The link type of raw IP, the one that the plain run reads.
 const RAW: u16 = 101;
@@ -141,7 +139,16 @@ fn replay_records<R: Source, S: Sink>(
         };
         clock = clock.max(record.seconds);
         let bytes = record.bytes.as_slice();
-        match write_line(alloc, rules, inside, committed + 1, clock, bytes, &mut text, verdicts) {
+        match write_line(
+            alloc,
+            rules,
+            inside,
+            committed + 1,
+            clock,
+            bytes,
+            &mut text,
+            verdicts,
+        ) {
             Ok(()) => {}
             Err(LineError::Write) => return Err(Stop::Write(Output::Verdicts, committed)),
             Err(LineError::Memory) => return Err(Stop::Memory(committed)),

@@ -1,8 +1,7 @@
 //! How a run ends.
+use crate::fault::ConfError;
 use pfr_capture::{CaptureError, Tail};
 use thiserror::Error;
-
-use crate::fault::ConfError;
 
 /// A run that went to the end of its capture.
 #[derive(Clone, Copy, Debug, PartialEq, Eq)]

@@ -2,12 +2,11 @@
 ghost use Rattle.std.specs.Prelude.{◌≡◌, [], true, false, IsNone, MatchOption, MatchResult, Ok, Some};
 ghost use Rattle.pfr_out.specs.RulesetText.{action_at, direction_at, host_at, hosts_at, quick_at, rule_of, rules_of, state_at, IsFaultOf};
 
-use std::alloc::Global;
-
 use crate::fault::{ConfError, ConfErrorKind};
 use crate::parts::Parts;
 use pfr_headers::{Direction, Net};
 use pfr_rules::{Action, Rule, Ruleset};
+use std::alloc::Global;
 
 #[tactic(auto, unfolding(crate::specs::RulesetText::action_at))]
 fn action(words: &mut Parts) -> Option<Action>

@@ -2,11 +2,10 @@
 ghost use Rattle.std.specs.Prelude.{◌≡◌, IfOk, Some};
 ghost use Rattle.pfr_out.specs.Lines.{direction_text, judgement_of, line_text, reason_text, rule_text, verdict_text};
 
-use std::alloc::{AllocError, Global};
-use std::fmt;
-
 use pfr_headers::{Direction, Net, View};
 use pfr_rules::{Action, RuleNumber, Ruleset, filter};
+use std::alloc::{AllocError, Global};
+use std::fmt;
 
 /// What becomes of a packet.
 #[derive(Clone, Copy, Debug, PartialEq, Eq)]
@@ -163,6 +162,9 @@ impl fmt::Display for VerdictLine {
         let verdict = self.judgement.verdict;
         let reason = self.judgement.reason;
         let rule = Numbered(self.judgement.rule);
-        writeln!(f, "{number} {clock} {way} {verdict} {reason} r={rule} t=- s=-")
+        writeln!(
+            f,
+            "{number} {clock} {way} {verdict} {reason} r={rule} t=- s=-"
+        )
     }
 }

@@ -16,7 +16,7 @@ returns-in-Err-open_raw-clause-stopped g c =
     λ t u.
     rw c.stop_for.ensures
     (under_rules c.args.text.now _ c.args.inside.now _ _ _ _ _ c.in-Ok.ensures
-      (refused_opening _ c.args.inside.now _ _ _ c.in-Err-open_raw.refusal _ _ (c.in-Err-open_raw.ensures.refused t) (c.in-Err-open_raw.ensures.read t) c.in-Err-open_raw.ensures.failed))
+    (refused_opening _ c.args.inside.now _ _ _ c.in-Err-open_raw.refusal _ _ (c.in-Err-open_raw.ensures.refused t) (c.in-Err-open_raw.ensures.read t) c.in-Err-open_raw.ensures.failed))
 
 pub returns-clause-stopped : goal.returns-clause-stopped
 returns-clause-stopped g c =

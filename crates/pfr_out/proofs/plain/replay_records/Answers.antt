@@ -14,7 +14,7 @@ loop-record-init g c = record {
   sink_told = refl;
   source_failures = refl;
   sink_failures = refl;
-  at_head = λ t u read h. at_start c.args.rules.now c.args.inside.now c.args.capture.now read _ _ h
+  at_head = λ t u read h. at_start c.args.rules.now c.args.inside.now c.args.capture.now read _ _ h;
 }
 
 pub returns-in-Ok-None-clause-begun : goal.returns-in-Ok-None-clause-begun
@@ -114,14 +114,14 @@ loop-record-preserved g c =
       source_failures = (c.in-Ok-Some.ensures.ok i.over) ∙ i.source_failures;
       sink_failures = c.in-Ok.ensures.counts ∙ i.sink_failures;
       at_head = λ t u read h.
-        let head = i.at_head t u read h in
-        let told : IsTrue (g.R.Source.told c.loop-record.source) = rw i.source_told t in
-        let sink_told : IsTrue (g.S.Sink.told c.loop-record.verdicts) = rw i.sink_told u in
-        let on = rw c.in-Ok-Some.field-0-is at (c.in-Ok-Some.ensures.reads_on i.over told) in
-        let answers = rw c.in-Ok-Some.field-0-is at (c.in-Ok-Some.ensures.answers i.over) in
-        let later : c.max-clock.result ≡ max c.loop-record.clock (seconds_of c.loop-record.capture.form.order c.in-Ok-Some.record.header) =
-        c.max-clock.ensures ∙ ap (λ (n : ℕ). max c.loop-record.clock n) answers.3.seconds in
-        let y = ready _ _ _ _ _ _ _ _ _ head.records (bytes_of c.in-Ok-Some.record) c.loop-record.committed _ c.max-clock.result head.so_far head.clock_is on c.next.ensures.same.0 i.count later in
-        let grew = rw c.as_slice-bytes.ensures.value at (c.in-Ok.ensures.ok sink_told) in
-        line_written _ _ _ _ _ _ _ _ head.records _ _ _ y grew
+          let head = i.at_head t u read h in
+          let told : IsTrue (g.R.Source.told c.loop-record.source) = rw i.source_told t in
+          let sink_told : IsTrue (g.S.Sink.told c.loop-record.verdicts) = rw i.sink_told u in
+          let on = rw c.in-Ok-Some.field-0-is at (c.in-Ok-Some.ensures.reads_on i.over told) in
+          let answers = rw c.in-Ok-Some.field-0-is at (c.in-Ok-Some.ensures.answers i.over) in
+          let later : c.max-clock.result ≡ max c.loop-record.clock (seconds_of c.loop-record.capture.form.order c.in-Ok-Some.record.header) =
+          c.max-clock.ensures ∙ ap (λ (n : ℕ). max c.loop-record.clock n) answers.3.seconds in
+          let y = ready _ _ _ _ _ _ _ _ _ head.records (bytes_of c.in-Ok-Some.record) c.loop-record.committed _ c.max-clock.result head.so_far head.clock_is on c.next.ensures.same.0 i.count later in
+          let grew = rw c.as_slice-bytes.ensures.value at (c.in-Ok.ensures.ok sink_told) in
+          line_written _ _ _ _ _ _ _ _ head.records _ _ _ y grew;
     }
