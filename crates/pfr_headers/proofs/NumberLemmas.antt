@@ -1,7 +1,7 @@
 -- Numbers as digits.
-use Rattle.std.proofs.Common.{◌≡◌, ℕ, ◌+◌, ◌-◌, ◌*◌, ◌<◌, ◌≤◌, Bool, true, false, ◌&&◌, leb, cond, List, [], ◌∷◌, Option, Some, None, refl, sym, ◌∙◌, ap, arith}
+use Rattle.std.proofs.Common.{◌≡◌, ℕ, ◌+◌, ◌-◌, ◌*◌, ◌<◌, ◌≤◌, Bool, true, false, ◌&&◌, leb, List, [], ◌∷◌, None, refl, arith}
 use Rattle.std.proofs.lemmas.Bool.{lt-leb}
-use Rattle.pfr_headers.specs.Notation.{all_digits, is_digit, is_number, number_of, value_on}
+use Rattle.pfr_headers.specs.Notation.{is_number, number_of, value_on}
 
 -- a number only grows by further digits
 pub value_on-above : (n : ℕ) (bs : List ℕ) → n ≤ value_on n bs

@@ -1,5 +1,5 @@
 -- IPv4 addresses, networks of them, and which way a packet goes.
-use Rattle.std.specs.Prelude.{ℕ, ◌-◌, ◌/◌, ◌^◌, Bool, ◌==◌, if◌then◌else◌, List}
+use Rattle.std.specs.Prelude.{◌-◌, ◌/◌, ◌^◌, Bool, ◌==◌, if◌then◌else◌, List}
 use Rattle.std.specs.List.{list_any}
 use Rattle.pfr_headers.specs.declared.address.Ipv4Address.{Ipv4Address}
 use Rattle.pfr_headers.specs.declared.network.Net.{Net}

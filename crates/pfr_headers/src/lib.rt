@@ -5,6 +5,7 @@
 #![tactic(auto)]
 
 pub mod address;
+pub mod laws;
 pub mod network;
 mod notation;
 pub mod packet;

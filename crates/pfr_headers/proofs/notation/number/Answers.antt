@@ -1,6 +1,5 @@
-use Rattle.std.proofs.Common.{◌≡◌, ◌+◌, ◌*◌, ◌<◌, length, drop, get_or, sym, arith}
+use Rattle.std.proofs.Common.{◌+◌, ◌*◌, ◌<◌, length, drop, arith}
 use Rattle.std.proofs.lemmas.List.{drop_more}
-use Rattle.pfr_headers.specs.Notation.{value_on}
 use Rattle.pfr_headers.proofs.NumberLemmas.{too_large}
 use Rattle.pfr_headers.proofs.notation.number.Goals as goal
 
