@@ -1,8 +1,8 @@
 -- A capture reads in one way, and what a reader has given begins it.
-use Rattle.std.proofs.Common.{◌≡◌, ℕ, zero, suc, ◌+◌, ◌-◌, ◌^◌, ◌<◌, ◌≤◌, List, [], ◌∷◌, ◌++◌, length, take, drop, get_or, Result, Ok, Err, refl, sym, ◌∙◌, ap, subst, add-zero, zero-add, ltb, false, arith}
+use Rattle.std.proofs.Common.{◌≡◌, ℕ, suc, ◌+◌, ◌^◌, ◌<◌, ◌≤◌, List, [], ◌∷◌, ◌++◌, length, take, Result, Ok, Err, refl, sym, ◌∙◌, ap, subst, add-zero, zero-add, ltb, false, arith}
 use Rattle.std.proofs.lemmas.Bool.{le-ltb}
 use Rattle.std.specs.List.{flat_map, All}
-use Rattle.std.proofs.lemmas.List.{append_assoc, append-nil, append_cancel_left, length-append, take_at, drop_at}
+use Rattle.std.proofs.lemmas.List.{append_assoc, length-append, take_at, drop_at}
 use Rattle.pfr_capture.specs.declared.order.ByteOrder.{ByteOrder}
 use Rattle.pfr_capture.specs.declared.capture.Form.{Form}
 use Rattle.pfr_capture.specs.declared.capture.Tail.{Tail}
@@ -121,7 +121,7 @@ pub record GivenFirst (reading : Reading) (given : List RecordBytes) (form : For
   pub form_is : form ≡ reading.form
   pub first : IsFront given records
 
-same_ok : {A B : Type 0} (r : Result A B) (a b : A) → r ≡ Ok a → r ≡ Ok b → a ≡ b
+pub same_ok : {A B : Type 0} (r : Result A B) (a b : A) → r ≡ Ok a → r ≡ Ok b → a ≡ b
 same_ok r a b e f = cc
 
 pub given_first : (reading : Reading) (read more : List ℕ) (given : List RecordBytes) (form : Form) (records : List RecordBytes) (ending : Result Tail CaptureError) → HasGiven reading read given → IsCapture (read ++ more) form records ending → GivenFirst reading given form records

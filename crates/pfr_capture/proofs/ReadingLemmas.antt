@@ -3,6 +3,7 @@ use Rattle.std.proofs.Common.{◌≡◌, ℕ, zero, suc, ◌+◌, ◌^◌, ◌<�
 use Rattle.std.specs.List.{flat_map, All}
 use Rattle.std.proofs.lemmas.List.{append_assoc, take-append-drop, take-append-le, length-append, length-take-le, length-drop, drop-drop, flat_map_more, length_push}
 use Rattle.std.proofs.lemmas.List.Elements.{All-append, All-nil}
+use Rattle.pfr_capture.specs.declared.order.ByteOrder.{ByteOrder}
 use Rattle.pfr_capture.specs.declared.capture.Form.{Form}
 use Rattle.pfr_capture.specs.declared.capture.Record.{Record}
 use Rattle.pfr_capture.specs.declared.capture.CaptureError.{CaptureError}
@@ -46,27 +47,27 @@ opens text ahead left reading c long header behind says none = record {
 }
 
 -- a record's parts, as they stand at the front of the bytes ahead
-parts : (captured : ℕ) (ahead : List ℕ) → 16 + captured ≤ length ahead → (take 16 ahead ++ take captured (drop 16 ahead)) ++ drop (16 + captured) ahead ≡ ahead
+pub parts : (captured : ℕ) (ahead : List ℕ) → 16 + captured ≤ length ahead → (take 16 ahead ++ take captured (drop 16 ahead)) ++ drop (16 + captured) ahead ≡ ahead
 parts captured ahead whole =
     let rest : take captured (drop 16 ahead) ++ drop (16 + captured) ahead ≡ drop 16 ahead =
     rw (← drop-drop captured 16 ahead) (take-append-drop captured (drop 16 ahead)) in
     append_assoc (take 16 ahead) (take captured (drop 16 ahead)) (drop (16 + captured) ahead)
     ∙ (rw rest (take-append-drop 16 ahead))
 
-pub found_record : (form : Form) (count captured : ℕ) (ahead : List ℕ) (r : Record) → HasHeader form.order count ahead captured → 16 + captured ≤ length ahead → r.header ≡ take 16 ahead → r.bytes.items ≡ take captured (drop 16 ahead) → IsRecord form.order (bytes_of r)
-found_record form count captured ahead r h whole header bytes =
+-- the record at the front of bytes whose header is there and that hold what it asks for
+pub record_at_front : (order : ByteOrder) (captured : ℕ) (ahead : List ℕ) → captured_of order ahead ≡ captured → captured ≤ 262144 → 16 + captured ≤ length ahead → IsRecord order (record { header = take 16 ahead; bytes = take captured (drop 16 ahead) })
+record_at_front order captured ahead asks within whole =
     let room : captured ≤ length (drop 16 ahead) = omega (arith, length-drop 16 ahead) in
     let long : length (take 16 ahead) ≡ 16 = length-take-le 16 ahead (omega arith) in
     let short : length (take captured (drop 16 ahead)) ≡ captured = length-take-le captured (drop 16 ahead) room in
-    let asks : captured_of form.order (take 16 ahead) ≡ captured =
-    sym (captured_of-append form.order (take 16 ahead) (drop 16 ahead) (omega arith))
-    ∙ (rw (take-append-drop 16 ahead) h.asks) in
-    let within = h.within in
-    record {
-      header_length = rw header long;
-      captured = rw (bytes, header, asks) short;
-      within = rw (bytes, short) within;
-    }
+    let asks' : captured_of order (take 16 ahead) ≡ captured =
+    sym (captured_of-append order (take 16 ahead) (drop 16 ahead) (omega arith))
+    ∙ (rw (take-append-drop 16 ahead) asks) in
+    record { header_length = long; captured = rw asks' short; within = rw short within }
+
+pub found_record : (form : Form) (count captured : ℕ) (ahead : List ℕ) (r : Record) → HasHeader form.order count ahead captured → 16 + captured ≤ length ahead → r.header ≡ take 16 ahead → r.bytes.items ≡ take captured (drop 16 ahead) → IsRecord form.order (bytes_of r)
+found_record form count captured ahead r h whole header bytes =
+    rw (header, bytes) (record_at_front form.order captured ahead h.asks h.within whole)
 
 pub taken_record : (old new before left ahead : List ℕ) (captured : ℕ) (r : Record) → CameBehind old ahead before left → 16 + captured ≤ length ahead → r.header ≡ take 16 ahead → r.bytes.items ≡ take captured (drop 16 ahead) → new ≡ drop (16 + captured) ahead → Takes old new before left (text_of (bytes_of r))
 taken_record old new before left ahead captured r c whole header bytes behind = record {

@@ -10,6 +10,7 @@
 
 pub mod capture;
 pub mod device;
+pub mod laws;
 pub mod memory;
 pub mod order;
 mod pieces;
