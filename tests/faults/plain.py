@@ -20,7 +20,7 @@ ENDINGS = ("whole", "shorter input", "read failed", "cannot open", "write failed
 
 # a cut read or write changes nothing; what an input that ends early or a lost message leaves is judged apart
 LAWFUL = {
-    (MEMORY, "fail"): {"whole", "no memory", "cannot open"},
+    (MEMORY, "fail"): {"whole", "no memory"},
     (CAPTURE, "fail"): {"read failed"},
     (RULES, "fail"): {"cannot open"},
     (VERDICTS, "fail"): {"write failed"},
