@@ -64,10 +64,9 @@ same_after order r s x y ir is e = same_rests (text_of r) (text_of s) x y e (sam
 record_is : (order : ByteOrder) (r : RecordBytes) (x rest : List ℕ) → IsRecord order r → rest ≡ text_of r ++ x → (length rest ≡ 16 + length r.bytes + length x) × (captured_of order rest ≡ length r.bytes)
 record_is order r x rest ir is =
     let header = ir.header_length in
-    let split : rest ≡ r.header ++ (r.bytes ++ x) = is ∙ append_assoc r.header r.bytes x in
-    (
+    let split : rest ≡ r.header ++ (r.bytes ++ x) = is ∙ append_assoc r.header r.bytes x in (
       rw split (omega (arith, length-append r.header (r.bytes ++ x), length-append r.bytes x)),
-      rw split (captured_of-append order r.header (r.bytes ++ x) (omega arith) ∙ sym ir.captured)
+      rw split (captured_of-append order r.header (r.bytes ++ x) (omega arith) ∙ sym ir.captured),
     )
 
 -- where a record stands, a capture does not end
@@ -139,7 +138,7 @@ given_first reading read more given form records ending h c =
     let at_most = h.at_most in
     record {
       form_is = form_is;
-      first = first_records reading.form.order given records _ c.rest 0 ending h.each (rw (← form_is) c.each) bodies (rw (← form_is, zero-add) c.ends) (omega arith)
+      first = first_records reading.form.order given records _ c.rest 0 ending h.each (rw (← form_is) c.each) bodies (rw (← form_is, zero-add) c.ends) (omega arith);
     }
 
 -- an opened reader has the form that the text's beginning says

@@ -93,7 +93,7 @@ ends_here order k text ending within ends = record {
   is = refl;
   each = All-nil (IsRecord order);
   within = omega arith;
-  ends = subst (λ (n : ℕ). EndsAs order n text ending) (sym (add-zero k)) ends
+  ends = subst (λ (n : ℕ). EndsAs order n text ending) (sym (add-zero k)) ends;
 }
 
 All-cons : {X : Type 0} (P : X → Type 0) (x : X) (xs : List X) → P x → All P xs → All P (x ∷ xs)
@@ -111,7 +111,7 @@ one_more order k text r behind is ir g =
       is = is ∙ ap (λ (t : List ℕ). text_of r ++ t) g.is ∙ sym (append_assoc (text_of r) (flat_map text_of g.records) g.rest);
       each = All-cons (IsRecord order) r g.records ir g.each;
       within = omega arith;
-      ends = subst (λ (n : ℕ). EndsAs order n g.rest g.ending) count g.ends
+      ends = subst (λ (n : ℕ). EndsAs order n g.rest g.ending) count g.ends;
     }
 
 -- every text goes on in some way
@@ -127,10 +127,10 @@ goes_on (suc fuel) order k (b ∷ text) small within = elim (cases_lt k (2 ^ 40)
       | inr allowed ↦ elim (cases_lt (length (b ∷ text)) (16 + captured_of order (b ∷ text))) [
         | inl part ↦ ends_here order k (b ∷ text) (Ok Cut) within (record { some = omega arith; allowed = λ m h. allowed; part = λ m h. part })
         | inr whole ↦
-          let n = captured_of order (b ∷ text) in
-          let behind = drop (16 + n) (b ∷ text) in
-          let fewer : length behind ≤ fuel = omega (arith, length-drop (16 + n) (b ∷ text)) in
-          one_more order k (b ∷ text) (record { header = take 16 (b ∷ text); bytes = take n (drop 16 (b ∷ text)) }) behind (sym (parts n (b ∷ text) whole)) (record_at_front order n (b ∷ text) refl allowed whole) (goes_on fuel order (suc k) behind fewer (omega arith))
+            let n = captured_of order (b ∷ text) in
+            let behind = drop (16 + n) (b ∷ text) in
+            let fewer : length behind ≤ fuel = omega (arith, length-drop (16 + n) (b ∷ text)) in
+            one_more order k (b ∷ text) (record { header = take 16 (b ∷ text); bytes = take n (drop 16 (b ∷ text)) }) behind (sym (parts n (b ∷ text) whole)) (record_at_front order n (b ∷ text) refl allowed whole) (goes_on fuel order (suc k) behind fewer (omega arith))
       ]
     ]
   ]
@@ -140,17 +140,20 @@ opened : (text : List ℕ) (form : Form) (short : Bool) → ltb (length text) 24
 opened text form true is opening = absurd (cc)
 opened text form false is opening =
     let long = ltb-false (length text) 24 is in
-    let g = goes_on (length (drop 24 text)) form.order 0 (drop 24 text) (omega arith) (omega arith) in
-    (g.records, g.ending, record {
-      header = take 24 text;
-      rest = g.rest;
-      whole = sym (take-append-drop 24 text) ∙ ap (λ (t : List ℕ). take 24 text ++ t) g.is;
-      header_length = length-take-le 24 text long;
-      says = opening;
-      each = g.each;
-      at_most = let within = g.within in omega arith;
-      ends = subst (λ (n : ℕ). EndsAs form.order n g.rest g.ending) (zero-add (length g.records)) g.ends
-    })
+    let g = goes_on (length (drop 24 text)) form.order 0 (drop 24 text) (omega arith) (omega arith) in (
+      g.records,
+      g.ending,
+      record {
+        header = take 24 text;
+        rest = g.rest;
+        whole = sym (take-append-drop 24 text) ∙ ap (λ (t : List ℕ). take 24 text ++ t) g.is;
+        header_length = length-take-le 24 text long;
+        says = opening;
+        each = g.each;
+        at_most = let within = g.within in omega arith;
+        ends = subst (λ (n : ℕ). EndsAs form.order n g.rest g.ending) (zero-add (length g.records)) g.ends;
+      },
+    )
 
 -- an accepted header begins a capture
 pub every_capture : (text : List ℕ) (form : Form) → opening_of text ≡ Ok form → (records : List RecordBytes) × (ending : Result Tail CaptureError) × IsCapture text form records ending

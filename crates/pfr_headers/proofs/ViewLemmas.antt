@@ -45,7 +45,7 @@ header_from bytes e =
       within_total = ltb-false _ _ all.1;
       protocol = refl;
       source = refl;
-      destination = refl
+      destination = refl;
     }
 
 of_fields : ℕ → ℕ → ℕ → ℕ → ℕ → Packet
@@ -54,7 +54,7 @@ of_fields header_length total_length protocol source destination = record {
   total_length = total_length;
   protocol = record { 0 = protocol };
   source = record { 0 = source };
-  destination = record { 0 = destination }
+  destination = record { 0 = destination };
 }
 
 fields_are : (bytes : List ℕ) (p : Packet) → IsHeader bytes p → p ≡ packet_of bytes

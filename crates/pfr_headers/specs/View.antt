@@ -58,7 +58,7 @@ packet_of bytes = record {
   total_length = total_length_of bytes;
   protocol = record { 0 = slice_index bytes 9 };
   source = record { 0 = big_number 4 (drop 12 bytes) };
-  destination = record { 0 = big_number 4 (drop 16 bytes) }
+  destination = record { 0 = big_number 4 (drop 16 bytes) };
 }
 
 unfoldable pub view_of : ℕ → List ℕ → View

@@ -7,5 +7,4 @@ ghost use Rattle.pfr_headers.specs.View.{IsView, view_of};
 pub fn one_view()
     ensures only { (link : ℕ) (bytes : List ℕ) (v : View) → IsView link bytes v → v ≡ view_of link bytes }
     ensures some { (link : ℕ) (bytes : List ℕ) → IsView link bytes (view_of link bytes) }
-{
-}
+{}

@@ -59,7 +59,5 @@ pub(crate) fn address(text: &[u8]) -> Option<Ipv4Address>
     let second = number(255, second)?;
     let third = number(255, third)?;
     let fourth = number(255, fourth)?;
-    Some(Ipv4Address(
-        16777216 * first + 65536 * second + 256 * third + fourth,
-    ))
+    Some(Ipv4Address(16777216 * first + 65536 * second + 256 * third + fourth))
 }

@@ -2,10 +2,9 @@
 ghost use Rattle.std.specs.Prelude.{◌≡◌, ◌≤◌, length, Some, None, if◌then◌else◌};
 ghost use Rattle.pfr_headers.specs.View.{IsView, has_header, is_ipv4, packet_of, view_of};
 
-use byteorder::{BigEndian, ByteOrder};
-
 use crate::address::Ipv4Address;
 use crate::packet::{Packet, Protocol, View};
+use byteorder::{BigEndian, ByteOrder};
 
 /// The link type of captures of raw IP: each frame is an IP packet (LINKTYPE_RAW).
 const RAW: u16 = 101;

@@ -39,8 +39,8 @@ pub struct Judgement {
 }
 
 impl Judgement {
-    #[tactic(auto, unfolding(crate::specs::Lines::judgement_of))]
     /// What becomes of a packet under a ruleset, by what its frame is.
+    #[tactic(auto, unfolding(crate::specs::Lines::judgement_of))]
     pub fn of(
         alloc: Global,
         rules: &Ruleset,

@@ -65,8 +65,8 @@ same_at p xs k d e b below h = rw (← get_or_default xs k d e below) h
 past_last : {X : Type 0} (p : X → Bool) (x : X) (xs : List X) (reached : ℕ) → AllWithin (λ x. p x ≡ false) xs 0 (reached - 1) → reached ≡ length xs → (last : Bool) → p (get_or xs (reached - 1) x) ≡ last → reached ≡ up_to (first_place p xs) (length xs)
 past_last p x xs reached before all true last = elim (cases_lt 0 reached) [
   | inl some ↦
-    let found = first_some p xs (reached - 1) (omega arith) (λ d. same_at p xs (reached - 1) x d true (omega arith) last) (λ k d below. before k d (omega arith) below) in
-    rw found (omega arith)
+      let found = first_some p xs (reached - 1) (omega arith) (λ d. same_at p xs (reached - 1) x d true (omega arith) last) (λ k d below. before k d (omega arith) below) in
+      rw found (omega arith)
   | inr none ↦ let empty : first_place p xs ≡ None = first_none p xs (λ k d below. absurd (omega arith)) in rw empty all
 ]
 past_last p x xs reached before all false last =
@@ -81,10 +81,10 @@ past_last p x xs reached before all false last =
 just_past : {X : Type 0} (p : X → Bool) (x : X) (xs : List X) (reached : ℕ) → AllWithin (λ x. p x ≡ false) xs 0 (reached - 1) → reached ≤ length xs → (reached < length xs → (0 < reached) × HoldsAt (λ x. p x ≡ true) xs (reached - 1)) → reached ≡ up_to (first_place p xs) (length xs)
 just_past p x xs reached before within stop = elim (cases_lt reached (length xs)) [
   | inl less ↦
-    let at = stop less in
-    let some = at.0 in
-    let found = first_some p xs (reached - 1) (omega arith) at.1 (λ k d below. before k d (omega arith) below) in
-    rw found (omega arith)
+      let at = stop less in
+      let some = at.0 in
+      let found = first_some p xs (reached - 1) (omega arith) at.1 (λ k d below. before k d (omega arith) below) in
+      rw found (omega arith)
   | inr all ↦ past_last p x xs reached before (omega arith) _ refl
 ]
 

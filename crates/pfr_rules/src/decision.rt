@@ -2,9 +2,8 @@
 ghost use Rattle.std.specs.Prelude.{◌≡◌};
 ghost use Rattle.pfr_rules.specs.Numbers.{numbers_below};
 
-use std::marker::Model;
-
 use crate::rule::{Action, RuleNumber};
+use std::marker::Model;
 
 /// What becomes of a packet, and by which rule. No rule means that none matched.
 #[derive(Clone, Copy, Debug, PartialEq, Eq)]

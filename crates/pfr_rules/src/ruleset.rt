@@ -1,10 +1,9 @@
 //! A list of filter rules.
 ghost use Rattle.std.specs.Prelude.{◌≡◌, [], ◌∷◌, ◌++◌, OnOk, OnErr};
 
+use crate::rule::Rule;
 use std::alloc::{AllocError, Global};
 use std::marker::Model;
-
-use crate::rule::Rule;
 
 /// The filter rules of a ruleset, in the order in which they are written. Contracts see the list.
 #[derive(Debug, Drop)]

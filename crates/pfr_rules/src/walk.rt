@@ -4,12 +4,11 @@ ghost use Rattle.std.specs.Option.{ForSome};
 ghost use Rattle.pfr_rules.specs.Filter.{Decides, IsReach, decision_by, decision_of, visited};
 ghost use Rattle.pfr_rules.specs.Rules.{matches};
 
-use std::alloc::{AllocError, Global};
-
 use crate::decision::{Decision, Visits};
 use crate::rule::{Action, Rule, RuleNumber};
 use crate::ruleset::Ruleset;
 use pfr_headers::{Direction, Packet};
+use std::alloc::{AllocError, Global};
 
 impl Rule {
     /// Whether all that the rule writes holds of the packet.
@@ -20,7 +19,9 @@ impl Rule {
     {
         self.direction.is_none_or(|d| d == direction)
             && self.source.is_none_or(|net| net.holds(packet.source))
-            && self.destination.is_none_or(|net| net.holds(packet.destination))
+            && self
+                .destination
+                .is_none_or(|net| net.holds(packet.destination))
     }
 }
 
