@@ -16,6 +16,8 @@ pub mod order;
 mod pieces;
 pub mod reader;
 pub mod stream;
+#[cfg(test)]
+mod tests;
 pub mod transfer;
 
 pub use capture::{CaptureError, Form, Record, Resolution, Tail};

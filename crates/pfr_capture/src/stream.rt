@@ -13,7 +13,9 @@ pub struct ReaderSource<R: Read + Drop> {
 }
 
 impl<R: Read + Drop> ReaderSource<R> {
-    pub fn new(reader: R) -> ReaderSource<R> {
+    pub fn new(reader: R) -> ReaderSource<R>
+        ensures { ⟦<ReaderSource<R> as Source>⟧.failures result ≡ 0 }
+    {
         ReaderSource {
             reader,
             failures: 0,
@@ -51,7 +53,9 @@ pub struct WriterSink<W: Write + Drop> {
 }
 
 impl<W: Write + Drop> WriterSink<W> {
-    pub fn new(writer: W) -> WriterSink<W> {
+    pub fn new(writer: W) -> WriterSink<W>
+        ensures { ⟦<WriterSink<W> as Sink>⟧.failures result ≡ 0 }
+    {
         WriterSink {
             writer,
             failures: 0,

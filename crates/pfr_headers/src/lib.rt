@@ -10,6 +10,8 @@ pub mod network;
 mod notation;
 pub mod packet;
 mod reading;
+#[cfg(test)]
+mod tests;
 mod way;
 
 pub use address::Ipv4Address;

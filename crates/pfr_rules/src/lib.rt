@@ -8,6 +8,8 @@
 pub mod decision;
 pub mod rule;
 pub mod ruleset;
+#[cfg(test)]
+mod tests;
 mod walk;
 
 pub use decision::{Decision, Visits};
