@@ -28,8 +28,18 @@ fn last_match_decides_unless_quick(rt: HostRuntime) -> Result<(), Fail> {
         ..block_in
     })?;
     for (source, direction, rule, action) in [
-        (0xc633_6407, Direction::In, Some(RuleNumber(1)), Action::Pass),
-        (0xcb00_7109, Direction::In, Some(RuleNumber(0)), Action::Block),
+        (
+            0xc633_6407,
+            Direction::In,
+            Some(RuleNumber(1)),
+            Action::Pass,
+        ),
+        (
+            0xcb00_7109,
+            Direction::In,
+            Some(RuleNumber(0)),
+            Action::Block,
+        ),
         (0xc633_6407, Direction::Out, None, Action::Pass),
     ] {
         let packet = Packet {
