@@ -1,6 +1,6 @@
 //! A device over bytes in memory, which can be told to move few bytes a call and to fail.
-ghost use Rattle.std.specs.Prelude.{◌≡◌, ◌≤◌, ◌<◌, ◌+◌, ◌-◌, ◌++◌, List, ℕ, Bool, true, [], length, min, drop, vec_len, IsTrue, IfOk, OnOk, None, Some};
-ghost use Rattle.pfr_capture.specs.Device.{one_more};
+ghost use Rattle.std.specs.Prelude.{◌≡◌, ◌≤◌, ◌<◌, ◌+◌, ◌-◌, ◌++◌, List, ℕ, Bool, true, [], length, min, drop, vec_len, IsTrue, IfOk, IsErr, OnOk, None, Some};
+ghost use Rattle.pfr_capture.specs.Device.{moved, one_more, after_read, after_write};
 ghost use Rattle.pfr_capture.specs.Memory.{fails_first, after_call};
 
 use crate::device::{Fault, Sink, Source};
@@ -100,7 +100,15 @@ impl Source for Mem {
 
     ghost failures = { λ m. m.failures };
 
-    fn read(&mut self, buffer: &mut [u8]) -> Result<usize, Fault> {
+    fn read(&mut self, buffer: &mut [u8]) -> Result<usize, Fault>
+        ensures unread { drop self.old.place self.old.bytes ≡ moved result buffer.new ++ drop self.new.place self.new.bytes }
+        ensures within { IfOk result (λ count. count ≤ length buffer.old) }
+        ensures end { IfOk result (λ count. count ≡ 0 → 0 < length buffer.old → drop self.old.place self.old.bytes ≡ []) }
+        ensures failures { self.new.failures ≡ after_read result self.old.failures }
+        ensures counted { self.new.until_failure ≡ after_call self.old.until_failure }
+        ensures fails { IsTrue (fails_first self.old.until_failure) → IsErr result }
+        ensures most { IfOk result (λ count. count ≤ self.old.most) }
+    {
         if self.fails_now() {
             return Err(self.fail());
         }
@@ -128,7 +136,14 @@ impl Sink for Mem {
     ghost failures = { λ m. m.failures };
 
     /// Want of memory is a failure like any other.
-    fn write(&mut self, piece: &[u8]) -> Result<usize, Fault> {
+    fn write(&mut self, piece: &[u8]) -> Result<usize, Fault>
+        ensures within { IfOk result (λ count. count ≤ length piece.now) }
+        ensures written { self.new.bytes ≡ self.old.bytes ++ moved result piece.now }
+        ensures failures { self.new.failures ≡ after_write result piece.now self.old.failures }
+        ensures counted { self.new.until_failure ≡ after_call self.old.until_failure }
+        ensures fails { IsTrue (fails_first self.old.until_failure) → IsErr result }
+        ensures most { IfOk result (λ count. count ≤ self.old.most) }
+    {
         if self.fails_now() {
             return Err(self.fail());
         }

@@ -5,7 +5,6 @@ use Rattle.pfr_capture.proofs.memory.MemSource.read.Goals as goal
 
 pub returns-clause-unread : goal.returns-clause-unread
 returns-clause-unread c =
-    λ told.
     let bytes : c.args.self.now.bytes ≡ c.self.inside.bytes.items =
     sym (ap (λ (m : Memory). m.bytes) c.self.view_is ∙ ap (λ (m : Memory). m.bytes) c.fails_now.ensures.counted) in
     let place : c.args.self.now.place ≡ c.self.inside.place =
