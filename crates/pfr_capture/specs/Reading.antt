@@ -91,6 +91,12 @@ RefusesHeader text Read = ⊤
 RefusesHeader text Memory = ⊤
 RefusesHeader text e = opening_of text ≡ Err e
 
+-- where reading failed or memory was refused, not all of the header's 24 bytes had come
+abbrev pub StopsEarly : List ℕ → List ℕ → CaptureError → Type 0
+StopsEarly before left Read = length before < 24 + length left
+StopsEarly before left Memory = length before < 24 + length left
+StopsEarly before left e = ⊤
+
 -- a record is refused as too long where the capture ends so
 abbrev pub Refuses : Reading → List ℕ → CaptureError → Type 0
 Refuses reading before (RecordTooLong asked) = EndsCapture reading before (Err (RecordTooLong asked))

@@ -15,15 +15,17 @@ pub mod memory;
 pub mod order;
 mod pieces;
 pub mod reader;
-pub mod stream;
+pub mod reader_source;
 #[cfg(test)]
 mod tests;
 pub mod transfer;
+pub mod writer_sink;
 
 pub use capture::{CaptureError, Form, Record, Resolution, Tail};
 pub use device::{Fault, Sink, Source};
 pub use memory::Mem;
 pub use order::ByteOrder;
 pub use reader::Capture;
-pub use stream::{ReaderSource, WriterSink};
+pub use reader_source::ReaderSource;
 pub use transfer::write_all;
+pub use writer_sink::WriterSink;

@@ -82,6 +82,7 @@ impl Pieces {
         ensures filled { IfOk result (λ filled. filled ≡ true → wanted ≤ length self.new) }
         ensures end { IfOk result (λ filled. filled ≡ false → (length self.new < wanted) × (IsTrue (S.told source.old) → S.unread source.new ≡ [])) }
         ensures ok { OnOk result (S.failures source.new ≡ S.failures source.old) }
+        ensures early { OnErr result (length self.new < wanted) }
         ensures failed { IfErr result (λ e. FailsBy e (S.failures source.old) (S.failures source.new)) }
     {
         while self.bytes().len() < wanted {

@@ -2,7 +2,7 @@
 ghost use Rattle.std.specs.Prelude.{◌≡◌, ◌≤◌, ◌+◌, ◌^◌, ◌++◌, take, drop, length, None, IsTrue, IfOk, IfErr, IfNone, IfSome, OnOk, OnErr};
 ghost use Rattle.pfr_capture.specs.Ahead.{CameBehind};
 ghost use Rattle.pfr_capture.specs.Header.{form_of, is_known_link, link_of, magic_of, resolution_of, version_of};
-ghost use Rattle.pfr_capture.specs.Reading.{Answers, EndsCapture, FieldsOf, Gave, NextFails, OpenFails, Opens, ReadsOn, Refuses, RefusesHeader, answer_again, given_by, tail_of};
+ghost use Rattle.pfr_capture.specs.Reading.{Answers, EndsCapture, FieldsOf, Gave, NextFails, OpenFails, Opens, ReadsOn, Refuses, RefusesHeader, StopsEarly, answer_again, given_by, tail_of};
 ghost use Rattle.pfr_capture.specs.Stepping.{IsHeaderFault, IsWhole, LookEnds, LookSays, StepSays, StepEnds, StepRefuses, Takes, taken_by};
 
 use crate::capture::{CaptureError, Form, Record, Resolution, Tail};
@@ -68,6 +68,7 @@ impl Capture {
         ensures starts { IfOk result (λ capture. (capture.over ≡ None) × (capture.count ≡ 0)) }
         ensures ok { OnOk result (S.failures source.new ≡ S.failures source.old) }
         ensures read { OnErr result (IsTrue (S.told source.old) → Gave (S.unread source.old) (S.unread source.new)) }
+        ensures early { IfErr result (λ e. IsTrue (S.told source.old) → StopsEarly (S.unread source.old) (S.unread source.new) e) }
         ensures refused { IfErr result (λ e. IsTrue (S.told source.old) → RefusesHeader (S.unread source.old) e) }
         ensures failed { IfErr result (λ e. OpenFails e (S.failures source.old) (S.failures source.new)) }
     {
