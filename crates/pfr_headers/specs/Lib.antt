@@ -1,3 +1,5 @@
 pub mod Address
 pub mod Notation
+pub mod TcpOptions
+pub mod Transport
 pub mod View

@@ -1,20 +1,34 @@
 //! The headers of captured packets, as data.
 //!
-//! [`view`] says what a frame of a capture is: an IPv4 packet, by the fields of its header, one that is
+//! [`view`] says what a frame of a capture is: an IPv4 packet, by the fields of its headers, one that is
 //! too short, or something else. [`Direction::of`] says which way a packet goes, by the inside networks.
 #![tactic(auto)]
 
 pub mod address;
+mod frame;
+pub mod icmp;
 pub mod laws;
+mod message;
 pub mod network;
 mod notation;
 pub mod packet;
+pub mod port;
 mod reading;
+mod segment;
+pub mod tcp;
+mod tcp_options;
 #[cfg(test)]
 mod tests;
+pub mod transport;
+pub mod udp;
 mod way;
 
 pub use address::Ipv4Address;
+pub use icmp::{IcmpHeader, IcmpMessage, IcmpType, Inner};
 pub use network::Net;
 pub use packet::{Direction, Packet, Protocol, View};
+pub use port::Port;
 pub use reading::view;
+pub use tcp::{TcpFlags, TcpHeader};
+pub use transport::Transport;
+pub use udp::UdpHeader;

@@ -1,11 +1,23 @@
 //! What a frame of a capture is.
+ghost use Rattle.std.specs.Prelude.{◌≡◌};
+ghost use Rattle.pfr_headers.specs.View.{has_options};
+
 use crate::address::Ipv4Address;
+use crate::transport::Transport;
 
 /// The protocol that an IPv4 packet carries, by its number.
 #[derive(Clone, Copy, Debug, PartialEq, Eq, PartialOrd, Ord, Hash)]
 pub struct Protocol(pub u8);
 
-/// An IPv4 packet, by its header (RFC 791, section 3.1).
+impl Protocol {
+    pub const ICMP: Protocol = Protocol(1);
+
+    pub const TCP: Protocol = Protocol(6);
+
+    pub const UDP: Protocol = Protocol(17);
+}
+
+/// An IPv4 packet, by its headers (RFC 791, section 3.1).
 #[derive(Clone, Copy, Debug, PartialEq, Eq)]
 pub struct Packet {
     /// The header's length in bytes, options included: 20 to 60.
@@ -15,16 +27,27 @@ pub struct Packet {
     pub protocol: Protocol,
     pub source: Ipv4Address,
     pub destination: Ipv4Address,
+    pub transport: Transport,
+}
+
+impl Packet {
+    /// Whether its header has options.
+    #[inline]
+    pub fn has_options(&self) -> bool
+        ensures { result ≡ has_options self.now }
+    {
+        self.header_length > 20
+    }
 }
 
 /// What a frame of a capture is.
 #[derive(Clone, Copy, Debug, PartialEq, Eq)]
 pub enum View {
-    /// An IPv4 packet whose header was captured whole.
+    /// An IPv4 packet whose headers were captured whole.
     Ipv4(Packet),
     /// No IPv4 packet.
     Skip,
-    /// An IPv4 packet whose header was not captured whole or contradicts itself.
+    /// An IPv4 packet whose headers were not captured whole or contradict themselves.
     Short,
 }
 

@@ -1,61 +1,102 @@
 //! From the bytes of a frame to its view.
-ghost use Rattle.std.specs.Prelude.{◌≡◌, ◌≤◌, length, Some, None, if◌then◌else◌};
-ghost use Rattle.pfr_headers.specs.View.{IsView, has_header, is_ipv4, packet_of, view_of};
+ghost use Rattle.std.specs.Prelude.{◌≡◌, ◌≤◌, true, length};
+ghost use Rattle.pfr_headers.specs.View.{fields_of, has_header, is_fragment, packet_of, transport_behind, view_of};
 
 use crate::address::Ipv4Address;
+use crate::frame::datagram_place;
 use crate::packet::{Packet, Protocol, View};
+use crate::segment::transport;
+use crate::transport::Transport;
 use byteorder::{BigEndian, ByteOrder};
-
-/// The link type of captures of raw IP: each frame is an IP packet (LINKTYPE_RAW).
-const RAW: u16 = 101;
 
 /// The least length of an IPv4 header.
 const LEAST_HEADER: usize = 20;
 
-/// What a frame is, by the link type of its capture and the bytes that were captured of it. Of the link
-/// types, raw IP alone is known yet: a frame of another is no IPv4 packet.
+/// What a frame is, by the link type of its capture (0 BSD loopback, 1 Ethernet, 101 raw IP; a frame of any other
+/// is no IPv4 packet) and the bytes that were captured of it.
 #[inline]
 #[tactic(auto, unfolding(crate::specs::View::view_of))]
 pub fn view(link: u16, bytes: &[u8]) -> View
-    ensures is_view { IsView link bytes.now result }
-    ensures view { result ≡ view_of link bytes.now }
+    ensures { result ≡ view_of link bytes.now }
 {
-    if !is_ipv4(link, bytes) {
-        return View::Skip;
-    }
-    match header(bytes) {
-        Some(packet) => View::Ipv4(packet),
-        None => View::Short,
+    match datagram_place(link, bytes) {
+        None => View::Skip,
+        Some(place) => match packet(&bytes[place..]) {
+            None => View::Short,
+            Some(packet) => View::Ipv4(packet),
+        },
     }
 }
 
-/// Whether a frame holds an IPv4 packet.
+/// The packet whose headers stand at the front of a datagram.
 #[inline]
-fn is_ipv4(link: u16, bytes: &[u8]) -> bool
-    ensures { result ≡ is_ipv4 link bytes.now }
+#[tactic(auto, unfolding(crate::specs::View::packet_of))]
+fn packet(datagram: &[u8]) -> Option<Packet>
+    ensures { result ≡ packet_of datagram.now }
 {
-    link == RAW && !bytes.is_empty() && bytes[0] / 16 == 4
+    if !has_header(datagram) {
+        return None;
+    }
+    let transport = transport_behind(datagram)?;
+    Some(with_fields(datagram, transport))
 }
 
-/// The packet whose header stands at the front.
+/// What stands behind the IPv4 header at the front of a datagram.
 #[inline]
-fn header(bytes: &[u8]) -> Option<Packet>
-    ensures { result ≡ (if has_header bytes.now then Some (packet_of bytes.now) else None) }
+#[tactic(auto, unfolding(crate::specs::View::transport_behind))]
+fn transport_behind(datagram: &[u8]) -> Option<Transport>
+    requires { has_header datagram.now ≡ true }
+    ensures { result ≡ transport_behind datagram.now }
 {
-    if bytes.len() < LEAST_HEADER {
-        return None;
+    let header_length = 4 * (datagram[0] % 16);
+    let total_length = BigEndian::read_u16(&datagram[2..]);
+    let fragment = is_fragment(datagram);
+    let whole = total_length - u16::from(header_length);
+    transport(
+        datagram[9],
+        fragment,
+        whole,
+        &datagram[usize::from(header_length)..],
+    )
+}
+
+/// The packet with this transport, and with the fields of the IPv4 header at the front of a datagram.
+#[inline]
+#[tactic(auto, unfolding(crate::specs::View::fields_of))]
+fn with_fields(datagram: &[u8], transport: Transport) -> Packet
+    requires { has_header datagram.now ≡ true }
+    ensures { result ≡ fields_of datagram.now transport }
+{
+    Packet {
+        header_length: 4 * (datagram[0] % 16),
+        total_length: BigEndian::read_u16(&datagram[2..]),
+        protocol: Protocol(datagram[9]),
+        source: Ipv4Address(BigEndian::read_u32(&datagram[12..])),
+        destination: Ipv4Address(BigEndian::read_u32(&datagram[16..])),
+        transport,
     }
-    let header_length = 4 * (bytes[0] % 16);
-    let total_length = BigEndian::read_u16(&bytes[2..]);
-    let least = usize::from(header_length);
-    if least < LEAST_HEADER || bytes.len() < least || usize::from(total_length) < least {
-        return None;
+}
+
+/// Whether a whole IPv4 header stands at the front, and goes with itself.
+#[inline]
+fn has_header(datagram: &[u8]) -> bool
+    ensures { result ≡ has_header datagram.now }
+{
+    if datagram.len() < LEAST_HEADER || datagram[0] / 16 != 4 {
+        return false;
     }
-    Some(Packet {
-        header_length,
-        total_length,
-        protocol: Protocol(bytes[9]),
-        source: Ipv4Address(BigEndian::read_u32(&bytes[12..])),
-        destination: Ipv4Address(BigEndian::read_u32(&bytes[16..])),
-    })
+    let header_length = usize::from(4 * (datagram[0] % 16));
+    let total_length = usize::from(BigEndian::read_u16(&datagram[2..]));
+    header_length >= LEAST_HEADER
+        && datagram.len() >= header_length
+        && total_length >= header_length
+}
+
+/// Whether a datagram is a part of a packet: more parts follow or it isn't the first.
+#[inline]
+fn is_fragment(datagram: &[u8]) -> bool
+    requires { 20 ≤ length datagram.now }
+    ensures { result ≡ is_fragment datagram.now }
+{
+    BigEndian::read_u16(&datagram[6..]) % 16384 != 0
 }

@@ -1,0 +1,11 @@
+//! UDP headers.
+use crate::port::Port;
+
+/// A UDP header (RFC 768).
+#[derive(Clone, Copy, Debug, PartialEq, Eq)]
+pub struct UdpHeader {
+    pub source: Port,
+    pub destination: Port,
+    /// The length of what follows the header in bytes, by the packet's total length.
+    pub payload_length: u16,
+}
