@@ -1,2 +1,4 @@
 pub mod NumberLemmas
 pub mod OptionLemmas
+pub mod TransportLemmas
+pub mod ViewLemmas

@@ -99,34 +99,34 @@ IsTransport protocol fragment whole s Other = (fragment ≡ false) × (protocol 
 abbrev pub has_tcp : ℕ → List ℕ → Bool
 has_tcp whole s = not (nat_lt (length s) 20 || (nat_lt (tcp_length_of s) 20 || (nat_lt (length s) (tcp_length_of s) || nat_lt whole (tcp_length_of s))))
 
+abbrev pub tcp_fields : ℕ → List ℕ → TcpHeader
+tcp_fields whole s = record {
+  source = record { 0 = big_number 2 s };
+  destination = record { 0 = big_number 2 (drop 2 s) };
+  sequence = big_number 4 (drop 4 s);
+  acknowledgement = big_number 4 (drop 8 s);
+  header_length = tcp_length_of s;
+  flags = record { 0 = tcp_flags_of s };
+  window = big_number 2 (drop 14 s);
+  window_scale = scale_offered s;
+  payload_length = whole - tcp_length_of s;
+}
+
 unfoldable pub tcp_of : ℕ → List ℕ → Option TcpHeader
-tcp_of whole s =
-    if has_tcp whole s
-    then Some (record {
-      source = record { 0 = big_number 2 s };
-      destination = record { 0 = big_number 2 (drop 2 s) };
-      sequence = big_number 4 (drop 4 s);
-      acknowledgement = big_number 4 (drop 8 s);
-      header_length = tcp_length_of s;
-      flags = record { 0 = tcp_flags_of s };
-      window = big_number 2 (drop 14 s);
-      window_scale = scale_offered s;
-      payload_length = whole - tcp_length_of s;
-    })
-    else None
+tcp_of whole s = if has_tcp whole s then Some (tcp_fields whole s) else None
 
 abbrev pub has_eight : ℕ → List ℕ → Bool
 has_eight whole s = not (nat_lt (length s) 8 || nat_lt whole 8)
 
+abbrev pub udp_fields : ℕ → List ℕ → UdpHeader
+udp_fields whole s = record {
+  source = record { 0 = big_number 2 s };
+  destination = record { 0 = big_number 2 (drop 2 s) };
+  payload_length = whole - 8;
+}
+
 unfoldable pub udp_of : ℕ → List ℕ → Option UdpHeader
-udp_of whole s =
-    if has_eight whole s
-    then Some (record {
-      source = record { 0 = big_number 2 s };
-      destination = record { 0 = big_number 2 (drop 2 s) };
-      payload_length = whole - 8;
-    })
-    else None
+udp_of whole s = if has_eight whole s then Some (udp_fields whole s) else None
 
 -- a packet that an error tells of is there as far as it must be
 abbrev pub has_inner : List ℕ → Bool
@@ -161,11 +161,11 @@ message_of kind s =
     if is_error kind then told_of (inner_of (drop 8 s)) else
     message.Other
 
+abbrev pub icmp_with : List ℕ → IcmpMessage → IcmpHeader
+icmp_with s message = record { kind = record { 0 = slice_index s 0 }; code = slice_index s 1; message = message }
+
 unfoldable pub icmp_of : ℕ → List ℕ → Option IcmpHeader
-icmp_of whole s =
-    if has_eight whole s
-    then Some (record { kind = record { 0 = slice_index s 0 }; code = slice_index s 1; message = message_of (slice_index s 0) s })
-    else None
+icmp_of whole s = if has_eight whole s then Some (icmp_with s (message_of (slice_index s 0) s)) else None
 
 abbrev pub as_tcp : Option TcpHeader → Option Transport
 as_tcp None = None

@@ -1,6 +1,6 @@
 //! From the bytes of a frame to its view.
 ghost use Rattle.std.specs.Prelude.{◌≡◌, ◌≤◌, true, length};
-ghost use Rattle.pfr_headers.specs.View.{fields_of, has_header, is_fragment, packet_of, transport_behind, view_of};
+ghost use Rattle.pfr_headers.specs.View.{IsView, fields_of, has_header, is_fragment, packet_of, transport_behind, view_of};
 
 use crate::address::Ipv4Address;
 use crate::frame::datagram_place;
@@ -17,7 +17,8 @@ const LEAST_HEADER: usize = 20;
 #[inline]
 #[tactic(auto, unfolding(crate::specs::View::view_of))]
 pub fn view(link: u16, bytes: &[u8]) -> View
-    ensures { result ≡ view_of link bytes.now }
+    ensures is_view { IsView link bytes.now result }
+    ensures view { result ≡ view_of link bytes.now }
 {
     match datagram_place(link, bytes) {
         None => View::Skip,
