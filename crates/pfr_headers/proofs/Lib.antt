@@ -1,4 +1,6 @@
 pub mod NumberLemmas
 pub mod OptionLemmas
+pub mod RewritingLemmas
 pub mod TransportLemmas
 pub mod ViewLemmas
+pub mod WordLemmas

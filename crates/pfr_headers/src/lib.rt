@@ -5,6 +5,8 @@
 #![tactic(auto)]
 
 pub mod address;
+pub mod change;
+mod checksum;
 mod frame;
 pub mod icmp;
 pub mod laws;
@@ -14,6 +16,7 @@ mod notation;
 pub mod packet;
 pub mod port;
 mod reading;
+mod rewriting;
 mod segment;
 pub mod tcp;
 mod tcp_options;
@@ -24,11 +27,13 @@ pub mod udp;
 mod way;
 
 pub use address::Ipv4Address;
+pub use change::{Change, End, Endpoint};
 pub use icmp::{IcmpHeader, IcmpMessage, IcmpType, Inner};
 pub use network::Net;
 pub use packet::{Direction, Packet, Protocol, View};
 pub use port::Port;
 pub use reading::view;
+pub use rewriting::rewrite;
 pub use tcp::{TcpFlags, TcpHeader};
 pub use transport::Transport;
 pub use udp::UdpHeader;
