@@ -33,6 +33,10 @@ pub record IsHeader (bytes : List ℕ) (p : Packet) : Type 0 where
   pub source : p.source.0 ≡ big_number 4 (drop 12 bytes)
   pub destination : p.destination.0 ≡ big_number 4 (drop 16 bytes)
 
+-- a header longer than its 20 fixed bytes has options
+abbrev pub has_options : Packet → Bool
+has_options p = nat_lt 20 p.header_length
+
 -- a frame of raw IP holds an IPv4 packet where the first four bits say so
 pub record IsIpv4 (link : ℕ) (bytes : List ℕ) : Type 0 where
   pub raw : link ≡ 101

@@ -1,4 +1,7 @@
 //! What a frame of a capture is.
+ghost use Rattle.std.specs.Prelude.{◌≡◌};
+ghost use Rattle.pfr_headers.specs.View.{has_options};
+
 use crate::address::Ipv4Address;
 
 /// The protocol that an IPv4 packet carries, by its number.
@@ -15,6 +18,16 @@ pub struct Packet {
     pub protocol: Protocol,
     pub source: Ipv4Address,
     pub destination: Ipv4Address,
+}
+
+impl Packet {
+    /// Whether its header has options.
+    #[inline]
+    pub fn has_options(&self) -> bool
+        ensures { result ≡ has_options self.now }
+    {
+        self.header_length > 20
+    }
 }
 
 /// What a frame of a capture is.

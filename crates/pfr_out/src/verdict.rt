@@ -24,8 +24,10 @@ pub enum Reason {
     /// No rule matched.
     Default,
     NotIp,
-    /// The packet's header was not captured whole or contradicts itself.
+    /// The packet's headers were not captured whole or contradict themselves.
     Short,
+    /// The packet would pass, but has IP options (RFC 791, section 3.1), and no rule lets these through.
+    IpOption,
 }
 
 /// What becomes of a packet, and why. The direction is that of an IPv4 packet, and the rule the one that
@@ -70,6 +72,14 @@ impl Judgement {
         };
         let direction = Direction::of(packet, inside);
         let (decision, _visits) = filter(alloc, rules, packet, direction)?;
+        if packet.has_options() && decision.action == Action::Pass {
+            return Ok(Judgement {
+                direction: Some(direction),
+                verdict: Verdict::Block,
+                reason: Reason::IpOption,
+                rule: decision.rule,
+            });
+        }
         Ok(Judgement {
             direction: Some(direction),
             verdict: match decision.action {
@@ -106,6 +116,7 @@ impl fmt::Display for Reason {
             Reason::Default => write!(f, "default"),
             Reason::NotIp => write!(f, "not-ip"),
             Reason::Short => write!(f, "short"),
+            Reason::IpOption => write!(f, "ip-option"),
         }
     }
 }
