@@ -1,6 +1,6 @@
 //! What becomes of a packet, and the line that says so.
 ghost use Rattle.std.specs.Prelude.{◌≡◌, IfOk, Some};
-ghost use Rattle.pfr_out.specs.Lines.{direction_text, judgement_of, line_text, reason_text, rule_text, verdict_text};
+ghost use Rattle.pfr_out.specs.Lines.{direction_text, is_written, judgement_of, line_text, reason_text, rule_text, verdict_text};
 
 use pfr_headers::{Direction, Net, View};
 use pfr_rules::{Action, RuleNumber, Ruleset, filter};
@@ -14,6 +14,18 @@ pub enum Verdict {
     Block,
     /// The packet is no IPv4 packet, and passes unseen.
     Skip,
+}
+
+impl Verdict {
+    /// Whether the packet is written to the packets.
+    pub fn is_written(self) -> bool
+        ensures { result ≡ is_written self }
+    {
+        match self {
+            Verdict::Pass | Verdict::Skip => true,
+            Verdict::Block => false,
+        }
+    }
 }
 
 /// Why.
