@@ -144,8 +144,9 @@ fn replay_capture<R: Source, S: Sink, T: Sink>(
     ensures no_failure { OnOk result (counts (R.failures source.new) (S.failures verdicts.new) (T.failures packets.new) ≡ counts (R.failures source.old) (S.failures verdicts.old) (T.failures packets.old)) }
     ensures failure { IfErr result (λ stop. StopFails stop (counts (R.failures source.old) (S.failures verdicts.old) (T.failures packets.old)) (counts (R.failures source.new) (S.failures verdicts.new) (T.failures packets.new))) }
 {
-    if let Err(Fault) = write_all(packets, &capture.header()) {
-        return Err(Stop::Write(Output::Packets, 0));
+    match write_all(packets, &capture.header()) {
+        Ok(()) => {}
+        Err(Fault) => return Err(Stop::Write(Output::Packets, 0)),
     }
     let mut text = String::new(alloc);
     let mut committed: u64 = 0;
@@ -163,12 +164,12 @@ fn replay_capture<R: Source, S: Sink, T: Sink>(
         };
         let number = committed + 1;
         clock = clock.max(record.seconds);
-        if let Err(error) = write_record(
+        match write_record(
             alloc, rules, inside, number, clock, &record, &mut text, verdicts, packets,
         ) {
-            return Err(stop_in_record(error, committed));
+            Ok(()) => committed = number,
+            Err(error) => return Err(stop_in_record(error, committed)),
         }
-        committed = number;
     }
 }
 
