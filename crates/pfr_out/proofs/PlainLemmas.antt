@@ -1,14 +1,13 @@
 -- The lines and packets of records, and how far a plain run has come.
-use Rattle.std.proofs.Common.{◌≡◌, ℕ, suc, ◌+◌, ◌<◌, ◌≤◌, max, List, [], ◌∷◌, ◌++◌, length, take, drop, Result, Ok, Err, ◌⊎◌, inl, inr, refl, sym, ◌∙◌, ap, add-zero, arith}
+use Rattle.std.proofs.Common.{◌≡◌, ℕ, suc, ◌+◌, ◌<◌, max, List, [], ◌∷◌, ◌++◌, length, take, drop, Ok, inl, inr, refl, sym, ◌∙◌, ap, add-zero, arith}
 use Rattle.std.specs.List.{flat_map}
 use Rattle.std.proofs.lemmas.Grind.{flat_map-append}
 use Rattle.std.proofs.lemmas.List.{append_assoc, append-nil, length-append, length_push, take-append-drop, take-take, take_all, take_at}
 use Rattle.pfr_capture.specs.declared.capture.Form.{Form}
-use Rattle.pfr_capture.specs.declared.capture.Tail.{Tail}
 use Rattle.pfr_capture.specs.declared.capture.CaptureError.{CaptureError}
 use Rattle.pfr_capture.specs.declared.capture.CaptureError.TheVariants.{HeaderCut, BadMagic, BadVersion, LinkType, RecordTooLong, Read, Memory}
 use Rattle.pfr_capture.specs.Device.{GrewByBeginning, GrewByPart}
-use Rattle.pfr_capture.specs.Records.{RecordBytes, IsCapture, clock_after, seconds_of, text_of}
+use Rattle.pfr_capture.specs.Records.{RecordBytes, clock_after, seconds_of, text_of}
 use Rattle.pfr_capture.specs.Reading.{Reading, Gave, HasGiven, OpenFails, ReadsOn, EndsCapture, NextFails, Refuses, RefusesHeader, StopsEarly}
 use Rattle.pfr_capture.proofs.CaptureLemmas.{IsFront, given_first}
 use Rattle.pfr_headers.specs.declared.network.Net.{Net}
@@ -19,9 +18,9 @@ use Rattle.pfr_out.specs.declared.report.Report.{Report}
 use Rattle.pfr_out.specs.declared.report.Stop.{Stop}
 use Rattle.pfr_out.specs.declared.report.Stop.TheVariants as stop
 use Rattle.pfr_out.specs.RulesetText.{rules_of}
-use Rattle.pfr_out.specs.Plain.{Begun, Grew, Holds, HoldsPartOfHeader, HoldsPartOfLine, HoldsPartOfPacket, OfEvery, Outputs, Replayed, StopOf, Stopped, UnderRules, line_of, lines_from, lines_of, outputs, packet_of, packets_of, stop_for}
+use Rattle.pfr_out.specs.Plain.{Begun, Grew, Holds, OfEvery, Outputs, Replayed, StopOf, Stopped, line_of, lines_from, lines_of, outputs, packet_of, packets_of, stop_for}
 use Rattle.pfr_out.specs.Writing.{RecordFails, WroteRecord, stop_in_record}
-use Rattle.pfr_out.proofs.WritingLemmas.{begins_behind, begins_longer, nothing_begins, part_begins, part_of_front, whole_begins}
+use Rattle.pfr_out.proofs.WritingLemmas.{begins_behind, begins_longer, nothing_begins, part_begins, whole_begins}
 
 -- the lines of records and of those behind them
 pub lines_from-append : (rules : List Rule) (inside : List Net) (form : Form) (number clock : ℕ) (xs ys : List RecordBytes) → lines_from rules inside form number clock (xs ++ ys) ≡ lines_from rules inside form number clock xs ++ lines_from rules inside form (number + length xs) (clock_after form.order clock xs) ys
@@ -332,8 +331,8 @@ nothing_begun rules inside text left old g = record {
   read = g.came;
   is = g.gave;
   every = λ more form records ending c. record {
-      verdicts = nothing_begins old.verdicts (lines_of rules inside form records);
-      packets = nothing_begins old.packets (take 24 (g.came ++ more) ++ packets_of rules inside form records);
+    verdicts = nothing_begins old.verdicts (lines_of rules inside form records);
+    packets = nothing_begins old.packets (take 24 (g.came ++ more) ++ packets_of rules inside form records);
   };
 }
 

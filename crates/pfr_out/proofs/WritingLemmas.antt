@@ -1,7 +1,7 @@
 -- Texts that grow by pieces.
 use Rattle.std.proofs.Common.{◌≡◌, ℕ, List, [], ◌∷◌, ◌++◌, refl, sym, ◌∙◌, ap}
 use Rattle.std.proofs.lemmas.List.{append_assoc, append-nil}
-use Rattle.pfr_capture.specs.Device.{Added, GrewByBeginning, GrewByPart}
+use Rattle.pfr_capture.specs.Device.{GrewByBeginning, GrewByPart}
 
 -- a part of the front of a text is a part of the text
 pub part_of_front : (old new a b : List ℕ) → GrewByPart old new a → GrewByPart old new (a ++ b)

@@ -3,7 +3,6 @@
 -- as it was captured.
 use Rattle.std.specs.Prelude.{◌≡◌, ℕ, ◌+◌, ◌<◌, ◌≤◌, max, if◌then◌else◌, List, [], ◌∷◌, ◌++◌, length, take, Result, Ok, Err, ◌⊎◌}
 use Rattle.std.specs.List.{flat_map}
-use Rattle.pfr_capture.specs.declared.order.ByteOrder.{ByteOrder}
 use Rattle.pfr_capture.specs.declared.capture.Form.{Form}
 use Rattle.pfr_capture.specs.declared.capture.Tail.{Tail}
 use Rattle.pfr_capture.specs.declared.capture.CaptureError.{CaptureError}
@@ -14,7 +13,6 @@ use Rattle.pfr_capture.specs.Records.{RecordBytes, IsCapture, seconds_of, text_o
 use Rattle.pfr_headers.specs.declared.network.Net.{Net}
 use Rattle.pfr_headers.specs.View.{view_of}
 use Rattle.pfr_rules.specs.declared.rule.Rule.{Rule}
-use Rattle.pfr_out.specs.declared.fault.ConfError.{ConfError}
 use Rattle.pfr_out.specs.declared.report.Output.TheVariants as output
 use Rattle.pfr_out.specs.declared.report.Report.{Report}
 use Rattle.pfr_out.specs.declared.report.Stop.{Stop}

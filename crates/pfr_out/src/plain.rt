@@ -1,5 +1,5 @@
 //! The plain run.
-ghost use Rattle.std.specs.Prelude.{◌≡◌, ◌+◌, ◌++◌, List, ℕ, [], None, Ok, IsTrue, IfOk, IfErr, OnOk, OnErr};
+ghost use Rattle.std.specs.Prelude.{◌≡◌, ◌++◌, List, ℕ, [], None, Ok, IsTrue, IfOk, IfErr, OnOk, OnErr};
 ghost use Rattle.std.specs.String.{string_bytes};
 ghost use Rattle.pfr_capture.specs.Device.{GrewByPart, Rose};
 ghost use Rattle.pfr_capture.specs.Reading.{HasGiven, bytes_of};

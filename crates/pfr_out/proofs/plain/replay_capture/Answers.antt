@@ -1,4 +1,4 @@
-use Rattle.std.proofs.Common.{◌≡◌, ◌∙◌, ◌++◌, ◌∷◌, [], List, ℕ, ◌+◌, max, refl, sym, ap, IsTrue}
+use Rattle.std.proofs.Common.{◌≡◌, ◌∙◌, [], ℕ, ◌+◌, max, refl, ap, IsTrue}
 use Rattle.pfr_capture.specs.Records.{seconds_of}
 use Rattle.pfr_capture.specs.Reading.{bytes_of}
 use Rattle.pfr_out.proofs.PlainLemmas.{after_next, at_start, begun_header, begun_record, begun_so_far, ready, record_written, replayed, stopped_header, stopped_reading, stopped_record}
