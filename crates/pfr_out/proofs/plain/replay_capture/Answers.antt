@@ -34,7 +34,7 @@ returns-in-Ok-None-clause-ok g c =
     let told : IsTrue (g.R.Source.told c.loop-record.source) = rw i.source_told t in
     let over = rw c.in-Ok-None.field-0-is at (c.in-Ok-None.ensures.answers i.over) in
     let ends = rw (c.in-Ok-None.field-0-is, over.1) at (c.in-Ok-None.ensures.end i.over told) in
-    let tail : c.tail.result ≡ over.0 = c.tail.ensures ∙ (rw over.1 refl) in
+    let tail : c.tail.result ≡ over.0 = rw over.1 at c.tail.ensures in
     replayed _ _ _ _ _ _ _ head.records _ head.so_far (rw tail ends) i.count
 
 pub returns-in-Ok-None-clause-begun : goal.returns-in-Ok-None-clause-begun
