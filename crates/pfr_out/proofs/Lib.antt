@@ -1,2 +1,3 @@
 pub mod PartLemmas
 pub mod PlainLemmas
+pub mod WritingLemmas

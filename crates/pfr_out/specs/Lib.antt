@@ -1,5 +1,5 @@
 pub mod Lines
-pub mod Lining
 pub mod Parts
 pub mod Plain
 pub mod RulesetText
+pub mod Writing

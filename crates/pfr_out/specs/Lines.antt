@@ -1,5 +1,5 @@
 -- The verdict lines: `N CLOCK DIR VERDICT REASON r=R t=- s=-` and a newline, for each packet.
-use Rattle.std.specs.Prelude.{ℕ, List, [], ◌∷◌, ◌++◌, Option, Some, None, codes}
+use Rattle.std.specs.Prelude.{ℕ, Bool, true, false, ◌&&◌, if◌then◌else◌, List, [], ◌∷◌, ◌++◌, Option, Some, None, codes}
 use Rattle.std.specs.Fmt.{decimal}
 use Rattle.pfr_headers.specs.declared.network.Net.{Net}
 use Rattle.pfr_headers.specs.declared.packet.Direction.{Direction}
@@ -8,6 +8,7 @@ use Rattle.pfr_headers.specs.declared.packet.Packet.{Packet}
 use Rattle.pfr_headers.specs.declared.packet.View.{View}
 use Rattle.pfr_headers.specs.declared.packet.View.TheVariants as view
 use Rattle.pfr_headers.specs.Address.{direction_of}
+use Rattle.pfr_headers.specs.View.{has_options}
 use Rattle.pfr_rules.specs.declared.rule.Action.{Action}
 use Rattle.pfr_rules.specs.declared.rule.Action.TheVariants as action
 use Rattle.pfr_rules.specs.declared.rule.Rule.{Rule}
@@ -36,13 +37,30 @@ decided direction decision = record {
   rule = decision.rule;
 }
 
+abbrev pub lets_pass : Verdict → Bool
+lets_pass verdict.Pass = true
+lets_pass _ = false
+
+-- a packet with IP options that would pass is blocked (pf.conf(5), "allow-opts")
+abbrev pub without_options : Packet → Judgement → Judgement
+without_options packet judgement =
+    if has_options packet && lets_pass judgement.verdict
+    then record judgement { verdict = verdict.Block; reason = reason.IpOption }
+    else judgement
+
 -- what becomes of a packet: the filter decides on a packet that is seen whole, what is no IPv4 packet is
 -- passed over, and what is too short is blocked
 unfoldable pub judgement_of : List Rule → List Net → View → Judgement
 judgement_of rules inside (view.Ipv4 packet) =
-    decided (direction_of inside packet) (decision_of rules packet (direction_of inside packet))
+    without_options packet (decided (direction_of inside packet) (decision_of rules packet (direction_of inside packet)))
 judgement_of rules inside view.Skip = record { direction = None; verdict = verdict.Skip; reason = reason.NotIp; rule = None }
 judgement_of rules inside view.Short = record { direction = None; verdict = verdict.Block; reason = reason.Short; rule = None }
+
+-- a packet that isn't blocked is written to the packets
+abbrev pub is_written : Verdict → Bool
+is_written verdict.Pass = true
+is_written verdict.Block = false
+is_written verdict.Skip = true
 
 abbrev pub verdict_text : Verdict → List ℕ
 verdict_text verdict.Pass = codes "pass"
@@ -54,6 +72,7 @@ reason_text reason.Rule = codes "rule"
 reason_text reason.Default = codes "default"
 reason_text reason.NotIp = codes "not-ip"
 reason_text reason.Short = codes "short"
+reason_text reason.IpOption = codes "ip-option"
 
 abbrev pub direction_text : Option Direction → List ℕ
 direction_text (Some In) = codes "in"

@@ -1,99 +1,168 @@
--- The plain run: every packet of a capture of raw IP through pass and block rules, one line for each.
-use Rattle.std.specs.Prelude.{◌≡◌, ℕ, ◌+◌, ◌<◌, ◌≤◌, ◌==◌, max, if◌then◌else◌, List, [], ◌∷◌, ◌++◌, length, take, Result, Ok, Err, ⊤}
-use Rattle.pfr_capture.specs.declared.order.ByteOrder.{ByteOrder}
+-- The plain run: every packet of a capture through pass and block rules. Two outputs grow: the verdicts, by a
+-- line for each packet, and the packets, by the capture's header and then by each packet that isn't blocked,
+-- as it was captured.
+use Rattle.std.specs.Prelude.{◌≡◌, ℕ, ◌+◌, ◌<◌, ◌≤◌, max, if◌then◌else◌, List, [], ◌∷◌, ◌++◌, length, take, Result, Ok, Err, ◌⊎◌}
+use Rattle.std.specs.List.{flat_map}
 use Rattle.pfr_capture.specs.declared.capture.Form.{Form}
 use Rattle.pfr_capture.specs.declared.capture.Tail.{Tail}
 use Rattle.pfr_capture.specs.declared.capture.CaptureError.{CaptureError}
 use Rattle.pfr_capture.specs.declared.capture.CaptureError.TheVariants as capture
-use Rattle.pfr_capture.specs.Device.{GrewByBeginning, Rose}
+use Rattle.pfr_capture.specs.Device.{GrewByBeginning, GrewByPart, Rose}
 use Rattle.pfr_capture.specs.Header.{opening_of}
-use Rattle.pfr_capture.specs.Records.{RecordBytes, IsCapture, seconds_of}
+use Rattle.pfr_capture.specs.Records.{RecordBytes, IsCapture, seconds_of, text_of}
 use Rattle.pfr_headers.specs.declared.network.Net.{Net}
 use Rattle.pfr_headers.specs.View.{view_of}
 use Rattle.pfr_rules.specs.declared.rule.Rule.{Rule}
-use Rattle.pfr_out.specs.declared.fault.ConfError.{ConfError}
-use Rattle.pfr_out.specs.declared.report.Output.TheVariants.{Verdicts}
+use Rattle.pfr_out.specs.declared.report.Output.TheVariants as output
 use Rattle.pfr_out.specs.declared.report.Report.{Report}
 use Rattle.pfr_out.specs.declared.report.Stop.{Stop}
 use Rattle.pfr_out.specs.declared.report.Stop.TheVariants as stop
-use Rattle.pfr_out.specs.Lines.{judgement_of, line_text}
+use Rattle.pfr_out.specs.declared.verdict.Judgement.{Judgement}
+use Rattle.pfr_out.specs.Lines.{is_written, judgement_of, line_text}
 use Rattle.pfr_out.specs.RulesetText.{IsFaultOf, rules_of}
 
--- the line of one packet of a capture of raw IP
-unfoldable pub line_of : List Rule → List Net → ℕ → ℕ → List ℕ → List ℕ
-line_of rules inside number clock bytes = line_text number clock (judgement_of rules inside (view_of 101 bytes))
+-- what becomes of one packet
+unfoldable pub judged : List Rule → List Net → ℕ → List ℕ → Judgement
+judged rules inside link bytes = judgement_of rules inside (view_of link bytes)
+
+-- its line
+unfoldable pub line_of : List Rule → List Net → ℕ → ℕ → ℕ → List ℕ → List ℕ
+line_of rules inside link number clock bytes = line_text number clock (judged rules inside link bytes)
 
 -- the lines of records, the first of which has this number. The clock at a packet is the greatest seconds
 -- value of the records so far: `clock` is that of the records before these.
-abbrev pub lines_from : List Rule → List Net → ByteOrder → ℕ → ℕ → List RecordBytes → List ℕ
-lines_from rules inside order number clock [] = []
-lines_from rules inside order number clock (r ∷ rs) =
-    line_of rules inside number (max clock (seconds_of order r.header)) r.bytes
-    ++ lines_from rules inside order (number + 1) (max clock (seconds_of order r.header)) rs
+abbrev pub lines_from : List Rule → List Net → Form → ℕ → ℕ → List RecordBytes → List ℕ
+lines_from rules inside form number clock [] = []
+lines_from rules inside form number clock (r ∷ rs) =
+    line_of rules inside form.link number (max clock (seconds_of form.order r.header)) r.bytes
+    ++ lines_from rules inside form (number + 1) (max clock (seconds_of form.order r.header)) rs
 
 -- the lines of a capture's records
-unfoldable pub lines_of : List Rule → List Net → ByteOrder → List RecordBytes → List ℕ
-lines_of rules inside order records = lines_from rules inside order 1 0 records
+unfoldable pub lines_of : List Rule → List Net → Form → List RecordBytes → List ℕ
+lines_of rules inside form records = lines_from rules inside form 1 0 records
 
--- what the beginning of a capture says to the plain run, which reads raw IP alone
-abbrev pub only_raw : Result Form CaptureError → Result Form CaptureError
-only_raw (Ok form) = if form.link == 101 then Ok form else Err (capture.LinkType form.link)
-only_raw (Err e) = Err e
+-- what a record adds to the packets: its header and its bytes as they were captured, or nothing where the
+-- packet is blocked
+unfoldable pub packet_of : List Rule → List Net → ℕ → RecordBytes → List ℕ
+packet_of rules inside link r = if is_written (judged rules inside link r.bytes).verdict then text_of r else []
 
--- the whole of a plain run: the source's bytes are a capture, and the sink grew by just its lines
-pub record Replayed (rules : List Rule) (inside : List Net) (text old new : List ℕ) (report : Report) : Type 0 where
+-- what a capture's records add to them
+unfoldable pub packets_of : List Rule → List Net → Form → List RecordBytes → List ℕ
+packets_of rules inside form records = flat_map (packet_of rules inside form.link) records
+
+-- what the two outputs hold
+pub record Outputs : Type 0 where
+  pub verdicts : List ℕ
+  pub packets : List ℕ
+
+abbrev pub outputs : List ℕ → List ℕ → Outputs
+outputs verdicts packets = record { verdicts = verdicts; packets = packets }
+
+-- the outputs grew by just what these records of a capture with this header say: the verdicts by their lines,
+-- the packets by the header and those that are not blocked
+pub record Grew (rules : List Rule) (inside : List Net) (header : List ℕ) (form : Form) (old new : Outputs) (records : List RecordBytes) : Type 0 where
+  pub verdicts : new.verdicts ≡ old.verdicts ++ lines_of rules inside form records
+  pub packets : new.packets ≡ old.packets ++ (header ++ packets_of rules inside form records)
+
+-- the whole of a plain run: the source's bytes are a capture, and the outputs grew by just what it says
+pub record Replayed (rules : List Rule) (inside : List Net) (text : List ℕ) (old new : Outputs) (report : Report) : Type 0 where
   pub form : Form
   pub records : List RecordBytes
   pub capture : IsCapture text form records (Ok report.tail)
-  pub raw : form.link ≡ 101
   pub counted : length records ≡ report.committed
-  pub lines : new ≡ old ++ lines_of rules inside form.order records
+  pub grew : Grew rules inside (take 24 text) form old new records
 
--- a fact of the form and the records of every capture that begins with the bytes that were read of the source
-pub record OfEvery (text left : List ℕ) (P : Form → List RecordBytes → Type 0) : Type 0 where
+-- a fact of the header, the form and the records of every capture that begins with the bytes that were read of
+-- the source
+pub record OfEvery (text left : List ℕ) (P : List ℕ → Form → List RecordBytes → Type 0) : Type 0 where
   pub read : List ℕ
   pub is : text ≡ read ++ left
-  pub every : (more : List ℕ) (form : Form) (records : List RecordBytes) (ending : Result Tail CaptureError) → IsCapture (read ++ more) form records ending → P form records
+  pub every : (more : List ℕ) (form : Form) (records : List RecordBytes) (ending : Result Tail CaptureError) → IsCapture (read ++ more) form records ending → P (take 24 (read ++ more)) form records
 
--- the sink grew by a beginning of the lines
-abbrev pub Begun : List Rule → List Net → List ℕ → List ℕ → Form → List RecordBytes → Type 0
-Begun rules inside old new form records = GrewByBeginning old new (lines_of rules inside form.order records)
+-- each output grew by a beginning of what all records say
+pub record Begun (rules : List Rule) (inside : List Net) (old new : Outputs) (header : List ℕ) (form : Form) (records : List RecordBytes) : Type 0 where
+  pub verdicts : GrewByBeginning old.verdicts new.verdicts (lines_of rules inside form records)
+  pub packets : GrewByBeginning old.packets new.packets (header ++ packets_of rules inside form records)
 
--- the sink grew by just the lines of so many packets
-pub record HoldsLines (rules : List Rule) (inside : List Net) (old new : List ℕ) (committed : ℕ) (form : Form) (records : List RecordBytes) : Type 0 where
+-- the outputs grew by just what so many packets say
+pub record Holds (rules : List Rule) (inside : List Net) (old new : Outputs) (committed : ℕ) (header : List ℕ) (form : Form) (records : List RecordBytes) : Type 0 where
   pub within : committed ≤ length records
-  pub lines : new ≡ old ++ lines_of rules inside form.order (take committed records)
+  pub grew : Grew rules inside header form old new (take committed records)
 
--- and by a part of the next packet's line that lacks at least its last byte
-pub record HoldsPart (rules : List Rule) (inside : List Net) (old new : List ℕ) (committed : ℕ) (form : Form) (records : List RecordBytes) : Type 0 where
-  pub part : List ℕ
-  pub last : ℕ
-  pub missing : List ℕ
+-- and the verdicts by a part of the next packet's line that lacks at least its last byte: a line is written
+-- before its packet
+pub record HoldsPartOfLine (rules : List Rule) (inside : List Net) (old new : Outputs) (committed : ℕ) (header : List ℕ) (form : Form) (records : List RecordBytes) : Type 0 where
   pub within : committed < length records
-  pub holds : new ≡ old ++ (lines_of rules inside form.order (take committed records) ++ part)
-  pub next : lines_of rules inside form.order (take (committed + 1) records) ≡ lines_of rules inside form.order (take committed records) ++ (part ++ last ∷ missing)
+  pub mid : List ℕ
+  pub before : Grew rules inside header form old (outputs mid new.packets) (take committed records)
+  pub line : List ℕ
+  pub next : lines_of rules inside form (take (committed + 1) records) ≡ lines_of rules inside form (take committed records) ++ line
+  pub part : GrewByPart mid new.verdicts line
 
--- what each stop of the reading says of the source's bytes and of the sink's
-abbrev pub Refused : List Rule → List Net → List ℕ → List ℕ → List ℕ → CaptureError → ℕ → Type 0
+-- and the verdicts by the next packet's line, the packets by a part of that packet that lacks at least its last
+-- byte
+pub record HoldsPartOfPacket (rules : List Rule) (inside : List Net) (old new : Outputs) (committed : ℕ) (header : List ℕ) (form : Form) (records : List RecordBytes) : Type 0 where
+  pub within : committed < length records
+  pub verdicts : new.verdicts ≡ old.verdicts ++ lines_of rules inside form (take (committed + 1) records)
+  pub mid : List ℕ
+  pub before : mid ≡ old.packets ++ (header ++ packets_of rules inside form (take committed records))
+  pub packet : List ℕ
+  pub next : packets_of rules inside form (take (committed + 1) records) ≡ packets_of rules inside form (take committed records) ++ packet
+  pub part : GrewByPart mid new.packets packet
+
+-- the header is written first: the packets grew by a part of it that lacks at least its last byte, and the
+-- verdicts by nothing
+pub record HoldsPartOfHeader (old new : Outputs) (committed : ℕ) (header : List ℕ) : Type 0 where
+  pub none : committed ≡ 0
+  pub verdicts : new.verdicts ≡ old.verdicts
+  pub part : GrewByPart old.packets new.packets header
+
+-- nothing was written, since not all of the header's 24 bytes had come
+pub record Unopened (text left : List ℕ) (old new : Outputs) (committed : ℕ) : Type 0 where
+  pub none : committed ≡ 0
+  pub early : length text < 24 + length left
+  pub same : new ≡ old
+
+-- what a stop of the reading, or for want of memory, says of the outputs
+abbrev pub HoldsOrUnopened : List Rule → List Net → List ℕ → List ℕ → Outputs → Outputs → ℕ → Type 0
+HoldsOrUnopened rules inside text left old new committed =
+    OfEvery text left (Holds rules inside old new committed) ⊎ Unopened text left old new committed
+
+-- what a refusal of the capture says of the source's bytes and of the outputs
+abbrev pub Refused : List Rule → List Net → List ℕ → Outputs → Outputs → CaptureError → ℕ → Type 0
 Refused rules inside text old new capture.Read committed = ⊥
 Refused rules inside text old new capture.Memory committed = ⊥
 Refused rules inside text old new (capture.RecordTooLong asked) committed =
     (form : Form) × (records : List RecordBytes) × IsCapture text form records (Err (capture.RecordTooLong asked))
-    × (length records ≡ committed) × (new ≡ old ++ lines_of rules inside form.order records)
-Refused rules inside text old new e committed = (only_raw (opening_of text) ≡ Err e) × (committed ≡ 0) × (new ≡ old)
+    × (length records ≡ committed) × Grew rules inside (take 24 text) form old new records
+Refused rules inside text old new e committed = (opening_of text ≡ Err e) × (committed ≡ 0) × (new ≡ old)
 
-abbrev pub Stopped : List Rule → List Net → List ℕ → List ℕ → List ℕ → List ℕ → Stop → Type 0
+-- what each stop after the ruleset was read says
+abbrev pub Stopped : List Rule → List Net → List ℕ → List ℕ → Outputs → Outputs → Stop → Type 0
 Stopped rules inside text left old new (stop.Ruleset fault) = ⊥
 Stopped rules inside text left old new (stop.Capture e committed) = Refused rules inside text old new e committed
-Stopped rules inside text left old new (stop.Read committed) = OfEvery text left (HoldsLines rules inside old new committed)
-Stopped rules inside text left old new (stop.Write output committed) = OfEvery text left (HoldsPart rules inside old new committed)
-Stopped rules inside text left old new (stop.Memory committed) = OfEvery text left (HoldsLines rules inside old new committed)
+Stopped rules inside text left old new (stop.Read committed) = HoldsOrUnopened rules inside text left old new committed
+Stopped rules inside text left old new (stop.Memory committed) = HoldsOrUnopened rules inside text left old new committed
+Stopped rules inside text left old new (stop.Write output.Verdicts committed) = OfEvery text left (HoldsPartOfLine rules inside old new committed)
+Stopped rules inside text left old new (stop.Write output.Packets committed) =
+    OfEvery text left (λ header form records. HoldsPartOfHeader old new committed header ⊎ HoldsPartOfPacket rules inside old new committed header form records)
 
--- a device stops the run only where its count of failures rose, and any other stop leaves both counts
-abbrev pub StopFails : Stop → ℕ → ℕ → ℕ → ℕ → Type 0
-StopFails (stop.Read committed) read read' written written' = Rose read read' × (written' ≡ written)
-StopFails (stop.Write output committed) read read' written written' = (read' ≡ read) × Rose written written' × (output ≡ Verdicts)
-StopFails _ read read' written written' = (read' ≡ read) × (written' ≡ written)
+-- the counts of failures of the source and of the two sinks
+pub record Counts : Type 0 where
+  pub source : ℕ
+  pub verdicts : ℕ
+  pub packets : ℕ
+
+abbrev pub counts : ℕ → ℕ → ℕ → Counts
+counts source verdicts packets = record { source = source; verdicts = verdicts; packets = packets }
+
+-- a device stops the run only where its count of failures rose; the other counts stay, and any other stop leaves
+-- all three
+abbrev pub StopFails : Stop → Counts → Counts → Type 0
+StopFails (stop.Read committed) old new = Rose old.source new.source × (new.verdicts ≡ old.verdicts) × (new.packets ≡ old.packets)
+StopFails (stop.Write output.Verdicts committed) old new = (new.source ≡ old.source) × Rose old.verdicts new.verdicts × (new.packets ≡ old.packets)
+StopFails (stop.Write output.Packets committed) old new = (new.source ≡ old.source) × (new.verdicts ≡ old.verdicts) × Rose old.packets new.packets
+StopFails _ old new = new ≡ old
 
 -- the stop for a refusal of the capture's reader
 abbrev pub stop_for : CaptureError → ℕ → Stop
@@ -107,13 +176,8 @@ pub record UnderRules (text : List ℕ) (P : List Rule → Type 0) : Type 0 wher
   pub are : rules_of text ≡ Ok rules
   pub hold : P rules
 
--- what each stop of a plain run says. A fault of the ruleset leaves the source unread and the sink as it was.
-abbrev pub StopOf : (text : List ℕ) → List Net → (before left old new : List ℕ) → Stop → Type 0
+-- what each stop of a plain run says. A fault of the ruleset leaves the source unread and the outputs as they
+-- were.
+abbrev pub StopOf : (text : List ℕ) → List Net → (before left : List ℕ) → (old new : Outputs) → Stop → Type 0
 StopOf text inside before left old new (stop.Ruleset fault) = IsFaultOf fault text × (left ≡ before) × (new ≡ old)
 StopOf text inside before left old new s = UnderRules text (λ rules. Stopped rules inside before left old new s)
-
--- a capture is refused as its beginning says; a failed read and want of memory say nothing of it
-abbrev pub RefusesOpening : List ℕ → CaptureError → Type 0
-RefusesOpening text capture.Read = ⊤
-RefusesOpening text capture.Memory = ⊤
-RefusesOpening text e = only_raw (opening_of text) ≡ Err e

@@ -1,9 +1,10 @@
-//! A capture through a ruleset, and the lines that say what becomes of each packet.
+//! A capture through a ruleset: the lines that say what becomes of each packet, and the packets that are not
+//! blocked.
 //!
-//! [`replay_plain`] is the whole run, over any source and any sink. Its contract is the theorem of this
-//! crate: at a run to the end the sink has grown by exactly the lines of all packets of the source's bytes;
-//! however it ends, by a beginning of them; and it holds whole just the lines of the packets that a stop
-//! reports as committed.
+//! [`replay_plain`] is the whole run, over any source and any two sinks. Its contract is the theorem of this
+//! crate: at a run to the end the sinks have grown by exactly what all packets of the source's bytes say;
+//! however it ends, by a beginning of that; and they hold whole just what the packets say that a stop reports
+//! as committed.
 #![tactic(auto)]
 
 pub mod fault;

@@ -16,10 +16,11 @@ pub struct Report {
 #[derive(Clone, Copy, Debug, PartialEq, Eq)]
 pub enum Output {
     Verdicts,
+    Packets,
 }
 
-/// Why a run ended before that. The number is that of the packets committed: of those whose lines the sink
-/// holds whole.
+/// Why a run ended before that. The number is that of the packets committed: of those of which the sinks hold
+/// all that is to be written.
 #[derive(Clone, Copy, Debug, PartialEq, Eq, Error)]
 pub enum Stop {
     #[error("{0}")]

@@ -1,6 +1,6 @@
 //! What becomes of a packet, and the line that says so.
 ghost use Rattle.std.specs.Prelude.{◌≡◌, IfOk, Some};
-ghost use Rattle.pfr_out.specs.Lines.{direction_text, judgement_of, line_text, reason_text, rule_text, verdict_text};
+ghost use Rattle.pfr_out.specs.Lines.{direction_text, is_written, judgement_of, line_text, reason_text, rule_text, verdict_text};
 
 use pfr_headers::{Direction, Net, View};
 use pfr_rules::{Action, RuleNumber, Ruleset, filter};
@@ -16,6 +16,18 @@ pub enum Verdict {
     Skip,
 }
 
+impl Verdict {
+    /// Whether the packet is written to the packets.
+    pub fn is_written(self) -> bool
+        ensures { result ≡ is_written self }
+    {
+        match self {
+            Verdict::Pass | Verdict::Skip => true,
+            Verdict::Block => false,
+        }
+    }
+}
+
 /// Why.
 #[derive(Clone, Copy, Debug, PartialEq, Eq)]
 pub enum Reason {
@@ -24,8 +36,10 @@ pub enum Reason {
     /// No rule matched.
     Default,
     NotIp,
-    /// The packet's header was not captured whole or contradicts itself.
+    /// The packet's headers were not captured whole or contradict themselves.
     Short,
+    /// The packet would pass, but has IP options (RFC 791, section 3.1), and no rule lets these through.
+    IpOption,
 }
 
 /// What becomes of a packet, and why. The direction is that of an IPv4 packet, and the rule the one that
@@ -70,6 +84,14 @@ impl Judgement {
         };
         let direction = Direction::of(packet, inside);
         let (decision, _visits) = filter(alloc, rules, packet, direction)?;
+        if packet.has_options() && decision.action == Action::Pass {
+            return Ok(Judgement {
+                direction: Some(direction),
+                verdict: Verdict::Block,
+                reason: Reason::IpOption,
+                rule: decision.rule,
+            });
+        }
         Ok(Judgement {
             direction: Some(direction),
             verdict: match decision.action {
@@ -106,6 +128,7 @@ impl fmt::Display for Reason {
             Reason::Default => write!(f, "default"),
             Reason::NotIp => write!(f, "not-ip"),
             Reason::Short => write!(f, "short"),
+            Reason::IpOption => write!(f, "ip-option"),
         }
     }
 }

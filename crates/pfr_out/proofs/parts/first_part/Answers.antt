@@ -1,4 +1,4 @@
-use Rattle.std.proofs.Common.{◌≡◌, ℕ, ◌+◌, List, ◌∷◌, take, eqb, sym, ap, ◌∙◌}
+use Rattle.std.proofs.Common.{eqb, sym, ◌∙◌}
 use Rattle.std.proofs.lemmas.List.{take_rest}
 use Rattle.pfr_out.proofs.PartLemmas.{split_at_first, split_nowhere}
 use Rattle.pfr_out.proofs.parts.first_part.Goals as goal

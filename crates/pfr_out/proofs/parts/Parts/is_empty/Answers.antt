@@ -1,4 +1,4 @@
-use Rattle.std.proofs.Common.{◌≡◌, ℕ, List, Option, eqb, sym, ap, ◌∙◌}
+use Rattle.std.proofs.Common.{ℕ, List, Option, eqb, sym, ap, ◌∙◌}
 use Rattle.std.specs.Borrow.{Bor}
 use Rattle.pfr_out.specs.Parts.{parts_left}
 use Rattle.pfr_out.proofs.PartLemmas.{split_is_some}
