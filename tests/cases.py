@@ -31,32 +31,36 @@ def capture_of(packets, order="<", **header):
 
 
 def rows():
-    """Cases with the outcome written out: standard output, standard error, status."""
+    """Cases with the outcome written out: standard output, standard error, status and the packets that are
+    written, None where a file for them is left alone."""
     first = capture_of(PACKETS)
+    opening = capture_header()
+    one, two, three = (record(0, 0, packet) for packet in PACKETS)
     yield (Case("three packets", FIRST_RULES, INSIDE, first),
            b"1 0 in pass rule r=1 t=- s=-\n2 0 in block rule r=0 t=- s=-\n3 0 out pass default r=- t=- s=-\n",
-           b"", 0)
+           b"", 0, opening + one + three)
     yield (Case("a pass rule without 'no state'", b"block in all\npass in all\n", INSIDE, first),
-           b"", b"pfreplay: rules line 2: unknown word\n", 1)
-    yield Case("no packet", b"", INSIDE, capture_header()), b"", b"", 0
+           b"", b"pfreplay: rules line 2: unknown word\n", 1, None)
+    yield Case("no packet", b"", INSIDE, capture_header()), b"", b"", 0, opening
     yield (Case("a header of 23 bytes", b"", INSIDE, capture_header()[:23]),
-           b"", b"pfreplay: capture: header cut\n", 1)
-    clock = capture_header() + b"".join(record(second, 0, PACKETS[0]) for second in (10, 5, 11))
-    yield (Case("a clock that is set back", b"", INSIDE, clock),
+           b"", b"pfreplay: capture: header cut\n", 1, None)
+    seconds = [record(second, 0, PACKETS[0]) for second in (10, 5, 11)]
+    yield (Case("a clock that is set back", b"", INSIDE, opening + b"".join(seconds)),
            b"1 10 in pass default r=- t=- s=-\n2 10 in pass default r=- t=- s=-\n"
-           b"3 11 in pass default r=- t=- s=-\n", b"", 0)
+           b"3 11 in pass default r=- t=- s=-\n", b"", 0, opening + b"".join(seconds))
     yield (Case("the third record cut", b"", INSIDE, first[:-1]),
-           b"1 0 in pass default r=- t=- s=-\n2 0 in pass default r=- t=- s=-\n", b"", 2)
+           b"1 0 in pass default r=- t=- s=-\n2 0 in pass default r=- t=- s=-\n", b"", 2, opening + one + two)
     yield (Case("a record too long", b"", INSIDE, first + record(0, 0, b"", captured=262145)),
            b"1 0 in pass default r=- t=- s=-\n2 0 in pass default r=- t=- s=-\n"
            b"3 0 out pass default r=- t=- s=-\n",
-           b"pfreplay: capture: record too long 262145, committed 3\n", 1)
+           b"pfreplay: capture: record too long 262145, committed 3\n", 1, opening + one + two + three)
 
 
 def examples():
     for rules in sorted(EXAMPLES.glob("*.conf")):
         for capture in sorted(EXAMPLES.glob("*.pcap")):
-            for inside in (INSIDE, "10.0.0.0/8,192.0.2.1", "198.51.100.0/24,203.0.113.9", "0.0.0.0/0"):
+            for inside in (INSIDE, "10.0.0.0/8,192.0.2.1", "198.51.100.0/24,203.0.113.9", "192.168.0.0/16",
+                           "0.0.0.0/0"):
                 yield Case(f"{rules.name} {inside} {capture.name}", rules.read_bytes(), inside,
                            capture.read_bytes())
 
@@ -72,8 +76,10 @@ def headers():
     for order, magic in FORMS:
         for fields in ({"major": 1}, {"major": 3}, {"major": 0x0200}, {"minor": 65535},
                        {"network": 0}, {"network": 1}, {"network": 65535}, {"network": 12},
+                       {"network": 2}, {"network": 100}, {"network": 102}, {"network": 228},
                        {"network": 0xFC000065}, {"network": 0x00650000}, {"network": 0x6500},
-                       {"major": 1, "network": 1}):
+                       {"network": 0xFC000000}, {"network": 0x10001}, {"network": 0x0100}, {"network": 0x01000000},
+                       {"major": 1, "network": 1}, {"major": 1, "network": 12}):
             yield Case(f"{order}{magic:x} {fields}", FIRST_RULES, INSIDE,
                        capture_of(PACKETS, order, magic=magic, **fields))
         # the order of the magic holds for all other numbers
@@ -82,7 +88,7 @@ def headers():
                    capture_header(order, magic)[:4] + capture_header(other, magic)[4:])
     for magic in (0, 0x0A0D0D0A, 0xA1B2C3D5, 0xA1B2CD34, 0xB2A1D4C3, 0xA1B24D3C, 0xFFFFFFFF):
         yield Case(f"magic {magic:x}", FIRST_RULES, INSIDE,
-                   capture_of(PACKETS, magic=magic, major=1, network=1))
+                   capture_of(PACKETS, magic=magic, major=1, network=12))
     yield Case("bad rules go before a bad capture", b"bad\n", INSIDE, b"")
 
 
@@ -115,6 +121,25 @@ def views():
         yield Case(f"{words} header words, cut", b"", INSIDE, capture_of(head[:length] for length in range(65)))
         yield Case(f"{words} header words, total lengths", b"", INSIDE, capture_of(
             head[:2] + struct.pack(">H", total) + head[4:] for total in [*range(65), 255, 256, 0x1400, 65535]))
+
+
+def edges():
+    """Outputs that end at, before and behind whole numbers of the 64 KiB that are written at once."""
+    for length in (65535, 65536, 65537, 131072):
+        # the capture's header and two records, so that the second one ends there
+        rest = length - 24 - 16 - len(PACKETS[0]) - 16
+        filled = ipv4("10.0.0.5", "198.51.100.7", 17, bytes(1000)).ljust(rest, b"\0")
+        for count in (2, 3):
+            yield Case(f"{count} packets, {length} bytes", b"", INSIDE,
+                       capture_of([PACKETS[0], filled, PACKETS[2]][:count]))
+    # 2082 lines have 65517 bytes, and one more for each packet at a second of two digits
+    for late in (18, 19, 20):
+        for more in (0, 1):
+            seconds = [0] * (2082 - late) + [10] * (late + more)
+            yield Case(f"2082 lines, {late} of them late, and {more}", FIRST_RULES, INSIDE, capture_header() + b"".join(
+                record(second, 0, PACKETS[0]) for second in seconds))
+    yield Case("many packets", FIRST_RULES, INSIDE, capture_of(PACKETS * 3000))
+    yield Case("many blocked packets", b"block all\n", INSIDE, capture_of(PACKETS * 3000))
 
 
 GOOD_LINES = [
@@ -197,6 +222,9 @@ def some_packet(chance):
     """A packet, now and then with a first byte or total length of another kind, or cut."""
     packet = bytearray(ipv4(chance.choice(POOL), chance.choice(POOL), chance.choice([1, 6, 17, 47]),
                             bytes(chance.randint(0, 60))))
+    if packet[9] == 6 and len(packet) > 32:
+        # the data offset of a TCP header, without which every such packet were short
+        packet[32] = 0x50
     kind = chance.random()
     if kind < 0.1:
         packet[0] = chance.choice([0x40, 0x44, 0x46, 0x4F, 0x60, 0x55, 0x00, chance.randrange(256)])
@@ -230,6 +258,6 @@ def random_cases(count):
 
 
 def all_cases():
-    for make in (examples, cut_captures, headers, lengths, views, lines):
+    for make in (examples, cut_captures, headers, lengths, views, edges, lines):
         yield from make()
     yield from random_cases(300)

@@ -1,8 +1,8 @@
 #!/usr/bin/env python3
-"""A model of the plain run: a ruleset, inside networks and a capture to verdict lines or a refusal.
+"""A model of the plain run: a ruleset, inside networks and a capture to verdict lines and packets or a refusal.
 
 It is written from the description of the formats alone, for clearness and not for speed, so that the
-program can be compared with it. As a command it takes the program's words: RULES INSIDE < CAPTURE.
+program can be compared with it. As a command it takes the program's words: RULES INSIDE [PACKETS] < CAPTURE.
 """
 
 import re
@@ -11,16 +11,23 @@ import sys
 from typing import NamedTuple
 
 MOST_CAPTURED = 262144
+LOOPBACK, ETHERNET, RAW = 0, 1, 101
+# the loopback family of IPv4 in either byte order
+FAMILIES = (b"\2\0\0\0", b"\0\0\0\2")
+TYPE_IPV4, TYPE_VLAN = b"\x08\0", b"\x81\0"
+ICMP, TCP, UDP = 1, 6, 17
 ADDRESS = rb"any|[0-9]+\.[0-9]+\.[0-9]+\.[0-9]+(?:/[0-9]+)?"
 RULE = re.compile(rb"(pass|block)(?: (in|out))?(?: (quick))?"
                   rb"(?: all| from (" + ADDRESS + rb") to (" + ADDRESS + rb"))( no state)?")
 
 
 class Outcome(NamedTuple):
-    """What a run leaves: standard output, standard error and the status."""
+    """What a run leaves: standard output, standard error, the status, and what it writes into the file for the
+    packets, None where it leaves a file of that name alone."""
     out: bytes
     err: bytes
     status: int
+    packets: bytes | None = None
 
 
 class Refused(Exception):
@@ -50,6 +57,29 @@ class Rule(NamedTuple):
 class Packet(NamedTuple):
     source: int
     destination: int
+    has_options: bool
+
+
+class Header(NamedTuple):
+    """What the capture's header tells: the byte order of all headers, as struct's sign, and the link type."""
+    order: str
+    link: int
+
+
+class Verdict(NamedTuple):
+    """A line's words from the direction to the rule."""
+    direction: str
+    verdict: str
+    reason: str
+    rule: int | str = "-"
+
+
+class Replay(NamedTuple):
+    """The lines of all packets, the records that are written, and how it ends: text of a refusal, status."""
+    lines: list
+    records: list
+    refusal: str
+    status: int
 
 
 def read_number(word, most):
@@ -96,7 +126,7 @@ def read_rules(text):
 
 
 def read_header(capture):
-    """The byte order of all headers, as struct's sign, once the capture's header is accepted."""
+    """The capture's header, where it is accepted."""
     if len(capture) < 24:
         raise Refused("capture: header cut")
     orders = {b"\xd4\xc3\xb2\xa1": "<", b"\x4d\x3c\xb2\xa1": "<",
@@ -107,21 +137,54 @@ def read_header(capture):
     if struct.unpack_from(order + "H", capture, 4)[0] != 2:
         raise Refused("capture: bad version")
     link = struct.unpack_from(order + "I", capture, 20)[0] & 0xFFFF
-    if link != 101:
+    if link not in (LOOPBACK, ETHERNET, RAW):
         raise Refused(f"capture: link type {link}")
-    return order
+    return Header(order, link)
 
 
-def view(data):
+def datagram_of(link, frame):
+    """The bytes of a frame that are taken for an IPv4 datagram, or None where it carries anything else."""
+    if link == RAW:
+        return frame if frame and frame[0] >> 4 == 4 else None
+    if link == LOOPBACK:
+        return frame[4:] if frame[:4] in FAMILIES else None
+    if frame[12:14] == TYPE_IPV4:
+        return frame[14:]
+    if frame[12:14] == TYPE_VLAN and frame[16:18] == TYPE_IPV4:
+        return frame[18:]
+    return None
+
+
+def lacks_transport(protocol, segment, whole):
+    """Whether the transport's header isn't whole: neither in the captured bytes of the segment, nor in the
+    `whole` bytes that it is said to have."""
+    if protocol in (ICMP, UDP):
+        return min(len(segment), whole) < 8
+    if protocol != TCP:
+        return False
+    if len(segment) < 20:
+        return True
+    header_length = 4 * (segment[12] >> 4)
+    return header_length < 20 or min(len(segment), whole) < header_length
+
+
+def view(link, frame):
     """The packet that the bytes of a record show: `skip`, `short` or a Packet."""
-    if not data or data[0] >> 4 != 4:
+    datagram = datagram_of(link, frame)
+    if datagram is None:
         return "skip"
-    header_length = 4 * (data[0] & 15)
-    if header_length < 20 or len(data) < header_length:
+    if len(datagram) < 20 or datagram[0] >> 4 != 4:
         return "short"
-    if int.from_bytes(data[2:4], "big") < header_length:
+    header_length = 4 * (datagram[0] & 15)
+    total = int.from_bytes(datagram[2:4], "big")
+    if header_length < 20 or len(datagram) < header_length or total < header_length:
         return "short"
-    return Packet(int.from_bytes(data[12:16], "big"), int.from_bytes(data[16:20], "big"))
+    # the flag for more fragments, or an offset
+    is_fragment = int.from_bytes(datagram[6:8], "big") % 16384 != 0
+    if not is_fragment and lacks_transport(datagram[9], datagram[header_length:], total - header_length):
+        return "short"
+    return Packet(int.from_bytes(datagram[12:16], "big"), int.from_bytes(datagram[16:20], "big"),
+                  header_length > 20)
 
 
 def decide(rules, packet, direction):
@@ -136,32 +199,53 @@ def decide(rules, packet, direction):
     return decided
 
 
-def verdict_line(rules, inside, number, clock, data):
-    """The line of one packet, without its newline."""
-    seen = view(data)
+def judge(rules, inside, seen):
+    """The verdict on what a record shows."""
     if seen == "skip":
-        return f"{number} {clock} - skip not-ip r=- t=- s=-"
+        return Verdict("-", "skip", "not-ip")
     if seen == "short":
-        return f"{number} {clock} - block short r=- t=- s=-"
+        return Verdict("-", "block", "short")
     direction = "out" if any(network.holds(seen.source) for network in inside) else "in"
     verdict, reason, rule = decide(rules, seen, direction)
+    # no rule allows options yet, so what is blocked already keeps its reason
+    if verdict == "pass" and seen.has_options:
+        verdict, reason = "block", "ip-option"
+    return Verdict(direction, verdict, reason, rule)
+
+
+def verdict_line(number, clock, verdict):
+    """The line of one packet, without its newline."""
+    direction, verdict, reason, rule = verdict
     return f"{number} {clock} {direction} {verdict} {reason} r={rule} t=- s=-"
 
 
-def judge_records(rules, inside, capture, order):
-    """The lines of all records that the capture holds, and how it ends: text of a refusal, status."""
-    lines, clock, place = [], 0, 24
+def replay(rules, inside, capture, header):
+    """The replay of all records that the capture holds."""
+    lines, records, clock, place = [], [], 0, 24
     while place + 16 <= len(capture):
-        seconds, _, captured, _ = struct.unpack_from(order + "IIII", capture, place)
+        seconds, _, captured, _ = struct.unpack_from(header.order + "IIII", capture, place)
         if captured > MOST_CAPTURED:
-            return lines, f"capture: record too long {captured}, committed {len(lines)}", 1
+            return Replay(lines, records, f"capture: record too long {captured}, committed {len(lines)}", 1)
         if place + 16 + captured > len(capture):
             break
-        data = capture[place + 16:place + 16 + captured]
-        place += 16 + captured
+        record = capture[place:place + 16 + captured]
+        place += len(record)
         clock = max(clock, seconds)
-        lines.append(verdict_line(rules, inside, len(lines) + 1, clock, data))
-    return lines, "", 0 if place == len(capture) else 2
+        verdict = judge(rules, inside, view(header.link, record[16:]))
+        lines.append(verdict_line(len(lines) + 1, clock, verdict))
+        if verdict.verdict != "block":
+            records.append(record)
+    return Replay(lines, records, "", 0 if place == len(capture) else 2)
+
+
+def packets_text(capture, records):
+    """What the file for the packets holds: the capture's header and the records that are written."""
+    return capture[:24] + b"".join(records)
+
+
+def refused(text):
+    """The end of a run that refused the ruleset or the capture's header."""
+    return Outcome(b"", f"pfreplay: {text}\n".encode(), 1)
 
 
 def run(text, inside, capture):
@@ -169,27 +253,41 @@ def run(text, inside, capture):
     networks = [read_network(word.encode()) for word in inside.split(",")]
     try:
         rules = read_rules(text)
-        lines, refusal, status = judge_records(rules, networks, capture, read_header(capture))
-    except Refused as refused:
-        lines, refusal, status = [], str(refused), 1
+        header = read_header(capture)
+    except Refused as why:
+        return refused(why)
+    lines, records, refusal, status = replay(rules, networks, capture, header)
     out = "".join(line + "\n" for line in lines)
-    return Outcome(out.encode(), f"pfreplay: {refusal}\n".encode() if refusal else b"", status)
+    err = f"pfreplay: {refusal}\n" if refusal else ""
+    return Outcome(out.encode(), err.encode(), status, packets_text(capture, records))
 
 
 def cannot_open(name):
-    """The end of a run whose ruleset file can't be read."""
+    """The end of a run whose ruleset can't be read, or whose file for the packets can't be made."""
     return Outcome(b"", f"pfreplay: cannot open: {name}\n".encode(), 3)
 
 
-def main():
-    name, inside = sys.argv[1:]
+def run_files(rules, inside, capture, packets=None):
+    """The whole run with the names of its files; it writes the packets where a name for them is given."""
     try:
-        with open(name, "rb") as file:
+        with open(rules, "rb") as file:
             text = file.read()
     except OSError:
-        outcome = cannot_open(name)
-    else:
-        outcome = run(text, inside, sys.stdin.buffer.read())
+        return cannot_open(rules)
+    outcome = run(text, inside, capture)
+    if packets is None or outcome.packets is None:
+        return outcome
+    try:
+        with open(packets, "wb") as file:
+            file.write(outcome.packets)
+    except OSError:
+        return cannot_open(packets)
+    return outcome
+
+
+def main():
+    rules, inside, *packets = sys.argv[1:]
+    outcome = run_files(rules, inside, sys.stdin.buffer.read(), *packets)
     sys.stdout.buffer.write(outcome.out)
     sys.stderr.buffer.write(outcome.err)
     return outcome.status

@@ -5,10 +5,14 @@ import struct
 
 MICROSECONDS = 0xA1B2C3D4
 NANOSECONDS = 0xA1B23C4D
-LINKTYPE_RAW = 101
+LINKTYPE_LOOPBACK, LINKTYPE_ETHERNET, LINKTYPE_RAW = 0, 1, 101
 
-ICMP, TCP, UDP = 1, 6, 17
+ETHER_IPV4, ETHER_ARP, ETHER_VLAN, ETHER_IPV6 = 0x0800, 0x0806, 0x8100, 0x86DD
+
+ICMP, IGMP, TCP, UDP = 1, 2, 6, 17
 FIN, SYN, RST, PSH, ACK = 0x01, 0x02, 0x04, 0x08, 0x10
+UNREACHABLE, TIME_EXCEEDED = 3, 11
+DONT_FRAGMENT, MORE_FRAGMENTS = 0x4000, 0x2000
 
 
 def capture_header(order="<", magic=MICROSECONDS, major=2, minor=4, network=LINKTYPE_RAW):
@@ -32,11 +36,33 @@ def checksum(data):
     return total ^ 0xFFFF
 
 
-def ipv4(source, destination, protocol, payload=b"", identification=0):
-    """An IPv4 packet without options."""
-    head = struct.pack(">BBHHHBB", 0x45, 0, 20 + len(payload), identification, 0, 64, protocol)
-    addresses = socket.inet_aton(source) + socket.inet_aton(destination)
-    return head + struct.pack(">H", checksum(head + addresses)) + addresses + payload
+def ethernet(kind, payload, tags=(), source=bytes(6), destination=b"\xff" * 6):
+    """An Ethernet frame, with a VLAN tag for each of the numbers."""
+    tagged = b"".join(struct.pack(">HH", ETHER_VLAN, tag) for tag in tags)
+    return destination + source + tagged + struct.pack(">H", kind) + payload
+
+
+def loopback(payload, family=2, order="<"):
+    """A frame of a BSD loopback device: the family's number in the byte order of the machine, then the packet."""
+    return struct.pack(order + "I", family) + payload
+
+
+def ipv4(source, destination, protocol, payload=b"", identification=0, ip_options=b"", fragment=0, lifetime=64):
+    """An IPv4 packet; the options come padded to a multiple of 4 bytes, `fragment` holds flags and offset."""
+    length = 20 + len(ip_options)
+    head = struct.pack(">BBHHHBB", 0x40 + length // 4, 0, length + len(payload), identification, fragment,
+                       lifetime, protocol)
+    rest = socket.inet_aton(source) + socket.inet_aton(destination) + ip_options
+    return head + struct.pack(">H", checksum(head + rest)) + rest + payload
+
+
+def fragments(packet, size):
+    """A packet without options in two fragments, the first with so many bytes (a multiple of 8) of the payload."""
+    ends = socket.inet_ntoa(packet[12:16]), socket.inet_ntoa(packet[16:20])
+    identification = int.from_bytes(packet[4:6], "big")
+    payload = packet[20:]
+    return (ipv4(*ends, packet[9], payload[:size], identification, fragment=MORE_FRAGMENTS),
+            ipv4(*ends, packet[9], payload[size:], identification, fragment=size // 8))
 
 
 def transport_checksum(source, destination, protocol, segment):
@@ -45,28 +71,42 @@ def transport_checksum(source, destination, protocol, segment):
     return checksum(addresses + struct.pack(">BBH", 0, protocol, len(segment)) + segment)
 
 
-def udp(source, source_port, destination, destination_port, payload=b"", identification=0):
-    """A UDP datagram in its packet."""
+def udp(source, source_port, destination, destination_port, payload=b"", **header):
+    """A UDP datagram in its packet; what else is named goes into the IPv4 header."""
     ports = struct.pack(">HHH", source_port, destination_port, 8 + len(payload))
     # a sum of 0 would say 'no checksum', so it is sent as all ones
     found = transport_checksum(source, destination, UDP, ports + b"\0\0" + payload) or 0xFFFF
-    return ipv4(source, destination, UDP, ports + struct.pack(">H", found) + payload, identification)
+    return ipv4(source, destination, UDP, ports + struct.pack(">H", found) + payload, **header)
 
 
 def tcp(source, source_port, destination, destination_port, flags, sequence, acknowledgement=0,
-        window=64240, options=b"", payload=b"", identification=0):
+        window=64240, options=b"", payload=b"", **header):
     """A TCP segment in its packet; the options come padded to a multiple of 4 bytes."""
     head = struct.pack(">HHIIBBH", source_port, destination_port, sequence, acknowledgement,
                        (20 + len(options)) // 4 << 4, flags, window)
     rest = struct.pack(">H", 0) + options + payload
     found = transport_checksum(source, destination, TCP, head + b"\0\0" + rest)
-    return ipv4(source, destination, TCP, head + struct.pack(">H", found) + rest, identification)
+    return ipv4(source, destination, TCP, head + struct.pack(">H", found) + rest, **header)
 
 
-def echo(source, destination, request, identifier, sequence, payload=b"", identification=0):
+def summed_message(kind, code, rest):
+    """A message of ICMP or IGMP with its checksum."""
+    return struct.pack(">BBH", kind, code, checksum(struct.pack(">BBH", kind, code, 0) + rest)) + rest
+
+
+def echo(source, destination, request, identifier, sequence, payload=b"", **header):
     """An ICMP echo request or reply in its packet."""
-    kind = 8 if request else 0
     rest = struct.pack(">HH", identifier, sequence) + payload
-    found = checksum(struct.pack(">BBH", kind, 0, 0) + rest)
-    message = struct.pack(">BBH", kind, 0, found) + rest
-    return ipv4(source, destination, ICMP, message, identification)
+    return ipv4(source, destination, ICMP, summed_message(8 if request else 0, 0, rest), **header)
+
+
+def icmp_error(source, kind, code, packet, **header):
+    """An ICMP error in its packet: to the sender of that packet, with its header and 8 bytes more."""
+    quoted = packet[:4 * (packet[0] & 15) + 8]
+    return ipv4(source, socket.inet_ntoa(packet[12:16]), ICMP, summed_message(kind, code, bytes(4) + quoted), **header)
+
+
+def group_report(source, group, **header):
+    """An IGMP version 2 report in its packet, which carries the option 'router alert'."""
+    message = summed_message(0x16, 0, socket.inet_aton(group))
+    return ipv4(source, group, IGMP, message, ip_options=bytes([148, 4, 0, 0]), lifetime=1, **header)

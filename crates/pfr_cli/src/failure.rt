@@ -1,6 +1,6 @@
 //! What the program says when something is wrong, in one line, and the statuses that it ends with.
 use pfr_capture::CaptureError;
-use pfr_out::{ConfError, ConfErrorKind, Stop};
+use pfr_out::{ConfError, ConfErrorKind, Output, Stop};
 use std::fmt;
 
 /// All was done.
@@ -14,7 +14,7 @@ pub const DEVICE: u8 = 3;
 /// Memory was refused.
 pub const NO_MEMORY: u8 = 4;
 
-/// Why the program did not do what was asked. A number is that of the packets whose lines are written.
+/// Why the program did not do what was asked. A number is that of the packets of which all is written.
 #[derive(Debug, Drop)]
 pub enum Failure<'a> {
     /// The words of the command line can't be read as text.
@@ -28,19 +28,19 @@ pub enum Failure<'a> {
     Rules(ConfError),
     Capture(CaptureError, u64),
     ReadFailed(u64),
-    WriteFailed(u64),
+    WriteFailed(Output, u64),
     NoMemory(u64),
 }
 
 impl<'a> Failure<'a> {
-    /// The failure for a stop of the run, after which so many lines are written.
-    pub fn of(stop: Stop, lines: u64) -> Failure<'a> {
+    /// The failure for a stop of the run, after which all is written of so many packets.
+    pub fn of(stop: Stop, committed: u64) -> Failure<'a> {
         match stop {
             Stop::Ruleset(fault) => Failure::Rules(fault),
-            Stop::Capture(refusal, _) => Failure::Capture(refusal, lines),
-            Stop::Read(_) => Failure::ReadFailed(lines),
-            Stop::Write(_, _) => Failure::WriteFailed(lines),
-            Stop::Memory(_) => Failure::NoMemory(lines),
+            Stop::Capture(refusal, _) => Failure::Capture(refusal, committed),
+            Stop::Read(_) => Failure::ReadFailed(committed),
+            Stop::Write(output, _) => Failure::WriteFailed(output, committed),
+            Stop::Memory(_) => Failure::NoMemory(committed),
         }
     }
 
@@ -51,7 +51,7 @@ impl<'a> Failure<'a> {
             | Failure::Usage(_)
             | Failure::BadNetwork(_)
             | Failure::Capture(_, _) => REFUSED,
-            Failure::CannotOpen(_) | Failure::ReadFailed(_) | Failure::WriteFailed(_) => DEVICE,
+            Failure::CannotOpen(_) | Failure::ReadFailed(_) | Failure::WriteFailed(_, _) => DEVICE,
             Failure::NoMemory(_) => NO_MEMORY,
             Failure::Rules(fault) => match fault.kind {
                 ConfErrorKind::UnknownWord => REFUSED,
@@ -77,7 +77,12 @@ impl fmt::Display for Failure<'_> {
                 _ => write!(f, "capture: {refusal}"),
             },
             Failure::ReadFailed(lines) => write!(f, "read failed, committed {lines}"),
-            Failure::WriteFailed(lines) => write!(f, "write failed: verdicts, committed {lines}"),
+            Failure::WriteFailed(Output::Verdicts, lines) => {
+                write!(f, "write failed: verdicts, committed {lines}")
+            }
+            Failure::WriteFailed(Output::Packets, lines) => {
+                write!(f, "write failed: packets, committed {lines}")
+            }
             Failure::NoMemory(lines) => write!(f, "no memory, committed {lines}"),
         }
     }

@@ -3,6 +3,7 @@ ghost use Rattle.std.specs.Prelude.{◌≡◌};
 
 use pfr_capture::{Fault, Sink};
 use std::alloc::{AllocError, Global};
+use std::cell::Cell;
 use std::io::Write;
 
 /// How many bytes are kept before they are written.
@@ -11,19 +12,26 @@ const KEPT: usize = 65536;
 /// A sink of lines over a writer. It keeps lines back until there are many, so that a long run makes few
 /// calls of the system, and counts the lines that the writer has taken whole. It doesn't tell its bytes.
 #[derive(Drop)]
-pub struct LineWriter<W: Write + Drop> {
+pub struct LineWriter<'a, W: Write + Drop> {
     writer: W,
     kept: Vec<u8>,
     lines: u64,
+    /// How many lines it was given.
+    given: &'a Cell<u64>,
     failures: u64,
 }
 
-impl<W: Write + Drop> LineWriter<W> {
-    pub fn new(alloc: Global, writer: W) -> Result<LineWriter<W>, AllocError> {
+impl<'a, W: Write + Drop> LineWriter<'a, W> {
+    pub fn new(
+        alloc: Global,
+        writer: W,
+        given: &'a Cell<u64>,
+    ) -> Result<LineWriter<'a, W>, AllocError> {
         Ok(LineWriter {
             writer,
             kept: Vec::with_capacity(alloc, KEPT)?,
             lines: 0,
+            given,
             failures: 0,
         })
     }
@@ -81,7 +89,7 @@ fn ends(text: &[u8]) -> u64 {
     text.iter().filter(|b| **b == b'\n').count() as u64
 }
 
-impl<W: Write + Drop> Sink for LineWriter<W> {
+impl<W: Write + Drop> Sink for LineWriter<'_, W> {
     ghost use Rattle.std.specs.Prelude.{List, ℕ, Bool, false, []};
 
     ghost told = { λ _. false };
@@ -91,6 +99,7 @@ impl<W: Write + Drop> Sink for LineWriter<W> {
     ghost failures = { λ s. s.failures };
 
     fn write(&mut self, piece: &[u8]) -> Result<usize, Fault> {
+        self.given.set(self.given.get().saturating_add(1));
         match self.keep(piece) {
             Ok(()) => Ok(piece.len()),
             Err(fault) => {

@@ -61,7 +61,15 @@ fn gives_a_line_for_each_packet(rt: HostRuntime) -> Result<(), Fail> {
     let alloc = rt.alloc();
     let mut source = Mem::new(three_packets(alloc, [0, 0, 0])?);
     let mut verdicts = Mem::new(Vec::new(alloc));
-    let report = replay_plain(alloc, &mut source, RULES, &inside(), &mut verdicts)?;
+    let mut packets = Mem::new(Vec::new(alloc));
+    let report = replay_plain(
+        alloc,
+        &mut source,
+        RULES,
+        &inside(),
+        &mut verdicts,
+        &mut packets,
+    )?;
     assert_eq!(rt;
         report,
         Report {
@@ -86,7 +94,15 @@ fn refuses_a_line_that_is_no_rule(rt: HostRuntime) -> Result<(), Fail> {
     for text in texts {
         let mut source = Mem::new(three_packets(alloc, [0, 0, 0])?);
         let mut verdicts = Mem::new(Vec::new(alloc));
-        let stop = replay_plain(alloc, &mut source, text, &inside(), &mut verdicts);
+        let mut packets = Mem::new(Vec::new(alloc));
+        let stop = replay_plain(
+            alloc,
+            &mut source,
+            text,
+            &inside(),
+            &mut verdicts,
+            &mut packets,
+        );
         let fault = ConfError {
             line: 2,
             kind: ConfErrorKind::UnknownWord,
@@ -106,7 +122,15 @@ fn reads_captures_of_each_length(rt: HostRuntime) -> Result<(), Fail> {
     for length in 0..whole.len() + 1 {
         let mut source = Mem::new(Vec::from_slice(alloc, &whole.as_slice()[..length])?);
         let mut verdicts = Mem::new(Vec::new(alloc));
-        let outcome = replay_plain(alloc, &mut source, RULES, &inside(), &mut verdicts);
+        let mut packets = Mem::new(Vec::new(alloc));
+        let outcome = replay_plain(
+            alloc,
+            &mut source,
+            RULES,
+            &inside(),
+            &mut verdicts,
+            &mut packets,
+        );
         if length < 24 {
             assert_eq!(rt; outcome, Err(Stop::Capture(CaptureError::HeaderCut, 0)));
             assert_eq!(rt; verdicts.bytes().len(), 0);
@@ -131,7 +155,7 @@ fn refuses_other_captures(rt: HostRuntime) -> Result<(), Fail> {
     let cases = [
         (0, 0x0a, CaptureError::BadMagic),
         (4, 3, CaptureError::BadVersion),
-        (20, 1, CaptureError::LinkType(1)),
+        (20, 2, CaptureError::LinkType(2)),
         (20, 9, CaptureError::LinkType(9)),
     ];
     for (place, byte, refusal) in cases {
@@ -140,7 +164,15 @@ fn refuses_other_captures(rt: HostRuntime) -> Result<(), Fail> {
         bytes[place] = byte;
         let mut source = Mem::new(bytes);
         let mut verdicts = Mem::new(Vec::new(alloc));
-        let outcome = replay_plain(alloc, &mut source, RULES, &inside(), &mut verdicts);
+        let mut packets = Mem::new(Vec::new(alloc));
+        let outcome = replay_plain(
+            alloc,
+            &mut source,
+            RULES,
+            &inside(),
+            &mut verdicts,
+            &mut packets,
+        );
         assert_eq!(rt; outcome, Err(Stop::Capture(refusal, 0)));
         assert_eq!(rt; verdicts.bytes().len(), 0);
     }
@@ -153,7 +185,15 @@ fn writes_a_line_at_a_time(rt: HostRuntime) -> Result<(), Fail> {
     let alloc = rt.alloc();
     let mut source = Mem::new(three_packets(alloc, [0, 0, 0])?);
     let mut verdicts = Mem::new(Vec::new(alloc)).failing_after(2);
-    let outcome = replay_plain(alloc, &mut source, RULES, &inside(), &mut verdicts);
+    let mut packets = Mem::new(Vec::new(alloc));
+    let outcome = replay_plain(
+        alloc,
+        &mut source,
+        RULES,
+        &inside(),
+        &mut verdicts,
+        &mut packets,
+    );
     assert_eq!(rt; outcome, Err(Stop::Write(Output::Verdicts, 2)));
     assert_eq!(rt; lines_in(verdicts.bytes()), 2);
     assert!(rt; verdicts.bytes().ends_with(b"\n"));
@@ -168,7 +208,15 @@ fn stops_where_a_read_fails(rt: HostRuntime) -> Result<(), Fail> {
         let capture = three_packets(alloc, [0, 0, 0])?;
         let mut source = Mem::new(capture).at_most(1).failing_after(calls);
         let mut verdicts = Mem::new(Vec::new(alloc));
-        let outcome = replay_plain(alloc, &mut source, RULES, &inside(), &mut verdicts);
+        let mut packets = Mem::new(Vec::new(alloc));
+        let outcome = replay_plain(
+            alloc,
+            &mut source,
+            RULES,
+            &inside(),
+            &mut verdicts,
+            &mut packets,
+        );
         // 24 bytes, three records of 44, and the read that meets the end.
         if calls > 156 {
             assert_eq!(rt;
@@ -198,7 +246,15 @@ fn stops_where_a_write_fails(rt: HostRuntime) -> Result<(), Fail> {
         let mut verdicts = Mem::new(Vec::new(alloc))
             .at_most(1)
             .failing_after(calls as u64);
-        let outcome = replay_plain(alloc, &mut source, RULES, &inside(), &mut verdicts);
+        let mut packets = Mem::new(Vec::new(alloc));
+        let outcome = replay_plain(
+            alloc,
+            &mut source,
+            RULES,
+            &inside(),
+            &mut verdicts,
+            &mut packets,
+        );
         let committed = lines_in(verdicts.bytes());
         assert_eq!(rt; outcome, Err(Stop::Write(Output::Verdicts, committed)));
         assert_eq!(rt; verdicts.bytes().len(), calls);
@@ -206,7 +262,15 @@ fn stops_where_a_write_fails(rt: HostRuntime) -> Result<(), Fail> {
     }
     let mut source = Mem::new(three_packets(alloc, [0, 0, 0])?);
     let mut verdicts = Mem::new(Vec::new(alloc)).at_most(0);
-    let outcome = replay_plain(alloc, &mut source, RULES, &inside(), &mut verdicts);
+    let mut packets = Mem::new(Vec::new(alloc));
+    let outcome = replay_plain(
+        alloc,
+        &mut source,
+        RULES,
+        &inside(),
+        &mut verdicts,
+        &mut packets,
+    );
     assert_eq!(rt; outcome, Err(Stop::Write(Output::Verdicts, 0)));
     Ok(())
 }

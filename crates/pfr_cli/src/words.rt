@@ -10,8 +10,12 @@ use std::{env, io};
 /// What the command line asks for.
 #[derive(Debug, Drop)]
 pub enum Asked<'a> {
-    /// To replay standard input through the ruleset in this file.
-    Replay { rules: &'a str, inside: Vec<Net> },
+    /// To replay standard input through the ruleset in this file, and to write the packets to another.
+    Replay {
+        rules: &'a str,
+        inside: Vec<Net>,
+        packets: Option<&'a str>,
+    },
     /// To print this text and no more.
     Help(String),
 }
@@ -43,10 +47,14 @@ pub fn parse<'a>(alloc: Global, words: &'a [String]) -> Result<Asked<'a>, Failur
         .help("The inside networks, as a.b.c.d or a.b.c.d/bits, separated by commas")
         .required(true)
         .action(ArgAction::Set);
+    let packets = Arg::new(alloc, "PACKETS")
+        .help("The file for the packets that are not blocked, as a capture")
+        .action(ArgAction::Set);
     let command = Command::new(alloc, "pfreplay")
         .about("Replays a packet capture on standard input through a pf ruleset")
         .arg(rules)?
-        .arg(inside)?;
+        .arg(inside)?
+        .arg(packets)?;
     let matches = match command.try_get_matches_from(words) {
         Ok(matches) => matches,
         Err(error) => {
@@ -61,6 +69,7 @@ pub fn parse<'a>(alloc: Global, words: &'a [String]) -> Result<Asked<'a>, Failur
         (Some(rules), Some(inside)) => Ok(Asked::Replay {
             rules,
             inside: networks(alloc, inside)?,
+            packets: matches.get_str("PACKETS"),
         }),
         _ => Err(Failure::NoMemory(0)),
     }
