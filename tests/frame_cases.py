@@ -109,6 +109,8 @@ def total_lengths():
 def fields():
     """One field of the headers with each of its values."""
     for kind, packet in KINDS.items():
+        # behind the IP header stand fewer bytes than any transport's header has
+        short = 4 * (packet[0] & 15) + 7
         firsts = [bytes([first]) + packet[1:] for first in range(256)]
         protocols = [packet[:9] + bytes([protocol]) + packet[10:] for protocol in range(256)]
         words = [packet[:6] + struct.pack(">H", word) + packet[8:]
@@ -118,9 +120,8 @@ def fields():
             for link in LINKS:
                 yield Case(f"{kind} on {link}, {name}", RULES, INSIDE, link_capture(
                     link, [framed(link, each)[0] for each in changed]))
-                # the transport is not whole, so it counts whether it is asked for
                 yield Case(f"{kind} on {link}, {name}, cut", RULES, INSIDE, link_capture(
-                    link, [framed(link, each[:27])[0] for each in changed]))
+                    link, [framed(link, each[:short])[0] for each in changed]))
 
 
 def data_offsets():
@@ -194,8 +195,10 @@ def some_packet(chance):
     packet = bytearray(chance.choice(list(KINDS.values())))
     packet[12:16] = chance.choice([bytes([10, 0, 0, 5]), bytes([198, 51, 100, 7]), bytes([203, 0, 113, 9])])
     for _ in range(chance.choice([0, 0, 1, 3])):
-        packet[chance.choice([0, 2, 3, 6, 7, 9, 32, 36, chance.randrange(len(packet))])] = chance.choice(
-            [0, 1, 0x20, 0x40, 0x45, 0x46, 0x50, 0x60, chance.randrange(256)])
+        place = chance.choice([0, 2, 3, 6, 7, 9, 32, 36, chance.randrange(len(packet))])
+        value = chance.choice([0, 1, 0x20, 0x40, 0x45, 0x46, 0x50, 0x60, chance.randrange(256)])
+        if place < len(packet):
+            packet[place] = value
     if chance.random() < 0.3:
         del packet[chance.randint(0, len(packet)):]
     return bytes(packet)

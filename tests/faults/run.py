@@ -3,7 +3,8 @@
 
     run.py [--judge MODULE] [--calls] COMMAND WORDS.. < INPUT
 
-It prints how many runs ended each way, and exits with 1 where one ended in an unlawful way.
+It prints how many runs ended each way, and exits with 1 where one ended in an unlawful way. A word for a file that
+the command writes, as the judge tells, stands for a new file in each run; no file of that name is made.
 """
 
 import argparse
@@ -56,13 +57,19 @@ def judged(trial, judge, fault):
   fault: {fault}
   {reason}
   status {seen.status}, standard error {seen.err!r}
-  {seen.out.count(10)} lines of output, the last bytes {seen.out[-120:]!r}"""
+  {seen.out.count(10)} lines of output, the last bytes {seen.out[-120:]!r}{shown_files(seen.files)}"""
+
+
+def shown_files(files):
+    """What a run left in the files that it was to write, in words."""
+    return "".join("\n  a file that isn't there" if text is None else
+                   f"\n  a file of {len(text)} bytes, the last ones {text[-40:]!r}" for text in files)
 
 
 def run(command, source, judge):
     """Runs all faults: the calls of each target, the number of runs by ending, the unlawful ones in words."""
     with tempfile.TemporaryDirectory() as folder:
-        trial = Trial(command, source, folder)
+        trial = Trial(command, source, folder, getattr(judge, "OUTPUTS", ()))
         calls = count_calls(trial, judge.TARGETS)
         faults = [Fault(target, deed, number) for target in judge.TARGETS for deed in target.deeds
                   for number in range(1, calls[target] + 1)]

@@ -44,10 +44,14 @@ class Fault(NamedTuple):
 
 
 class Seen(NamedTuple):
-    """How a run ended: a status below 0 is the signal that ended it, None the time limit."""
+    """How a run ended: a status below 0 is the signal that ended it, None the time limit.
+
+    `files` are the bytes of the files that the run was to write, None for one that isn't there.
+    """
     status: int | None
     out: bytes
     err: bytes
+    files: tuple = ()
 
 
 class Counts(NamedTuple):
@@ -63,11 +67,16 @@ class Unlawful(Exception):
 
 
 class Trial:
-    """A command with its standard input, and the library built for it."""
+    """A command with its standard input, and the library built for it.
 
-    def __init__(self, command, source, folder):
+    `outputs` are the places of words, the program at 0, that name files which the command writes. Each run has
+    names of its own for them, in a folder that is new and empty.
+    """
+
+    def __init__(self, command, source, folder, outputs=()):
         self.command = command
         self.source = source
+        self.outputs = [place for place in outputs if place < len(command)]
         self.folder = folder
         self.library = Path(folder) / "faults.so"
         code = Path(__file__).with_name("faults.c")
@@ -79,15 +88,20 @@ class Trial:
     def without_fault(self, command=None, source=None, environment=None):
         """The command as it ends by itself, or another command or input."""
         with (open(source or self.source, "rb") as file, tempfile.TemporaryFile() as out,
-              tempfile.TemporaryFile() as err):
+              tempfile.TemporaryFile() as err, tempfile.TemporaryDirectory(dir=self.folder) as fresh):
+            words = list(command or self.command)
+            files = [Path(fresh) / f"word{place}" for place in self.outputs]
+            for place, name in zip(self.outputs, files):
+                words[place] = str(name)
             try:
-                status = subprocess.run(command or self.command, stdin=file, stdout=out, stderr=err,
+                status = subprocess.run(words, stdin=file, stdout=out, stderr=err,
                                         timeout=TIME_LIMIT, env=environment, check=False).returncode
             except subprocess.TimeoutExpired:
                 status = None
             out.seek(0)
             err.seek(0)
-            return Seen(status, out.read(), err.read())
+            return Seen(status, out.read(), err.read(),
+                        tuple(name.read_bytes() if name.exists() else None for name in files))
 
     def beginning(self, name, length):
         """A file, open in a `with`, that holds so many bytes of the one named."""

@@ -1,3 +1,4 @@
+pub mod ChecksumLemmas
 pub mod NumberLemmas
 pub mod OptionLemmas
 pub mod RewritingLemmas

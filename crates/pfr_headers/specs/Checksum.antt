@@ -1,6 +1,6 @@
 -- The Internet checksum (RFC 1071, section 1) and how it is mended where words under it change (RFC 1624,
 -- equation 3: HC' = ~(~HC + ~m + m')).
-use Rattle.std.specs.Prelude.{ℕ, zero, suc, ◌+◌, ◌-◌, ◌%◌, ◌==◌, if◌then◌else◌, List, [], ◌∷◌, ◌++◌, take, drop}
+use Rattle.std.specs.Prelude.{◌≡◌, ℕ, zero, suc, ◌+◌, ◌-◌, ◌%◌, ◌==◌, if◌then◌else◌, List, [], ◌∷◌, ◌++◌, take, drop}
 use Rattle.byteorder.specs.Endian.{big_bytes, big_number}
 
 -- the 16-bit word at a place
@@ -47,7 +47,11 @@ abbrev pub with_words : List Word → List ℕ → List ℕ
 with_words [] bytes = bytes
 with_words (w ∷ ws) bytes = with_words ws (with_word w bytes)
 
--- the end-around sum of the first so many words; it is 65535 where the checksum among them verifies
+-- the sum of the first so many words
 abbrev pub sum_of_words : ℕ → List ℕ → ℕ
 sum_of_words zero bytes = 0
 sum_of_words (suc count) bytes = word_at bytes 0 + sum_of_words count (drop 2 bytes)
+
+-- a sum of words with a checksum among them verifies where it comes to all ones
+abbrev pub Verifies : ℕ → Type 0
+Verifies sum = end_around sum ≡ 65535
