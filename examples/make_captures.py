@@ -12,7 +12,9 @@ HERE = Path(__file__).resolve().parent
 sys.path.insert(0, str(HERE.parent / "tests"))
 sys.dont_write_bytecode = True
 
-from packets import ACK, FIN, PSH, RST, SYN, capture_header, checksum, echo, record, tcp, udp
+from packets import (ACK, ETHER_ARP, ETHER_IPV4, ETHER_IPV6, FIN, LINKTYPE_ETHERNET, LINKTYPE_RAW, PSH, RST, SYN,
+                     TIME_EXCEEDED, UNREACHABLE, capture_header, checksum, echo, ethernet, fragments, group_report,
+                     icmp_error, record, tcp, udp)
 
 OPENING = 1767261600  # 2026-01-01 10:00:00 UTC
 
@@ -20,6 +22,11 @@ DESK, LAPTOP, SERVER = "10.0.0.5", "10.0.0.6", "10.1.0.10"
 FIREWALL = "192.0.2.1"
 WEB, RESOLVER, CUSTOMER = "198.51.100.7", "198.51.100.53", "198.51.100.20"
 MONITOR, ATTACKER, STRANGER = "203.0.113.9", "203.0.113.66", "203.0.113.53"
+
+# the home
+NOTEBOOK, CAMERA, ROUTER = "192.168.1.20", "192.168.20.7", "192.168.1.1"
+TIME, MAKER, HOP = "198.51.100.123", "203.0.113.80", "203.0.113.1"
+CAMERA_LAN = 20
 
 # maximum segment size 1460, no operation, window scale 7
 SYN_OPTIONS = bytes([2, 4, 5, 180, 1, 3, 3, 7])
@@ -32,7 +39,8 @@ SNMP_GET = bytes.fromhex("302902010004067075626c6963a01c020400000001020100020100
 class Story:
     """Records in the order of the capture, each packet with an identification of its own."""
 
-    def __init__(self):
+    def __init__(self, link=LINKTYPE_RAW):
+        self.link = link
         self.records = []
 
     def add(self, second, build, *words, captured=None, **named):
@@ -47,7 +55,30 @@ class Story:
         self.records.append(record(OPENING + second, fraction, held, original=len(data)))
 
     def capture(self):
-        return capture_header() + b"".join(self.records)
+        return capture_header(network=self.link) + b"".join(self.records)
+
+
+class HomeStory(Story):
+    """The same on the cable of a home, where every packet has a frame."""
+
+    stations = {NOTEBOOK: bytes.fromhex("020000000020"), CAMERA: bytes.fromhex("020000000007")}
+    router = bytes.fromhex("020000000001")
+    least = 60
+
+    def __init__(self):
+        super().__init__(LINKTYPE_ETHERNET)
+
+    def add_bytes(self, second, data, captured=None):
+        """Frames an IPv4 packet: what a station of the home doesn't send comes from the router."""
+        source, destination = (".".join(map(str, data[place:place + 4])) for place in (12, 16))
+        tags = [CAMERA_LAN] if CAMERA in (source, destination) else []
+        ends = self.stations.get(source, self.router), self.stations.get(destination, self.router)
+        self.add_frame(second, ETHER_IPV4, data, *ends, tags, captured)
+
+    def add_frame(self, second, kind, data, source, destination, tags=(), captured=None):
+        frame = ethernet(kind, data, tags, source, destination)
+        # a cable carries no frame of fewer bytes
+        super().add_bytes(second, frame.ljust(self.least, b"\0"), captured)
 
 
 def dns_query(identification, name):
@@ -111,6 +142,65 @@ def icmp6_solicitation():
     return struct.pack(">IHBB", 0x60000000, len(message), 58, 255) + source + routers + message
 
 
+def arp(operation, source_station, source, destination_station, destination):
+    """An ARP message on Ethernet."""
+    addresses = [bytes(map(int, address.split("."))) for address in (source, destination)]
+    return (struct.pack(">HHBBH", 1, ETHER_IPV4, 6, 4, operation) + source_station + addresses[0]
+            + destination_station + addresses[1])
+
+
+def look_for_router(story, second):
+    """The notebook asks who the router is, and is told."""
+    notebook, router = story.stations[NOTEBOOK], story.router
+    story.add_frame(second, ETHER_ARP, arp(1, notebook, NOTEBOOK, bytes(6), ROUTER), notebook, b"\xff" * 6)
+    story.add_frame(second, ETHER_ARP, arp(2, router, ROUTER, notebook, NOTEBOOK), router, notebook)
+
+
+def large_look_up(story, second):
+    """A DNS look-up whose answer is too long for one frame."""
+    query = dns_query(3, "keys.example.com")
+    # as many records of text as fit, each with 255 letters
+    texts = b"".join(struct.pack(">HHHIHB", 0xC00C, 16, 1, 300, 256, 255) + b"k" * 255 for _ in range(7))
+    reply = struct.pack(">HHHHHH", 3, 0x8180, 1, 7, 0, 0) + query[12:-4] + b"\0\x10\0\1" + texts
+    story.add(second, udp, NOTEBOOK, 40103, RESOLVER, 53, query[:-4] + b"\0\x10\0\1")
+    whole = udp(RESOLVER, 53, NOTEBOOK, 40103, reply, identification=len(story.records) + 1)
+    for fragment in fragments(whole, 1480):
+        story.add_bytes(second, fragment)
+
+
+def trace(story, second):
+    """The notebook traces the path to the web server: a hop on the way answers, then the server."""
+    for step, (answerer, kind, code) in enumerate(((HOP, TIME_EXCEEDED, 0), (WEB, UNREACHABLE, 3))):
+        probe = udp(NOTEBOOK, 45000, WEB, 33434 + step, b"trace", identification=len(story.records) + 1,
+                    lifetime=step + 1)
+        story.add_bytes(second, probe)
+        story.add(second, icmp_error, answerer, kind, code, probe)
+
+
+def home():
+    """Ten minutes on the cable between the router of a home and its switch."""
+    story = HomeStory()
+    look_for_router(story, 0)
+    look_up(story, 1, NOTEBOOK, 40101, RESOLVER, "www.example.com", WEB)
+    there, back = (NOTEBOOK, 49200, WEB, 443), (WEB, 443, NOTEBOOK, 49200)
+    story.add(2, tcp, *there, SYN, 1000, options=SYN_OPTIONS)
+    story.add(2, tcp, *back, SYN | ACK, 5000, 1001, options=SYN_OPTIONS)
+    story.add(2, tcp, *there, ACK, 1001, 5001, window=502)
+    story.add(60, udp, CAMERA, 123, TIME, 123, b"\x23" + bytes(47))
+    story.add(60, udp, TIME, 123, CAMERA, 123, b"\x24" + bytes(47))
+    story.add(65, tcp, CAMERA, 50000, MAKER, 8883, SYN, 7000, options=SYN_OPTIONS)
+    large_look_up(story, 120)
+    trace(story, 180)
+    # the option 'record route', with room for three addresses
+    story.add(300, echo, WEB, NOTEBOOK, True, 3, 1, b"abcdefgh", ip_options=bytes([7, 15, 4]) + bytes(12) + b"\0")
+    story.add(310, group_report, NOTEBOOK, "239.255.255.250")
+    story.add_frame(400, ETHER_IPV6, icmp6_solicitation(), story.stations[NOTEBOOK],
+                    bytes.fromhex("333300000002"))
+    story.add(600, tcp, ATTACKER, 51000, NOTEBOOK, 22, SYN, 9000, window=1024)
+    story.add(600, tcp, ATTACKER, 51000, NOTEBOOK, 23, SYN, 9000, window=1024, captured=46)
+    return story.capture()
+
+
 def office():
     """A few minutes at the firewall of an office."""
     story = Story()
@@ -144,7 +234,7 @@ def first():
     return capture_header() + b"".join(record(0, 0, packet) for packet in packets)
 
 
-CAPTURES = {"first.pcap": first, "office.pcap": office}
+CAPTURES = {"first.pcap": first, "home.pcap": home, "office.pcap": office}
 
 
 def main():

@@ -2,7 +2,11 @@
 use Rattle.std.specs.Prelude.{⊤}
 use Rattle.std.proofs.Common.{◌≡◌, ◌⊎◌, inl, inr, ◌≤◌, ◌<◌, ◌-◌, ◌+◌, ◌*◌, ◌/◌, ◌%◌, ◌++◌, ℕ, Bool, true, false, eqb, zero, suc, List, [], ◌∷◌, length, take, drop, refl, sym, ◌∙◌, ap, subst, arith, cond}
 use Rattle.std.proofs.lemmas.Bool.{eqb-true, ne_eqb}
+use Rattle.std.proofs.lemmas.List.{drop-append-le, drop-drop, drop-take, length-drop, length-take-le}
+use Rattle.byteorder.specs.Endian.{big_bytes, big_number}
+use Rattle.byteorder.specs.Numbers.{big_number-reads_back}
 use Rattle.pfr_headers.specs.Checksum.{Verifies, Word, complement, difference, difference_of, end_around, mended, mended_udp, sum_of_words, with_word, with_words, word, word_at}
+use Rattle.pfr_headers.proofs.WordLemmas.{Spans, behind, kept_before, length_with}
 
 -- what a change brings is the new value without the old, but for a round of 65535
 pub record Brings (old new brought : ℕ) : Type 0 where
@@ -88,3 +92,52 @@ udp_verifies rest rest' brought checksum rounds within there changed before =
     let m = udp_mends checksum brought (not_zero checksum there) in
     let some = m.1 in
     verifies_by rest rest' brought checksum (mended_udp checksum brought) rounds within changed m.0 before (omega arith)
+
+-- sums of the words of bytes into which a word is written
+
+front_read : (value : ℕ) (bytes : List ℕ) → value < 65536 → word_at (with_word (word 0 value) bytes) 0 ≡ value
+unfolding with_word
+front_read value bytes small = big_number-reads_back 2 value (drop 2 bytes) small
+
+two_on : (place value : ℕ) (bytes : List ℕ) → place + 4 ≤ length bytes → drop 2 (with_word (word (2 + place) value) bytes) ≡ with_word (word place value) (drop 2 bytes)
+unfolding with_word
+two_on place value bytes within =
+    let long : 2 ≤ length (take (2 + place) bytes) = omega (arith, length-take-le (2 + place) bytes (omega arith)) in
+    let back : drop (place + 2) (drop 2 bytes) ≡ drop (2 + place + 2) bytes = drop-drop (place + 2) 2 bytes ∙ ap (λ (n : ℕ). drop n bytes) (omega arith) in
+    drop-append-le 2 (take (2 + place) bytes) (big_bytes 2 value ++ drop (2 + place + 2) bytes) long
+    ∙ (rw (drop-take 2 place bytes, back) refl)
+
+-- a word among those that are summed
+pub sum_with : (place count value : ℕ) (bytes : List ℕ) → place < count → 2 * count ≤ length bytes → value < 65536 → sum_of_words count (with_word (word (2 * place) value) bytes) + word_at bytes (2 * place) ≡ sum_of_words count bytes + value
+sum_with place zero value bytes below within small = absurd (omega arith)
+sum_with zero (suc count) value bytes below within small =
+    let read = front_read value bytes small in
+    let rest = behind (word 0 value) bytes 2 (omega arith) (omega arith) in
+    rw (read, rest) (omega arith)
+sum_with (suc place) (suc count) value bytes below within small =
+    let at : 2 * suc place ≡ 2 + 2 * place = omega arith in
+    let first : word_at (with_word (word (2 + 2 * place) value) bytes) 0 ≡ word_at bytes 0 = kept_before (2 + 2 * place) value 0 bytes (omega arith) (omega arith) in
+    let on = two_on (2 * place) value bytes (omega arith) in
+    let size = length-drop 2 bytes in
+    let rest = sum_with place count value (drop 2 bytes) (omega arith) (omega arith) small in
+    let old : word_at bytes (2 + 2 * place) ≡ word_at (drop 2 bytes) (2 * place) = ap (λ (t : List ℕ). big_number 2 t) (sym (drop-drop (2 * place) 2 bytes)) in
+    rw (at, first, on, old) (omega (arith, rest))
+
+-- a word behind them
+sum_without : (count place value : ℕ) (bytes : List ℕ) → 2 * count ≤ place → place + 2 ≤ length bytes → sum_of_words count (with_word (word place value) bytes) ≡ sum_of_words count bytes
+sum_without zero place value bytes over within = refl
+sum_without (suc count) place value bytes over within =
+    let at : place ≡ 2 + (place - 2) = omega arith in
+    let first = kept_before place value 0 bytes within (omega arith) in
+    let on : drop 2 (with_word (word place value) bytes) ≡ with_word (word (place - 2) value) (drop 2 bytes) = subst (λ (n : ℕ). drop 2 (with_word (word n value) bytes) ≡ with_word (word (place - 2) value) (drop 2 bytes)) (sym at) (two_on (place - 2) value bytes (omega arith)) in
+    let size = length-drop 2 bytes in
+    rw (first, on, sum_without count (place - 2) value (drop 2 bytes) (omega arith) (omega arith)) refl
+
+pub sum_outside : (count : ℕ) (ws : List Word) (bytes : List ℕ) (low high : ℕ) → Spans low high ws → 2 * count ≤ low → high ≤ length bytes → sum_of_words count (with_words ws bytes) ≡ sum_of_words count bytes
+sum_outside count [] bytes low high s over within = refl
+sum_outside count (w ∷ ws) bytes low high s over within =
+    let a = s.0 in
+    let b = s.1 in
+    let size = length_with w bytes (omega arith) in
+    sum_outside count ws (with_word w bytes) low high s.2 over (omega arith)
+    ∙ sum_without count w.place w.value bytes (omega arith) (omega arith)

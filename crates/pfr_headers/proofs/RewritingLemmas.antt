@@ -33,26 +33,26 @@ address_most : (end : End) → address_place end ≤ 16
 address_most Source = omega arith
 address_most Destination = omega arith
 
-port_most : (end : End) → port_place end ≤ 2
+pub port_most : (end : End) → port_place end ≤ 2
 port_most Source = omega arith
 port_most Destination = omega arith
 
 -- where the words of each header lie
 
-header_span : (d : List ℕ) (header : ℕ) (end : End) (address : Ipv4Address) → Spans (header + 10) (header + 20) (header_words d header end address)
+pub header_span : (d : List ℕ) (header : ℕ) (end : End) (address : Ipv4Address) → Spans (header + 10) (header + 20) (header_words d header end address)
 unfolding header_words
 header_span d header end address =
     let least = address_least end in
     let most = address_most end in
     (omega arith, omega arith, (omega arith, omega arith, (omega arith, omega arith, record {})))
 
-udp_span : (d : List ℕ) (at : ℕ) (end : End) (addresses : ℕ) (port : Port) → Spans at (at + 8) (udp_words d at end addresses port)
+pub udp_span : (d : List ℕ) (at : ℕ) (end : End) (addresses : ℕ) (port : Port) → Spans at (at + 8) (udp_words d at end addresses port)
 unfolding udp_words
 udp_span d at end addresses port =
     let most = port_most end in
     (omega arith, omega arith, (omega arith, omega arith, record {}))
 
-echo_span : (d : List ℕ) (at : ℕ) (port : Port) → Spans at (at + 8) (echo_words d at port)
+pub echo_span : (d : List ℕ) (at : ℕ) (port : Port) → Spans at (at + 8) (echo_words d at port)
 unfolding echo_words
 echo_span d at port = (omega arith, omega arith, (omega arith, omega arith, record {}))
 
@@ -65,7 +65,7 @@ told_by_tests d protocol at end addresses port false false a b = rw (a, b) (echo
 told_span : (d : List ℕ) (protocol at : ℕ) (end : End) (addresses : ℕ) (port : Port) → Spans at (at + 8) (told_words d protocol at end addresses port)
 told_span d protocol at end addresses port = told_by_tests d protocol at end addresses port _ _ refl refl
 
-inner_span : (d : List ℕ) (at : ℕ) (inner : Inner) (end : End) (to : Endpoint) → 20 ≤ inner.header_length → Spans (at + 10) (at + inner.header_length + 8) (inner_words d at inner end to)
+pub inner_span : (d : List ℕ) (at : ℕ) (inner : Inner) (end : End) (to : Endpoint) → 20 ≤ inner.header_length → Spans (at + 10) (at + inner.header_length + 8) (inner_words d at inner end to)
 unfolding inner_words
 inner_span d at inner end to long =
     spans_append (header_words d at end to.address) _ _ _
@@ -138,7 +138,7 @@ unfolding outer_words
 outer_same_by before d low high p inner end to true e spans within under = rw e (header_same before d low high 0 end to.address spans within under)
 outer_same_by before d low high p inner end to false e spans within under = rw e refl
 
-outer_same : (before : List Word) (d : List ℕ) (low high : ℕ) (p : Packet) (inner : Inner) (end : End) (to : Endpoint) → Spans low high before → high ≤ length d → 20 ≤ low → outer_words (with_words before d) p inner end to ≡ outer_words d p inner end to
+pub outer_same : (before : List Word) (d : List ℕ) (low high : ℕ) (p : Packet) (inner : Inner) (end : End) (to : Endpoint) → Spans low high before → high ≤ length d → 20 ≤ low → outer_words (with_words before d) p inner end to ≡ outer_words d p inner end to
 outer_same before d low high p inner end to spans within under = outer_same_by before d low high p inner end to _ refl spans within under
 
 pub error_written : (d b c e : List ℕ) (p : Packet) (inner : Inner) (end : End) (to : Endpoint) (s : ℕ) → 20 ≤ p.header_length → InnerFits (length d) (p.header_length + 8) inner

@@ -139,7 +139,7 @@ by_link link bytes place false true ethernet a b c e = loopback_or_none link byt
 by_link link bytes place false false true a b c e = ethernet_or_none link bytes place (is_ethernet bytes) (is_tagged bytes) (eqb-true _ _ c) refl refl (rw (a, b, c) at e)
 by_link link bytes place false false false a b c e = none_some place (place_of link bytes) e (rw (a, b, c) refl)
 
-place_by : (link : ℕ) (bytes : List ℕ) (place : ℕ) → place_of link bytes ≡ Some place → HoldsIpv4 link bytes place
+pub place_by : (link : ℕ) (bytes : List ℕ) (place : ℕ) → place_of link bytes ≡ Some place → HoldsIpv4 link bytes place
 place_by link bytes place e = by_link link bytes place _ _ _ refl refl refl e
 
 -- the view is the one that the function computes

@@ -24,7 +24,7 @@ length_with w bytes within =
     ∙ ap (λ (n : ℕ). length (take w.place bytes) + n) (length-append (big_bytes 2 w.value) (drop (w.place + 2) bytes))
     ∙ omega (arith, a, b, c)
 
-behind : (w : Word) (bytes : List ℕ) (place : ℕ) → w.place + 2 ≤ length bytes → w.place + 2 ≤ place → drop place (with_word w bytes) ≡ drop place bytes
+pub behind : (w : Word) (bytes : List ℕ) (place : ℕ) → w.place + 2 ≤ length bytes → w.place + 2 ≤ place → drop place (with_word w bytes) ≡ drop place bytes
 unfolding with_word
 behind w bytes place within before =
     let a = length-take-le w.place bytes (omega arith) in

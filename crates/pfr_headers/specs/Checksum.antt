@@ -1,6 +1,6 @@
 -- The Internet checksum (RFC 1071, section 1) and how it is mended where words under it change (RFC 1624,
 -- equation 3: HC' = ~(~HC + ~m + m')).
-use Rattle.std.specs.Prelude.{◌≡◌, ℕ, zero, suc, ◌+◌, ◌-◌, ◌%◌, ◌==◌, if◌then◌else◌, List, [], ◌∷◌, ◌++◌, take, drop}
+use Rattle.std.specs.Prelude.{◌≡◌, ◌<◌, slice_index, ℕ, zero, suc, ◌+◌, ◌*◌, ◌-◌, ◌%◌, ◌==◌, if◌then◌else◌, List, [], ◌∷◌, ◌++◌, take, drop}
 use Rattle.byteorder.specs.Endian.{big_bytes, big_number}
 
 -- the 16-bit word at a place
@@ -55,3 +55,11 @@ sum_of_words (suc count) bytes = word_at bytes 0 + sum_of_words count (drop 2 by
 -- a sum of words with a checksum among them verifies where it comes to all ones
 abbrev pub Verifies : ℕ → Type 0
 Verifies sum = end_around sum ≡ 65535
+
+-- a list of numbers below 256
+abbrev pub AreBytes : List ℕ → Type 0
+AreBytes bytes = (i : ℕ) → slice_index bytes i < 256
+
+-- the checksum of an IPv4 header of so many bytes, which begins at a place, verifies (RFC 791, section 3.1)
+abbrev pub HeaderVerifies : ℕ → ℕ → List ℕ → Type 0
+HeaderVerifies place length bytes = (count : ℕ) → 2 * count ≡ length → Verifies (sum_of_words count (drop place bytes))

@@ -1,10 +1,29 @@
-//! Laws of the definition of a view, each the contract of a function that does nothing.
-ghost use Rattle.std.specs.Prelude.{◌≡◌, List, ℕ};
+//! Laws of the definitions, each the contract of a function that does nothing.
+ghost use Rattle.std.specs.Prelude.{◌≡◌, ◌<◌, ◌≤◌, ◌+◌, ◌*◌, ◌^◌, List, ℕ, Some};
 ghost use Rattle.pfr_headers.specs.declared.packet.View.{View};
-ghost use Rattle.pfr_headers.specs.View.{IsView, view_of};
+ghost use Rattle.pfr_headers.specs.declared.packet.View.TheVariants.{Ipv4};
+ghost use Rattle.pfr_headers.specs.declared.change.Change.{Change};
+ghost use Rattle.pfr_headers.specs.Checksum.{AreBytes, HeaderVerifies, Verifies, mended, mended_udp};
+ghost use Rattle.pfr_headers.specs.Rewriting.{rewritten};
+ghost use Rattle.pfr_headers.specs.View.{IsView, place_of, view_of};
 
 /// A frame has exactly one view, the one that the function computes.
 pub fn one_view()
     ensures only { (link : ℕ) (bytes : List ℕ) (v : View) → IsView link bytes v → v ≡ view_of link bytes }
     ensures some { (link : ℕ) (bytes : List ℕ) → IsView link bytes (view_of link bytes) }
+{}
+
+/// An IPv4 header whose checksum verifies still does after its packet was rewritten, whatever the checksum was, 0 and
+/// 65535 among them.
+pub fn header_still_verifies()
+    ensures { (link : ℕ) (bytes : List ℕ) (change : Change) (place : ℕ) → view_of link bytes ≡ Ipv4 change.packet → place_of link bytes ≡ Some place → AreBytes bytes → change.to.address.0 < 2 ^ 32 → HeaderVerifies place change.packet.header_length bytes → HeaderVerifies place change.packet.header_length (rewritten link change bytes) }
+{}
+
+/// A checksum that verifies with the words under it still does after it was mended for what changes among these words
+/// bring: their sum goes from `rest` to `rest'`, but for rounds of 65535. The one exception is where all words come out
+/// as 0, the checksum among them: their sum is 0 then. For UDP, where a checksum of 0 says that there is none, there
+/// is no exception.
+pub fn checksums_still_verify()
+    ensures any { (rest rest' brought checksum rounds : ℕ) → checksum ≤ 65535 → rest + brought ≡ rest' + 65535 * rounds → Verifies (rest + checksum) → 0 < rest' + mended checksum brought → Verifies (rest' + mended checksum brought) }
+    ensures udp { (rest rest' brought checksum rounds : ℕ) → checksum ≤ 65535 → 0 < checksum → rest + brought ≡ rest' + 65535 * rounds → Verifies (rest + checksum) → Verifies (rest' + mended_udp checksum brought) }
 {}

@@ -1,0 +1,230 @@
+-- The checksum of an IPv4 header still verifies after its packet is rewritten.
+use Rattle.std.specs.Prelude.{⊤}
+use Rattle.std.proofs.Common.{◌≡◌, ◌⊎◌, inl, inr, ◌≤◌, ◌<◌, ◌-◌, ◌+◌, ◌*◌, ◌/◌, ◌%◌, ◌^◌, ◌++◌, ℕ, Bool, true, false, eqb, zero, suc, List, [], ◌∷◌, length, take, drop, Option, Some, None, refl, sym, ◌∙◌, ap, subst, arith, cond}
+use Rattle.std.proofs.lemmas.List.{append_assoc, drop-drop, get_or-drop, length-drop, length-take-le}
+use Rattle.std.proofs.Math.Seq.{drop-append_seam}
+use Rattle.byteorder.specs.Numbers.{big_from-lt, big_number-reads_back}
+use Rattle.byteorder.specs.Endian.{big_bytes, big_number}
+use Rattle.pfr_headers.specs.declared.address.Ipv4Address.{Ipv4Address}
+use Rattle.pfr_headers.specs.declared.change.Change.{Change}
+use Rattle.pfr_headers.specs.declared.change.End.{End}
+use Rattle.pfr_headers.specs.declared.change.End.TheVariants.{Source, Destination}
+use Rattle.pfr_headers.specs.declared.change.Endpoint.{Endpoint}
+use Rattle.pfr_headers.specs.declared.icmp.IcmpMessage.{IcmpMessage}
+use Rattle.pfr_headers.specs.declared.icmp.IcmpMessage.TheVariants as message
+use Rattle.pfr_headers.specs.declared.icmp.Inner.{Inner}
+use Rattle.pfr_headers.specs.declared.packet.Packet.{Packet}
+use Rattle.pfr_headers.specs.declared.port.Port.{Port}
+use Rattle.pfr_headers.specs.declared.transport.Transport.{Transport}
+use Rattle.pfr_headers.specs.declared.transport.Transport.TheVariants.{Fragment, Tcp, Udp, Icmp, Other}
+use Rattle.pfr_headers.specs.Checksum.{AreBytes, HeaderVerifies, Verifies, Word, difference, difference_of, mended, sum_of_words, with_word, with_words, word, word_at}
+use Rattle.pfr_headers.specs.Rewriting.{address_place, address_words, behind_words, echo_or_none, echo_words, end_address, error_words, header_words, inner_words, other_end, outer_words, packet_words, port_place, rewritten, tcp_words, told_in, udp_words, words_for, words_of}
+use Rattle.pfr_headers.specs.Room.{BehindFits, InnerFits}
+use Rattle.pfr_headers.specs.declared.packet.View.TheVariants.{Ipv4}
+use Rattle.pfr_headers.specs.View.{HoldsIpv4, packet_of, place_of, view_of}
+use Rattle.pfr_headers.proofs.ChecksumLemmas.{brings, mended_verifies, mends, sum_outside, sum_with}
+use Rattle.pfr_headers.proofs.RewritingLemmas.{echo_span, header_room, header_span, inner_room, inner_span, outer_same, packet_there, port_most, transport_room, udp_span}
+use Rattle.pfr_headers.proofs.ViewLemmas.{packet_by, place_by}
+use Rattle.pfr_headers.proofs.WordLemmas.{AllWithin, Spans, kept_behind, kept_before, length_with, length_with_all, outside, spans_append, spans_wider, with_append}
+
+word_small : (place : ℕ) (bytes : List ℕ) → AreBytes bytes → word_at bytes place ≤ 65535
+word_small place bytes are =
+    let below = big_from-lt 0 2 (drop place bytes) (λ k. let at = get_or-drop place bytes k 0 in rw at (are (place + k))) in
+    omega arith
+
+-- the words of a header's fixed part are 16-bit numbers
+abbrev AreSmall : List ℕ → Type 0
+AreSmall bytes = (place : ℕ) → place ≤ 18 → word_at bytes place ≤ 65535
+
+small_words : (bytes : List ℕ) → AreBytes bytes → AreSmall bytes
+small_words bytes are = λ place within. word_small place bytes are
+
+-- the second word is one of those that are summed
+second_least : (count : ℕ) (bytes : List ℕ) → 2 ≤ count → word_at bytes 2 ≤ sum_of_words count bytes
+second_least zero bytes some = absurd (omega arith)
+second_least (suc zero) bytes some = absurd (omega arith)
+second_least (suc (suc count)) bytes some = omega arith
+
+-- an address and the checksum are written among the words
+sum_of_three : (count place a b c : ℕ) (bytes : List ℕ) → 6 ≤ place → place + 1 < count → 2 * count ≤ length bytes → a < 65536 → b < 65536 → c < 65536
+    → sum_of_words count (with_word (word 10 c) (with_word (word (2 * (place + 1)) b) (with_word (word (2 * place) a) bytes))) + (word_at bytes (2 * place) + (word_at bytes (2 * (place + 1)) + word_at bytes 10)) ≡ sum_of_words count bytes + (a + (b + c))
+sum_of_three count place a b c bytes least below within small_a small_b small_c =
+    let one = with_word (word (2 * place) a) bytes in
+    let two = with_word (word (2 * (place + 1)) b) one in
+    let length_one : length one ≡ length bytes = length_with (word (2 * place) a) bytes (omega arith) in
+    let length_two : length two ≡ length one = length_with (word (2 * (place + 1)) b) one (omega arith) in
+    let first = sum_with place count a bytes (omega arith) within small_a in
+    let second = sum_with (place + 1) count b one below (omega arith) small_b in
+    let third = sum_with 5 count c two (omega arith) (omega arith) small_c in
+    let at_second : word_at one (2 * (place + 1)) ≡ word_at bytes (2 * (place + 1)) = kept_behind (2 * place) a (2 * (place + 1)) bytes (omega arith) (omega arith) in
+    let at_third : word_at two 10 ≡ word_at bytes 10 = kept_before (2 * (place + 1)) b 10 one (omega arith) (omega arith) ∙ kept_before (2 * place) a 10 bytes (omega arith) (omega arith) in
+    omega (arith, first, second, third, at_second, at_third)
+
+-- the checksum is mended for the address
+-- so is the checksum's
+tenth_by : (count n : ℕ) (bytes : List ℕ) → n < count → word_at bytes (2 * n) ≤ sum_of_words count bytes
+tenth_by zero n bytes below = absurd (omega arith)
+tenth_by (suc count) zero bytes below = omega arith
+tenth_by (suc count) (suc n) bytes below =
+    let rest = tenth_by count n (drop 2 bytes) (omega arith) in
+    let place : 2 + 2 * n ≡ 2 * suc n = omega arith in
+    let at : word_at (drop 2 bytes) (2 * n) ≡ word_at bytes (2 * suc n) = ap (λ (t : List ℕ). big_number 2 t) (drop-drop (2 * n) 2 bytes) ∙ ap (λ (m : ℕ). big_number 2 (drop m bytes)) place in
+    omega (arith, rest, at)
+
+tenth_least : (count : ℕ) (bytes : List ℕ) → 6 ≤ count → word_at bytes 10 ≤ sum_of_words count bytes
+tenth_least count bytes some = tenth_by count 5 bytes (omega arith)
+
+read_at : (place value : ℕ) (bytes : List ℕ) → place + 2 ≤ length bytes → value < 65536 → word_at (with_word (word place value) bytes) place ≡ value
+unfolding with_word
+read_at place value bytes within small =
+    let behind = big_bytes 2 value ++ drop (place + 2) bytes in
+    let seam : drop place (take place bytes ++ behind) ≡ behind = subst (λ (n : ℕ). drop n (take place bytes ++ behind) ≡ behind) (length-take-le place bytes (omega arith)) (drop-append_seam (take place bytes) behind) in
+    ap (λ (t : List ℕ). big_number 2 t) seam ∙ big_number-reads_back 2 value (drop (place + 2) bytes) small
+
+three_verify : (count place a b : ℕ) (bytes : List ℕ) → AreSmall bytes → 6 ≤ place → place ≤ 8 → place + 1 < count → 2 * count ≤ length bytes → a < 65536 → b < 65536 → 0 < word_at bytes 2
+    → Verifies (sum_of_words count bytes)
+    → Verifies (sum_of_words count (with_word (word 10 (mended (word_at bytes 10) (difference (word_at bytes (2 * place)) a + (difference (word_at bytes (2 * (place + 1))) b + 0)))) (with_word (word (2 * (place + 1)) b) (with_word (word (2 * place) a) bytes))))
+three_verify count place a b bytes are least most below within small_a small_b some before =
+    let brought = difference (word_at bytes (2 * place)) a + (difference (word_at bytes (2 * (place + 1))) b + 0) in
+    let checksum = mended (word_at bytes 10) brought in
+    let m = mends (word_at bytes 10) brought in
+    let small_c = m.within in
+    let high = brings (word_at bytes (2 * place)) a (are (2 * place) (omega arith)) in
+    let low = brings (word_at bytes (2 * (place + 1))) b (are (2 * (place + 1)) (omega arith)) in
+    let high_is = high.is in
+    let low_is = low.is in
+    let checksum_small = are 10 (omega arith) in
+    let three = sum_of_three count place a b checksum bytes least below within small_a small_b (omega arith) in
+    let new = with_word (word 10 checksum) (with_word (word (2 * (place + 1)) b) (with_word (word (2 * place) a) bytes)) in
+    let kept : word_at new 2 ≡ word_at bytes 2 = outside (word (2 * place) a ∷ (word (2 * (place + 1)) b ∷ (word 10 checksum ∷ []))) bytes 10 (2 * count) 2
+    (omega arith, omega arith, (omega arith, omega arith, (omega arith, omega arith, record {}))) within (inr (omega arith)) in
+    let second = second_least count new (omega arith) in
+    let sized = length_with_all (word (2 * place) a ∷ (word (2 * (place + 1)) b ∷ [])) bytes (omega arith, (omega arith, record {})) in
+    let read = read_at 10 checksum (with_word (word (2 * (place + 1)) b) (with_word (word (2 * place) a) bytes)) (omega (arith, sized)) (omega arith) in
+    let tenth_new = tenth_least count new (omega arith) in
+    let tenth = tenth_least count bytes (omega arith) in
+    let rest : sum_of_words count bytes ≡ (sum_of_words count bytes - word_at bytes 10) + word_at bytes 10 = omega arith in
+    let rest_new : sum_of_words count new ≡ (sum_of_words count new - checksum) + checksum = omega (arith, read, tenth_new) in
+    let v = mended_verifies (sum_of_words count bytes - word_at bytes 10) (sum_of_words count new - checksum) brought (word_at bytes 10) (high.rounds + low.rounds) checksum_small (omega (arith, three, tenth, read, tenth_new, high_is, low_is)) (rw rest at before) (omega (arith, rest_new, kept, second, some)) in
+    rw rest_new v
+
+-- so the header's checksum verifies after an address of it was written
+header_verifies : (count : ℕ) (end : End) (address : Ipv4Address) (d : List ℕ) → AreSmall d → 10 ≤ count → 2 * count ≤ length d → address.0 < 4294967296 → 0 < word_at d 2 → Verifies (sum_of_words count d) → Verifies (sum_of_words count (with_words (header_words d 0 end address) d))
+unfolding header_words
+header_verifies count Source address d are long within small some before = three_verify count 6 (address.0 / 65536) (address.0 % 65536) d are (omega arith) (omega arith) (omega arith) within (omega arith) (omega arith) some before
+header_verifies count Destination address d are long within small some before = three_verify count 8 (address.0 / 65536) (address.0 % 65536) d are (omega arith) (omega arith) (omega arith) within (omega arith) (omega arith) some before
+
+-- what is written behind the header doesn't touch its words
+
+tcp_span : (d : List ℕ) (at : ℕ) (end : End) (addresses : ℕ) (port : Port) → Spans at (at + 20) (tcp_words d at end addresses port)
+unfolding tcp_words
+tcp_span d at end addresses port =
+    let most = port_most end in
+    (omega arith, omega arith, (omega arith, omega arith, record {}))
+
+echo_sum : (count size at : ℕ) (d b : List ℕ) (port : Port) (m : IcmpMessage) → 2 * count ≤ at → size ≤ length b → at + 8 ≤ size → sum_of_words count (with_words (echo_or_none d at port m) b) ≡ sum_of_words count b
+echo_sum count size at d b port (message.Echo identifier) over within fits = sum_outside count (echo_words d at port) b at (at + 8) (echo_span d at port) over (omega arith)
+echo_sum count size at d b port (message.Error inner) over within fits = refl
+echo_sum count size at d b port message.Other over within fits = refl
+
+all_within : (ws : List Word) (low high size : ℕ) → Spans low high ws → high ≤ size → AllWithin size ws
+all_within [] low high size s within = record {}
+all_within (w ∷ ws) low high size s within =
+    let b = s.1 in
+    (omega arith, all_within ws low high size s.2 within)
+
+behind_sum : (count size at : ℕ) (d b : List ℕ) (end : End) (s : ℕ) (port : Port) (t : Transport) → 2 * count ≤ at → size ≤ length b → BehindFits size at t → sum_of_words count (with_words (behind_words d at end s port t) b) ≡ sum_of_words count b
+behind_sum count size at d b end s port Fragment over within fits = refl
+behind_sum count size at d b end s port (Tcp t) over within fits = sum_outside count (tcp_words d at end s port) b at (at + 20) (tcp_span d at end s port) over (omega arith)
+behind_sum count size at d b end s port (Udp u) over within fits = sum_outside count (udp_words d at end s port) b at (at + 8) (udp_span d at end s port) over (omega arith)
+behind_sum count size at d b end s port (Icmp i) over within fits = echo_sum count size at d b port i.message over within fits
+behind_sum count size at d b end s port Other over within fits = refl
+
+header_within : (d : List ℕ) (header : ℕ) (end : End) (address : Ipv4Address) → header + 20 ≤ length d → length (with_words (header_words d header end address) d) ≡ length d
+header_within d header end address room = length_with_all (header_words d header end address) d (all_within (header_words d header end address) (header + 10) (header + 20) (length d) (header_span d header end address) room)
+
+packet_verifies : (count : ℕ) (d : List ℕ) (p : Packet) (end : End) (to : Endpoint) → AreSmall d → 2 * count ≡ p.header_length → 20 ≤ p.header_length → p.header_length ≤ length d → BehindFits (length d) p.header_length p.transport → to.address.0 < 4294967296 → 0 < word_at d 2 → Verifies (sum_of_words count d) → Verifies (sum_of_words count (with_words (packet_words d p end to) d))
+unfolding packet_words
+packet_verifies count d p end to are words long within fits small some before =
+    let header = header_words d 0 end to.address in
+    let behind = behind_words d p.header_length end (difference_of d (address_words (address_place end) to.address)) to.port p.transport in
+    let size = header_within d 0 end to.address (omega arith) in
+    let same = behind_sum count (length d) p.header_length d (with_words header d) end (difference_of d (address_words (address_place end) to.address)) to.port p.transport (omega arith) (omega (arith, size)) fits in
+    rw (with_append header behind d, same) (header_verifies count end to.address d are (omega arith) (omega arith) small some before)
+
+outer_verifies : (count : ℕ) (b : List ℕ) (p : Packet) (inner : Inner) (end : End) (to : Endpoint) (same : Bool) → eqb (end_address end p.source p.destination).0 (end_address (other_end end) inner.source inner.destination).0 ≡ same → AreSmall b → 10 ≤ count → 2 * count ≤ length b → to.address.0 < 4294967296 → 0 < word_at b 2 → Verifies (sum_of_words count b) → Verifies (sum_of_words count (with_words (outer_words b p inner end to) b))
+unfolding outer_words
+outer_verifies count b p inner end to true e are long within small some before = rw e (header_verifies count end to.address b are long within small some before)
+outer_verifies count b p inner end to false e are long within small some before = rw e before
+
+kept_small : (before : List Word) (d : List ℕ) (low high : ℕ) → Spans low high before → 20 ≤ low → high ≤ length d → AreSmall d → AreSmall (with_words before d)
+kept_small before d low high s over within are = λ place below. let same = outside before d low high place s within (inr (omega arith)) in rw same (are place below)
+
+error_verifies : (count : ℕ) (d : List ℕ) (p : Packet) (inner : Inner) (end : End) (to : Endpoint) → AreSmall d → 2 * count ≡ p.header_length → 20 ≤ p.header_length → InnerFits (length d) (p.header_length + 8) inner → to.address.0 < 4294967296 → 0 < word_at d 2 → Verifies (sum_of_words count d) → Verifies (sum_of_words count (with_words (error_words d p inner end to) d))
+unfolding error_words
+error_verifies count d p inner end to are words long fits small some before =
+    let header = fits.header in
+    let room = fits.behind in
+    let carried = inner_words d (p.header_length + 8) inner (other_end end) to in
+    let checksum = word (p.header_length + 2) (mended (word_at d (p.header_length + 2)) (difference_of d carried)) in
+    let first = carried ++ checksum ∷ [] in
+    let low = p.header_length + 2 in
+    let high = p.header_length + 8 + inner.header_length + 8 in
+    let span : Spans low high first = spans_append carried (checksum ∷ []) low high
+    (spans_wider carried (p.header_length + 8 + 10) high low high (inner_span d (p.header_length + 8) inner (other_end end) to header) (omega arith) (omega arith))
+    (omega arith, omega arith, record {}) in
+    let b = with_words first d in
+    let size : length b ≡ length d = length_with_all first d (all_within first low high (length d) span (omega arith)) in
+    let total : word_at b 2 ≡ word_at d 2 = outside first d low high 2 span (omega arith) (inr (omega arith)) in
+    let sum : sum_of_words count b ≡ sum_of_words count d = sum_outside count first d low high span (omega arith) (omega arith) in
+    let same = outer_same first d low high p inner end to span (omega arith) (omega arith) in
+    let now : Verifies (sum_of_words count b) = rw sum before in
+    let after = outer_verifies count b p inner end to _ refl (kept_small first d low high span (omega arith) (omega arith) are) (omega arith) (omega (arith, size)) small (omega (arith, total)) now in
+    rw (sym (append_assoc carried (checksum ∷ []) (outer_words d p inner end to)), with_append first (outer_words d p inner end to) d, sym same) after
+
+-- all words of a change
+words_verify : (count : ℕ) (d : List ℕ) (change : Change) (told : Option Inner) → told_in change.packet.transport ≡ told → packet_of d ≡ Some change.packet → AreSmall d → 2 * count ≡ change.packet.header_length → change.to.address.0 < 4294967296 → 0 < word_at d 2 → Verifies (sum_of_words count d) → Verifies (sum_of_words count (with_words (words_for d change told) d))
+words_verify count d change None is there are words small some before =
+    let room = header_room d change.packet there in
+    packet_verifies count d change.packet change.end change.to are words room.0 room.1 (transport_room d change.packet there) small some before
+words_verify count d change (Some inner) is there are words small some before =
+    error_verifies count d change.packet inner change.end change.to are words (header_room d change.packet there).0 (inner_room d change.packet inner there is) small some before
+
+pub datagram_verifies : (count : ℕ) (d : List ℕ) (change : Change) → packet_of d ≡ Some change.packet → AreBytes d → 2 * count ≡ change.packet.header_length → change.to.address.0 < 4294967296 → Verifies (sum_of_words count d) → Verifies (sum_of_words count (with_words (words_of d change) d))
+unfolding words_of
+datagram_verifies count d change there are words small before =
+    let h = (packet_by d change.packet there).header in
+    let least = h.at_least in
+    let total = h.within_total in
+    words_verify count d change _ refl there (small_words d are) words small (omega arith) before
+
+-- and in the frame
+
+place_within : (link : ℕ) (bytes : List ℕ) (place : ℕ) → HoldsIpv4 link bytes place → place ≤ length bytes
+place_within link bytes place (inl r) = let e = r.place_is in omega arith
+place_within link bytes place (inr (inl l)) =
+    let e = l.place_is in
+    let w = l.whole in
+    omega arith
+place_within link bytes place (inr (inr (inl n))) =
+    let e = n.place_is in
+    let w = n.whole in
+    omega arith
+place_within link bytes place (inr (inr (inr t))) =
+    let e = t.place_is in
+    let w = t.whole in
+    omega arith
+
+bytes_behind : (place : ℕ) (bytes : List ℕ) → AreBytes bytes → AreBytes (drop place bytes)
+bytes_behind place bytes are = λ k. let at = get_or-drop place bytes k 0 in rw at (are (place + k))
+
+pub frame_verifies : (link : ℕ) (bytes : List ℕ) (change : Change) (place : ℕ) → view_of link bytes ≡ Ipv4 change.packet → place_of link bytes ≡ Some place → AreBytes bytes → change.to.address.0 < 4294967296 → HeaderVerifies place change.packet.header_length bytes → HeaderVerifies place change.packet.header_length (rewritten link change bytes)
+unfolding rewritten
+frame_verifies link bytes change place is at are small before =
+    λ count words.
+    let d = drop place bytes in
+    let there = packet_there link place bytes change.packet at is in
+    let within = place_within link bytes place (place_by link bytes place at) in
+    let new = with_words (words_of d change) d in
+    let seam : drop place (take place bytes ++ new) ≡ new = subst (λ (n : ℕ). drop n (take place bytes ++ new) ≡ new) (length-take-le place bytes within) (drop-append_seam (take place bytes) new) in
+    rw (at, seam) (datagram_verifies count d change there (bytes_behind place bytes are) words small (before count words))
