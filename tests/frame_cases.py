@@ -52,13 +52,15 @@ def one_frame(name, link, frame, line, written, rules=b""):
             capture_header(network=link) + (record(0, 0, frame) if written else b""))
 
 
-def rows():
-    """Cases with the outcome written out, as those of `cases`."""
+def frame_rows():
+    """What is seen of a frame of each link."""
     for count in (2, 3):
         yield one_frame(f"{count} tags", LINKTYPE_ETHERNET, ethernet(ETHER_IPV4, KINDS["TCP"], [20] * count),
                         b"1 0 - skip not-ip r=- t=- s=-\n", True)
     yield one_frame("one tag", LINKTYPE_ETHERNET, ethernet(ETHER_IPV4, KINDS["TCP"], [20]),
                     b"1 0 in pass rule r=0 t=- s=-\n", True, PASS_IN)
+    yield one_frame("a tag of a provider", LINKTYPE_ETHERNET, ethernet(0x88A8, b"\0\x14\x08\0" + KINDS["TCP"]),
+                    b"1 0 - skip not-ip r=- t=- s=-\n", True)
     yield one_frame("an ARP request", LINKTYPE_ETHERNET, ethernet(ETHER_ARP, bytes(28)),
                     b"1 0 - skip not-ip r=- t=- s=-\n", True, b"block all\n")
     for family in ("02000000", "00000002"):
@@ -66,7 +68,13 @@ def rows():
                         b"1 0 in pass default r=- t=- s=-\n", True)
     yield one_frame("family 18000000", LINKTYPE_LOOPBACK, bytes.fromhex("18000000") + KINDS["UDP"],
                     b"1 0 - skip not-ip r=- t=- s=-\n", True)
+
+
+def packet_rows():
+    """What is said of a packet's headers."""
     yield one_frame("TCP of 12 bytes", LINKTYPE_RAW, KINDS["TCP"][:32], b"1 0 - block short r=- t=- s=-\n", False)
+    yield one_frame("a fragment of 8 bytes of TCP", LINKTYPE_RAW, ipv4(*ENDS, TCP, bytes(8), fragment=MORE_FRAGMENTS),
+                    b"1 0 in pass default r=- t=- s=-\n", True)
     syn = tcp("198.51.100.7", 80, "192.0.2.1", 49152, SYN, 1000, ip_options=NO_OPERATIONS)
     yield one_frame("IP options that a rule would pass", LINKTYPE_RAW, syn,
                     b"1 0 in block ip-option r=0 t=- s=-\n", False, PASS_IN)
@@ -74,8 +82,12 @@ def rows():
                     b"1 0 in block ip-option r=- t=- s=-\n", False, b"block out all\n")
     yield one_frame("IP options that a rule blocks", LINKTYPE_RAW, syn,
                     b"1 0 in block rule r=1 t=- s=-\n", False, PASS_IN + b"block in all\n")
-    yield one_frame("a fragment of 8 bytes of TCP", LINKTYPE_RAW, ipv4(*ENDS, TCP, bytes(8), fragment=MORE_FRAGMENTS),
-                    b"1 0 in pass default r=- t=- s=-\n", True)
+
+
+def rows():
+    """Cases with the outcome written out, as those of `cases`."""
+    yield from frame_rows()
+    yield from packet_rows()
     for link in LINKS:
         opening = capture_header(network=link)
         yield Case(f"24 bytes of link type {link}", b"block all\n", INSIDE, opening), b"", b"", 0, opening
@@ -160,6 +172,9 @@ def types():
     for tags in ([], [0], [20], [0xFFFF], [20, 20], [0x0800], [ETHER_VLAN]):
         frames = [ethernet(kind, packet, tags) for kind in kinds]
         yield Case(f"types behind the tags {tags}", RULES, INSIDE, link_capture(LINKTYPE_ETHERNET, frames))
+    # a tag, or what would be one, of each type before the type of IPv4
+    yield Case("types of tags", RULES, INSIDE, link_capture(LINKTYPE_ETHERNET, [
+        ethernet(kind, struct.pack(">HH", 20, ETHER_IPV4) + packet) for kind in kinds]))
     for kind in kinds:
         for tags in ([], [20], [20, 20]):
             whole = ethernet(kind, packet, tags)

@@ -5,7 +5,6 @@ packets; the capture is its standard input.
 """
 
 import re
-import struct
 
 from trial import Target, Unlawful
 
@@ -134,10 +133,12 @@ def holds_just(clean, seen, committed):
 def packets_text(clean, count):
     """What the file for the packets holds of the first packets, by the run without a fault."""
     text, place = clean.files[0], 24
-    order = "<" if text[0] in (0xD4, 0x4D) else ">"
+    order = "little" if text[:1] in (b"\xd4", b"\x4d") else "big"
     for line in clean.out.splitlines()[:count]:
         if line.split()[3] != b"block":
-            place += 16 + struct.unpack_from(order + "I", text, place + 8)[0]
+            place += 16 + int.from_bytes(text[place + 8:place + 12], order)
+    if len(text) < place:
+        raise Unlawful("the packets aren't all there even without a fault")
     return text[:place]
 
 
