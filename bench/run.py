@@ -40,7 +40,7 @@ class Contest:
         rules.write_text(RULES)
         with open(self.capture, "wb") as file:
             write_capture(count, file)
-        self.program = [str(program), str(rules), INSIDE]
+        self.program = [str(program), str(rules), INSIDE, str(folder / "written.pcap")]
         # as root, tcpdump would give up the right to write into this folder
         user = ["-Z", "root"] if os.geteuid() == 0 else []
         self.tcpdump = ["tcpdump", *user, "-r", str(self.capture), "-w", str(self.passed), FILTER]

@@ -360,3 +360,54 @@ fn mends_as_a_full_sum_does(rt: HostRuntime) {
         mends_a_packet(&rt, 6, 40, length);
     }
 }
+
+/// A UDP packet of odd length and an ICMP error, as other programs captured them (test vectors of the gopacket library).
+const CAPTURED_UDP: [u8; 57] = [
+    0x45, 0, 0, 0x39, 0xd4, 0x31, 0, 0, 0xf3, 0x11, 0xb3, 0xa0, 0x0a, 0x4d, 0x2b, 0x83, 0x0a, 1, 0,
+    0x11, 0xed, 0x2e, 0, 0x35, 0, 0x25, 8, 0x32, 0x47, 0x45, 0x54, 0x20, 0x2f, 0x20, 0x48, 0x54,
+    0x54, 0x50, 0x2f, 0x31, 0x2e, 0x31, 0x0d, 0x0a, 0x48, 0x6f, 0x73, 0x74, 0x3a, 0x20, 0x77, 0x77,
+    0x77, 0x0d, 0x0a, 0x0d, 0x0a,
+];
+
+const CAPTURED_ERROR: [u8; 56] = [
+    0x45, 0, 0, 0x38, 0, 0, 0, 0, 0xfc, 1, 0xd7, 0xa7, 0x48, 0x0e, 0xde, 0xe2, 0xac, 0x1d, 0x14,
+    0x0f, 3, 0x0d, 0x94, 0x6e, 0, 0, 0, 0, 0x45, 0x20, 0, 0x4d, 0, 0, 0x40, 0, 0x3e, 0x11, 0x28,
+    0x49, 0xac, 0x1d, 0x14, 0x0f, 0x0a, 0x42, 0x49, 0xc9, 0x8e, 0xcc, 0x62, 0xe1, 0, 0x39, 0x76,
+    0x9d,
+];
+
+/// Whether the header's checksum and that of what is behind it verify, the latter with what is summed besides it.
+fn verifies(bytes: &[u8], besides: u64) -> bool
+    requires { 20 ≤ length bytes.now }
+{
+    checksum_of(add_words(0, &bytes[..20])) == 0
+        && checksum_of(add_words(besides, &bytes[20..])) == 0
+}
+
+#[test]
+fn captured_packets(rt: HostRuntime) {
+    let mut udp = CAPTURED_UDP;
+    for (end, address, port) in [
+        (End::Source, 0xc000_0201, 50001),
+        (End::Destination, 0x0808_0808, 53),
+        (End::Source, 0, 0),
+    ] {
+        // protocol and length
+        let pseudo = add_words(17 + 37, &udp[12..20]);
+        assert!(rt; verifies(&udp, pseudo));
+        rewrite_end(&mut udp, end, address, port);
+    }
+    let pseudo = add_words(17 + 37, &udp[12..20]);
+    assert!(rt; verifies(&udp, pseudo));
+    assert_eq!(rt; udp[22], 0);
+    assert_eq!(rt; udp[23], 53);
+
+    let mut error = CAPTURED_ERROR;
+    assert!(rt; verifies(&error, 0));
+    rewrite_end(&mut error, End::Destination, 0xc000_0201, 50001);
+    assert!(rt; verifies(&error, 0));
+    // the error's destination and the source of the packet that it tells of
+    assert_eq!(rt; error[16], 192);
+    assert_eq!(rt; error[40], 192);
+    assert_eq!(rt; checksum_of(add_words(0, &error[28..48])), 0);
+}
