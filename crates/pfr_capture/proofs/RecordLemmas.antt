@@ -3,10 +3,9 @@ use Rattle.std.proofs.Common.{◌≡◌, ℕ, ◌^◌, ◌<◌, ◌≤◌, List,
 use Rattle.std.proofs.lemmas.List.{append_assoc, append-nil, drop-append-le, length-append, length-drop, get_or_append_left}
 use Rattle.pfr_capture.specs.declared.order.ByteOrder.{ByteOrder}
 use Rattle.pfr_capture.specs.declared.order.ByteOrder.TheVariants.{Big, Little}
-use Rattle.pfr_capture.specs.Ahead.{CameBehind, Extends}
+use Rattle.pfr_capture.specs.Ahead.{CameBehind}
 use Rattle.pfr_capture.specs.Header.{number}
 use Rattle.pfr_capture.specs.Records.{IsTooLong, captured_of}
-use Rattle.pfr_capture.specs.Stepping.{HasHeader}
 
 -- a number reads the first four bytes alone
 pub number-append : (order : ByteOrder) (xs ys : List ℕ) → 4 ≤ length xs → number order (xs ++ ys) ≡ number order xs
@@ -53,12 +52,3 @@ too_long_from order count old new before left asked c may header asks above =
       asks = captured_of-append order new left header ∙ sym asks;
       above = above;
     })
-
--- a header stays as it is while more bytes come
-pub has_header_kept : (order : ByteOrder) (count captured : ℕ) (old new : List ℕ) → HasHeader order count old captured → Extends old new → HasHeader order count new captured
-has_header_kept order count captured old new h e = rw e.is (record {
-  may_follow = h.may_follow;
-  header = let long = h.header in omega (arith, length-append old e.more);
-  asks = captured_of-append order old e.more h.header ∙ h.asks;
-  within = h.within;
-})

@@ -91,7 +91,6 @@ impl Capture {
 
     /// The next record, or None after the last. `tail` then says how the capture ends. An answer of None
     /// and a refusal are for good: each further call gives the same, and reads nothing.
-    #[tactic(auto, using(crate::proofs::ReadingLemmas::reads_record))]
     pub fn next<S: Source>(&mut self, source: &mut S) -> Result<Option<Record>, CaptureError>
         ensures told { S.told source.new ≡ S.told source.old }
         ensures same { (self.new.form ≡ self.old.form) × (self.new.header ≡ self.old.header) }
@@ -270,7 +269,6 @@ fn look_for_header<S: Source>(
 }
 
 /// Reads on until the whole next record is there.
-#[tactic(auto, using(crate::proofs::RecordLemmas::has_header_kept))]
 fn look_for_record<S: Source>(
     order: ByteOrder,
     count: u64,

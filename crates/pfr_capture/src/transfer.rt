@@ -6,7 +6,6 @@ use crate::device::{Fault, Sink};
 
 /// Writes the whole piece: one call as long as the sink takes all that it is offered, and none for an
 /// empty piece. On a fault the sink has taken a beginning that lacks at least the last byte.
-#[tactic(auto, using(crate::proofs::DeviceLemmas::part_from_added))]
 pub fn write_all<S: Sink>(sink: &mut S, piece: &[u8]) -> Result<(), Fault>
     ensures told { S.told sink.new ≡ S.told sink.old }
     ensures whole { OnOk result (IsTrue (S.told sink.old) → S.written sink.new ≡ S.written sink.old ++ piece.now) }

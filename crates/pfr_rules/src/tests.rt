@@ -3,7 +3,7 @@ use crate::decision::Decision;
 use crate::rule::{Action, Rule, RuleNumber};
 use crate::ruleset::Ruleset;
 use crate::walk::filter;
-use pfr_headers::{Direction, Ipv4Address, Net, Packet, Protocol};
+use pfr_headers::{Direction, Ipv4Address, Net, Packet, Protocol, Transport};
 use std::test::Fail;
 
 #[test]
@@ -45,9 +45,10 @@ fn last_match_decides_unless_quick(rt: HostRuntime) -> Result<(), Fail> {
         let packet = Packet {
             header_length: 20,
             total_length: 20,
-            protocol: Protocol(6),
+            protocol: Protocol(47),
             source: Ipv4Address(source),
             destination: Ipv4Address(0x0a00_0001),
+            transport: Transport::Other,
         };
         let (decision, _) = filter(rt.alloc(), &rules, &packet, direction)?;
         assert_eq!(rt; decision, Decision { rule, action });
