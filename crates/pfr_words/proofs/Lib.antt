@@ -1,0 +1,2 @@
+pub mod BraceLemmas
+pub mod PieceLemmas

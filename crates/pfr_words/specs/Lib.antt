@@ -1,0 +1,3 @@
+pub mod formers
+pub mod Names
+pub mod Words
