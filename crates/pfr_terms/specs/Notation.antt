@@ -1,0 +1,27 @@
+-- Numbers and addresses as they are written: decimal digits, `a.b.c.d` and `a.b.c.d/bits`, as in pf.conf(5). A number
+-- may have leading zeros.
+use Rattle.std.specs.Prelude.{ℕ, ◌+◌, ◌-◌, ◌*◌, ◌==◌, ◌&&◌, ◌||◌, Bool, true, false, not, min, nat_le, if◌then◌else◌, List, [], ◌∷◌, fold, length, take, drop, Option, Some, None}
+use Rattle.std.specs.Char.{is_ascii_digit}
+use Rattle.std.specs.List.{position}
+
+abbrev pub are_digits : List ℕ → Bool
+are_digits [] = true
+are_digits (b ∷ text) = if is_ascii_digit b then are_digits text else false
+
+abbrev pub value : List ℕ → ℕ
+value digits = fold (λ n b. 10 * n + (b - 48)) 0 digits
+
+-- one number stands for all that are above every limit
+abbrev pub capped : List ℕ → ℕ
+capped digits = min (value digits) 4294967296
+
+unfoldable pub number : List ℕ → Option ℕ
+number text = if length text == 0 || not (are_digits text) then None else Some (capped text)
+
+abbrev pub parts_at : Option ℕ → List ℕ → Option (List ℕ × List ℕ)
+parts_at None text = None
+parts_at (Some place) text = Some (take place text, drop (place + 1) text)
+
+-- what stands before the first such byte and behind it, if there is one
+unfoldable pub cut_at : ℕ → List ℕ → Option (List ℕ × List ℕ)
+cut_at byte text = parts_at (position (λ b. b == byte) text) text

@@ -1,0 +1,90 @@
+//! The faults of a ruleset text.
+ghost use Rattle.std.specs.Prelude.{◌≡◌};
+ghost use Rattle.pfr_terms.specs.Input as spec;
+
+use pfr_words::{Items, WordFault};
+use std::alloc::AllocError;
+use std::fmt;
+use std::fmt::Write;
+use thiserror::Error;
+
+/// What a ruleset asks for that this profile leaves out: the word, or a name for what was written.
+#[derive(Debug, Drop)]
+pub struct LeftOutName {
+    pub name: Items<u8>,
+}
+
+impl fmt::Display for LeftOutName {
+    fn fmt<W: Write>(&self, f: &mut fmt::Formatter<W>) -> fmt::Result {
+        for byte in self.name.as_slice() {
+            f.write_char(char::from(*byte))?;
+        }
+        Ok(())
+    }
+}
+
+/// What is wrong with a ruleset text.
+#[derive(Debug, Drop, Error)]
+pub enum ConfErrorKind {
+    /// A byte that is neither printable ASCII nor a blank, outside of comments.
+    #[error("bad byte")]
+    BadByte,
+    /// A quote or a brace that is never closed.
+    #[error("unterminated")]
+    Unterminated,
+    /// A word that is missing, or that doesn't belong where it stands.
+    #[error("unknown word")]
+    UnknownWord,
+    /// What pf.conf(5) has and this profile leaves out.
+    #[error("left out: {0}")]
+    LeftOut(LeftOutName),
+    /// A number out of its range.
+    #[error("bad number")]
+    BadNumber,
+    /// An address that is none.
+    #[error("bad address")]
+    BadAddress,
+    /// An option behind a rule, or a translation rule behind a filter rule.
+    #[error("out of order")]
+    OutOfOrder,
+    /// An anchor inside of sixteen others.
+    #[error("too deep")]
+    TooDeep,
+    /// Memory was refused while the text was read.
+    #[error("no memory")]
+    Memory,
+}
+
+/// The first fault of a ruleset text, and its line: from 1, or 0 for want of memory.
+#[derive(Debug, Drop, Error)]
+#[error("rules line {line}: {kind}")]
+pub struct ConfError {
+    pub line: usize,
+    pub kind: ConfErrorKind,
+}
+
+impl From<AllocError> for ConfError {
+    ghost use Rattle.std.specs.Prelude.{◌≡◌};
+    ghost use Rattle.pfr_terms.specs.declared.error.ConfErrorKind.TheVariants.{Memory};
+
+    ghost from_gives = { λ _ e. e ≡ record { line = 0; kind = Memory } };
+
+    fn from(_refused: AllocError) -> ConfError {
+        ConfError {
+            line: 0,
+            kind: ConfErrorKind::Memory,
+        }
+    }
+}
+
+/// The fault that a part of a text has which is no word.
+#[tactic(auto, unfolding(crate::specs::Input::kind_of))]
+pub(crate) fn kind_of(fault: WordFault) -> ConfErrorKind
+    ensures { result ≡ spec.kind_of fault }
+{
+    match fault {
+        WordFault::BadByte => ConfErrorKind::BadByte,
+        WordFault::Unterminated => ConfErrorKind::Unterminated,
+        WordFault::UnknownWord => ConfErrorKind::UnknownWord,
+    }
+}

@@ -1,0 +1,18 @@
+//! What pf.conf(5)'s rules are made of: lists, interfaces, protocols, addresses, ports, ICMP types and flags, read
+//! from the words of a ruleset text.
+//!
+//! A [`Reader`] goes through the words once, from left to right. Each function that reads says exactly what it reads,
+//! or which fault the words have there: a word that doesn't belong where it stands is refused in one place,
+//! `Reader::refuse`.
+#![tactic(auto)]
+
+pub mod error;
+pub mod name;
+pub mod notation;
+pub mod reader;
+#[cfg(test)]
+mod tests;
+
+pub use error::{ConfError, ConfErrorKind, LeftOutName};
+pub use name::{MacroUse, Name, Written};
+pub use reader::Reader;

@@ -1,0 +1,446 @@
+//! The words that are left to read.
+ghost use Rattle.std.specs.Prelude.{◌≡◌, ◌≤◌, ◌+◌, length, codes, IfOk, Ok};
+ghost use Rattle.std.specs.Option.{option_map};
+ghost use Rattle.pfr_terms.specs.Input as spec;
+ghost use Rattle.pfr_terms.specs.Input.{Reads, Refuses};
+
+use crate::error::{ConfError, ConfErrorKind, LeftOutName, kind_of};
+use crate::name::{MacroUse, Name};
+use crate::notation::number;
+use pfr_words::braces::is_sign;
+use pfr_words::names::{is_grammar_word, is_left_out};
+use pfr_words::{Bytes, Items, Sign, Token, Word};
+use std::alloc::Global;
+use std::marker::Model;
+
+/// The words that are left, and the line of the last word that was read. Within the braces of a list a newline is a
+/// blank.
+#[derive(Drop)]
+pub struct Reader<'w, 'a> {
+    words: &'w [Word<'a>],
+    line: usize,
+    in_list: bool,
+}
+
+impl<'w, 'a> Model for Reader<'w, 'a> {
+    ghost use Rattle.pfr_terms.specs.Input.{Input};
+
+    ghost Value = { Input };
+
+    ghost view = { λ r. record { words = r.words.now; line = r.line; in_list = r.in_list } };
+}
+
+fn is_line_end(token: &Token<'_>) -> bool
+    ensures { result ≡ spec.is_line_end token.now }
+{
+    match token {
+        Token::LineEnd => true,
+        _ => false,
+    }
+}
+
+impl<'w, 'a> Reader<'w, 'a> {
+    pub fn new(words: &'w [Word<'a>]) -> Reader<'w, 'a>
+        ensures { result ≡ spec.start words.now }
+    {
+        Reader {
+            words,
+            line: 1,
+            in_list: false,
+        }
+    }
+
+    /// More turns than a loop can take of which each reads a word.
+    pub fn turns(&self) -> usize
+        ensures { result ≡ spec.turns self.now }
+    {
+        self.words.len() + 1
+    }
+
+    /// Whether no word is left.
+    pub fn is_done(&self) -> bool
+        ensures { result ≡ spec.is_done self.now }
+    {
+        self.words.is_empty()
+    }
+
+    /// Whether the line ends here, or the text.
+    #[tactic(auto, unfolding(crate::specs::Input::at_line_end))]
+    pub fn at_line_end(&self) -> bool
+        ensures { result ≡ spec.at_line_end self.now }
+    {
+        match self.words {
+            [] => true,
+            [first, ..] => is_line_end(&first.token),
+        }
+    }
+
+    fn skip_line_ends(&mut self)
+        ensures { self.new ≡ spec.skip_line_ends self.old }
+    {
+        while let [first, rest @ ..] = self.words {
+            if !is_line_end(&first.token) {
+                break;
+            }
+            self.words = rest;
+        }
+    }
+
+    fn step(&mut self)
+        ensures { self.new ≡ spec.step self.old }
+    {
+        if let [first, rest @ ..] = self.words {
+            self.line = first.line;
+            self.words = rest;
+        }
+    }
+
+    /// Goes past the next word.
+    #[tactic(auto, unfolding(crate::specs::Input::next))]
+    pub fn take(&mut self)
+        ensures { self.new ≡ spec.next self.old }
+    {
+        self.step();
+        if self.in_list {
+            self.skip_line_ends();
+        }
+    }
+
+    /// Goes past the opening brace of a list, within which newlines are blanks.
+    #[tactic(auto, unfolding(crate::specs::Input::enter_list))]
+    fn enter_list(&mut self)
+        ensures { self.new ≡ spec.enter_list self.old }
+    {
+        self.in_list = true;
+        self.take();
+    }
+
+    /// Goes past the closing brace of a list.
+    #[tactic(auto, unfolding(crate::specs::Input::leave_list))]
+    fn leave_list(&mut self)
+        ensures { self.new ≡ spec.leave_list self.old }
+    {
+        self.in_list = false;
+        self.take();
+    }
+
+    /// The line of the next word, or of the last one where the line ends.
+    #[tactic(auto, unfolding(crate::specs::Input::line_ahead))]
+    fn line_ahead(&self) -> usize
+        ensures { result ≡ spec.line_ahead self.now }
+    {
+        match self.words {
+            [first, ..] if !is_line_end(&first.token) => first.line,
+            _ => self.line,
+        }
+    }
+
+    /// Whether the next word is this sign.
+    #[tactic(auto, unfolding(crate::specs::Input::sees_sign))]
+    pub fn sees_sign(&self, sign: Sign) -> bool
+        ensures { result ≡ spec.sees_sign sign self.now }
+    {
+        match self.words {
+            [first, ..] => is_sign(sign, &first.token),
+            [] => false,
+        }
+    }
+
+    /// The next word, if it is a sign.
+    #[tactic(auto, unfolding(crate::specs::Input::sign_ahead))]
+    pub fn sign_ahead(&self) -> Option<Sign>
+        ensures { result ≡ spec.sign_ahead self.now }
+    {
+        match self.words {
+            [first, ..] => sign_in(&first.token),
+            [] => None,
+        }
+    }
+
+    /// The next word, if it is a plain one.
+    #[tactic(auto, unfolding(crate::specs::Input::plain_ahead))]
+    pub fn plain_ahead(&self) -> Option<Bytes<'a>>
+        ensures { result ≡ spec.plain_ahead self.now }
+    {
+        match self.words {
+            [first, ..] => plain_in(&first.token),
+            [] => None,
+        }
+    }
+
+    /// The next word's text, if it is a quoted text.
+    #[tactic(auto, unfolding(crate::specs::Input::quoted_ahead))]
+    pub fn quoted_ahead(&self) -> Option<Bytes<'a>>
+        ensures { result ≡ spec.quoted_ahead self.now }
+    {
+        match self.words {
+            [first, ..] => quoted_in(&first.token),
+            [] => None,
+        }
+    }
+
+    /// The next word, if it is the use of a macro.
+    #[tactic(auto, unfolding(crate::specs::Input::macro_ahead))]
+    pub fn macro_ahead(&self) -> Option<MacroUse<'a>>
+        ensures { result ≡ spec.macro_ahead self.now }
+    {
+        match self.words {
+            [first, ..] => macro_in(first.line, &first.token),
+            [] => None,
+        }
+    }
+
+    /// Whether the next word is this plain one.
+    #[tactic(auto, unfolding(crate::specs::Input::sees_word))]
+    pub fn sees_word(&self, word: &[u8]) -> bool
+        ensures { result ≡ spec.sees_word word.now self.now }
+    {
+        match self.plain_ahead() {
+            Some(found) => found.as_slice() == word,
+            None => false,
+        }
+    }
+
+    /// Goes past the next word if it is this sign; answers whether it was.
+    #[tactic(auto, unfolding(crate::specs::Input::eat_sign))]
+    pub fn eat_sign(&mut self, sign: Sign) -> bool
+        ensures { spec.eat_sign sign self.old ≡ Ok (result, self.new) }
+    {
+        let found = self.sees_sign(sign);
+        if found {
+            self.take();
+        }
+        found
+    }
+
+    /// Goes past the next word if it is this plain one; answers whether it was.
+    #[tactic(auto, unfolding(crate::specs::Input::eat_word))]
+    pub fn eat_word(&mut self, word: &[u8]) -> bool
+        ensures { spec.eat_word word.now self.old ≡ Ok (result, self.new) }
+    {
+        let found = self.sees_word(word);
+        if found {
+            self.take();
+        }
+        found
+    }
+
+    /// Goes past the opening brace of a list, if one comes next.
+    #[tactic(auto, unfolding(crate::specs::Input::open_list))]
+    pub fn open_list(&mut self) -> bool
+        ensures { spec.open_list self.old ≡ Ok (result, self.new) }
+    {
+        let found = self.sees_sign(Sign::OpenBrace);
+        if found {
+            self.enter_list();
+        }
+        found
+    }
+
+    /// Goes past the closing brace of a list, if it comes next.
+    #[tactic(auto, unfolding(crate::specs::Input::close_list))]
+    pub fn close_list(&mut self) -> bool
+        ensures { spec.close_list self.old ≡ Ok (result, self.new) }
+    {
+        let found = self.sees_sign(Sign::CloseBrace);
+        if found {
+            self.leave_list();
+        }
+        found
+    }
+
+    /// The fault that the next word is, or that a word is missing.
+    #[tactic(auto, unfolding(crate::specs::Input::refusal))]
+    pub fn refuse(&self, alloc: Global) -> ConfError
+        ensures { Refuses (spec.refusal self.now) result }
+    {
+        match self.words {
+            [first, ..] => refusal_of(alloc, self.line, first),
+            [] => ConfError {
+                line: self.line,
+                kind: ConfErrorKind::UnknownWord,
+            },
+        }
+    }
+
+    /// A fault of this kind at the next word.
+    #[tactic(auto, unfolding(crate::specs::Input::fault))]
+    pub fn fault(&self, kind: ConfErrorKind) -> ConfError
+        ensures { result ≡ spec.fault kind self.now }
+    {
+        ConfError {
+            line: self.line_ahead(),
+            kind,
+        }
+    }
+
+    /// The fault that the next word asks for what is left out, under this name.
+    #[tactic(auto, unfolding(crate::specs::Input::left_out))]
+    pub fn left_out(&self, alloc: Global, name: &[u8]) -> ConfError
+        ensures { Refuses (spec.left_out name.now self.now) result }
+    {
+        match Items::copied(alloc, name) {
+            Ok(name) => self.fault(ConfErrorKind::LeftOut(LeftOutName { name })),
+            Err(refused) => ConfError::from(refused),
+        }
+    }
+
+    /// Goes past this sign, which has to come next.
+    #[tactic(auto, unfolding(crate::specs::Input::expect_sign))]
+    pub fn expect_sign(&mut self, alloc: Global, sign: Sign) -> Result<(), ConfError>
+        ensures { Reads (spec.expect_sign sign self.old) result self.new }
+    {
+        if self.eat_sign(sign) {
+            Ok(())
+        } else {
+            Err(self.refuse(alloc))
+        }
+    }
+
+    /// Goes past this word, which has to come next.
+    #[tactic(auto, unfolding(crate::specs::Input::expect_word))]
+    pub fn expect_word(&mut self, alloc: Global, word: &[u8]) -> Result<(), ConfError>
+        ensures { Reads (spec.expect_word word.now self.old) result self.new }
+    {
+        if self.eat_word(word) {
+            Ok(())
+        } else {
+            Err(self.refuse(alloc))
+        }
+    }
+
+    /// Takes the next word as a name, with its line.
+    #[tactic(auto, unfolding(crate::specs::Input::named))]
+    pub fn named(&mut self, text: Bytes<'a>) -> Name<'a>
+        ensures { spec.named text.entry self.old ≡ Ok (result, self.new) }
+    {
+        let line = self.line_ahead();
+        self.take();
+        Name { line, text }
+    }
+
+    /// A plain word that has no meaning in pf.conf(5).
+    #[tactic(auto, unfolding(crate::specs::Input::free_word))]
+    pub fn free_word(&mut self, alloc: Global) -> Result<Name<'a>, ConfError>
+        ensures { Reads (spec.free_word self.old) result self.new }
+    {
+        match self.plain_ahead() {
+            Some(word) if is_free(word.as_slice()) => Ok(self.named(word)),
+            _ => Err(self.refuse(alloc)),
+        }
+    }
+
+    /// A decimal number from `low` to `high`.
+    #[tactic(auto, unfolding(crate::specs::Input::number_in))]
+    pub fn number(&mut self, alloc: Global, low: u64, high: u64) -> Result<u64, ConfError>
+        ensures value { Reads (spec.number_in low high self.old) result self.new }
+        ensures within { IfOk result (λ n. n ≤ high) }
+    {
+        match self.number_ahead() {
+            None => Err(self.refuse(alloc)),
+            Some(value) if low <= value && value <= high => {
+                self.take();
+                Ok(value)
+            }
+            Some(_) => Err(self.fault(ConfErrorKind::BadNumber)),
+        }
+    }
+
+    /// The number that the next word writes.
+    #[tactic(auto, unfolding(crate::specs::Input::number_ahead))]
+    fn number_ahead(&self) -> Option<u64>
+        ensures { result ≡ spec.number_ahead self.now }
+    {
+        match self.plain_ahead() {
+            Some(word) => number(word.as_slice()),
+            None => None,
+        }
+    }
+}
+
+/// Whether a word has no meaning in pf.conf(5)'s grammar and isn't left out of it.
+#[tactic(auto, unfolding(crate::specs::Input::is_free))]
+pub fn is_free(word: &[u8]) -> bool
+    ensures { result ≡ spec.is_free word.now }
+{
+    !is_grammar_word(word) && !is_left_out(word)
+}
+
+fn sign_in(token: &Token<'_>) -> Option<Sign>
+    ensures { result ≡ spec.sign_in token.now }
+{
+    match token {
+        Token::Sign(sign) => Some(*sign),
+        _ => None,
+    }
+}
+
+fn plain_in<'a>(token: &Token<'a>) -> Option<Bytes<'a>>
+    ensures { result ≡ spec.plain_in token.now }
+{
+    match token {
+        Token::Plain(word) => Some(Bytes::new(word.as_slice())),
+        _ => None,
+    }
+}
+
+fn quoted_in<'a>(token: &Token<'a>) -> Option<Bytes<'a>>
+    ensures { result ≡ spec.quoted_in token.now }
+{
+    match token {
+        Token::Quoted(text) => Some(Bytes::new(text.as_slice())),
+        _ => None,
+    }
+}
+
+fn macro_in<'a>(line: usize, token: &Token<'a>) -> Option<MacroUse<'a>>
+    ensures { result ≡ spec.macro_in line token.now }
+{
+    match token {
+        Token::MacroUse(name, suffix) => Some(MacroUse {
+            line,
+            name: Bytes::new(name.as_slice()),
+            suffix: Bytes::new(suffix.as_slice()),
+        }),
+        _ => None,
+    }
+}
+
+/// The fault that a word is which doesn't belong where it stands; `line` is that of the word before.
+fn refusal_of(alloc: Global, line: usize, word: &Word<'_>) -> ConfError
+    ensures { Refuses (spec.refusal_of line word.now) result }
+{
+    match &word.token {
+        Token::LineEnd => ConfError {
+            line,
+            kind: ConfErrorKind::UnknownWord,
+        },
+        Token::Bad(fault) => ConfError {
+            line: word.line,
+            kind: kind_of(*fault),
+        },
+        Token::Plain(text) => plain_refusal(alloc, word.line, text.as_slice()),
+        _ => ConfError {
+            line: word.line,
+            kind: ConfErrorKind::UnknownWord,
+        },
+    }
+}
+
+fn plain_refusal(alloc: Global, line: usize, word: &[u8]) -> ConfError
+    ensures { Refuses (spec.plain_refusal line word.now) result }
+{
+    if !is_left_out(word) {
+        return ConfError {
+            line,
+            kind: ConfErrorKind::UnknownWord,
+        };
+    }
+    match Items::copied(alloc, word) {
+        Ok(name) => ConfError {
+            line,
+            kind: ConfErrorKind::LeftOut(LeftOutName { name }),
+        },
+        Err(refused) => ConfError::from(refused),
+    }
+}
