@@ -7,6 +7,7 @@
 #![tactic(auto)]
 
 pub mod error;
+pub mod lists;
 pub mod name;
 pub mod notation;
 pub mod reader;
