@@ -1,3 +1,4 @@
 pub mod Input
 pub mod Lists
 pub mod Notation
+pub mod Terms

@@ -7,9 +7,12 @@
 #![tactic(auto)]
 
 pub mod error;
+pub mod flags;
+pub mod interface;
 pub mod lists;
 pub mod name;
 pub mod notation;
+pub mod protocol;
 pub mod reader;
 #[cfg(test)]
 mod tests;
