@@ -1,4 +1,5 @@
 pub mod Input
 pub mod Lists
 pub mod Notation
+pub mod Ports
 pub mod Terms

@@ -12,6 +12,7 @@ pub mod interface;
 pub mod lists;
 pub mod name;
 pub mod notation;
+pub mod port;
 pub mod protocol;
 pub mod reader;
 #[cfg(test)]

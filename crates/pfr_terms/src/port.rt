@@ -1,0 +1,224 @@
+//! Ports, as they are written behind `port`.
+ghost use Rattle.std.specs.Prelude.{◌≡◌, ◌≤◌, Ok, IfOk};
+ghost use Rattle.pfr_terms.specs.Ports as spec;
+ghost use Rattle.pfr_terms.specs.Input.{Reads, Refuses};
+
+use crate::error::{ConfError, ConfErrorKind};
+use crate::lists::Item;
+use crate::notation::{cut, number};
+use crate::reader::{Reader, is_free};
+use pfr_words::Sign;
+use pfr_words::names::service_named;
+use std::alloc::Global;
+
+/// How a port is compared with one that is written.
+#[derive(Clone, Copy, Debug, PartialEq, Eq)]
+pub enum Comparison {
+    Equal,
+    NotEqual,
+    Less,
+    LessOrEqual,
+    Greater,
+    GreaterOrEqual,
+}
+
+/// How a port is held against two that are written.
+#[derive(Clone, Copy, Debug, PartialEq, Eq)]
+pub enum RangeOperator {
+    /// `x:y`: from the first to the second.
+    Inclusive,
+    /// `x >< y`: above the first and below the second.
+    Between,
+    /// `x <> y`: below the first or above the second.
+    Outside,
+}
+
+/// The ports that a packet may have.
+#[derive(Clone, Copy, Debug, PartialEq, Eq)]
+pub enum PortMatch {
+    Compare(Comparison, u16),
+    Range(RangeOperator, u16, u16),
+}
+
+/// What a word says where a port has to stand.
+#[derive(Clone, Copy, Debug)]
+enum PortWord {
+    Port(u16),
+    /// A number above 65535, or a range whose first port is above its second.
+    OutOfRange,
+    /// Neither a number nor a service.
+    Unknown,
+}
+
+/// What a word says that is a number or the name of a service.
+#[tactic(auto, unfolding(crate::specs::Ports::port_word))]
+fn port_word(word: &[u8]) -> PortWord
+    ensures { result ≡ spec.port_word word.now }
+{
+    match number(word) {
+        Some(value) if value <= 65535 => PortWord::Port(value as u16),
+        Some(_) => PortWord::OutOfRange,
+        None => match service_named(word) {
+            Some(port) => PortWord::Port(port),
+            None => PortWord::Unknown,
+        },
+    }
+}
+
+/// What `x:y` says by its two words.
+fn range_of(first: PortWord, second: PortWord) -> Result<PortMatch, PortWord>
+    ensures { result ≡ spec.range_of first second }
+{
+    match (first, second) {
+        (PortWord::Unknown, _) => Err(PortWord::Unknown),
+        (_, PortWord::Unknown) => Err(PortWord::Unknown),
+        (PortWord::Port(low), PortWord::Port(high)) if low <= high => {
+            Ok(PortMatch::Range(RangeOperator::Inclusive, low, high))
+        }
+        _ => Err(PortWord::OutOfRange),
+    }
+}
+
+/// What `p` says, or else which fault it is.
+fn single_of(word: PortWord) -> Result<PortMatch, PortWord>
+    ensures { result ≡ spec.single_of word }
+{
+    match word {
+        PortWord::Port(port) => Ok(PortMatch::Compare(Comparison::Equal, port)),
+        fault => Err(fault),
+    }
+}
+
+/// What a word says that is `p` or `x:y`.
+#[tactic(auto, unfolding(crate::specs::Ports::ports_in))]
+fn ports_in(word: &[u8]) -> Result<PortMatch, PortWord>
+    ensures { result ≡ spec.ports_in word.now }
+{
+    match cut(b':', word) {
+        None => single_of(port_word(word)),
+        Some((first, second)) => range_of(port_word(first), port_word(second)),
+    }
+}
+
+/// The fault of a word that is no port.
+fn port_fault(alloc: Global, reader: &Reader<'_, '_>, word: PortWord) -> ConfError
+    ensures { Refuses (spec.port_fault word reader.now) result }
+{
+    match word {
+        PortWord::Unknown => reader.left_out(alloc, b"service"),
+        _ => reader.fault(ConfErrorKind::BadNumber),
+    }
+}
+
+/// A number or a service.
+#[tactic(auto, unfolding(crate::specs::Ports::port))]
+pub fn port(alloc: Global, reader: &mut Reader<'_, '_>) -> Result<u16, ConfError>
+    ensures { Reads (spec.port reader.old) result reader.new }
+{
+    match reader.plain_ahead() {
+        Some(word) if is_free(word.as_slice()) => match port_word(word.as_slice()) {
+            PortWord::Port(port) => {
+                reader.take();
+                Ok(port)
+            }
+            fault => Err(port_fault(alloc, reader, fault)),
+        },
+        _ => Err(reader.refuse(alloc)),
+    }
+}
+
+/// `p` or `x:y`.
+#[tactic(auto, unfolding(crate::specs::Ports::port_or_range))]
+pub fn port_or_range(alloc: Global, reader: &mut Reader<'_, '_>) -> Result<PortMatch, ConfError>
+    ensures { Reads (spec.port_or_range reader.old) result reader.new }
+{
+    match reader.plain_ahead() {
+        Some(word) if is_free(word.as_slice()) => match ports_in(word.as_slice()) {
+            Ok(ports) => {
+                reader.take();
+                Ok(ports)
+            }
+            Err(fault) => Err(port_fault(alloc, reader, fault)),
+        },
+        _ => Err(reader.refuse(alloc)),
+    }
+}
+
+fn comparison_of(sign: Sign) -> Option<Comparison>
+    ensures { result ≡ spec.comparison_of sign }
+{
+    match sign {
+        Sign::Equal => Some(Comparison::Equal),
+        Sign::NotEqual => Some(Comparison::NotEqual),
+        Sign::Less => Some(Comparison::Less),
+        Sign::LessOrEqual => Some(Comparison::LessOrEqual),
+        Sign::Greater => Some(Comparison::Greater),
+        Sign::GreaterOrEqual => Some(Comparison::GreaterOrEqual),
+        _ => None,
+    }
+}
+
+fn operator_of(sign: Sign) -> Option<RangeOperator>
+    ensures { result ≡ spec.operator_of sign }
+{
+    match sign {
+        Sign::Between => Some(RangeOperator::Between),
+        Sign::Outside => Some(RangeOperator::Outside),
+        _ => None,
+    }
+}
+
+/// The comparison that comes next, if one does.
+#[tactic(auto, unfolding(crate::specs::Ports::eat_comparison))]
+fn eat_comparison(reader: &mut Reader<'_, '_>) -> Option<Comparison>
+    ensures { spec.eat_comparison reader.old ≡ Ok (result, reader.new) }
+{
+    let comparison = comparison_of(reader.sign_ahead()?)?;
+    reader.take();
+    Some(comparison)
+}
+
+/// The operator between two ports, if one comes next.
+#[tactic(auto, unfolding(crate::specs::Ports::eat_operator))]
+fn eat_operator(reader: &mut Reader<'_, '_>) -> Option<RangeOperator>
+    ensures { spec.eat_operator reader.old ≡ Ok (result, reader.new) }
+{
+    let operator = operator_of(reader.sign_ahead()?)?;
+    reader.take();
+    Some(operator)
+}
+
+/// What comes behind the first port or range.
+#[tactic(auto, unfolding(crate::specs::Ports::ports_from))]
+fn ports_from(
+    alloc: Global,
+    reader: &mut Reader<'_, '_>,
+    first: PortMatch,
+) -> Result<PortMatch, ConfError>
+    ensures { Reads (spec.ports_from first reader.old) result reader.new }
+{
+    let PortMatch::Compare(_, low) = first else {
+        return Ok(first);
+    };
+    match eat_operator(reader) {
+        Some(operator) => Ok(PortMatch::Range(operator, low, port(alloc, reader)?)),
+        None => Ok(first),
+    }
+}
+
+impl<'a> Item<'a> for PortMatch {
+    ghost use Rattle.pfr_terms.specs.Ports as spec;
+
+    ghost parser = { spec.port_match };
+
+    #[tactic(auto, unfolding(crate::specs::Ports::port_match))]
+    fn read(alloc: Global, reader: &mut Reader<'_, 'a>) -> Result<PortMatch, ConfError> {
+        match eat_comparison(reader) {
+            Some(comparison) => Ok(PortMatch::Compare(comparison, port(alloc, reader)?)),
+            None => {
+                let first = port_or_range(alloc, reader)?;
+                ports_from(alloc, reader, first)
+            }
+        }
+    }
+}
