@@ -1,3 +1,4 @@
+pub mod Addresses
 pub mod Input
 pub mod Lists
 pub mod Notation

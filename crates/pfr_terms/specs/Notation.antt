@@ -25,3 +25,27 @@ parts_at (Some place) text = Some (take place text, drop (place + 1) text)
 -- what stands before the first such byte and behind it, if there is one
 unfoldable pub cut_at : ℕ → List ℕ → Option (List ℕ × List ℕ)
 cut_at byte text = parts_at (position (λ b. b == byte) text) text
+
+infixl 10 ◌>>=◌
+abbrev ◌>>=◌ : {A B : Type 0} → Option A → (A → Option B) → Option B
+(Some x) >>= f = f x
+None >>= f = None
+
+abbrev pub octet_by : Option ℕ → Option ℕ
+octet_by None = None
+octet_by (Some n) = if nat_le n 255 then Some n else None
+
+unfoldable pub octet : List ℕ → Option ℕ
+octet text = octet_by (number text)
+
+-- `a.b.c.d`, as a number whose highest byte is the first octet
+unfoldable pub dotted : List ℕ → Option ℕ
+dotted text = do
+  a ← cut_at 46 text
+  b ← cut_at 46 a.1
+  c ← cut_at 46 b.1
+  first ← octet a.0
+  second ← octet b.0
+  third ← octet c.0
+  fourth ← octet c.1
+  Some ((first * 256 + second) * 65536 + (third * 256 + fourth))

@@ -6,6 +6,7 @@
 //! `Reader::refuse`.
 #![tactic(auto)]
 
+pub mod address;
 pub mod error;
 pub mod flags;
 pub mod interface;

@@ -59,3 +59,27 @@ pub fn number(text: &[u8]) -> Option<u64>
         Some(value(text))
     }
 }
+
+/// A number from 0 to 255.
+#[tactic(auto, unfolding(crate::specs::Notation::octet))]
+fn octet(text: &[u8]) -> Option<u8>
+    ensures { result ≡ spec.octet text.now }
+{
+    match number(text) {
+        Some(value) if value <= 255 => Some(value as u8),
+        _ => None,
+    }
+}
+
+/// An address in dotted decimal, as a number whose highest byte is the first octet.
+#[tactic(auto, unfolding(crate::specs::Notation::dotted))]
+pub fn dotted(text: &[u8]) -> Option<u32>
+    ensures { result ≡ spec.dotted text.now }
+{
+    let (first, rest) = cut(b'.', text)?;
+    let (second, rest) = cut(b'.', rest)?;
+    let (third, fourth) = cut(b'.', rest)?;
+    let high = u32::from(octet(first)?) * 256 + u32::from(octet(second)?);
+    let low = u32::from(octet(third)?) * 256 + u32::from(octet(fourth)?);
+    Some(high * 65536 + low)
+}

@@ -126,7 +126,7 @@ impl<'w, 'a> Reader<'w, 'a> {
 
     /// The line of the next word, or of the last one where the line ends.
     #[tactic(auto, unfolding(crate::specs::Input::line_ahead))]
-    fn line_ahead(&self) -> usize
+    pub fn line_ahead(&self) -> usize
         ensures { result ≡ spec.line_ahead self.now }
     {
         match self.words {
