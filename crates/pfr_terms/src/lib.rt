@@ -9,6 +9,7 @@
 pub mod address;
 pub mod error;
 pub mod flags;
+pub mod hosts;
 pub mod interface;
 pub mod lists;
 pub mod name;
@@ -19,6 +20,12 @@ pub mod reader;
 #[cfg(test)]
 mod tests;
 
+pub use address::{Address, AddressMatch, Host, Ipv4Address, Network, TableEntry};
 pub use error::{ConfError, ConfErrorKind, LeftOutName};
+pub use flags::{FlagSet, FlagsMatch};
+pub use hosts::{Criteria, Hosts, Part};
+pub use interface::{InterfaceMatch, InterfaceName};
 pub use name::{MacroUse, Name, Written};
+pub use port::{Comparison, PortMatch, RangeOperator};
+pub use protocol::{IcmpMatch, Protocol};
 pub use reader::Reader;
