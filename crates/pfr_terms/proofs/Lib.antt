@@ -1,1 +1,1 @@
-pub mod ListTurns
+pub mod Turns

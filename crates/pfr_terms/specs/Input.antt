@@ -207,6 +207,16 @@ faulty kind = λ i. Err (fault kind i)
 abbrev pub leave_out : {A : Type 0} → List ℕ → Parser A
 leave_out name = λ i. Err (left_out name i)
 
+-- ---- what is read in turns
+-- A turn goes on with what was read so far, or ends. Each reads a word, so that one turn more than there are words is
+-- enough.
+unfoldable pub loop_from : {S A : Type 0} → ((S → Parser A) → S → Parser A) → ℕ → S → Parser A
+loop_from turn zero so_far = refuse
+loop_from turn (suc n) so_far = turn (loop_from turn n) so_far
+
+abbrev pub loop : {S A : Type 0} → ((S → Parser A) → S → Parser A) → S → Parser A
+loop turn so_far = λ i. loop_from turn (turns i) so_far i
+
 -- ---- single words
 
 unfoldable pub eat_sign : Sign → Parser Bool

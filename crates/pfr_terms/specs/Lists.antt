@@ -4,7 +4,7 @@ use Rattle.pfr_words.specs.declared.sign.Sign.TheVariants as s
 use Rattle.pfr_terms.specs.declared.name.MacroUse.{MacroUse}
 use Rattle.pfr_terms.specs.declared.name.Written.{Written}
 use Rattle.pfr_terms.specs.declared.name.Written.TheVariants as w
-use Rattle.pfr_terms.specs.Input.{Input, Parser, ◌>>=◌, pure, refuse, taken, turns, macro_ahead, eat_sign, open_list, close_list}
+use Rattle.pfr_terms.specs.Input.{Input, Parser, ◌>>=◌, pure, refuse, taken, loop, macro_ahead, eat_sign, open_list, close_list}
 
 abbrev pub written_by : {A : Type 0} → Parser A → Option MacroUse → Parser (Written A)
 written_by item (Some found) = do
@@ -27,14 +27,9 @@ member item more found = do
     _ ← eat_sign s.Comma
     more (found ++ x ∷ []))
 
--- each turn reads a word, so that there are enough of them
-unfoldable pub members_from : {A : Type 0} → Parser A → ℕ → List A → Parser (List A)
-members_from item zero found = refuse
-members_from item (suc n) found = member item (members_from item n) found
-
 -- the items up to the closing brace
 abbrev pub members : {A : Type 0} → Parser A → Parser (List A)
-members item = λ i. members_from item (turns i) [] i
+members item = loop (member item) []
 
 unfoldable pub list : {A : Type 0} → Parser A → Parser (List A)
 list item = do

@@ -37,7 +37,7 @@ impl<'a, T: Item<'a>> Item<'a> for Written<'a, T> {
 }
 
 /// The items of a list up to its closing brace, of which there is at least one.
-#[tactic(auto, using(crate::proofs::ListTurns::members_turn, crate::proofs::ListTurns::members_end))]
+#[tactic(auto, using(crate::proofs::Turns::one_turn, crate::proofs::Turns::no_turn))]
 pub fn members<'a, T: Item<'a>>(
     alloc: Global,
     reader: &mut Reader<'_, 'a>,

@@ -1,0 +1,89 @@
+//! Definitions of macros: `NAME = pieces`.
+ghost use Rattle.std.specs.Prelude.{◌≡◌, []};
+ghost use Rattle.pfr_conf.specs.Macros as spec;
+ghost use Rattle.pfr_terms.specs.Input.{Reads};
+
+use pfr_terms::lists::Item;
+use pfr_terms::{ConfError, MacroUse, Name, Reader};
+use pfr_words::{Items, Sign};
+use pfr_words::names::is_name;
+use std::alloc::Global;
+
+/// A part of a macro's value.
+#[derive(Debug, Drop)]
+pub enum Piece<'a> {
+    /// A quoted text, whose words are the value's.
+    Quoted(Name<'a>),
+    /// A plain word.
+    Plain(Name<'a>),
+    /// Another macro.
+    Macro(MacroUse<'a>),
+}
+
+/// A macro: its name, and its value in the order in which it is written.
+#[derive(Debug, Drop)]
+pub struct MacroDefinition<'a> {
+    pub name: Name<'a>,
+    pub pieces: Items<Piece<'a>>,
+}
+
+impl<'a> Item<'a> for Piece<'a> {
+    ghost use Rattle.pfr_conf.specs.Macros as spec;
+
+    ghost parser = { spec.piece };
+
+    #[tactic(auto, unfolding(crate::specs::Macros::piece))]
+    fn read(alloc: Global, reader: &mut Reader<'_, 'a>) -> Result<Piece<'a>, ConfError> {
+        if let Some(found) = reader.macro_ahead() {
+            reader.take();
+            return Ok(Piece::Macro(found));
+        }
+        if let Some(text) = reader.quoted_ahead() {
+            return Ok(Piece::Quoted(reader.named(text)));
+        }
+        match reader.plain_ahead() {
+            Some(word) => Ok(Piece::Plain(reader.named(word))),
+            None => Err(reader.refuse(alloc)),
+        }
+    }
+}
+
+/// One or more pieces up to the line's end.
+#[tactic(auto, using(crate::proofs::Turns::pieces_turn, crate::proofs::Turns::pieces_end))]
+fn pieces<'a>(alloc: Global, reader: &mut Reader<'_, 'a>) -> Result<Items<Piece<'a>>, ConfError>
+    ensures { Reads (spec.pieces reader.old) result reader.new }
+{
+    let mut found = Items::new(alloc);
+    for _turn in 0..reader.turns() {
+        found.push(Piece::<'a>::read(alloc, reader)?)?;
+        if reader.at_line_end() {
+            return Ok(found);
+        }
+    }
+    Err(reader.refuse(alloc))
+}
+
+/// `NAME = pieces`.
+#[tactic(auto, unfolding(crate::specs::Macros::macro_definition))]
+pub(crate) fn macro_definition<'a>(
+    alloc: Global,
+    reader: &mut Reader<'_, 'a>,
+) -> Result<MacroDefinition<'a>, ConfError>
+    ensures { Reads (spec.macro_definition reader.old) result reader.new }
+{
+    let name = macro_name(alloc, reader)?;
+    reader.expect_sign(alloc, Sign::Equal)?;
+    let pieces = pieces(alloc, reader)?;
+    Ok(MacroDefinition { name, pieces })
+}
+
+/// The name of a macro before its `=`, which is looked for first: a word without one begins no statement.
+#[tactic(auto, unfolding(crate::specs::Macros::macro_name))]
+fn macro_name<'a>(alloc: Global, reader: &mut Reader<'_, 'a>) -> Result<Name<'a>, ConfError>
+    ensures { Reads (spec.macro_name reader.old) result reader.new }
+{
+    match reader.plain_ahead() {
+        Some(word) if is_name(word.as_slice()) && reader.sees_sign_behind(Sign::Equal) => Ok(reader.named(word)),
+        _ => Err(reader.refuse(alloc)),
+    }
+}

@@ -1,0 +1,86 @@
+//! Single words that rules and options have alike.
+ghost use Rattle.std.specs.Prelude.{◌≡◌, Ok, codes};
+ghost use Rattle.pfr_conf.specs.Policies as spec;
+ghost use Rattle.pfr_terms.specs.Input.{Reads};
+
+use pfr_terms::{ConfError, Reader};
+use std::alloc::Global;
+
+/// Which way a packet goes through an interface.
+#[derive(Clone, Copy, Debug, PartialEq, Eq)]
+pub enum Direction {
+    In,
+    Out,
+}
+
+/// What becomes of a blocked packet: dropped, or answered.
+#[derive(Clone, Copy, Debug, PartialEq, Eq)]
+pub enum BlockPolicy {
+    Drop,
+    Return,
+}
+
+/// On which interfaces a state's packets may come.
+#[derive(Clone, Copy, Debug, PartialEq, Eq)]
+pub enum Binding {
+    IfBound,
+    Floating,
+}
+
+/// `in` or `out`, if one comes next.
+#[tactic(auto, unfolding(crate::specs::Policies::direction))]
+pub(crate) fn direction_ahead(reader: &mut Reader<'_, '_>) -> Option<Direction>
+    ensures { spec.direction reader.old ≡ Ok (result, reader.new) }
+{
+    if reader.eat_word(b"in") {
+        return Some(Direction::In);
+    }
+    if reader.eat_word(b"out") {
+        Some(Direction::Out)
+    } else {
+        None
+    }
+}
+
+/// `drop` or `return`, if one comes next.
+#[tactic(auto, unfolding(crate::specs::Policies::block_policy))]
+pub(crate) fn block_policy_ahead(reader: &mut Reader<'_, '_>) -> Option<BlockPolicy>
+    ensures { spec.block_policy reader.old ≡ Ok (result, reader.new) }
+{
+    if reader.eat_word(b"drop") {
+        return Some(BlockPolicy::Drop);
+    }
+    if reader.eat_word(b"return") {
+        Some(BlockPolicy::Return)
+    } else {
+        None
+    }
+}
+
+/// `if-bound` or `floating`, if one comes next.
+#[tactic(auto, unfolding(crate::specs::Policies::binding))]
+pub(crate) fn binding_ahead(reader: &mut Reader<'_, '_>) -> Option<Binding>
+    ensures { spec.binding reader.old ≡ Ok (result, reader.new) }
+{
+    if reader.eat_word(b"if-bound") {
+        return Some(Binding::IfBound);
+    }
+    if reader.eat_word(b"floating") {
+        Some(Binding::Floating)
+    } else {
+        None
+    }
+}
+
+/// The end of a line or of the text.
+#[tactic(auto, unfolding(crate::specs::Policies::end_of_line))]
+pub(crate) fn end_of_line(alloc: Global, reader: &mut Reader<'_, '_>) -> Result<(), ConfError>
+    ensures { Reads (spec.end_of_line reader.old) result reader.new }
+{
+    if reader.at_line_end() {
+        reader.take();
+        Ok(())
+    } else {
+        Err(reader.refuse(alloc))
+    }
+}
