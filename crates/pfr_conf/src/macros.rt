@@ -4,7 +4,7 @@ ghost use Rattle.pfr_conf.specs.Macros as spec;
 ghost use Rattle.pfr_terms.specs.Input.{Reads};
 
 use pfr_terms::lists::Item;
-use pfr_terms::{ConfError, MacroUse, Name, Reader};
+use pfr_terms::{ConfError, ConfErrorKind, MacroUse, Name, Reader};
 use pfr_words::{Items, Sign};
 use pfr_words::names::is_name;
 use std::alloc::Global;
@@ -49,7 +49,7 @@ impl<'a> Item<'a> for Piece<'a> {
 }
 
 /// One or more pieces up to the line's end.
-#[tactic(auto, using(crate::proofs::Turns::pieces_turn, crate::proofs::Turns::pieces_end))]
+#[tactic(auto, using(pfr_terms::proofs::Turns::one_turn, pfr_terms::proofs::Turns::no_turn))]
 fn pieces<'a>(alloc: Global, reader: &mut Reader<'_, 'a>) -> Result<Items<Piece<'a>>, ConfError>
     ensures { Reads (spec.pieces reader.old) result reader.new }
 {
@@ -63,27 +63,37 @@ fn pieces<'a>(alloc: Global, reader: &mut Reader<'_, 'a>) -> Result<Items<Piece<
     Err(reader.refuse(alloc))
 }
 
+/// The name of a macro. A word behind which no `=` stands begins no statement.
+#[tactic(auto, unfolding(crate::specs::Macros::macro_name))]
+fn macro_name<'a>(alloc: Global, reader: &mut Reader<'_, 'a>) -> Result<Name<'a>, ConfError>
+    ensures { Reads (spec.macro_name reader.old) result reader.new }
+{
+    let name = match reader.plain_ahead() {
+        Some(word) if is_name(word.as_slice()) => reader.named(word),
+        _ => return Err(reader.refuse(alloc)),
+    };
+    if reader.eat_sign(Sign::Equal) {
+        Ok(name)
+    } else {
+        Err(ConfError {
+            line: name.line,
+            kind: ConfErrorKind::UnknownWord,
+        })
+    }
+}
+
 /// `NAME = pieces`.
 #[tactic(auto, unfolding(crate::specs::Macros::macro_definition))]
-pub(crate) fn macro_definition<'a>(
+pub(crate) fn definition<'a>(
     alloc: Global,
     reader: &mut Reader<'_, 'a>,
 ) -> Result<MacroDefinition<'a>, ConfError>
     ensures { Reads (spec.macro_definition reader.old) result reader.new }
 {
     let name = macro_name(alloc, reader)?;
-    reader.expect_sign(alloc, Sign::Equal)?;
-    let pieces = pieces(alloc, reader)?;
-    Ok(MacroDefinition { name, pieces })
-}
-
-/// The name of a macro before its `=`, which is looked for first: a word without one begins no statement.
-#[tactic(auto, unfolding(crate::specs::Macros::macro_name))]
-fn macro_name<'a>(alloc: Global, reader: &mut Reader<'_, 'a>) -> Result<Name<'a>, ConfError>
-    ensures { Reads (spec.macro_name reader.old) result reader.new }
-{
-    match reader.plain_ahead() {
-        Some(word) if is_name(word.as_slice()) && reader.sees_sign_behind(Sign::Equal) => Ok(reader.named(word)),
-        _ => Err(reader.refuse(alloc)),
-    }
+    let value = pieces(alloc, reader)?;
+    Ok(MacroDefinition {
+        name,
+        pieces: value,
+    })
 }

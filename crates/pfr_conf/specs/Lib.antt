@@ -1,0 +1,4 @@
+pub mod Macros
+pub mod Names
+pub mod Policies
+pub mod Tables
