@@ -6,7 +6,9 @@
 
 pub mod macros;
 pub mod name;
+pub mod options;
 pub mod policy;
+pub mod settings;
 pub mod table;
 #[cfg(test)]
 mod tests;

@@ -73,7 +73,7 @@ fn is_among(words: &[&[u8]], word: &[u8]) -> bool
 }
 
 /// What a table has at the word.
-fn entry_of<T: Copy>(table: &[(&[u8], T)], word: &[u8]) -> Option<T>
+pub fn entry_of<T: Copy>(table: &[(&[u8], T)], word: &[u8]) -> Option<T>
     ensures { result ≡ spec.entry_of (map (λ e. (e.0.now, e.1)) table.now) word.now }
 {
     for entry in table {

@@ -1,0 +1,62 @@
+-- Timeouts and limits, as `set` writes them.
+use Rattle.std.specs.Prelude.{ℕ, ◌||◌, Bool, if◌then◌else◌, List, map, Option, Some, None, Err, codes}
+use Rattle.pfr_words.specs.Names.{entry_of}
+use Rattle.pfr_terms.specs.declared.error.ConfError.{ConfError}
+use Rattle.pfr_conf.specs.declared.settings.Timeout.{Timeout}
+use Rattle.pfr_conf.specs.declared.settings.TimeoutSetting.{TimeoutSetting}
+use Rattle.pfr_conf.specs.declared.settings.Limit.{Limit}
+use Rattle.pfr_conf.specs.declared.settings.Limit.TheVariants as l
+use Rattle.pfr_conf.specs.declared.settings.LimitSetting.{LimitSetting}
+use Rattle.pfr_conf.specs.declared.settings.TheConstants.{TIMEOUTS, LIMITS}
+use Rattle.pfr_terms.specs.Input.{Input, Parser, ◌>>=◌, pure, refuse, refusal, left_out, taken, number_in, plain_ahead, sees_word}
+
+unfoldable pub timeout_named : List ℕ → Option Timeout
+timeout_named word = entry_of (map (λ e. (e.0.now, e.1)) TIMEOUTS) word
+
+unfoldable pub limit_named : List ℕ → Option Limit
+limit_named word = entry_of (map (λ e. (e.0.now, e.1)) LIMITS) word
+
+abbrev pub timeout_in : Option (List ℕ) → Option Timeout
+timeout_in None = None
+timeout_in (Some word) = timeout_named word
+
+abbrev pub limit_in : Option (List ℕ) → Option Limit
+limit_in None = None
+limit_in (Some word) = limit_named word
+
+-- where a timeout has to stand
+unfoldable pub adaptive_refusal : Input → ConfError
+adaptive_refusal i = if sees_word (codes "adaptive.start") i || sees_word (codes "adaptive.end") i then left_out (codes "timeout") i else refusal i
+
+abbrev pub timeout_refusal_by : Option Timeout → Input → ConfError
+timeout_refusal_by (Some timeout) i = left_out (codes "timeout") i
+timeout_refusal_by None i = adaptive_refusal i
+
+-- where an option of a state has to stand
+unfoldable pub timeout_refusal : Input → ConfError
+timeout_refusal i = timeout_refusal_by (timeout_in (plain_ahead i)) i
+
+abbrev pub timeout_by : Option Timeout → Parser TimeoutSetting
+timeout_by None = λ i. Err (adaptive_refusal i)
+timeout_by (Some timeout) = do
+  _ ← taken
+  seconds ← number_in 0 2147483647
+  pure (record { timeout = timeout; seconds = seconds })
+
+-- a timeout and its seconds
+unfoldable pub timeout_setting : Parser TimeoutSetting
+timeout_setting = λ i. timeout_by (timeout_in (plain_ahead i)) i
+
+abbrev pub range_of : Limit → ℕ × ℕ
+range_of l.States = (1, 1000000)
+range_of _ = (0, 4294967295)
+
+abbrev pub limit_by : Option Limit → Parser LimitSetting
+limit_by None = refuse
+limit_by (Some limit) = do
+  _ ← taken
+  number ← number_in (range_of limit).0 (range_of limit).1
+  pure (record { limit = limit; number = number })
+
+unfoldable pub limit_setting : Parser LimitSetting
+limit_setting = λ i. limit_by (limit_in (plain_ahead i)) i

@@ -1,0 +1,189 @@
+//! Timeouts and limits, as `set` writes them: a pair, or pairs in braces.
+ghost use Rattle.std.specs.Prelude.{◌≡◌, ◌≤◌};
+ghost use Rattle.pfr_conf.specs.Settings as spec;
+ghost use Rattle.pfr_terms.specs.Input.{Reads, Refuses};
+
+use pfr_terms::lists::Item;
+use pfr_terms::{ConfError, Reader};
+use pfr_words::Bytes;
+use pfr_words::names::entry_of;
+use std::alloc::Global;
+
+/// The timeouts of pf.conf(5). The last three concern what this profile leaves out, and have no effect.
+#[derive(Clone, Copy, Debug, PartialEq, Eq)]
+pub enum Timeout {
+    TcpFirst,
+    TcpOpening,
+    TcpEstablished,
+    TcpClosing,
+    TcpFinWait,
+    TcpClosed,
+    UdpFirst,
+    UdpSingle,
+    UdpMultiple,
+    IcmpFirst,
+    IcmpError,
+    OtherFirst,
+    OtherSingle,
+    OtherMultiple,
+    Interval,
+    Fragment,
+    SourceTracking,
+}
+
+/// A timeout and its seconds, at most 2147483647.
+#[derive(Clone, Copy, Debug, PartialEq, Eq)]
+pub struct TimeoutSetting {
+    pub timeout: Timeout,
+    pub seconds: u32,
+}
+
+/// What may be limited. Only the limit of states has an effect.
+#[derive(Clone, Copy, Debug, PartialEq, Eq)]
+pub enum Limit {
+    States,
+    Fragments,
+    SourceNodes,
+    TableEntries,
+    Tables,
+}
+
+/// A limit and its number; for states it is from 1 to 1000000.
+#[derive(Clone, Copy, Debug, PartialEq, Eq)]
+pub struct LimitSetting {
+    pub limit: Limit,
+    pub number: u32,
+}
+
+/// The names of the timeouts.
+pub const TIMEOUTS: [(&[u8], Timeout); 17] = [
+    (b"tcp.first", Timeout::TcpFirst),
+    (b"tcp.opening", Timeout::TcpOpening),
+    (b"tcp.established", Timeout::TcpEstablished),
+    (b"tcp.closing", Timeout::TcpClosing),
+    (b"tcp.finwait", Timeout::TcpFinWait),
+    (b"tcp.closed", Timeout::TcpClosed),
+    (b"udp.first", Timeout::UdpFirst),
+    (b"udp.single", Timeout::UdpSingle),
+    (b"udp.multiple", Timeout::UdpMultiple),
+    (b"icmp.first", Timeout::IcmpFirst),
+    (b"icmp.error", Timeout::IcmpError),
+    (b"other.first", Timeout::OtherFirst),
+    (b"other.single", Timeout::OtherSingle),
+    (b"other.multiple", Timeout::OtherMultiple),
+    (b"interval", Timeout::Interval),
+    (b"frag", Timeout::Fragment),
+    (b"src.track", Timeout::SourceTracking),
+];
+
+/// The names of the limits.
+pub const LIMITS: [(&[u8], Limit); 5] = [
+    (b"states", Limit::States),
+    (b"frags", Limit::Fragments),
+    (b"src-nodes", Limit::SourceNodes),
+    (b"table-entries", Limit::TableEntries),
+    (b"tables", Limit::Tables),
+];
+
+#[tactic(auto, unfolding(crate::specs::Settings::timeout_named))]
+fn timeout_named(word: &[u8]) -> Option<Timeout>
+    ensures { result ≡ spec.timeout_named word.now }
+{
+    entry_of(&TIMEOUTS, word)
+}
+
+#[tactic(auto, unfolding(crate::specs::Settings::limit_named))]
+fn limit_named(word: &[u8]) -> Option<Limit>
+    ensures { result ≡ spec.limit_named word.now }
+{
+    entry_of(&LIMITS, word)
+}
+
+fn timeout_in(word: Option<Bytes<'_>>) -> Option<Timeout>
+    ensures { result ≡ spec.timeout_in word.entry }
+{
+    match word {
+        Some(word) => timeout_named(word.as_slice()),
+        None => None,
+    }
+}
+
+fn limit_in(word: Option<Bytes<'_>>) -> Option<Limit>
+    ensures { result ≡ spec.limit_in word.entry }
+{
+    match word {
+        Some(word) => limit_named(word.as_slice()),
+        None => None,
+    }
+}
+
+/// The fault of a word that is no timeout: those that adapt are left out.
+#[tactic(auto, unfolding(crate::specs::Settings::adaptive_refusal))]
+pub(crate) fn adaptive_refusal(alloc: Global, reader: &Reader<'_, '_>) -> ConfError
+    ensures { Refuses (spec.adaptive_refusal reader.now) result }
+{
+    if reader.sees_word(b"adaptive.start") || reader.sees_word(b"adaptive.end") {
+        reader.left_out(alloc, b"timeout")
+    } else {
+        reader.refuse(alloc)
+    }
+}
+
+/// The fault of a word that is no option of a state: timeouts of one rule are left out.
+#[tactic(auto, unfolding(crate::specs::Settings::timeout_refusal))]
+pub(crate) fn timeout_refusal(alloc: Global, reader: &Reader<'_, '_>) -> ConfError
+    ensures { Refuses (spec.timeout_refusal reader.now) result }
+{
+    match timeout_in(reader.plain_ahead()) {
+        Some(_) => reader.left_out(alloc, b"timeout"),
+        None => adaptive_refusal(alloc, reader),
+    }
+}
+
+impl<'a> Item<'a> for TimeoutSetting {
+    ghost use Rattle.pfr_conf.specs.Settings as spec;
+
+    ghost parser = { spec.timeout_setting };
+
+    #[tactic(auto, unfolding(crate::specs::Settings::timeout_setting))]
+    fn read(alloc: Global, reader: &mut Reader<'_, 'a>) -> Result<TimeoutSetting, ConfError> {
+        match timeout_in(reader.plain_ahead()) {
+            Some(timeout) => {
+                reader.take();
+                let seconds = reader.number(alloc, 0, 2147483647)? as u32;
+                Ok(TimeoutSetting { timeout, seconds })
+            }
+            None => Err(adaptive_refusal(alloc, reader)),
+        }
+    }
+}
+
+/// The least and the greatest number that a limit may have.
+fn range_of(limit: Limit) -> (u64, u64)
+    ensures value { result ≡ spec.range_of limit }
+    ensures within { result.1 ≤ 4294967295 }
+{
+    match limit {
+        Limit::States => (1, 1000000),
+        _ => (0, 4294967295),
+    }
+}
+
+impl<'a> Item<'a> for LimitSetting {
+    ghost use Rattle.pfr_conf.specs.Settings as spec;
+
+    ghost parser = { spec.limit_setting };
+
+    #[tactic(auto, unfolding(crate::specs::Settings::limit_setting))]
+    fn read(alloc: Global, reader: &mut Reader<'_, 'a>) -> Result<LimitSetting, ConfError> {
+        match limit_in(reader.plain_ahead()) {
+            Some(limit) => {
+                reader.take();
+                let (least, greatest) = range_of(limit);
+                let number = reader.number(alloc, least, greatest)? as u32;
+                Ok(LimitSetting { limit, number })
+            }
+            None => Err(reader.refuse(alloc)),
+        }
+    }
+}
