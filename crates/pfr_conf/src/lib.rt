@@ -6,8 +6,10 @@
 
 pub mod macros;
 pub mod name;
+pub mod filter;
 pub mod options;
 pub mod policy;
+pub mod rule_options;
 pub mod settings;
 pub mod table;
 #[cfg(test)]

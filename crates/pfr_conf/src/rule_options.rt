@@ -1,0 +1,238 @@
+//! What may stand behind the hosts of a filter rule, each at most once and in any order.
+ghost use Rattle.std.specs.Prelude.{◌≡◌, ◌&&◌, Ok, codes};
+ghost use Rattle.pfr_conf.specs.RuleOptions as spec;
+ghost use Rattle.pfr_terms.specs.Input.{Reads};
+
+use crate::name::some_name;
+use crate::policy::{Binding, binding_ahead};
+use crate::settings::timeout_refusal;
+use pfr_terms::flags::flags_match;
+use pfr_terms::lists::list;
+use pfr_terms::{ConfError, FlagsMatch, IcmpMatch, Name, Reader, Written};
+use pfr_words::{Items, Sign};
+use std::alloc::Global;
+
+/// What is written of a state in round brackets.
+#[derive(Clone, Copy, Debug, PartialEq, Eq)]
+pub struct StateOptions {
+    /// The state isn't told to others.
+    pub no_sync: bool,
+    pub binding: Option<Binding>,
+}
+
+/// Whether a rule keeps state.
+#[derive(Clone, Copy, Debug, PartialEq, Eq)]
+pub enum StateKeeping {
+    No,
+    Keep(StateOptions),
+}
+
+/// What is written behind the hosts of a filter rule.
+#[derive(Debug, Drop)]
+pub struct RuleOptions<'a> {
+    pub flags: Option<FlagsMatch>,
+    pub icmp_types: Option<Items<Written<'a, IcmpMatch>>>,
+    pub state: Option<StateKeeping>,
+    /// Packets with IP options pass.
+    pub allow_opts: bool,
+    pub label: Option<Name<'a>>,
+}
+
+/// Goes past the next word if it is this one and may still come.
+#[tactic(auto, unfolding(crate::specs::RuleOptions::eat_if))]
+fn eat_if(reader: &mut Reader<'_, '_>, may_come: bool, word: &[u8]) -> bool
+    ensures { spec.eat_if may_come word.now reader.old ≡ Ok (result, reader.new) }
+{
+    may_come && reader.eat_word(word)
+}
+
+/// One more option of a state.
+#[tactic(auto, unfolding(crate::specs::RuleOptions::state_option))]
+fn state_option(
+    alloc: Global,
+    reader: &mut Reader<'_, '_>,
+    found: StateOptions,
+) -> Result<StateOptions, ConfError>
+    ensures { Reads (spec.state_option found reader.old) result reader.new }
+{
+    if eat_if(reader, !found.no_sync, b"no-sync") {
+        return Ok(StateOptions {
+            no_sync: true,
+            binding: found.binding,
+        });
+    }
+    if found.binding.is_some() {
+        return Err(timeout_refusal(alloc, reader));
+    }
+    match binding_ahead(reader) {
+        Some(binding) => Ok(StateOptions {
+            no_sync: found.no_sync,
+            binding: Some(binding),
+        }),
+        None => Err(timeout_refusal(alloc, reader)),
+    }
+}
+
+/// The options of a state up to the closing bracket, of which there is at least one.
+#[tactic(auto, using(pfr_terms::proofs::Turns::one_turn, pfr_terms::proofs::Turns::no_turn))]
+fn state_options(alloc: Global, reader: &mut Reader<'_, '_>) -> Result<StateOptions, ConfError>
+    ensures { Reads (spec.state_options reader.old) result reader.new }
+{
+    let mut found = StateOptions {
+        no_sync: false,
+        binding: None,
+    };
+    for _turn in 0..reader.turns() {
+        found = state_option(alloc, reader, found)?;
+        if reader.eat_sign(Sign::CloseParenthesis) {
+            return Ok(found);
+        }
+        reader.eat_sign(Sign::Comma);
+    }
+    Err(reader.refuse(alloc))
+}
+
+/// What comes behind `keep`.
+#[tactic(auto, unfolding(crate::specs::RuleOptions::keep_state))]
+fn keep_state(alloc: Global, reader: &mut Reader<'_, '_>) -> Result<StateKeeping, ConfError>
+    ensures { Reads (spec.keep_state reader.old) result reader.new }
+{
+    reader.expect_word(alloc, b"state")?;
+    if reader.eat_sign(Sign::OpenParenthesis) {
+        return Ok(StateKeeping::Keep(state_options(alloc, reader)?));
+    }
+    Ok(StateKeeping::Keep(StateOptions {
+        no_sync: false,
+        binding: None,
+    }))
+}
+
+/// `no state` or `keep state ..`, if one comes next.
+#[tactic(auto, unfolding(crate::specs::RuleOptions::state_keeping))]
+fn state_keeping(
+    alloc: Global,
+    reader: &mut Reader<'_, '_>,
+) -> Result<Option<StateKeeping>, ConfError>
+    ensures { Reads (spec.state_keeping reader.old) result reader.new }
+{
+    if reader.eat_word(b"no") {
+        reader.expect_word(alloc, b"state")?;
+        return Ok(Some(StateKeeping::No));
+    }
+    if reader.eat_word(b"keep") {
+        return Ok(Some(keep_state(alloc, reader)?));
+    }
+    Ok(None)
+}
+
+/// `allow-opts` or a label, if one comes next that may still come; answers whether it did.
+#[tactic(auto, unfolding(crate::specs::RuleOptions::last_option))]
+fn last_option<'a>(
+    alloc: Global,
+    reader: &mut Reader<'_, 'a>,
+    found: RuleOptions<'a>,
+) -> Result<(bool, RuleOptions<'a>), ConfError>
+    ensures { Reads (spec.last_option found.entry reader.old) result reader.new }
+{
+    if eat_if(reader, !found.allow_opts, b"allow-opts") {
+        return Ok((
+            true,
+            RuleOptions {
+                allow_opts: true,
+                ..found
+            },
+        ));
+    }
+    if eat_if(reader, found.label.is_none(), b"label") {
+        let label = some_name(alloc, reader)?;
+        return Ok((
+            true,
+            RuleOptions {
+                label: Some(label),
+                ..found
+            },
+        ));
+    }
+    Ok((false, found))
+}
+
+/// `no state` or `keep state ..` where none came, or one of the last options.
+#[tactic(auto, unfolding(crate::specs::RuleOptions::later_option))]
+fn later_option<'a>(
+    alloc: Global,
+    reader: &mut Reader<'_, 'a>,
+    found: RuleOptions<'a>,
+) -> Result<(bool, RuleOptions<'a>), ConfError>
+    ensures { Reads (spec.later_option found.entry reader.old) result reader.new }
+{
+    if found.state.is_some() {
+        return last_option(alloc, reader, found);
+    }
+    match state_keeping(alloc, reader)? {
+        Some(keeping) => Ok((
+            true,
+            RuleOptions {
+                state: Some(keeping),
+                ..found
+            },
+        )),
+        None => last_option(alloc, reader, found),
+    }
+}
+
+/// One more option of a rule, if one comes next that may still come; answers whether it did.
+#[tactic(auto, unfolding(crate::specs::RuleOptions::rule_option))]
+fn rule_option<'a>(
+    alloc: Global,
+    reader: &mut Reader<'_, 'a>,
+    found: RuleOptions<'a>,
+) -> Result<(bool, RuleOptions<'a>), ConfError>
+    ensures { Reads (spec.rule_option found.entry reader.old) result reader.new }
+{
+    if eat_if(reader, found.flags.is_none(), b"flags") {
+        let flags = flags_match(alloc, reader)?;
+        return Ok((
+            true,
+            RuleOptions {
+                flags: Some(flags),
+                ..found
+            },
+        ));
+    }
+    if eat_if(reader, found.icmp_types.is_none(), b"icmp-type") {
+        let types = list::<Written<'a, IcmpMatch>>(alloc, reader)?;
+        return Ok((
+            true,
+            RuleOptions {
+                icmp_types: Some(types),
+                ..found
+            },
+        ));
+    }
+    later_option(alloc, reader, found)
+}
+
+/// All that is written behind the hosts of a filter rule.
+#[tactic(auto, using(pfr_terms::proofs::Turns::one_turn, pfr_terms::proofs::Turns::no_turn))]
+pub(crate) fn options_behind<'a>(
+    alloc: Global,
+    reader: &mut Reader<'_, 'a>,
+) -> Result<RuleOptions<'a>, ConfError>
+    ensures { Reads (spec.rule_options reader.old) result reader.new }
+{
+    let mut found = RuleOptions {
+        flags: None,
+        icmp_types: None,
+        state: None,
+        allow_opts: false,
+        label: None,
+    };
+    for _turn in 0..reader.turns() {
+        let (is_more, next) = rule_option(alloc, reader, found)?;
+        found = next;
+        if !is_more {
+            return Ok(found);
+        }
+    }
+    Err(reader.refuse(alloc))
+}
