@@ -1,3 +1,4 @@
+pub mod Anchors
 pub mod Filters
 pub mod Macros
 pub mod Names

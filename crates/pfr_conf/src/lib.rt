@@ -6,6 +6,7 @@
 
 pub mod macros;
 pub mod name;
+pub mod anchor;
 pub mod filter;
 pub mod options;
 pub mod policy;

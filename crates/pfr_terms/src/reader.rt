@@ -75,7 +75,8 @@ impl<'w, 'a> Reader<'w, 'a> {
         }
     }
 
-    fn skip_line_ends(&mut self)
+    /// Goes to the next word that is no end of a line.
+    pub fn skip_line_ends(&mut self)
         ensures { self.new ≡ spec.skip_line_ends self.old }
     {
         while let [first, rest @ ..] = self.words {
