@@ -6,4 +6,5 @@ pub mod Options
 pub mod Policies
 pub mod RuleOptions
 pub mod Settings
+pub mod Statements
 pub mod Tables

@@ -29,7 +29,7 @@ unfoldable pub state_option : StateOptions → Parser StateOptions
 state_option found = do
   is_no_sync ← eat_if (not found.no_sync) (codes "no-sync")
   if is_no_sync then pure (record { no_sync = true; binding = found.binding })
-    else if is_some found.binding then (λ i. Err (timeout_refusal i)) else (binding >>= with_binding found)
+      else if is_some found.binding then (λ i. Err (timeout_refusal i)) else (binding >>= with_binding found)
 
 abbrev pub state_option_more : (StateOptions → Parser StateOptions) → StateOptions → Parser StateOptions
 state_option_more more found = do

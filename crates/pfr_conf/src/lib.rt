@@ -4,24 +4,33 @@
 //! looked at here: lists stand as they are written, and the use of a macro stands in its place with its line.
 #![tactic(auto)]
 
-pub mod macros;
-pub mod name;
 pub mod anchor;
 pub mod filter;
+pub mod macros;
+pub mod name;
 pub mod options;
 pub mod policy;
+pub mod reading;
 pub mod rule_options;
 pub mod settings;
+pub mod statement;
 pub mod table;
 #[cfg(test)]
 mod tests;
 
+pub use anchor::{AnchorRule, FilterStatement};
+pub use filter::{Action, FilterRule};
 pub use macros::{MacroDefinition, Piece};
+pub use options::SetOption;
 pub use pfr_terms::{
-    Address, AddressMatch, Comparison, ConfError, ConfErrorKind, Criteria, FlagSet, FlagsMatch, Host, Hosts,
-    IcmpMatch, InterfaceMatch, InterfaceName, Ipv4Address, LeftOutName, MacroUse, Name, Network, Part, PortMatch,
-    Protocol, RangeOperator, TableEntry, Written,
+    Address, AddressMatch, Comparison, ConfError, ConfErrorKind, Criteria, FlagSet, FlagsMatch,
+    Host, Hosts, IcmpMatch, InterfaceMatch, InterfaceName, Ipv4Address, LeftOutName, MacroUse,
+    Name, Network, Part, PortMatch, Protocol, RangeOperator, TableEntry, Written,
 };
 pub use pfr_words::{Bytes, Items};
 pub use policy::{Binding, BlockPolicy, Direction};
+pub use reading::read;
+pub use rule_options::{RuleOptions, StateKeeping, StateOptions};
+pub use settings::{Limit, LimitSetting, Timeout, TimeoutSetting};
+pub use statement::{Statement, Statements};
 pub use table::TableDefinition;

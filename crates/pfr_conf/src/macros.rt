@@ -5,8 +5,8 @@ ghost use Rattle.pfr_terms.specs.Input.{Reads};
 
 use pfr_terms::lists::Item;
 use pfr_terms::{ConfError, ConfErrorKind, MacroUse, Name, Reader};
-use pfr_words::{Items, Sign};
 use pfr_words::names::is_name;
+use pfr_words::{Items, Sign};
 use std::alloc::Global;
 
 /// A part of a macro's value.

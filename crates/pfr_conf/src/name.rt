@@ -23,7 +23,10 @@ pub(crate) fn name_ahead<'a>(reader: &mut Reader<'_, 'a>) -> Option<Name<'a>>
 
 /// A quoted text or a plain word without a meaning.
 #[tactic(auto, unfolding(crate::specs::Names::some_name))]
-pub(crate) fn some_name<'a>(alloc: Global, reader: &mut Reader<'_, 'a>) -> Result<Name<'a>, ConfError>
+pub(crate) fn some_name<'a>(
+    alloc: Global,
+    reader: &mut Reader<'_, 'a>,
+) -> Result<Name<'a>, ConfError>
     ensures { Reads (spec.some_name reader.old) result reader.new }
 {
     match name_ahead(reader) {

@@ -7,7 +7,9 @@ use crate::policy::{Binding, BlockPolicy, binding_ahead, block_policy_ahead};
 use crate::settings::{LimitSetting, TimeoutSetting};
 use pfr_terms::lists::{Item, list};
 use pfr_terms::notation::{TOO_LARGE, number};
-use pfr_terms::{ConfError, ConfErrorKind, InterfaceName, LeftOutName, MacroUse, Name, Reader, Written};
+use pfr_terms::{
+    ConfError, ConfErrorKind, InterfaceName, LeftOutName, MacroUse, Name, Reader, Written,
+};
 use pfr_words::names::entry_of;
 use pfr_words::{Bytes, Items};
 use std::alloc::{AllocError, Global};

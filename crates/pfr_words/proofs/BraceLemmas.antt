@@ -7,7 +7,7 @@ use Rattle.pfr_words.specs.Words.{is_sign, closers_before, closers, closed_by, w
 
 marked : (at : ℕ) (old : List Word) (d : Word) → at < length old
     → slice_set (take (suc at) old ++ with_braces (drop (suc at) old)) at (closed_by (closers (drop (suc at) old)) (slice_index_or (take (suc at) old ++ with_braces (drop (suc at) old)) at d))
-        ≡ take at old ++ with_braces (drop at old)
+    ≡ take at old ++ with_braces (drop at old)
 marked at [] d below = absurd (omega arith)
 marked zero (o ∷ old) d below = refl
 marked (suc at) (o ∷ old) d below = ap (λ ws. o ∷ ws) (marked at old d (omega arith))

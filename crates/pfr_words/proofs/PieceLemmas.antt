@@ -22,5 +22,5 @@ first_piece (b ∷ text) some moves = rw (skips (piece_len (b ∷ text) - 1) tex
 -- one piece more whose word is found
 pub next_piece : (text : List ℕ) (line : ℕ) (found : List Word) → 1 ≤ length text → 1 ≤ piece_len text
     → (found ++ on_line line (token_of (take (piece_len text) text))) ++ words_on (line + newlines (take (piece_len text) text)) (pieces_from 0 (drop (piece_len text) text))
-        ≡ found ++ words_on line (pieces_from 0 text)
+    ≡ found ++ words_on line (pieces_from 0 text)
 next_piece text line found some moves = rw (first_piece text some moves) (append_assoc found _ _)

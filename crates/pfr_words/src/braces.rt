@@ -23,7 +23,11 @@ fn close_brace(word: &mut Word<'_>, behind: usize) -> usize
     ensures closers { result ≡ spec.closers_before word.old.token behind }
 {
     if !is_sign(Sign::OpenBrace, &word.token) {
-        return if is_sign(Sign::CloseBrace, &word.token) { behind + 1 } else { behind };
+        return if is_sign(Sign::CloseBrace, &word.token) {
+            behind + 1
+        } else {
+            behind
+        };
     }
     if behind == 0 {
         word.token = Token::Bad(WordFault::Unterminated);

@@ -35,7 +35,12 @@ pub(crate) fn is_blank(byte: u8) -> bool
 fn is_plain(byte: u8) -> bool
     ensures { result ≡ spec.is_plain byte }
 {
-    is_name_byte(byte) || byte == b'.' || byte == b'-' || byte == b'/' || byte == b':' || byte == b'*'
+    is_name_byte(byte)
+        || byte == b'.'
+        || byte == b'-'
+        || byte == b'/'
+        || byte == b':'
+        || byte == b'*'
 }
 
 pub(crate) fn begins_plain(byte: u8) -> bool
@@ -75,7 +80,11 @@ fn quote_len(text: &[u8]) -> usize
     ensures within { (1 ≤ result) × (result ≤ 1 + length text.now) }
 {
     let inner = run_len(Class::Quote, b'"', text);
-    if byte_at(text, inner) == b'"' { inner + 2 } else { inner + 1 }
+    if byte_at(text, inner) == b'"' {
+        inner + 2
+    } else {
+        inner + 1
+    }
 }
 
 fn suffix_len(text: &[u8]) -> usize
@@ -121,6 +130,10 @@ pub(crate) fn piece_len(text: &[u8]) -> usize
         b'"' => quote_len(&text[1..]),
         b'$' => 1 + use_len(&text[1..]),
         byte if begins_plain(byte) => plain_len(text),
-        byte => if double_sign(byte, next).is_some() { 2 } else { 1 },
+        byte => if double_sign(byte, next).is_some() {
+            2
+        } else {
+            1
+        },
     }
 }

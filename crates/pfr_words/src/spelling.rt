@@ -101,7 +101,11 @@ fn newlines(text: &[u8]) -> usize
 }
 
 /// Puts the word that a piece is behind the words so far.
-fn add<'a>(found: &mut Vec<Word<'a>>, line: usize, token: Option<Token<'a>>) -> Result<(), AllocError>
+fn add<'a>(
+    found: &mut Vec<Word<'a>>,
+    line: usize,
+    token: Option<Token<'a>>,
+) -> Result<(), AllocError>
     ensures { OnOk result (found.new.items ≡ found.old.items ++ spec.on_line line token.entry) }
 {
     if let Some(token) = token {

@@ -7,6 +7,8 @@ pub loop-rest-preserved : goal.loop-rest-preserved
 loop-rest-preserved c =
     let some : 1 ≤ length c.loop-rest.rest.now = grind arith in
     let moves : 1 ≤ spec.piece_len c.loop-rest.rest.now = rw (← c.piece_len.ensures.value) c.piece_len.ensures.within.0 in
-    let next = next_piece c.loop-rest.rest.now c.loop-rest.line c.loop-rest.found.items some moves in
-    (rw (c.in_ok-add.ensures, c.token_of.ensures, c.newlines-line.ensures.value, c.split_at.ensures.front, c.split_at.ensures.back, c.piece_len.ensures.value) (next ∙ c.loop-rest.invariant.0),
-        grind arith, grind arith)
+    let next = next_piece c.loop-rest.rest.now c.loop-rest.line c.loop-rest.found.items some moves in (
+      rw (c.in_ok-add.ensures, c.token_of.ensures, c.newlines-line.ensures.value, c.split_at.ensures.front, c.split_at.ensures.back, c.piece_len.ensures.value) (next ∙ c.loop-rest.invariant.0),
+      grind arith,
+      grind arith,
+    )

@@ -1,0 +1,98 @@
+-- A ruleset text as statements.
+use Rattle.std.specs.Prelude.{ℕ, ◌||◌, Bool, true, false, not, if◌then◌else◌, List, [], ◌∷◌, ◌++◌, Option, Some, None, Result, Ok, Err, codes}
+use Rattle.pfr_words.specs.declared.word.Word.{Word}
+use Rattle.pfr_words.specs.Words.{words}
+use Rattle.pfr_terms.specs.declared.error.ConfError.{ConfError}
+use Rattle.pfr_terms.specs.declared.error.ConfErrorKind.TheVariants.{OutOfOrder}
+use Rattle.pfr_conf.specs.declared.statement.Section.{Section}
+use Rattle.pfr_conf.specs.declared.statement.Section.TheVariants as section
+use Rattle.pfr_conf.specs.declared.statement.Statement.{Statement}
+use Rattle.pfr_conf.specs.declared.statement.Statement.TheVariants as s
+use Rattle.pfr_conf.specs.declared.statement.Statements as S
+use Rattle.pfr_terms.specs.Input.{Input, Outcome, Parser, ◌>>=◌, pure, refusal, left_out, faulty, loop, start, taken, is_done, line_ahead, plain_ahead, sees_word, eat_word}
+use Rattle.pfr_conf.specs.Policies.{end_of_line}
+use Rattle.pfr_conf.specs.Macros.{macro_definition}
+use Rattle.pfr_conf.specs.Tables.{table_definition}
+use Rattle.pfr_conf.specs.Options.{set_option}
+use Rattle.pfr_conf.specs.Anchors.{statement, blank_lines}
+
+-- options stand before all rules
+abbrev pub may_set : Section → Bool
+may_set section.Options = true
+may_set section.Filter = false
+
+unfoldable pub begins_filter : Input → Bool
+begins_filter i = sees_word (codes "pass") i || sees_word (codes "block") i || sees_word (codes "anchor") i
+
+unfoldable pub begins_translation : Input → Bool
+begins_translation i =
+    sees_word (codes "nat") i || sees_word (codes "rdr") i || sees_word (codes "binat") i || sees_word (codes "no") i
+    || sees_word (codes "nat-anchor") i || sees_word (codes "rdr-anchor") i || sees_word (codes "binat-anchor") i
+
+abbrev pub word_left_out_by : Option (List ℕ) → Input → ConfError
+word_left_out_by (Some word) i = left_out word i
+word_left_out_by None i = refusal i
+
+unfoldable pub word_left_out : Input → ConfError
+word_left_out i = word_left_out_by (plain_ahead i) i
+
+abbrev pub filter_statement : Parser (Section × Statement)
+filter_statement = do
+  rule ← statement 16
+  pure (section.Filter, s.Filter rule)
+
+abbrev pub macro_statement : Section → Parser (Section × Statement)
+macro_statement reached = do
+  definition ← macro_definition
+  pure (reached, s.Macro definition)
+
+-- translation rules aren't read yet: until they are, they are left out here
+abbrev pub translation_or_macro : Section → Parser (Section × Statement)
+translation_or_macro reached = λ i. if begins_translation i then Err (word_left_out i) else macro_statement reached i
+
+abbrev pub definition : Section → ℕ → Parser (Section × Statement)
+definition reached line = do
+  is_table ← eat_word (codes "table")
+  if is_table then (do table ← table_definition line; pure (reached, s.Table table)) else translation_or_macro reached
+
+unfoldable pub rule_or_definition : Section → Parser (Section × Statement)
+rule_or_definition reached = λ i. if begins_filter i then filter_statement i else definition reached (line_ahead i) i
+
+abbrev pub set_statement : Section → Parser (Section × Statement)
+set_statement reached = do
+  _ ← taken
+  option ← set_option
+  pure (reached, s.Option option)
+
+-- a statement, and how far the ruleset has come with it
+unfoldable pub any_statement : Section → Parser (Section × Statement)
+any_statement reached = λ i.
+    if not (sees_word (codes "set") i) then rule_or_definition reached i
+    else if may_set reached then set_statement reached i
+    else faulty OutOfOrder i
+
+abbrev pub Lines : Type 0
+Lines = Section × List Statement
+
+abbrev pub text_line : (Lines → Parser (List Statement)) → Lines → Parser (List Statement)
+text_line more so_far = do
+  _ ← blank_lines
+  λ i. if is_done i then pure so_far.1 i else (do
+    found ← any_statement so_far.0
+    _ ← end_of_line
+    more (found.0, so_far.1 ++ found.1 ∷ [])) i
+
+-- the statements, one to a line
+abbrev pub lines : Parser (List Statement)
+lines = loop text_line (section.Options, [])
+
+abbrev pub whole : Outcome (List Statement) → Result S.Statements ConfError
+whole (Ok p) = Ok (record { statements = p.0 })
+whole (Err e) = Err e
+
+unfoldable pub statements_in : List Word → Result S.Statements ConfError
+statements_in words = whole (lines (start words))
+
+-- the statements of a text, or its first fault
+unfoldable pub statements_of : List ℕ → Result S.Statements ConfError
+statements_of text = statements_in (words text)
