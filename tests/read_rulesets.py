@@ -6,7 +6,8 @@
 The program takes any number of texts on standard input, each with its length before it in four bytes, the greatest
 first. It answers a line for each, in order: `N statements`, or `line L: KIND` for the first fault. The texts of the
 folder `rulesets` have their answers written beside them; what is made from these here is answered by the model. It
-exits with 1 where an answer is another one, and shows such texts.
+exits with 1 where an answer is another one, and shows such texts. Rules of translation are handed to the model alone
+as long as it is told that they aren't read.
 """
 
 import random
@@ -22,6 +23,7 @@ import ruleset_model
 import ruleset_words
 
 RULESETS = Path(__file__).resolve().parent / "rulesets"
+TRANSLATION = RULESETS / "translation"
 TIME_LIMIT = 120
 MOST_SHOWN = 10
 SHOWN_BYTES = 400
@@ -36,7 +38,7 @@ SHORT_RULESETS = (
     b'table <t> { 10.0.0.1, !em0 }\nanchor "a" {\nblock in\n}\n',
     b'set limit states 5\npass to 1.2.3.4 - 1.2.3.5 \\\nport>9 # "c{\n',
 )
-# Places of a text for one word, at the `@`, and what is put there beside all words that the language knows.
+# Places for one word, at the `@` (`|` is a newline), and what is put there beside all words that the language knows.
 PLACES = """
     @; @ = 5; x = @; x = 5 @; x = $@; $@; @ all; pass @; pass in @; pass in log @; pass in quick @; block @; pass all @;
     pass inet @; pass on @; pass on !@; pass on { em0 @ }; pass on { @, em0 }; pass proto @; pass proto { tcp, @ };
@@ -53,7 +55,10 @@ PLACES = """
     set skip on { lo0 @ }; set timeout @; set timeout @ 5; set timeout tcp.first @; set timeout { tcp.first 5, @ 5 };
     set timeout { tcp.first 5 @ }; set limit @; set limit @ 5; set limit states @; set limit frags @;
     set limit { states 5, @ 5 }; set block-policy @; set state-policy @; set hostid @; set optimization @;
-    set require-order @; set loginterface @; set debug @; set ruleset-optimization @; set debug x @; nat @; no @
+    set require-order @; set loginterface @; set debug @; set ruleset-optimization @; set debug x @; nat @; no @;
+    no nat @; nat pass @; nat pass log @; nat all @; nat -> @; nat -> em0 @; nat -> em0 port @; nat -> em0 port 5:@;
+    rdr -> em0 port @; rdr -> em0 port @:*; rdr -> em0 port 5 @; binat from @ -> em0; binat from em0 @ -> em0;
+    binat from em0 -> @; binat @ -> em0; nat-anchor @; rdr-anchor a @
     """.replace("|", "\n").split(";")
 OTHER_WORDS = """
     em0 em0:0 em0:network vlan_5 a-b a.b a/b *  S S/SA s/sa S/ F/FSRPAUEW network 0 1 5 32 33 255 256 65535 65536
@@ -74,16 +79,16 @@ class Ruleset(NamedTuple):
     answer: str | None = None
 
 
-def written():
-    """The texts of the folder with the answers written for them, which the model has to give too."""
+def written(folder):
+    """The texts of a folder with the answers written for them, which the model has to give too."""
     table = {}
-    for line in (RULESETS / "expected").read_text().splitlines():
+    for line in (folder / "expected").read_text().splitlines():
         name, _, answer = line.partition(": ")
         table[name] = answer
-    found = {path.name for path in RULESETS.glob("*.conf")}
+    found = {path.name for path in folder.glob("*.conf")}
     if found != table.keys():
         sys.exit(f"files without an answer, or answers without a file: {sorted(found ^ table.keys())}")
-    return [Ruleset(name, (RULESETS / name).read_bytes(), answer) for name, answer in sorted(table.items())]
+    return [Ruleset(name, (folder / name).read_bytes(), answer) for name, answer in sorted(table.items())]
 
 
 def large():
@@ -210,17 +215,25 @@ def answers_of(command, rulesets):
     return answers + ["no answer"] * (len(rulesets) - len(answers))
 
 
-def model_answer(text):
-    return ruleset_model.worded(ruleset_model.read(text))
+def model_answer(text, translation=ruleset_model.READS_TRANSLATION):
+    return ruleset_model.worded(ruleset_model.read(text, translation))
+
+
+def model_faults(rulesets, translation):
+    """Where the model says something else than what is written."""
+    return [(f"model: {name}", text, answer, seen) for name, text, answer in rulesets
+            if (seen := model_answer(text, translation)) != answer]
 
 
 def compare(command):
     """The number of texts, and those with other answers: name, text, what was expected, what came."""
-    files = written()
+    files, translation = written(RULESETS), written(TRANSLATION)
+    wrong = model_faults(translation, True)
+    if ruleset_model.READS_TRANSLATION:
+        files += translation
     with_answers = [*files, *large()]
+    wrong += model_faults(with_answers, ruleset_model.READS_TRANSLATION)
     without = [*each_byte(), *each_word(), *beginnings(files), *changed(files)]
-    wrong = [(f"model: {name}", text, answer, seen) for name, text, answer in with_answers
-             if (seen := model_answer(text)) != answer]
     rulesets = with_answers + [Ruleset(name, text, model_answer(text)) for name, text, _ in without]
     wrong += [(*ruleset, seen) for ruleset, seen in zip(rulesets, answers_of(command, rulesets))
               if seen != ruleset.answer]

@@ -13,7 +13,8 @@ from ruleset_parts import (read_braced, read_criteria, read_entry, read_interfac
 from ruleset_words import (ADAPTIVE, BAD_NUMBER, FLAG_LETTERS, ICMP_TYPES, LINE_END, OUT_OF_ORDER, PLAIN, QUOTED, SIGN,
                            TEXT_END, TIMEOUTS, TOO_DEEP, UNKNOWN, USE, Cursor, Fault, is_name, left_out)
 
-# whether rules of translation are read; while they aren't, their first words are left out by name
+# Whether rules of translation are read; while they aren't, their first words are left out by name. The answers
+# written for texts that begin a line with such a word change with this.
 READS_TRANSLATION = False
 DEEPEST = 16
 MOST_STATES, MOST_SECONDS, MOST_NUMBER = 1000000, 2147483647, 4294967295
@@ -139,7 +140,7 @@ def read_state_options(cursor):
         allowed = {"no-sync"} - given
         if not given & {"floating", "if-bound"}:
             allowed |= {"floating", "if-bound"}
-        # without the second test, none allowed would let any word pass
+        # with no words to compare with, any word would be seen
         if not allowed or not cursor.sees(PLAIN, *allowed):
             raise cursor.refused()
         given.add(cursor.take().text)
