@@ -1,8 +1,8 @@
 """Rules and anchors of translation in a model of the reader of rulesets."""
 
 from ruleset_parts import (MOST_BITS, MOST_PORT, NUMERIC, port_value, read_bracketed_interface, read_criteria,
-                           read_free_word_text, read_interfaces, read_list, read_log, read_one_port, read_part, read_port,
-                           read_port_range, read_protocols, read_title, sees_colon, spelt_address)
+                           read_free_word_text, read_interfaces, read_list, read_log, read_one_port, read_part,
+                           read_port, read_port_range, read_protocols, read_title, sees_colon, spelt_address)
 from ruleset_words import BAD_ADDRESS, BAD_NUMBER, PLAIN, SIGN, USE, Fault, left_out
 
 KINDS = ("nat", "rdr", "binat")
