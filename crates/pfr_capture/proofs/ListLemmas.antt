@@ -22,3 +22,8 @@ pub read_behind : (now xs ys post more : List ℕ) (held n whole : ℕ) → take
 read_behind now xs ys post more held n whole front long within below =
     let cut : take n ((ys ++ post) ++ more) ≡ take n ys = rw append_assoc (take-append-le n ys (post ++ more) within) in
     rw (take-take (held + n) whole ((take held now ++ (ys ++ post)) ++ more) below, front, append_assoc, ← long, take-append-add xs ((ys ++ post) ++ more) n, cut) refl
+
+-- the same where the read failed
+pub none_behind : (now xs ys post more : List ℕ) (held whole : ℕ) → take held now ≡ xs → length xs ≡ held → held ≤ whole → take held (take whole ((take held now ++ (ys ++ post)) ++ more)) ≡ xs
+none_behind now xs ys post more held whole front long below =
+    rw (take-take held whole ((take held now ++ (ys ++ post)) ++ more) below, front, append_assoc) (take_at xs ((ys ++ post) ++ more) held long)

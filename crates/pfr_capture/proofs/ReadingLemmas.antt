@@ -1,18 +1,19 @@
 -- What a reader has given, from one call to the next.
-use Rattle.std.proofs.Common.{◌≡◌, ℕ, zero, suc, ◌+◌, ◌^◌, ◌<◌, ◌≤◌, List, [], ◌∷◌, ◌++◌, length, take, drop, refl, sym, ◌∙◌, ap, Ok, Err, ltb, le-ltb, false, arith}
+use Rattle.std.proofs.Common.{◌≡◌, ℕ, zero, suc, ◌+◌, ◌^◌, ◌<◌, ◌≤◌, List, [], ◌∷◌, ◌++◌, length, take, drop, refl, sym, ◌∙◌, ap, Result, Ok, Err, ltb, le-ltb, false, arith}
 use Rattle.std.specs.List.{flat_map, All}
-use Rattle.std.proofs.lemmas.List.{append_assoc, take-append-drop, take-append-le, length-append, length-take-le, length-drop, drop-drop, flat_map_more, length_push}
+use Rattle.std.proofs.lemmas.List.{append_assoc, append-nil, take-append-drop, take-append-le, length-append, length-take-le, length-drop, drop-drop, flat_map_more, length_push}
 use Rattle.std.proofs.lemmas.List.Elements.{All-append, All-nil}
 use Rattle.pfr_capture.specs.declared.order.ByteOrder.{ByteOrder}
 use Rattle.pfr_capture.specs.declared.capture.Form.{Form}
 use Rattle.pfr_capture.specs.declared.capture.Record.{Record}
+use Rattle.pfr_capture.specs.declared.capture.Tail.{Tail}
 use Rattle.pfr_capture.specs.declared.capture.CaptureError.{CaptureError}
 use Rattle.pfr_capture.specs.declared.capture.CaptureError.TheVariants.{HeaderCut, BadMagic, BadVersion, LinkType, RecordTooLong, Read, Memory}
 use Rattle.pfr_capture.specs.Ahead.{CameBehind}
 use Rattle.pfr_capture.specs.Header.{form_of, opening_of}
-use Rattle.pfr_capture.specs.Records.{RecordBytes, IsRecord, text_of, captured_of}
-use Rattle.pfr_capture.specs.Reading.{Reading, Opens, ReadsOn, RefusesHeader, bytes_of}
-use Rattle.pfr_capture.specs.Stepping.{HasHeader, IsHeaderFault, Takes}
+use Rattle.pfr_capture.specs.Records.{RecordBytes, IsRecord, EndsAs, text_of, captured_of}
+use Rattle.pfr_capture.specs.Reading.{Reading, Opens, ReadsOn, EndsCapture, Refuses, RefusesHeader, bytes_of}
+use Rattle.pfr_capture.specs.Stepping.{HasHeader, IsHeaderFault, StepRefuses, Takes}
 use Rattle.pfr_capture.proofs.RecordLemmas.{captured_of-append}
 
 -- the first 24 bytes of a text stand in the bytes that came of it
@@ -100,3 +101,43 @@ reads_record old new before left r t is form header may count = record {
     at_most = rw count (omega arith);
   };
 }
+
+-- no record was given
+pub reads_none : (old new : Reading) (before left : List ℕ) → Takes old.ahead new.ahead before left [] → new.form ≡ old.form → new.header ≡ old.header → new.count ≡ old.count → ReadsOn old new before left []
+reads_none old new before left t form header count = record {
+  came = t.came;
+  gave = t.gave;
+  on = λ read records given. record {
+    read_is = rw (given.read_is, header, append_assoc, append_assoc, t.took, append-nil) refl;
+    header_length = rw header given.header_length;
+    says = rw (header, form) given.says;
+    each = rw (append-nil, form) given.each;
+    counted = rw (append-nil, count) given.counted;
+    at_most = rw count given.at_most;
+  };
+}
+
+-- the capture ends as the bytes that are left say
+pub ends_capture : (reading : Reading) (before : List ℕ) (ending : Result Tail CaptureError) → EndsAs reading.form.order reading.count (reading.ahead ++ before) ending → EndsCapture reading before ending
+ends_capture reading before ending ends =
+    λ read records given.
+    record {
+      header = reading.header;
+      rest = reading.ahead ++ before;
+      whole = rw (given.read_is, append_assoc, append_assoc) refl;
+      header_length = given.header_length;
+      says = given.says;
+      each = given.each;
+      at_most = rw given.counted given.at_most;
+      ends = rw given.counted ends;
+    }
+
+-- a record that is too long is refused as the bytes that are left say
+pub refuses_as : (reading : Reading) (before : List ℕ) (e : CaptureError) → StepRefuses reading.form.order reading.count (reading.ahead ++ before) e → Refuses reading before e
+refuses_as reading before (RecordTooLong asked) refused = ends_capture reading before (Err (RecordTooLong asked)) refused
+refuses_as reading before HeaderCut refused = tt
+refuses_as reading before BadMagic refused = tt
+refuses_as reading before BadVersion refused = tt
+refuses_as reading before (LinkType link) refused = tt
+refuses_as reading before Read refused = tt
+refuses_as reading before Memory refused = tt

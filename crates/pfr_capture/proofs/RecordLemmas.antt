@@ -3,7 +3,7 @@ use Rattle.std.proofs.Common.{◌≡◌, ℕ, ◌^◌, ◌<◌, ◌≤◌, List,
 use Rattle.std.proofs.lemmas.List.{append_assoc, append-nil, drop-append-le, length-append, length-drop, get_or_append_left}
 use Rattle.pfr_capture.specs.declared.order.ByteOrder.{ByteOrder}
 use Rattle.pfr_capture.specs.declared.order.ByteOrder.TheVariants.{Big, Little}
-use Rattle.pfr_capture.specs.Ahead.{CameBehind}
+use Rattle.pfr_capture.specs.Ahead.{CameBehind, Extends}
 use Rattle.pfr_capture.specs.Header.{number}
 use Rattle.pfr_capture.specs.Records.{IsTooLong, captured_of}
 
@@ -41,6 +41,12 @@ came_twice a b c before mid left first second = record {
   came = first.came ++ second.came;
   gave = first.gave ∙ (rw second.gave (sym (append_assoc first.came second.came left)));
   behind = second.behind ∙ (rw first.behind (append_assoc a first.came second.came));
+}
+
+pub extends_twice : (a b c : List ℕ) → Extends a b → Extends b c → Extends a c
+extends_twice a b c first second = record {
+  more = first.more ++ second.more;
+  is = second.is ∙ (rw first.is (append_assoc a first.more second.more));
 }
 
 -- a header that asks for too much, whatever the source still has

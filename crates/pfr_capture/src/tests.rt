@@ -10,6 +10,7 @@ use crate::writer_sink::WriterSink;
 use std::alloc::Global;
 use std::io;
 use std::io::{ErrorKind, Read, Write};
+use std::process::Abort;
 use std::test::Fail;
 
 const BIG: [u8; 24] = [
@@ -40,6 +41,37 @@ fn open(alloc: Global, bytes: &[u8]) -> Result<(Capture, Mem), CaptureError> {
     Ok((capture, source))
 }
 
+/// The next record has this link type, these seconds, this fraction and these bytes.
+fn gives(
+    rt: &impl Abort,
+    capture: &mut Capture,
+    source: &mut Mem,
+    fields: (u16, u32, u32),
+    bytes: &[u8],
+) -> Result<(), Fail> {
+    let record = capture.next(source)?.ok_or("no record")?;
+    assert_eq!(rt; (record.link, record.seconds, record.fraction), fields);
+    assert_eq!(rt; record.bytes.as_slice(), bytes);
+    Ok(())
+}
+
+/// There is no next record, and the capture ends so.
+fn ends(
+    rt: &impl Abort,
+    capture: &mut Capture,
+    source: &mut Mem,
+    tail: Tail,
+) -> Result<(), CaptureError> {
+    assert!(rt; capture.next(source)?.is_none());
+    assert_eq!(rt; capture.tail(), tail);
+    Ok(())
+}
+
+/// The next record is refused so.
+fn refuses(rt: &impl Abort, capture: &mut Capture, source: &mut Mem, error: CaptureError) {
+    assert_eq!(rt; capture.next(source).err(), Some(error));
+}
+
 #[test]
 fn headers_open(rt: HostRuntime) -> Result<(), Fail> {
     let mut big_nano = BIG;
@@ -61,8 +93,7 @@ fn headers_open(rt: HostRuntime) -> Result<(), Fail> {
             link: 101,
         };
         assert_eq!(rt; capture.form(), form);
-        assert!(rt; capture.next(&mut source)?.is_none());
-        assert_eq!(rt; capture.tail(), Tail::Clean);
+        ends(&rt, &mut capture, &mut source, Tail::Clean)?;
     }
     Ok(())
 }
@@ -93,13 +124,9 @@ fn records_up_to_the_cut_one(rt: HostRuntime) -> Result<(), Fail> {
     for most in [1, 17, usize::MAX] {
         let mut source = Mem::new(Vec::from_slice(rt.alloc(), &CUT)?).at_most(most);
         let mut capture = Capture::open(rt.alloc(), &mut source)?;
-        let first = capture.next(&mut source)?.ok_or("no first record")?;
-        assert_eq!(rt; (first.link, first.seconds, first.fraction), (1, 263, 9));
-        assert_eq!(rt; first.bytes.as_slice(), [0x45, 0x46].as_slice());
-        let second = capture.next(&mut source)?.ok_or("no second record")?;
-        assert_eq!(rt; (second.seconds, second.bytes.len()), (264, 0));
-        assert!(rt; capture.next(&mut source)?.is_none());
-        assert_eq!(rt; capture.tail(), Tail::Cut);
+        gives(&rt, &mut capture, &mut source, (1, 263, 9), &[0x45, 0x46])?;
+        gives(&rt, &mut capture, &mut source, (1, 264, 0), &[])?;
+        ends(&rt, &mut capture, &mut source, Tail::Cut)?;
     }
     Ok(())
 }
@@ -112,10 +139,13 @@ fn refusals_stay(rt: HostRuntime) -> Result<(), Fail> {
         .failing_after(1);
     let mut cut_off = Capture::open(rt.alloc(), &mut failing)?;
     for _ in 0..2 {
-        let refused = capture.next(&mut source).err();
-        assert_eq!(rt; refused, Some(CaptureError::RecordTooLong(262145)));
-        let refused = cut_off.next(&mut failing).err();
-        assert_eq!(rt; refused, Some(CaptureError::Read));
+        refuses(
+            &rt,
+            &mut capture,
+            &mut source,
+            CaptureError::RecordTooLong(262145),
+        );
+        refuses(&rt, &mut cut_off, &mut failing, CaptureError::Read);
     }
     Ok(())
 }

@@ -3,6 +3,7 @@ use pfr_capture::{CaptureError, Mem, Tail};
 use pfr_headers::{Ipv4Address, Net};
 use pfr_out::{ConfError, ConfErrorKind, Output, Report, Stop, replay_plain};
 use std::alloc::{AllocError, Global};
+use std::process::Abort;
 use std::test::Fail;
 
 /// The 24 bytes of a little-endian capture of raw IP.
@@ -51,6 +52,12 @@ fn three_packets(alloc: Global, seconds: [u8; 3]) -> Result<Vec<u8>, AllocError>
     Ok(capture)
 }
 
+/// Replays a capture through the rules of a text, with a sink of packets that takes all.
+fn replay(alloc: Global, mut source: Mem, text: &[u8], verdicts: &mut Mem) -> Result<Report, Stop> {
+    let mut packets = Mem::new(Vec::new(alloc));
+    replay_plain(alloc, &mut source, text, &inside(), verdicts, &mut packets)
+}
+
 /// How many whole lines a text holds.
 fn lines_in(text: &[u8]) -> u64 {
     text.iter().filter(|b| **b == b'\n').count() as u64
@@ -59,17 +66,9 @@ fn lines_in(text: &[u8]) -> u64 {
 #[test]
 fn gives_a_line_for_each_packet(rt: HostRuntime) -> Result<(), Fail> {
     let alloc = rt.alloc();
-    let mut source = Mem::new(three_packets(alloc, [0, 0, 0])?);
+    let source = Mem::new(three_packets(alloc, [0, 0, 0])?);
     let mut verdicts = Mem::new(Vec::new(alloc));
-    let mut packets = Mem::new(Vec::new(alloc));
-    let report = replay_plain(
-        alloc,
-        &mut source,
-        RULES,
-        &inside(),
-        &mut verdicts,
-        &mut packets,
-    )?;
+    let report = replay(alloc, source, RULES, &mut verdicts)?;
     assert_eq!(rt;
         report,
         Report {
@@ -92,17 +91,9 @@ fn refuses_a_line_that_is_no_rule(rt: HostRuntime) -> Result<(), Fail> {
         b"\npass in quick from any to 256.0.0.1 no state",
     ];
     for text in texts {
-        let mut source = Mem::new(three_packets(alloc, [0, 0, 0])?);
+        let source = Mem::new(three_packets(alloc, [0, 0, 0])?);
         let mut verdicts = Mem::new(Vec::new(alloc));
-        let mut packets = Mem::new(Vec::new(alloc));
-        let stop = replay_plain(
-            alloc,
-            &mut source,
-            text,
-            &inside(),
-            &mut verdicts,
-            &mut packets,
-        );
+        let stop = replay(alloc, source, text, &mut verdicts);
         let fault = ConfError {
             line: 2,
             kind: ConfErrorKind::UnknownWord,
@@ -117,36 +108,33 @@ fn refuses_a_line_that_is_no_rule(rt: HostRuntime) -> Result<(), Fail> {
 fn reads_captures_of_each_length(rt: HostRuntime) -> Result<(), Fail> {
     let alloc = rt.alloc();
     let whole = three_packets(alloc, [10, 5, 11])?;
-    let lines =
-        b"1 10 in pass rule r=1 t=- s=-\n2 10 in block rule r=3 t=- s=-\n3 11 out pass default r=- t=- s=-\n";
     for length in 0..whole.len() + 1 {
-        let mut source = Mem::new(Vec::from_slice(alloc, &whole.as_slice()[..length])?);
+        let source = Mem::new(Vec::from_slice(alloc, &whole.as_slice()[..length])?);
         let mut verdicts = Mem::new(Vec::new(alloc));
-        let mut packets = Mem::new(Vec::new(alloc));
-        let outcome = replay_plain(
-            alloc,
-            &mut source,
-            RULES,
-            &inside(),
-            &mut verdicts,
-            &mut packets,
-        );
-        if length < 24 {
-            assert_eq!(rt; outcome, Err(Stop::Capture(CaptureError::HeaderCut, 0)));
-            assert_eq!(rt; verdicts.bytes().len(), 0);
-            continue;
-        }
-        let committed = ((length - 24) / 44) as u64;
-        let tail = if (length - 24) % 44 == 0 {
-            Tail::Clean
-        } else {
-            Tail::Cut
-        };
-        assert_eq!(rt; outcome, Ok(Report { committed, tail }));
-        assert_eq!(rt; lines_in(verdicts.bytes()), committed);
-        assert!(rt; lines.starts_with(verdicts.bytes()));
+        let outcome = replay(alloc, source, RULES, &mut verdicts);
+        ends_by_length(&rt, length, outcome, verdicts.bytes());
     }
     Ok(())
+}
+
+/// How the run over the first so many bytes of three packets ends.
+fn ends_by_length(rt: &impl Abort, length: usize, outcome: Result<Report, Stop>, verdicts: &[u8]) {
+    if length < 24 {
+        assert_eq!(rt; outcome, Err(Stop::Capture(CaptureError::HeaderCut, 0)));
+        assert_eq!(rt; verdicts.len(), 0);
+        return;
+    }
+    let committed = ((length - 24) / 44) as u64;
+    let tail = if (length - 24) % 44 == 0 {
+        Tail::Clean
+    } else {
+        Tail::Cut
+    };
+    let lines =
+        b"1 10 in pass rule r=1 t=- s=-\n2 10 in block rule r=3 t=- s=-\n3 11 out pass default r=- t=- s=-\n";
+    assert_eq!(rt; outcome, Ok(Report { committed, tail }));
+    assert_eq!(rt; lines_in(verdicts), committed);
+    assert!(rt; lines.starts_with(verdicts));
 }
 
 #[test]
@@ -162,17 +150,9 @@ fn refuses_other_captures(rt: HostRuntime) -> Result<(), Fail> {
         let mut bytes = three_packets(alloc, [0, 0, 0])?;
         assert!(rt; place < bytes.len());
         bytes[place] = byte;
-        let mut source = Mem::new(bytes);
+        let source = Mem::new(bytes);
         let mut verdicts = Mem::new(Vec::new(alloc));
-        let mut packets = Mem::new(Vec::new(alloc));
-        let outcome = replay_plain(
-            alloc,
-            &mut source,
-            RULES,
-            &inside(),
-            &mut verdicts,
-            &mut packets,
-        );
+        let outcome = replay(alloc, source, RULES, &mut verdicts);
         assert_eq!(rt; outcome, Err(Stop::Capture(refusal, 0)));
         assert_eq!(rt; verdicts.bytes().len(), 0);
     }
@@ -183,17 +163,9 @@ fn refuses_other_captures(rt: HostRuntime) -> Result<(), Fail> {
 #[test]
 fn writes_a_line_at_a_time(rt: HostRuntime) -> Result<(), Fail> {
     let alloc = rt.alloc();
-    let mut source = Mem::new(three_packets(alloc, [0, 0, 0])?);
+    let source = Mem::new(three_packets(alloc, [0, 0, 0])?);
     let mut verdicts = Mem::new(Vec::new(alloc)).failing_after(2);
-    let mut packets = Mem::new(Vec::new(alloc));
-    let outcome = replay_plain(
-        alloc,
-        &mut source,
-        RULES,
-        &inside(),
-        &mut verdicts,
-        &mut packets,
-    );
+    let outcome = replay(alloc, source, RULES, &mut verdicts);
     assert_eq!(rt; outcome, Err(Stop::Write(Output::Verdicts, 2)));
     assert_eq!(rt; lines_in(verdicts.bytes()), 2);
     assert!(rt; verdicts.bytes().ends_with(b"\n"));
@@ -206,35 +178,32 @@ fn stops_where_a_read_fails(rt: HostRuntime) -> Result<(), Fail> {
     let alloc = rt.alloc();
     for calls in 0..160u64 {
         let capture = three_packets(alloc, [0, 0, 0])?;
-        let mut source = Mem::new(capture).at_most(1).failing_after(calls);
+        let source = Mem::new(capture).at_most(1).failing_after(calls);
         let mut verdicts = Mem::new(Vec::new(alloc));
-        let mut packets = Mem::new(Vec::new(alloc));
-        let outcome = replay_plain(
-            alloc,
-            &mut source,
-            RULES,
-            &inside(),
-            &mut verdicts,
-            &mut packets,
-        );
-        // 24 bytes, three records of 44, and the read that meets the end.
-        if calls > 156 {
-            assert_eq!(rt;
-                outcome,
-                Ok(Report {
-                    committed: 3,
-                    tail: Tail::Clean
-                })
-            );
-        } else {
-            let committed = calls.saturating_sub(24) / 44;
-            assert_eq!(rt; outcome, Err(Stop::Read(committed)));
-            assert_eq!(rt; lines_in(verdicts.bytes()), committed);
-            assert!(rt; verdicts.bytes().is_empty() || verdicts.bytes().ends_with(b"\n"));
-        }
-        assert!(rt; LINES.starts_with(verdicts.bytes()));
+        let outcome = replay(alloc, source, RULES, &mut verdicts);
+        ends_by_read(&rt, calls, outcome, verdicts.bytes());
     }
     Ok(())
+}
+
+/// How the run ends whose source fails after so many bytes.
+fn ends_by_read(rt: &impl Abort, calls: u64, outcome: Result<Report, Stop>, verdicts: &[u8]) {
+    // 24 bytes, three records of 44, and the read that meets the end.
+    if calls > 156 {
+        assert_eq!(rt;
+            outcome,
+            Ok(Report {
+                committed: 3,
+                tail: Tail::Clean
+            })
+        );
+    } else {
+        let committed = calls.saturating_sub(24) / 44;
+        assert_eq!(rt; outcome, Err(Stop::Read(committed)));
+        assert_eq!(rt; lines_in(verdicts), committed);
+        assert!(rt; verdicts.is_empty() || verdicts.ends_with(b"\n"));
+    }
+    assert!(rt; LINES.starts_with(verdicts));
 }
 
 /// The sink moves a byte a call, and fails at each call in turn: it holds just the bytes before.
@@ -242,35 +211,31 @@ fn stops_where_a_read_fails(rt: HostRuntime) -> Result<(), Fail> {
 fn stops_where_a_write_fails(rt: HostRuntime) -> Result<(), Fail> {
     let alloc = rt.alloc();
     for calls in 0..LINES.len() {
-        let mut source = Mem::new(three_packets(alloc, [0, 0, 0])?);
+        let source = Mem::new(three_packets(alloc, [0, 0, 0])?);
         let mut verdicts = Mem::new(Vec::new(alloc))
             .at_most(1)
             .failing_after(calls as u64);
-        let mut packets = Mem::new(Vec::new(alloc));
-        let outcome = replay_plain(
-            alloc,
-            &mut source,
-            RULES,
-            &inside(),
-            &mut verdicts,
-            &mut packets,
-        );
-        let committed = lines_in(verdicts.bytes());
-        assert_eq!(rt; outcome, Err(Stop::Write(Output::Verdicts, committed)));
-        assert_eq!(rt; verdicts.bytes().len(), calls);
-        assert!(rt; LINES.starts_with(verdicts.bytes()));
+        let outcome = replay(alloc, source, RULES, &mut verdicts);
+        ends_by_write(&rt, calls, outcome, verdicts.bytes());
     }
-    let mut source = Mem::new(three_packets(alloc, [0, 0, 0])?);
+    Ok(())
+}
+
+/// How the run ends whose sink of verdicts fails after so many bytes.
+fn ends_by_write(rt: &impl Abort, calls: usize, outcome: Result<Report, Stop>, verdicts: &[u8]) {
+    let committed = lines_in(verdicts);
+    assert_eq!(rt; outcome, Err(Stop::Write(Output::Verdicts, committed)));
+    assert_eq!(rt; verdicts.len(), calls);
+    assert!(rt; LINES.starts_with(verdicts));
+}
+
+/// A sink that takes nothing has failed.
+#[test]
+fn stops_where_nothing_is_taken(rt: HostRuntime) -> Result<(), Fail> {
+    let alloc = rt.alloc();
+    let source = Mem::new(three_packets(alloc, [0, 0, 0])?);
     let mut verdicts = Mem::new(Vec::new(alloc)).at_most(0);
-    let mut packets = Mem::new(Vec::new(alloc));
-    let outcome = replay_plain(
-        alloc,
-        &mut source,
-        RULES,
-        &inside(),
-        &mut verdicts,
-        &mut packets,
-    );
+    let outcome = replay(alloc, source, RULES, &mut verdicts);
     assert_eq!(rt; outcome, Err(Stop::Write(Output::Verdicts, 0)));
     Ok(())
 }

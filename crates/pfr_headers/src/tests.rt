@@ -56,6 +56,19 @@ fn rewrite_end(bytes: &mut [u8], end: End, address: u32, port: u16) {
     }
 }
 
+/// A frame has this view.
+fn sees(rt: &impl Abort, link: u16, bytes: &[u8], expected: View) {
+    assert_eq!(rt; view(link, bytes), expected);
+}
+
+/// A frame of raw IP holds a packet with this transport.
+fn carries(rt: &impl Abort, bytes: &[u8], transport: Transport) {
+    match view(101, bytes) {
+        View::Ipv4(packet) => assert_eq!(rt; packet.transport, transport),
+        other => assert_eq!(rt; other, View::Skip),
+    }
+}
+
 #[test]
 fn udp(rt: HostRuntime) {
     let packet = Packet {
@@ -70,14 +83,18 @@ fn udp(rt: HostRuntime) {
             payload_length: 0,
         }),
     };
-    assert_eq!(rt; view(101, &QUERY), View::Ipv4(packet));
+    sees(&rt, 101, &QUERY, View::Ipv4(packet));
     assert!(rt; !packet.has_options());
-    assert_eq!(rt; view(1, &QUERY), View::Skip);
-    assert_eq!(rt; view(0, &QUERY), View::Skip);
-    assert_eq!(rt; view(9, &QUERY), View::Skip);
-    assert_eq!(rt; view(101, &[]), View::Skip);
+    for link in [1, 0, 9] {
+        sees(&rt, link, &QUERY, View::Skip);
+    }
+}
+
+#[test]
+fn udp_that_is_no_packet(rt: HostRuntime) {
+    sees(&rt, 101, &[], View::Skip);
     for length in 1..28 {
-        assert_eq!(rt; view(101, &QUERY[..length]), View::Short, "at {length}");
+        sees(&rt, 101, &QUERY[..length], View::Short);
     }
     for (first, total, found) in [
         (0x65, 28, View::Skip),
@@ -89,7 +106,7 @@ fn udp(rt: HostRuntime) {
         let mut other = QUERY;
         other[0] = first;
         other[3] = total;
-        assert_eq!(rt; view(101, &other), found);
+        sees(&rt, 101, &other, found);
     }
 }
 
@@ -106,23 +123,22 @@ fn tcp(rt: HostRuntime) {
         window_scale: Some(3),
         payload_length: 0,
     };
-    match view(101, &SYN) {
-        View::Ipv4(packet) => {
-            assert!(rt; packet.has_options());
-            assert_eq!(rt; packet.header_length, 24);
-            assert_eq!(rt; packet.transport, Transport::Tcp(header));
-        }
-        other => assert_eq!(rt; other, View::Skip),
-    }
+    let packet = Packet {
+        header_length: 24,
+        total_length: 48,
+        protocol: Protocol::TCP,
+        source: Ipv4Address(0xc633_6407),
+        destination: Ipv4Address(0x0a00_0005),
+        transport: Transport::Tcp(header),
+    };
+    sees(&rt, 101, &SYN, View::Ipv4(packet));
+    assert!(rt; packet.has_options());
     for length in 1..48 {
-        assert_eq!(rt; view(101, &SYN[..length]), View::Short, "at {length}");
+        sees(&rt, 101, &SYN[..length], View::Short);
     }
     let mut fragment = SYN;
     fragment[6] = 0x20;
-    match view(101, &fragment[..24]) {
-        View::Ipv4(packet) => assert_eq!(rt; packet.transport, Transport::Fragment),
-        other => assert_eq!(rt; other, View::Skip),
-    }
+    carries(&rt, &fragment[..24], Transport::Fragment);
 }
 
 /// Byte 36 has the data offset, byte 37 the flags, bytes 44 to 47 the options.
@@ -165,8 +181,13 @@ fn links(rt: HostRuntime) {
         ([30, 0, 0, 0], View::Skip),
     ] {
         loopback[..4].copy_from_slice(&family);
-        assert_eq!(rt; view(0, &loopback), expected);
+        sees(&rt, 0, &loopback, expected);
     }
+}
+
+#[test]
+fn ethernet_links(rt: HostRuntime) {
+    let found = view(101, &QUERY);
     let mut ethernet = [0; 50];
     for (kinds, at, expected) in [
         ([8, 0, 0, 0, 0, 0, 0, 0], 14, found),
@@ -177,9 +198,9 @@ fn links(rt: HostRuntime) {
     ] {
         ethernet[12..20].copy_from_slice(&kinds);
         ethernet[at..at + 28].copy_from_slice(&QUERY);
-        assert_eq!(rt; view(1, &ethernet[..at + 28]), expected);
+        sees(&rt, 1, &ethernet[..at + 28], expected);
     }
-    assert_eq!(rt; view(1, &ethernet[..13]), View::Skip);
+    sees(&rt, 1, &ethernet[..13], View::Skip);
 }
 
 #[test]
@@ -205,12 +226,9 @@ fn errors(rt: HostRuntime) {
         ..told
     };
     for (length, header) in [(56, told), (55, other), (28, other)] {
-        match view(101, &frame[..length]) {
-            View::Ipv4(packet) => assert_eq!(rt; packet.transport, Transport::Icmp(header)),
-            other => assert_eq!(rt; other, View::Skip),
-        }
+        carries(&rt, &frame[..length], Transport::Icmp(header));
     }
-    assert_eq!(rt; view(101, &frame[..27]), View::Short);
+    sees(&rt, 101, &frame[..27], View::Short);
 }
 
 /// The packets of a translation, out and back, as they were worked out by hand.
@@ -240,6 +258,11 @@ fn mending(rt: HostRuntime) {
     assert_eq!(rt; mended(0x1234, 0), 0x1234);
 }
 
+/// A text writes this network, or none.
+fn reads(rt: &impl Abort, text: &str, expected: Option<Net>) {
+    assert_eq!(rt; Net::parse(text.as_bytes()), expected, "at {text}");
+}
+
 #[test]
 fn networks(rt: HostRuntime) {
     for (text, number, bits) in [
@@ -248,11 +271,7 @@ fn networks(rt: HostRuntime) {
         ("0.0.0.0/0", 0, 0),
     ] {
         let address = Ipv4Address(number);
-        assert_eq!(rt;
-            Net::parse(text.as_bytes()),
-            Some(Net { address, bits }),
-            "at {text}"
-        );
+        reads(&rt, text, Some(Net { address, bits }));
     }
     for text in [
         "10.0.0.0/33",
@@ -262,7 +281,7 @@ fn networks(rt: HostRuntime) {
         "1.2.3.4.5",
         "",
     ] {
-        assert_eq!(rt; Net::parse(text.as_bytes()), None, "at {text}");
+        reads(&rt, text, None);
     }
 }
 
@@ -399,9 +418,11 @@ fn captured_packets(rt: HostRuntime) {
     }
     let pseudo = add_words(17 + 37, &udp[12..20]);
     assert!(rt; verifies(&udp, pseudo));
-    assert_eq!(rt; udp[22], 0);
-    assert_eq!(rt; udp[23], 53);
+    assert_eq!(rt; [udp[22], udp[23]], [0, 53]);
+}
 
+#[test]
+fn a_captured_error(rt: HostRuntime) {
     let mut error = CAPTURED_ERROR;
     assert!(rt; verifies(&error, 0));
     rewrite_end(&mut error, End::Destination, 0xc000_0201, 50001);
