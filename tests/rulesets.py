@@ -1,0 +1,51 @@
+#!/usr/bin/env python3
+"""Builds the program beside it, which reads rulesets, and hands it to read_rulesets.py.
+
+    rulesets.py
+
+The program is a crate of its own on the reader of rulesets, in a temporary folder.
+"""
+
+import shutil
+import subprocess
+import sys
+import tempfile
+from pathlib import Path
+
+HERE = Path(__file__).resolve().parent
+ROOT = HERE.parent
+# lowest first, with what each uses
+CRATES = {
+    "pfr_words": "",
+    "pfr_terms": "pfr_words thiserror",
+    "pfr_conf": "pfr_words pfr_terms",
+}
+
+
+def build(folder):
+    """Makes a repository of the crates and the program, and answers the program that is built of them."""
+    lines = [f"{name}: {used}\n" for name, used in CRATES.items()]
+    (folder / "crates.txt").write_text("".join(lines) + "read_rulesets: pfr_words pfr_conf\n")
+    shutil.copy(ROOT / "HANDLES", folder)
+    for name in CRATES:
+        for part in ("src", "specs", "proofs"):
+            shutil.copytree(ROOT / "crates" / name / part, folder / "crates" / name / part)
+    crate = folder / "crates" / "read_rulesets"
+    (crate / "src").mkdir(parents=True)
+    # the gate lets no file end in .rt but those of the crates
+    shutil.copy(HERE / "read_rulesets.rattle", crate / "src" / "main.rt")
+    done = subprocess.run(["rt", "run"], cwd=crate, stdin=subprocess.DEVNULL, stdout=subprocess.PIPE, stderr=subprocess.STDOUT, text=True)
+    if done.returncode:
+        raise SystemExit(done.stdout)
+    return crate / "out" / "read_rulesets"
+
+
+def main():
+    with tempfile.TemporaryDirectory() as name:
+        program = build(Path(name))
+        done = subprocess.run([HERE / "read_rulesets.py", program], check=False)
+    sys.exit(done.returncode)
+
+
+if __name__ == "__main__":
+    main()
