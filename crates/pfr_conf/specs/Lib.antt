@@ -8,3 +8,5 @@ pub mod RuleOptions
 pub mod Settings
 pub mod Statements
 pub mod Tables
+pub mod Targets
+pub mod Translations

@@ -46,9 +46,12 @@ macro_statement reached = do
   definition ← macro_definition
   pure (reached, s.Macro definition)
 
--- translation rules aren't read yet: until they are, they are left out here
+-- nothing translates by translation rules yet: until it does, they are left out here
+unfoldable pub translation_line : Section → Parser (Section × Statement)
+translation_line reached = λ i. Err (word_left_out i)
+
 abbrev pub translation_or_macro : Section → Parser (Section × Statement)
-translation_or_macro reached = λ i. if begins_translation i then Err (word_left_out i) else macro_statement reached i
+translation_or_macro reached = λ i. if begins_translation i then translation_line reached i else macro_statement reached i
 
 abbrev pub definition : Section → ℕ → Parser (Section × Statement)
 definition reached line = do

@@ -15,8 +15,10 @@ pub mod rule_options;
 pub mod settings;
 pub mod statement;
 pub mod table;
+pub mod targets;
 #[cfg(test)]
 mod tests;
+pub mod translation;
 
 pub use anchor::{AnchorRule, FilterStatement};
 pub use filter::{Action, FilterRule};
@@ -34,3 +36,5 @@ pub use rule_options::{RuleOptions, StateKeeping, StateOptions};
 pub use settings::{Limit, LimitSetting, Timeout, TimeoutSetting};
 pub use statement::{Statement, Statements};
 pub use table::TableDefinition;
+pub use targets::{NatTarget, RdrTarget, RedirectedPort, Target};
+pub use translation::{TranslationKind, TranslationRule, TranslationStatement};

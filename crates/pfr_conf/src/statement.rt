@@ -7,6 +7,7 @@ use crate::anchor::{DEEPEST_ANCHOR, FilterStatement, statement};
 use crate::macros::{MacroDefinition, definition as macro_definition};
 use crate::options::{SetOption, option_behind_set};
 use crate::table::{TableDefinition, definition as table_definition};
+use crate::translation::TranslationStatement;
 use pfr_terms::{ConfError, ConfErrorKind, Reader};
 use pfr_words::Items;
 use std::alloc::Global;
@@ -17,6 +18,7 @@ pub enum Statement<'a> {
     Macro(MacroDefinition<'a>),
     Table(TableDefinition<'a>),
     Option(SetOption<'a>),
+    Translation(TranslationStatement<'a>),
     Filter(FilterStatement<'a>),
 }
 
@@ -76,6 +78,19 @@ fn word_left_out(alloc: Global, reader: &Reader<'_, '_>) -> ConfError
     }
 }
 
+/// A translation rule. `crate::translation` reads them, but nothing translates by them yet: until it does, they are left
+/// out here and nowhere else.
+#[tactic(auto, unfolding(crate::specs::Statements::translation_line))]
+fn translation_line<'a>(
+    alloc: Global,
+    reader: &mut Reader<'_, 'a>,
+    reached: Section,
+) -> Result<(Section, Statement<'a>), ConfError>
+    ensures { Reads (spec.translation_line reached reader.old) result reader.new }
+{
+    Err(word_left_out(alloc, reader))
+}
+
 /// A statement that begins with another word than `set`.
 #[tactic(auto, unfolding(crate::specs::Statements::rule_or_definition))]
 fn rule_or_definition<'a>(
@@ -94,9 +109,8 @@ fn rule_or_definition<'a>(
         let table = table_definition(alloc, reader, line)?;
         return Ok((reached, Statement::Table(table)));
     }
-    // Translation rules aren't read yet: until they are, they are left out here and nowhere else.
     if begins_translation(reader) {
-        return Err(word_left_out(alloc, reader));
+        return translation_line(alloc, reader, reached);
     }
     let definition = macro_definition(alloc, reader)?;
     Ok((reached, Statement::Macro(definition)))

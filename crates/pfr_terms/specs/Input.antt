@@ -170,9 +170,12 @@ kind_of w.UnknownWord = UnknownWord
 abbrev pub unknown_word : ℕ → ConfError
 unknown_word line = record { line = line; kind = UnknownWord }
 
+abbrev pub left_out_at : ℕ → List ℕ → ConfError
+left_out_at line name = record { line = line; kind = LeftOut (record { name = name }) }
+
 -- a plain word that doesn't belong where it stands
 abbrev pub plain_refusal : ℕ → List ℕ → ConfError
-plain_refusal line word = if is_left_out_word word then record { line = line; kind = LeftOut (record { name = word }) } else unknown_word line
+plain_refusal line word = if is_left_out_word word then left_out_at line word else unknown_word line
 
 abbrev pub token_refusal : ℕ → ℕ → Token → ConfError
 token_refusal before line t.LineEnd = unknown_word before
@@ -196,7 +199,7 @@ unfoldable pub fault : ConfErrorKind → Input → ConfError
 fault kind i = record { line = line_ahead i; kind = kind }
 
 unfoldable pub left_out : List ℕ → Input → ConfError
-left_out name i = fault (LeftOut (record { name = name })) i
+left_out name i = left_out_at (line_ahead i) name
 
 abbrev pub refuse : {A : Type 0} → Parser A
 refuse = λ i. Err (refusal i)

@@ -1,9 +1,10 @@
 //! The faults of a ruleset text.
 ghost use Rattle.std.specs.Prelude.{◌≡◌};
 ghost use Rattle.pfr_terms.specs.Input as spec;
+ghost use Rattle.pfr_terms.specs.Input.{Refuses};
 
 use pfr_words::{Items, WordFault};
-use std::alloc::AllocError;
+use std::alloc::{AllocError, Global};
 use std::fmt;
 use std::fmt::Write;
 use thiserror::Error;
@@ -86,5 +87,18 @@ pub(crate) fn kind_of(fault: WordFault) -> ConfErrorKind
         WordFault::BadByte => ConfErrorKind::BadByte,
         WordFault::Unterminated => ConfErrorKind::Unterminated,
         WordFault::UnknownWord => ConfErrorKind::UnknownWord,
+    }
+}
+
+/// The fault on this line that something is left out, under this name.
+pub fn left_out_at(alloc: Global, line: usize, name: &[u8]) -> ConfError
+    ensures { Refuses (spec.left_out_at line name.now) result }
+{
+    match Items::copied(alloc, name) {
+        Ok(name) => ConfError {
+            line,
+            kind: ConfErrorKind::LeftOut(LeftOutName { name }),
+        },
+        Err(refused) => ConfError::from(refused),
     }
 }

@@ -107,7 +107,7 @@ pub fn both_ends<'a>(alloc: Global, reader: &mut Reader<'_, 'a>) -> Result<Hosts
 
 /// `on LIST`, if it comes next.
 #[tactic(auto, unfolding(crate::specs::Hosts::interfaces))]
-fn interfaces<'a>(
+pub fn interfaces<'a>(
     alloc: Global,
     reader: &mut Reader<'_, 'a>,
 ) -> Result<Option<Items<InterfaceMatch<'a>>>, ConfError>
@@ -122,7 +122,7 @@ fn interfaces<'a>(
 
 /// `proto LIST`, if it comes next.
 #[tactic(auto, unfolding(crate::specs::Hosts::protocols))]
-fn protocols<'a>(
+pub fn protocols<'a>(
     alloc: Global,
     reader: &mut Reader<'_, 'a>,
 ) -> Result<Option<Items<Written<'a, Protocol>>>, ConfError>

@@ -42,7 +42,7 @@ pub enum PortMatch {
 
 /// What a word says where a port has to stand.
 #[derive(Clone, Copy, Debug)]
-enum PortWord {
+pub enum PortWord {
     Port(u16),
     /// A number above 65535, or a range whose first port is above its second.
     OutOfRange,
@@ -52,7 +52,7 @@ enum PortWord {
 
 /// What a word says that is a number or the name of a service.
 #[tactic(auto, unfolding(crate::specs::Ports::port_word))]
-fn port_word(word: &[u8]) -> PortWord
+pub fn port_word(word: &[u8]) -> PortWord
     ensures { result ≡ spec.port_word word.now }
 {
     match number(word) {

@@ -4,12 +4,12 @@ ghost use Rattle.std.specs.Option.{option_map};
 ghost use Rattle.pfr_terms.specs.Input as spec;
 ghost use Rattle.pfr_terms.specs.Input.{Reads, Refuses};
 
-use crate::error::{ConfError, ConfErrorKind, LeftOutName, kind_of};
+use crate::error::{ConfError, ConfErrorKind, kind_of, left_out_at};
 use crate::name::{MacroUse, Name};
 use crate::notation::number;
 use pfr_words::braces::is_sign;
 use pfr_words::names::{is_grammar_word, is_left_out};
-use pfr_words::{Bytes, Items, Sign, Token, Word};
+use pfr_words::{Bytes, Sign, Token, Word};
 use std::alloc::Global;
 use std::marker::Model;
 
@@ -280,10 +280,7 @@ impl<'w, 'a> Reader<'w, 'a> {
     pub fn left_out(&self, alloc: Global, name: &[u8]) -> ConfError
         ensures { Refuses (spec.left_out name.now self.now) result }
     {
-        match Items::copied(alloc, name) {
-            Ok(name) => self.fault(ConfErrorKind::LeftOut(LeftOutName { name })),
-            Err(refused) => ConfError::from(refused),
-        }
+        left_out_at(alloc, self.line_ahead(), name)
     }
 
     /// Goes past this sign, which has to come next.
@@ -437,11 +434,5 @@ fn plain_refusal(alloc: Global, line: usize, word: &[u8]) -> ConfError
             kind: ConfErrorKind::UnknownWord,
         };
     }
-    match Items::copied(alloc, word) {
-        Ok(name) => ConfError {
-            line,
-            kind: ConfErrorKind::LeftOut(LeftOutName { name }),
-        },
-        Err(refused) => ConfError::from(refused),
-    }
+    left_out_at(alloc, line, word)
 }
