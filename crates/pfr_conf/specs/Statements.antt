@@ -1,7 +1,9 @@
 -- A ruleset text as statements.
-use Rattle.std.specs.Prelude.{ℕ, ◌||◌, Bool, true, false, not, if◌then◌else◌, List, [], ◌∷◌, ◌++◌, Option, Some, None, Result, Ok, Err, codes}
+use Rattle.std.specs.Prelude.{ℕ, Bool, true, false, not, if◌then◌else◌, List, [], ◌∷◌, ◌++◌, map, Option, Some, None, Result, Ok, Err, codes}
 use Rattle.pfr_words.specs.declared.word.Word.{Word}
 use Rattle.pfr_words.specs.Words.{words}
+use Rattle.pfr_words.specs.Names.{is_among}
+use Rattle.pfr_conf.specs.declared.statement.TheConstants.{FILTER_WORDS, TRANSLATION_WORDS}
 use Rattle.pfr_terms.specs.declared.error.ConfError.{ConfError}
 use Rattle.pfr_terms.specs.declared.error.ConfErrorKind.TheVariants.{OutOfOrder}
 use Rattle.pfr_conf.specs.declared.statement.Section.{Section}
@@ -21,13 +23,13 @@ abbrev pub may_set : Section → Bool
 may_set section.Options = true
 may_set section.Filter = false
 
-unfoldable pub begins_filter : Input → Bool
-begins_filter i = sees_word (codes "pass") i || sees_word (codes "block") i || sees_word (codes "anchor") i
+unfoldable pub begins_filter : Option (List ℕ) → Bool
+begins_filter None = false
+begins_filter (Some word) = is_among (map (λ w. w.now) FILTER_WORDS) word
 
-unfoldable pub begins_translation : Input → Bool
-begins_translation i =
-    sees_word (codes "nat") i || sees_word (codes "rdr") i || sees_word (codes "binat") i || sees_word (codes "no") i
-    || sees_word (codes "nat-anchor") i || sees_word (codes "rdr-anchor") i || sees_word (codes "binat-anchor") i
+unfoldable pub begins_translation : Option (List ℕ) → Bool
+begins_translation None = false
+begins_translation (Some word) = is_among (map (λ w. w.now) TRANSLATION_WORDS) word
 
 abbrev pub word_left_out_by : Option (List ℕ) → Input → ConfError
 word_left_out_by (Some word) i = left_out word i
@@ -51,7 +53,7 @@ unfoldable pub translation_line : Section → Parser (Section × Statement)
 translation_line reached = λ i. Err (word_left_out i)
 
 abbrev pub translation_or_macro : Section → Parser (Section × Statement)
-translation_or_macro reached = λ i. if begins_translation i then translation_line reached i else macro_statement reached i
+translation_or_macro reached = λ i. if begins_translation (plain_ahead i) then translation_line reached i else macro_statement reached i
 
 abbrev pub definition : Section → ℕ → Parser (Section × Statement)
 definition reached line = do
@@ -59,7 +61,7 @@ definition reached line = do
   if is_table then (do table ← table_definition line; pure (reached, s.Table table)) else translation_or_macro reached
 
 unfoldable pub rule_or_definition : Section → Parser (Section × Statement)
-rule_or_definition reached = λ i. if begins_filter i then filter_statement i else definition reached (line_ahead i) i
+rule_or_definition reached = λ i. if begins_filter (plain_ahead i) then filter_statement i else definition reached (line_ahead i) i
 
 abbrev pub set_statement : Section → Parser (Section × Statement)
 set_statement reached = do

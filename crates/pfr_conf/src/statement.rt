@@ -9,7 +9,8 @@ use crate::options::{SetOption, option_behind_set};
 use crate::table::{TableDefinition, definition as table_definition};
 use crate::translation::TranslationStatement;
 use pfr_terms::{ConfError, ConfErrorKind, Reader};
-use pfr_words::Items;
+use pfr_words::names::is_among;
+use pfr_words::{Bytes, Items};
 use std::alloc::Global;
 
 /// A statement of a ruleset.
@@ -45,26 +46,40 @@ fn may_set(reached: Section) -> bool
     }
 }
 
+/// The words that begin a filter rule or an anchor.
+const FILTER_WORDS: [&[u8]; 3] = [b"pass", b"block", b"anchor"];
+
+/// The words that begin a translation rule, or an anchor of such.
+const TRANSLATION_WORDS: [&[u8]; 7] = [
+    b"nat",
+    b"rdr",
+    b"binat",
+    b"no",
+    b"nat-anchor",
+    b"rdr-anchor",
+    b"binat-anchor",
+];
+
 /// Whether the next word begins a filter rule or an anchor.
 #[tactic(auto, unfolding(crate::specs::Statements::begins_filter))]
-fn begins_filter(reader: &Reader<'_, '_>) -> bool
-    ensures { result ≡ spec.begins_filter reader.now }
+fn begins_filter(word: Option<Bytes<'_>>) -> bool
+    ensures { result ≡ spec.begins_filter word.entry }
 {
-    reader.sees_word(b"pass") || reader.sees_word(b"block") || reader.sees_word(b"anchor")
+    match word {
+        Some(word) => is_among(&FILTER_WORDS, word.as_slice()),
+        None => false,
+    }
 }
 
 /// Whether the next word begins a translation rule, or an anchor of such.
 #[tactic(auto, unfolding(crate::specs::Statements::begins_translation))]
-fn begins_translation(reader: &Reader<'_, '_>) -> bool
-    ensures { result ≡ spec.begins_translation reader.now }
+fn begins_translation(word: Option<Bytes<'_>>) -> bool
+    ensures { result ≡ spec.begins_translation word.entry }
 {
-    reader.sees_word(b"nat")
-        || reader.sees_word(b"rdr")
-        || reader.sees_word(b"binat")
-        || reader.sees_word(b"no")
-        || reader.sees_word(b"nat-anchor")
-        || reader.sees_word(b"rdr-anchor")
-        || reader.sees_word(b"binat-anchor")
+    match word {
+        Some(word) => is_among(&TRANSLATION_WORDS, word.as_slice()),
+        None => false,
+    }
 }
 
 /// The next word is left out.
@@ -100,7 +115,7 @@ fn rule_or_definition<'a>(
 ) -> Result<(Section, Statement<'a>), ConfError>
     ensures { Reads (spec.rule_or_definition reached reader.old) result reader.new }
 {
-    if begins_filter(reader) {
+    if begins_filter(reader.plain_ahead()) {
         let rule = statement(alloc, reader, DEEPEST_ANCHOR)?;
         return Ok((Section::Filter, Statement::Filter(rule)));
     }
@@ -109,7 +124,7 @@ fn rule_or_definition<'a>(
         let table = table_definition(alloc, reader, line)?;
         return Ok((reached, Statement::Table(table)));
     }
-    if begins_translation(reader) {
+    if begins_translation(reader.plain_ahead()) {
         return translation_line(alloc, reader, reached);
     }
     let definition = macro_definition(alloc, reader)?;

@@ -149,7 +149,7 @@ pub const ICMP_TYPES: [(&[u8], u8); 6] = [
 ];
 
 /// Whether the word is one of the words.
-fn is_among(words: &[&[u8]], word: &[u8]) -> bool
+pub fn is_among(words: &[&[u8]], word: &[u8]) -> bool
     ensures { result ≡ spec.is_among (map (λ w. w.now) words.now) word.now }
 {
     for known in words {
