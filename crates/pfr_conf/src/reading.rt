@@ -39,8 +39,8 @@ fn statements_in<'a>(alloc: Global, words: &[Word<'a>]) -> Result<Statements<'a>
     Ok(Statements { statements })
 }
 
-/// The statements of a ruleset text as pf.conf(5) has it, or the first fault of the text: the one that is met first in
-/// the order of the text, and of several at one word the first kind in the order of [`crate::ConfErrorKind`].
+/// The statements of a ruleset text as pf.conf(5) has it, or its first fault in the order of the text. A fault inside a
+/// macro's value, of a table that isn't defined or of a name that isn't the interface's is none here.
 #[tactic(auto, unfolding(crate::specs::Statements::statements_of))]
 pub fn read<'a>(alloc: Global, text: &'a [u8]) -> Result<Statements<'a>, ConfError>
     ensures { Gives (spec.statements_of text.now) result }

@@ -9,8 +9,9 @@ use crate::rule_options::{StateKeeping, StateOptions};
 use crate::settings::{Timeout, TimeoutSetting};
 use crate::statement::{Statement, Statements};
 use crate::targets::{RedirectedPort, Target};
-use crate::translation::{TranslationKind, TranslationStatement, translation};
+use crate::translation::{TranslationStatement, translation};
 use pfr_terms::{ConfError, ConfErrorKind, Part, Reader};
+use pfr_words::Bytes;
 use pfr_words::spelling::words;
 use std::alloc::{AllocError, Global};
 use std::process::Abort;
@@ -18,8 +19,33 @@ use std::process::Abort;
 /// The one filter rule of these statements.
 fn only_rule<'s, 'a>(statements: &'s Statements<'a>) -> Option<&'s FilterRule<'a>> {
     match statements.statements.as_slice() {
-        [Statement::Filter(FilterStatement::Rule(rule))] => Some(rule),
+        [first] => match first {
+            Statement::Filter(FilterStatement::Rule(rule)) => Some(rule),
+            _ => None,
+        },
         _ => None,
+    }
+}
+
+/// The text of the one piece of a macro's value, if it is a quoted text.
+fn only_quoted<'a>(statement: &Statement<'a>) -> Option<Bytes<'a>> {
+    let Statement::Macro(definition) = statement else {
+        return None;
+    };
+    match definition.pieces.as_slice() {
+        [first] => match first {
+            Piece::Quoted(value) => Some(Bytes::new(value.text.as_slice())),
+            _ => None,
+        },
+        _ => None,
+    }
+}
+
+/// Whether the statement sets just these timeouts.
+fn sets(statement: &Statement<'_>, expected: &[TimeoutSetting]) -> bool {
+    match statement {
+        Statement::Option(SetOption::Timeouts(settings)) => settings.as_slice() == expected,
+        _ => false,
     }
 }
 
@@ -80,16 +106,11 @@ fn a_macro_and_its_use(rt: HostRuntime) -> Result<(), ConfError> {
     let statements = read(rt.alloc(), b"p = \"{ 80, 443 }\"\npass in proto tcp to port $p\n")?;
     assert_eq!(rt; statements.statements.len(), 2);
     match statements.statements.as_slice() {
-        [Statement::Macro(definition), ..] => {
-            assert!(rt; definition.name.text.as_slice() == b"p".as_slice());
-            match definition.pieces.as_slice() {
-                [Piece::Quoted(value)] => {
-                    assert!(rt; value.text.as_slice() == b"{ 80, 443 }".as_slice());
-                }
-                _ => assert!(rt; false),
-            }
-        }
-        _ => assert!(rt; false),
+        [first, ..] => match only_quoted(first) {
+            Some(value) => assert!(rt; value.as_slice() == b"{ 80, 443 }".as_slice()),
+            None => assert!(rt; false),
+        },
+        [] => assert!(rt; false),
     }
     Ok(())
 }
@@ -108,9 +129,7 @@ fn timeouts(rt: HostRuntime) -> Result<(), ConfError> {
         },
     ];
     match statements.statements.as_slice() {
-        [Statement::Option(SetOption::Timeouts(settings))] => {
-            assert!(rt; settings.as_slice() == expected.as_slice());
-        }
+        [only] => assert!(rt; sets(only, &expected)),
         _ => assert!(rt; false),
     }
     Ok(())
@@ -196,26 +215,23 @@ fn what_expansion_finds_is_accepted(rt: HostRuntime) -> Result<(), ConfError> {
     Ok(())
 }
 
-/// The port that a translation rule redirects to, with the rule's kind.
-fn redirected(alloc: Global, text: &[u8]) -> Result<Option<(TranslationKind, RedirectedPort)>, ConfError> {
+/// The port that a translation rule redirects to.
+fn redirected(alloc: Global, text: &[u8]) -> Result<Option<RedirectedPort>, ConfError> {
     let found = words(alloc, text)?;
     let mut reader = Reader::new(found.as_slice());
-    let TranslationStatement::Rule(rule) = translation(alloc, &mut reader)? else {
-        return Ok(None);
-    };
-    let Some(Target::Rdr(target)) = rule.target else {
-        return Ok(None);
-    };
-    let Some(port) = target.port else {
-        return Ok(None);
-    };
-    Ok(Some((rule.kind, port)))
+    match translation(alloc, &mut reader)? {
+        TranslationStatement::Rule(rule) => match &rule.target {
+            Some(Target::Rdr(target)) => Ok(target.port),
+            _ => Ok(None),
+        },
+        _ => Ok(None),
+    }
 }
 
 #[test]
 fn a_redirection(rt: HostRuntime) -> Result<(), ConfError> {
     let text = b"rdr pass on em0 proto tcp from any to 192.0.2.1 port 2000:2999 -> 10.0.0.1 port 4000:*";
-    let expected = (TranslationKind::Rdr, RedirectedPort::From(1, 4000));
+    let expected = RedirectedPort::From(1, 4000);
     assert_eq!(rt; redirected(rt.alloc(), text)?, Some(expected));
     Ok(())
 }
