@@ -1,5 +1,5 @@
 -- One word more of which it is known whether it is closed.
-use Rattle.std.proofs.Common.{◌≡◌, ◌<◌, ◌≤◌, ◌+◌, ◌-◌, ℕ, zero, suc, Bool, true, false, if◌then◌else◌, List, [], ◌∷◌, ◌++◌, length, take, drop, slice_set, slice_index_or, refl, ap, arith, sym}
+use Rattle.std.proofs.Common.{◌≡◌, ◌<◌, ◌≤◌, ◌+◌, ◌-◌, ℕ, zero, suc, Bool, true, false, if◌then◌else◌, List, [], ◌∷◌, ◌++◌, length, take, drop, slice_set, slice_index_or, refl, ap, arith}
 use Rattle.pfr_words.specs.declared.word.Word.{Word}
 use Rattle.pfr_words.specs.declared.word.Token.{Token}
 use Rattle.pfr_words.specs.declared.sign.Sign.TheVariants as s

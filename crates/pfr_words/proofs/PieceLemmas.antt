@@ -9,7 +9,7 @@ skips zero text = refl
 skips (suc n) [] = refl
 skips (suc n) (b ∷ text) = skips n text
 
-drop_one : (n b : ℕ) (text : List ℕ) → 1 ≤ n → drop (n - 1) text ≡ drop n (b ∷ text)
+pub drop_one : (n b : ℕ) (text : List ℕ) → 1 ≤ n → drop (n - 1) text ≡ drop n (b ∷ text)
 drop_one zero b text some = absurd (omega arith)
 drop_one (suc n) b text some = let e : suc n - 1 ≡ n = omega arith in ap (λ k. drop k text) e
 

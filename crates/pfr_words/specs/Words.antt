@@ -1,6 +1,6 @@
 -- The words of a ruleset text, as pf.conf(5) is written: the text is cut into pieces, and each piece that doesn't
 -- only separate words is one.
-use Rattle.std.specs.Prelude.{◌≡◌, ℕ, zero, suc, ◌+◌, ◌-◌, ◌==◌, ◌&&◌, ◌||◌, Bool, true, false, not, nat_le, nat_lt, if◌then◌else◌, List, [], ◌∷◌, ◌++◌, length, take, drop, slice_index, Option, Some, None}
+use Rattle.std.specs.Prelude.{ℕ, zero, suc, ◌+◌, ◌-◌, ◌==◌, ◌&&◌, ◌||◌, Bool, true, false, not, nat_le, if◌then◌else◌, List, [], ◌∷◌, ◌++◌, length, map, take, drop, slice_index, Option, Some, None}
 use Rattle.std.specs.Option.{is_some}
 use denote.Enum.Bare.{sameb}
 use Rattle.pfr_words.specs.contracts.sign.Sign.{the_type}
@@ -11,7 +11,6 @@ use Rattle.pfr_words.specs.declared.cutting.Class.TheVariants as class
 use Rattle.pfr_words.specs.declared.word.Token.{Token}
 use Rattle.pfr_words.specs.declared.word.Token.TheVariants as t
 use Rattle.pfr_words.specs.declared.word.Word.{Word}
-use Rattle.pfr_words.specs.declared.word.WordFault.{WordFault}
 use Rattle.pfr_words.specs.declared.word.WordFault.TheVariants.{BadByte, Unterminated, UnknownWord}
 use Rattle.pfr_words.specs.Names.{is_name, is_name_byte}
 
@@ -188,3 +187,9 @@ with_braces (w ∷ ws) = closed_by (closers ws) w ∷ with_braces ws
 -- the words of a text
 unfoldable pub words : List ℕ → List Word
 words text = with_braces (words_on 1 (pieces text))
+
+-- ---- words further down
+
+-- the words, so many lines further down
+abbrev pub moved : ℕ → List Word → List Word
+moved lines ws = map (λ (w : Word). record w { line = lines + w.line }) ws

@@ -9,6 +9,7 @@ pub mod braces;
 pub mod bytes;
 pub mod cutting;
 pub mod items;
+pub mod laws;
 pub mod names;
 pub mod sign;
 pub mod spelling;

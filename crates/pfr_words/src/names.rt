@@ -212,7 +212,7 @@ pub fn icmp_type_named(word: &[u8]) -> Option<u8>
 
 /// Whether a ruleset text gives the word a meaning.
 #[tactic(auto, unfolding(crate::specs::Names::is_reserved))]
-pub fn is_reserved(word: &[u8]) -> bool
+pub(crate) fn is_reserved(word: &[u8]) -> bool
     ensures { result ≡ spec.is_reserved word.now }
 {
     is_grammar_word(word)
@@ -235,7 +235,7 @@ fn are_name_bytes(text: &[u8]) -> bool
 }
 
 /// Whether the byte is a letter, a digit or an underscore.
-pub fn is_name_byte(byte: u8) -> bool
+pub(crate) fn is_name_byte(byte: u8) -> bool
     ensures { result ≡ spec.is_name_byte byte }
 {
     byte.is_ascii_alphanumeric() || byte == b'_'

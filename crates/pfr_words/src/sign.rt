@@ -78,7 +78,7 @@ pub(crate) fn single_sign(byte: u8) -> Option<Sign>
 
 /// Whether the two are one sign.
 #[tactic(auto, unfolding(crate::specs::Words::same_sign))]
-pub fn same_sign(a: Sign, b: Sign) -> bool
+pub(crate) fn same_sign(a: Sign, b: Sign) -> bool
     ensures { result ≡ spec.same_sign a b }
 {
     a == b

@@ -1,6 +1,5 @@
-use Rattle.std.proofs.Common.{rules, ◌≡◌, ◌≤◌, ◌<◌, ◌∙◌, arith, length, ◌-◌, slice_index_or}
+use Rattle.std.proofs.Common.{◌≤◌, ◌∙◌, arith, length, ◌-◌, slice_index_or}
 use Rattle.std.proofs.lemmas.List.{length-set}
-use Rattle.pfr_words.specs.Words as spec
 use Rattle.pfr_words.proofs.BraceLemmas.{marks, counts, one_more}
 use Rattle.pfr_words.proofs.braces.close_braces.Goals as goal
 

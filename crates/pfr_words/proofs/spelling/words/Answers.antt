@@ -1,4 +1,4 @@
-use Rattle.std.proofs.Common.{rules, ◌≡◌, ◌≤◌, ◌∙◌, arith, length}
+use Rattle.std.proofs.Common.{◌≤◌, ◌∙◌, arith, length}
 use Rattle.pfr_words.specs.Words as spec
 use Rattle.pfr_words.proofs.PieceLemmas.{next_piece}
 use Rattle.pfr_words.proofs.spelling.words.Goals as goal

@@ -1,0 +1,5 @@
+use Rattle.pfr_words.proofs.JoinedWords.{words_joined}
+use Rattle.pfr_words.proofs.laws.words_of_joined_texts.Goals as goal
+
+pub returns : goal.returns
+returns c = words_joined
