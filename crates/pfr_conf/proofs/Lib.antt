@@ -1,1 +1,3 @@
 pub mod Depths
+pub mod StatementLines
+pub mod WordLines

@@ -33,7 +33,7 @@ pub record Keeps {A : Type 0} (n : ℕ) (p : Parser A) : Type 0 where
 
 -- ---- words
 
-either : {A : Type 0} (P : A → Type 0) (b : Bool) (x y : A) → P x → P y → P (if b then x else y)
+pub either : {A : Type 0} (P : A → Type 0) (b : Bool) (x y : A) → P x → P y → P (if b then x else y)
 either P true x y p q = p
 either P false x y p q = q
 
@@ -41,14 +41,14 @@ behind_line_ends : (n : ℕ) (ws : List Word) → AreOn n ws → AreOn n (words_
 behind_line_ends n [] on = tt
 behind_line_ends n (w ∷ ws) on = either (AreOn n) (is_line_end w.token) _ _ (behind_line_ends n ws on.1) on
 
-skipped_within : (n : ℕ) (i : Input) → Within n i → Within n (skip_line_ends i)
+pub skipped_within : (n : ℕ) (i : Input) → Within n i → Within n (skip_line_ends i)
 skipped_within n i within = record { words = behind_line_ends n i.words within.words; line = within.line }
 
 stepped_within : (n : ℕ) (ws : List Word) (i : Input) → AreOn n ws → Within n i → Within n (stepped ws i)
 stepped_within n [] i on within = within
 stepped_within n (w ∷ ws) i on within = record { words = on.1; line = on.0 }
 
-next_within : (n : ℕ) (i : Input) → Within n i → Within n (next i)
+pub next_within : (n : ℕ) (i : Input) → Within n i → Within n (next i)
 unfolding next
 next_within n i within =
     let stepped = stepped_within n i.words i within.words within in
