@@ -1,5 +1,5 @@
 -- The readers of statements have their faults on lines of the text.
-use Rattle.std.proofs.Common.{◌≡◌, ◌+◌, ℕ, zero, suc, Bool, true, false, not, if◌then◌else◌, List, [], ◌∷◌, Option, Some, None, Ok, Err, codes, subst}
+use Rattle.std.proofs.Common.{◌≡◌, ◌+◌, ℕ, zero, suc, Bool, if◌then◌else◌, List, Option, Some, None, Ok, Err, subst}
 use Rattle.pfr_words.specs.declared.sign.Sign.TheVariants as s
 use Rattle.pfr_words.specs.Names.{is_name}
 use Rattle.pfr_words.specs.Words.{newlines, words}
@@ -20,7 +20,7 @@ use Rattle.pfr_conf.specs.declared.anchor.FilterStatement.{FilterStatement}
 use Rattle.pfr_conf.specs.declared.macros.Piece as P
 use Rattle.pfr_conf.specs.declared.statement.Section.{Section}
 use Rattle.pfr_conf.specs.declared.statement.Statement.{Statement}
-use Rattle.pfr_terms.specs.Input.{Input, Outcome, Parser, and_then, ◌>>=◌, pure, refuse, start, sees_word, plain_ahead, quoted_ahead, macro_ahead, line_ahead, at_line_end, eat_sign, named, unknown_word, skip_line_ends, is_done, refusal, left_out}
+use Rattle.pfr_terms.specs.Input.{Input, Outcome, Parser, and_then, ◌>>=◌, pure, refuse, start, plain_ahead, quoted_ahead, macro_ahead, line_ahead, eat_sign, named, unknown_word}
 use Rattle.pfr_conf.specs.Names as names
 use Rattle.pfr_conf.specs.Policies as policies
 use Rattle.pfr_conf.specs.Settings as settings

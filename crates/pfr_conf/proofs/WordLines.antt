@@ -1,8 +1,8 @@
 -- The words of a text stand on lines of it.
-use Rattle.std.proofs.Common.{◌≡◌, ◌≤◌, ◌==◌, ◌+◌, ◌-◌, ℕ, zero, suc, Bool, true, false, if◌then◌else◌, List, [], ◌∷◌, ◌++◌, take, Option, Some, None, refl, arith}
+use Rattle.std.proofs.Common.{◌≡◌, ◌≤◌, ◌==◌, ◌+◌, ◌-◌, ℕ, zero, suc, Bool, true, false, if◌then◌else◌, List, [], ◌∷◌, ◌++◌, take, Option, Some, None, arith}
 use Rattle.pfr_words.specs.declared.word.Token.{Token}
 use Rattle.pfr_words.specs.declared.word.Word.{Word}
-use Rattle.pfr_words.specs.Words.{piece_len, pieces_from, pieces, token_of, newlines, on_line, words_on, closers, closed_by, with_braces, words}
+use Rattle.pfr_words.specs.Words.{piece_len, pieces_from, pieces, token_of, newlines, on_line, words_on, with_braces, words}
 use Rattle.pfr_terms.specs.Input.{start}
 use Rattle.pfr_terms.proofs.Lines.{IsLine, AreOn, Within, either}
 

@@ -84,9 +84,9 @@ bare_host_keeps : {n : ℕ} → Keeps n addresses.bare_host
 unfolding addresses.bare_host
 bare_host_keeps = keeps_by plain_ahead addresses.bare_host_by bare_host_by_keeps
 
-host_keeps : {n : ℕ} → Keeps n addresses.host
+pub keeps_host : {n : ℕ} → Keeps n addresses.host
 unfolding addresses.host
-host_keeps = search (reading, bracketed_keeps, bare_host_keeps)
+keeps_host = search (reading, bracketed_keeps, bare_host_keeps)
 
 range_end_of_keeps : {n : ℕ} (last : Result Ipv4Address AddressWord) → Keeps n (addresses.range_end_of last)
 range_end_of_keeps (Ok last) = search reading
@@ -100,10 +100,10 @@ range_end_keeps : {n : ℕ} (first : Ipv4Address) → Keeps n (addresses.range_e
 unfolding addresses.range_end
 range_end_keeps first = keeps_by plain_ahead (addresses.range_end_by first) (range_end_by_keeps first)
 
-range_from_keeps : {n : ℕ} (found : Host) → Keeps n (addresses.range_from found)
+pub keeps_range_from : {n : ℕ} (found : Host) → Keeps n (addresses.range_from found)
 unfolding addresses.range_from
-range_from_keeps (h.Address first) = search (reading, range_end_keeps)
-range_from_keeps found = search reading
+keeps_range_from (h.Address first) = search (reading, range_end_keeps)
+keeps_range_from found = search reading
 
 table_name_by_keeps : {n : ℕ} (found : Option (List ℕ)) → Keeps n (addresses.table_name_by found)
 table_name_by_keeps None = search reading
@@ -118,22 +118,22 @@ keeps_table_name = keeps_by plain_ahead (λ found. do
 
 address_from_keeps : {n : ℕ} (found : Written Host) → Keeps n (addresses.address_from found)
 address_from_keeps (w.Macro found) = search reading
-address_from_keeps (w.Item found) = range_from_keeps found
+address_from_keeps (w.Item found) = keeps_range_from found
 
-rule_address_keeps : {n : ℕ} → Keeps n addresses.rule_address
+pub keeps_rule_address : {n : ℕ} → Keeps n addresses.rule_address
 unfolding addresses.rule_address
-rule_address_keeps = search (reading, keeps_table_name, keeps_written, host_keeps, address_from_keeps) depth 8
+keeps_rule_address = search (reading, keeps_table_name, keeps_written, keeps_host, address_from_keeps) depth 8
 
-address_match_keeps : {n : ℕ} → Keeps n addresses.address_match
+pub keeps_address_match : {n : ℕ} → Keeps n addresses.address_match
 unfolding addresses.address_match
-address_match_keeps = search (reading, rule_address_keeps)
+keeps_address_match = search (reading, keeps_rule_address)
 
 pub keeps_table_entry : {n : ℕ} → Keeps n addresses.table_entry
 unfolding addresses.table_entry
 keeps_table_entry = keeps_by line_ahead (λ line. do
   is_negated ← eat_sign s.Not
   found ← lists.written addresses.host
-  pure (record { line = line; is_negated = is_negated; host = found })) (λ line. search (reading, keeps_written, host_keeps))
+  pure (record { line = line; is_negated = is_negated; host = found })) (λ line. search (reading, keeps_written, keeps_host))
 
 -- ---- ports
 
@@ -152,9 +152,9 @@ port_by_keeps : {n : ℕ} (found : Option (List ℕ)) → Keeps n (ports.port_by
 port_by_keeps None = search reading
 port_by_keeps (Some word) = search (reading, port_of_keeps)
 
-port_keeps : {n : ℕ} → Keeps n ports.port
+pub keeps_port : {n : ℕ} → Keeps n ports.port
 unfolding ports.port
-port_keeps = keeps_by plain_ahead ports.port_by port_by_keeps
+keeps_port = keeps_by plain_ahead ports.port_by port_by_keeps
 
 ports_of_keeps : {n : ℕ} (found : Result PortMatch PortWord) → Keeps n (ports.ports_of found)
 ports_of_keeps (Ok found) = search reading
@@ -182,7 +182,7 @@ eat_operator_keeps = keeps_by (λ i. ports.by_sign ports.operator_of (sign_ahead
 
 range_by_keeps : {n : ℕ} (first : PortMatch) (low : ℕ) (found : Option RangeOperator) → Keeps n (ports.range_by first low found)
 range_by_keeps first low None = search reading
-range_by_keeps first low (Some operator) = search (reading, port_keeps)
+range_by_keeps first low (Some operator) = search (reading, keeps_port)
 
 ports_from_keeps : {n : ℕ} (found : PortMatch) → Keeps n (ports.ports_from found)
 unfolding ports.ports_from
@@ -190,12 +190,12 @@ ports_from_keeps (Compare comparison low) = search (reading, eat_operator_keeps,
 ports_from_keeps (Range operator low high) = search reading
 
 ports_behind_keeps : {n : ℕ} (found : Option Comparison) → Keeps n (ports.ports_behind found)
-ports_behind_keeps (Some comparison) = search (reading, port_keeps)
+ports_behind_keeps (Some comparison) = search (reading, keeps_port)
 ports_behind_keeps None = search (reading, port_or_range_keeps, ports_from_keeps)
 
-port_match_keeps : {n : ℕ} → Keeps n ports.port_match
+pub keeps_port_match : {n : ℕ} → Keeps n ports.port_match
 unfolding ports.port_match
-port_match_keeps = search (reading, eat_comparison_keeps, ports_behind_keeps)
+keeps_port_match = search (reading, eat_comparison_keeps, ports_behind_keeps)
 
 -- ---- interfaces, protocols, ICMP types and flags
 
@@ -207,21 +207,21 @@ pub keeps_interface_name : {n : ℕ} → Keeps n terms.interface_name
 unfolding terms.interface_name
 keeps_interface_name = keeps_by plain_ahead terms.interface_name_by interface_name_by_keeps
 
-interface_match_keeps : {n : ℕ} → Keeps n terms.interface_match
+pub keeps_interface_match : {n : ℕ} → Keeps n terms.interface_match
 unfolding terms.interface_match
-interface_match_keeps = search (reading, keeps_written, keeps_interface_name)
+keeps_interface_match = search (reading, keeps_written, keeps_interface_name)
 
-octet_keeps : {n : ℕ} → Keeps n terms.octet
+pub keeps_octet : {n : ℕ} → Keeps n terms.octet
 unfolding terms.octet
-octet_keeps = keeps_number_in 0 255
+keeps_octet = keeps_number_in 0 255
 
 octet_or_named_keeps : {n : ℕ} (found : Option ℕ) → Keeps n (terms.octet_or_named found)
 octet_or_named_keeps (Some number) = search reading
-octet_or_named_keeps None = octet_keeps
+octet_or_named_keeps None = keeps_octet
 
-protocol_keeps : {n : ℕ} → Keeps n terms.protocol
+pub keeps_protocol : {n : ℕ} → Keeps n terms.protocol
 unfolding terms.protocol
-protocol_keeps = keeps_by (λ i. terms.protocol_in (plain_ahead i)) (λ found. do
+keeps_protocol = keeps_by (λ i. terms.protocol_in (plain_ahead i)) (λ found. do
   number ← terms.octet_or_named found
   pure (record { 0 = number })) (λ found. search (reading, octet_or_named_keeps))
 
@@ -231,7 +231,7 @@ keeps_icmp_match = keeps_by (λ i. terms.icmp_type_in (plain_ahead i)) (λ found
   kind ← terms.octet_or_named found
   has_code ← eat_word (codes "code")
   code ← (if has_code then (do found ← terms.octet; pure (Some found)) else pure None)
-  pure (record { kind = kind; code = code })) (λ found. search (reading, octet_or_named_keeps, octet_keeps) depth 8)
+  pure (record { kind = kind; code = code })) (λ found. search (reading, octet_or_named_keeps, keeps_octet) depth 8)
 
 flags_match_by_keeps : {n : ℕ} (found : Option FlagsMatch) → Keeps n (terms.flags_match_by found)
 flags_match_by_keeps None = search reading
@@ -243,37 +243,37 @@ keeps_flags_match = keeps_by (λ i. terms.flags_of (plain_ahead i)) terms.flags_
 
 -- ---- where packets come from and go to
 
-behind_keeps : {A : Type 0} {n : ℕ} (word : List ℕ) {p : Parser A} → Keeps n p → Keeps n (hosts.behind word p)
-behind_keeps word keeps = search reading
+pub keeps_behind : {A : Type 0} {n : ℕ} (word : List ℕ) {p : Parser A} → Keeps n p → Keeps n (hosts.behind word p)
+keeps_behind word keeps = search reading
 
-ports_keeps : {n : ℕ} → Keeps n hosts.ports
+pub keeps_ports : {n : ℕ} → Keeps n hosts.ports
 unfolding hosts.ports
-ports_keeps = behind_keeps _ (keeps_list (keeps_written port_match_keeps))
+keeps_ports = keeps_behind _ (keeps_list (keeps_written keeps_port_match))
 
 part_from_keeps : {n : ℕ} (found : Option (List (Written PortMatch))) → Keeps n (hosts.part_from found)
 part_from_keeps (Some found) = search reading
-part_from_keeps None = search (reading, keeps_list, address_match_keeps, ports_keeps)
+part_from_keeps None = search (reading, keeps_list, keeps_address_match, keeps_ports)
 
-one_end_keeps : {n : ℕ} → Keeps n hosts.one_end
+pub keeps_one_end : {n : ℕ} → Keeps n hosts.one_end
 unfolding hosts.one_end
-one_end_keeps = search (reading, ports_keeps, part_from_keeps)
+keeps_one_end = search (reading, keeps_ports, part_from_keeps)
 
-part_behind_keeps : {n : ℕ} (word : List ℕ) → Keeps n (hosts.part_behind word)
+pub keeps_part_behind : {n : ℕ} (word : List ℕ) → Keeps n (hosts.part_behind word)
 unfolding hosts.part_behind
-part_behind_keeps word = behind_keeps word one_end_keeps
+keeps_part_behind word = keeps_behind word keeps_one_end
 
 pub keeps_hosts : {n : ℕ} → Keeps n hosts.hosts
 unfolding hosts.hosts
-keeps_hosts = search (reading, part_behind_keeps)
+keeps_hosts = search (reading, keeps_part_behind)
 
-interfaces_keeps : {n : ℕ} → Keeps n hosts.interfaces
+pub keeps_interfaces : {n : ℕ} → Keeps n hosts.interfaces
 unfolding hosts.interfaces
-interfaces_keeps = behind_keeps _ (keeps_list interface_match_keeps)
+keeps_interfaces = keeps_behind _ (keeps_list keeps_interface_match)
 
-protocols_keeps : {n : ℕ} → Keeps n hosts.protocols
+pub keeps_protocols : {n : ℕ} → Keeps n hosts.protocols
 unfolding hosts.protocols
-protocols_keeps = behind_keeps _ (keeps_list (keeps_written protocol_keeps))
+keeps_protocols = keeps_behind _ (keeps_list (keeps_written keeps_protocol))
 
 pub keeps_criteria : {n : ℕ} → Keeps n hosts.criteria
 unfolding hosts.criteria
-keeps_criteria = search (reading, interfaces_keeps, protocols_keeps, keeps_hosts)
+keeps_criteria = search (reading, keeps_interfaces, keeps_protocols, keeps_hosts)
