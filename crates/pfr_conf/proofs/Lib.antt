@@ -1,3 +1,4 @@
 pub mod Depths
+pub mod RuleLines
 pub mod StatementLines
 pub mod WordLines
