@@ -164,21 +164,21 @@ port_or_range_by_keeps : {n : ℕ} (found : Option (List ℕ)) → Keeps n (port
 port_or_range_by_keeps None = search reading
 port_or_range_by_keeps (Some word) = search (reading, ports_of_keeps)
 
-port_or_range_keeps : {n : ℕ} → Keeps n ports.port_or_range
+pub keeps_port_or_range : {n : ℕ} → Keeps n ports.port_or_range
 unfolding ports.port_or_range
-port_or_range_keeps = keeps_by plain_ahead ports.port_or_range_by port_or_range_by_keeps
+keeps_port_or_range = keeps_by plain_ahead ports.port_or_range_by port_or_range_by_keeps
 
-eaten_keeps : {A : Type 0} {n : ℕ} (found : Option A) → Keeps n (ports.eaten found)
-eaten_keeps None = search reading
-eaten_keeps (Some found) = search reading
+pub keeps_eaten : {A : Type 0} {n : ℕ} (found : Option A) → Keeps n (ports.eaten found)
+keeps_eaten None = search reading
+keeps_eaten (Some found) = search reading
 
 eat_comparison_keeps : {n : ℕ} → Keeps n ports.eat_comparison
 unfolding ports.eat_comparison
-eat_comparison_keeps = keeps_by (λ i. ports.by_sign ports.comparison_of (sign_ahead i)) ports.eaten eaten_keeps
+eat_comparison_keeps = keeps_by (λ i. ports.by_sign ports.comparison_of (sign_ahead i)) ports.eaten keeps_eaten
 
 eat_operator_keeps : {n : ℕ} → Keeps n ports.eat_operator
 unfolding ports.eat_operator
-eat_operator_keeps = keeps_by (λ i. ports.by_sign ports.operator_of (sign_ahead i)) ports.eaten eaten_keeps
+eat_operator_keeps = keeps_by (λ i. ports.by_sign ports.operator_of (sign_ahead i)) ports.eaten keeps_eaten
 
 range_by_keeps : {n : ℕ} (first : PortMatch) (low : ℕ) (found : Option RangeOperator) → Keeps n (ports.range_by first low found)
 range_by_keeps first low None = search reading
@@ -191,7 +191,7 @@ ports_from_keeps (Range operator low high) = search reading
 
 ports_behind_keeps : {n : ℕ} (found : Option Comparison) → Keeps n (ports.ports_behind found)
 ports_behind_keeps (Some comparison) = search (reading, keeps_port)
-ports_behind_keeps None = search (reading, port_or_range_keeps, ports_from_keeps)
+ports_behind_keeps None = search (reading, keeps_port_or_range, ports_from_keeps)
 
 pub keeps_port_match : {n : ℕ} → Keeps n ports.port_match
 unfolding ports.port_match
