@@ -1,1 +1,5 @@
 pub mod Depths
+pub mod RuleLines
+pub mod StatementLines
+pub mod TranslationLines
+pub mod WordLines

@@ -6,6 +6,7 @@
 
 pub mod anchor;
 pub mod filter;
+pub mod laws;
 pub mod macros;
 pub mod name;
 pub mod options;
