@@ -69,7 +69,8 @@ fn lengths(part: &Option<Part<'_>>) -> (usize, usize) {
 
 #[test]
 fn lists_stand_as_they_are_written(rt: HostRuntime) -> Result<(), ConfError> {
-    let text = b"pass out proto { tcp, udp } from any to { 198.51.100.7, 198.51.100.8 } port { 80, 443 }";
+    let text =
+        b"pass out proto { tcp, udp } from any to { 198.51.100.7, 198.51.100.8 } port { 80, 443 }";
     let statements = read(rt.alloc(), text)?;
     let Some(rule) = only_rule(&statements) else {
         assert!(rt; false);
@@ -85,7 +86,8 @@ fn lists_stand_as_they_are_written(rt: HostRuntime) -> Result<(), ConfError> {
 
 #[test]
 fn options_of_a_rule(rt: HostRuntime) -> Result<(), ConfError> {
-    let text = b"block return in log quick on em0 all keep state (floating no-sync) label \"a b\" allow-opts";
+    let text =
+        b"block return in log quick on em0 all keep state (floating no-sync) label \"a b\" allow-opts";
     let statements = read(rt.alloc(), text)?;
     let Some(rule) = only_rule(&statements) else {
         assert!(rt; false);
@@ -103,7 +105,10 @@ fn options_of_a_rule(rt: HostRuntime) -> Result<(), ConfError> {
 
 #[test]
 fn a_macro_and_its_use(rt: HostRuntime) -> Result<(), ConfError> {
-    let statements = read(rt.alloc(), b"p = \"{ 80, 443 }\"\npass in proto tcp to port $p\n")?;
+    let statements = read(
+        rt.alloc(),
+        b"p = \"{ 80, 443 }\"\npass in proto tcp to port $p\n",
+    )?;
     assert_eq!(rt; statements.statements.len(), 2);
     match statements.statements.as_slice() {
         [first, ..] => match only_quoted(first) {
@@ -151,10 +156,12 @@ fn nested(alloc: Global, depth: usize) -> Result<Vec<u8>, AllocError> {
 /// The line of the anchor that stands too deep, if there is one.
 fn too_deep(alloc: Global, text: &[u8]) -> Option<usize> {
     match read(alloc, text) {
-        Err(ConfError {
-            line,
-            kind: ConfErrorKind::TooDeep,
-        }) => Some(line),
+        Err(
+            ConfError {
+                line,
+                kind: ConfErrorKind::TooDeep,
+            },
+        ) => Some(line),
         _ => None,
     }
 }
@@ -172,10 +179,12 @@ fn sixteen_anchors_and_no_more(rt: HostRuntime) -> Result<(), ConfError> {
 /// Whether a text is refused since an option stands behind a rule, on this line.
 fn is_out_of_order(alloc: Global, text: &[u8], line: usize) -> bool {
     match read(alloc, text) {
-        Err(ConfError {
-            line: found,
-            kind: ConfErrorKind::OutOfOrder,
-        }) => found == line,
+        Err(
+            ConfError {
+                line: found,
+                kind: ConfErrorKind::OutOfOrder,
+            },
+        ) => found == line,
         _ => false,
     }
 }
@@ -183,10 +192,12 @@ fn is_out_of_order(alloc: Global, text: &[u8], line: usize) -> bool {
 /// Whether a text is refused since something is left out under this name, on this line.
 fn leaves_out(alloc: Global, text: &[u8], line: usize, name: &[u8]) -> bool {
     match read(alloc, text) {
-        Err(ConfError {
-            line: found,
-            kind: ConfErrorKind::LeftOut(left_out),
-        }) => found == line && left_out.name.as_slice() == name,
+        Err(
+            ConfError {
+                line: found,
+                kind: ConfErrorKind::LeftOut(left_out),
+            },
+        ) => found == line && left_out.name.as_slice() == name,
         _ => false,
     }
 }
@@ -230,7 +241,8 @@ fn redirected(alloc: Global, text: &[u8]) -> Result<Option<RedirectedPort>, Conf
 
 #[test]
 fn a_redirection(rt: HostRuntime) -> Result<(), ConfError> {
-    let text = b"rdr pass on em0 proto tcp from any to 192.0.2.1 port 2000:2999 -> 10.0.0.1 port 4000:*";
+    let text =
+        b"rdr pass on em0 proto tcp from any to 192.0.2.1 port 2000:2999 -> 10.0.0.1 port 4000:*";
     let expected = RedirectedPort::From(1, 4000);
     assert_eq!(rt; redirected(rt.alloc(), text)?, Some(expected));
     Ok(())

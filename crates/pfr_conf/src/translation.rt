@@ -7,7 +7,9 @@ use crate::filter::logged;
 use crate::name::some_name;
 use crate::targets::{Target, single_host, target_of};
 use pfr_terms::hosts::{interfaces, packet_criteria, part_behind, ports, protocols};
-use pfr_terms::{Address, AddressMatch, ConfError, Criteria, Hosts, Name, Part, Reader, Written, Host};
+use pfr_terms::{
+    Address, AddressMatch, ConfError, Criteria, Host, Hosts, Name, Part, Reader, Written,
+};
 use pfr_words::names::entry_of;
 use pfr_words::{Bytes, Items, Sign};
 use std::alloc::{AllocError, Global};
@@ -91,7 +93,10 @@ fn anchor_kind_ahead(reader: &mut Reader<'_, '_>) -> Option<TranslationKind>
 }
 
 /// A list of one host.
-fn only<'a>(alloc: Global, host: Written<'a, Host<'a>>) -> Result<Items<AddressMatch<'a>>, AllocError>
+fn only<'a>(
+    alloc: Global,
+    host: Written<'a, Host<'a>>,
+) -> Result<Items<AddressMatch<'a>>, AllocError>
     ensures { IfOk result (λ list. list ≡ spec.only host.entry ∷ []) }
 {
     let address = match host {

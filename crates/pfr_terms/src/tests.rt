@@ -30,7 +30,13 @@ fn ports_are_read(rt: HostRuntime) -> Result<(), ConfError> {
     let below = PortMatch::Compare(Comparison::LessOrEqual, 1024);
     let inside = PortMatch::Range(RangeOperator::Inclusive, 80, 443);
     let outside = PortMatch::Range(RangeOperator::Outside, 53, 0);
-    assert!(rt; are_ports(alloc, b"{ <= 01024 http:443, domain <> 0 }", &[below, inside, outside])?);
+    assert!(rt;
+        are_ports(
+            alloc,
+            b"{ <= 01024 http:443, domain <> 0 }",
+            &[below, inside, outside]
+        )?
+    );
     let other = PortMatch::Compare(Comparison::NotEqual, 22);
     assert!(rt; are_ports(alloc, b"!= ssh", &[other])?);
     Ok(())
@@ -47,10 +53,12 @@ fn port_fault(alloc: Global, text: &[u8]) -> Option<ConfError> {
 /// Whether this is a fault on the line that leaves something out under this name.
 fn leaves_out(fault: Option<ConfError>, line: usize, name: &[u8]) -> bool {
     match fault {
-        Some(ConfError {
-            line: found,
-            kind: ConfErrorKind::LeftOut(left_out),
-        }) => found == line && left_out.name.as_slice() == name,
+        Some(
+            ConfError {
+                line: found,
+                kind: ConfErrorKind::LeftOut(left_out),
+            },
+        ) => found == line && left_out.name.as_slice() == name,
         _ => false,
     }
 }
@@ -58,10 +66,12 @@ fn leaves_out(fault: Option<ConfError>, line: usize, name: &[u8]) -> bool {
 /// Whether this is a fault on the line that is no other than a number out of its range.
 fn is_bad_number(fault: Option<ConfError>, line: usize) -> bool {
     match fault {
-        Some(ConfError {
-            line: found,
-            kind: ConfErrorKind::BadNumber,
-        }) => found == line,
+        Some(
+            ConfError {
+                line: found,
+                kind: ConfErrorKind::BadNumber,
+            },
+        ) => found == line,
         _ => false,
     }
 }
@@ -92,7 +102,10 @@ fn icmp_types_are_read(rt: HostRuntime) -> Result<(), ConfError> {
     let found = words(alloc, b"{ 3 , unreach code 0 }")?;
     let mut reader = Reader::new(found.as_slice());
     let types = list::<IcmpMatch>(alloc, &mut reader)?;
-    let any = IcmpMatch { kind: 3, code: None };
+    let any = IcmpMatch {
+        kind: 3,
+        code: None,
+    };
     let network = IcmpMatch {
         kind: 3,
         code: Some(0),
@@ -164,8 +177,14 @@ fn criteria_are_read(rt: HostRuntime) -> Result<(), ConfError> {
     let mut reader = Reader::new(found.as_slice());
     let criteria = packet_criteria(alloc, &mut reader)?;
     assert!(rt; reader.at_line_end());
-    assert_eq!(rt; criteria.interfaces.map_or(0, |interfaces| interfaces.len()), 2);
-    assert_eq!(rt; criteria.protocols.map_or(0, |protocols| protocols.len()), 1);
+    assert_eq!(rt;
+        criteria.interfaces.map_or(0, |interfaces| interfaces.len()),
+        2
+    );
+    assert_eq!(rt;
+        criteria.protocols.map_or(0, |protocols| protocols.len()),
+        1
+    );
     assert!(rt; criteria.hosts.source.is_some());
     Ok(())
 }

@@ -1,5 +1,5 @@
 //! A list.
-ghost use Rattle.std.specs.Prelude.{◌≡◌, [], ◌∷◌, ◌++◌, length, IfOk, OnOk};
+ghost use Rattle.std.specs.Prelude.{◌≡◌, [], ◌∷◌, ◌++◌, length, IfOk, OnOk, OnErr};
 
 use std::alloc::{AllocError, Global};
 use std::marker::Model;
@@ -64,6 +64,7 @@ impl<T: Drop> Items<T> {
     /// Puts an element at the end. Where memory is refused the list is as before.
     pub fn push(&mut self, element: T) -> Result<(), AllocError>
         ensures pushed { OnOk result (self.new ≡ self.old ++ element ∷ []) }
+        ensures kept { OnErr result (self.new ≡ self.old) }
     {
         self.elements.push(element)?;
         Ok(())
