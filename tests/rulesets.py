@@ -1,5 +1,5 @@
 #!/usr/bin/env python3
-"""Builds the program beside it, which reads rulesets, and hands it to read_rulesets.py.
+"""Builds the program beside it, which reads rulesets, hands it to read_rulesets.py, and refuses it each allocation in turn.
 
     rulesets.py
 
@@ -15,6 +15,8 @@ from pathlib import Path
 
 HERE = Path(__file__).resolve().parent
 ROOT = HERE.parent
+# texts for which each allocation is refused: what they hold covers the statements, and two are faulty
+SHORT_OF_MEMORY = ("example_router", "example_web_server", "left_out_scrub", "set_fingerprints")
 # lowest first, with what each uses
 CRATES = {
     "pfr_words": "",
@@ -41,11 +43,22 @@ def build(folder):
     return crate / "out" / "read_rulesets"
 
 
+def refuse_memory(program):
+    """Whether the program answers as it has to where an allocation is refused, each in turn."""
+    with tempfile.TemporaryFile() as given:
+        for name in SHORT_OF_MEMORY:
+            text = (HERE / "rulesets" / f"{name}.conf").read_bytes()
+            given.write(len(text).to_bytes(4, "big") + text)
+        given.seek(0)
+        words = [HERE / "faults" / "run.py", "--judge", "rulesets", program]
+        return subprocess.run(words, stdin=given, check=False).returncode == 0
+
+
 def main():
     with tempfile.TemporaryDirectory() as name:
         program = build(Path(name))
-        done = subprocess.run([HERE / "read_rulesets.py", program], check=False)
-    sys.exit(done.returncode)
+        answers = subprocess.run([HERE / "read_rulesets.py", program], check=False).returncode == 0
+        sys.exit(not (answers and refuse_memory(program)))
 
 
 if __name__ == "__main__":
