@@ -146,21 +146,21 @@ def read_protocol(cursor):
 
 
 def read_numeric(cursor):
-    """Address and bits (None without any) of a word of digits, dots and slashes. A word that is no address stands
-    for one with all of its bits."""
+    """Address and bits (None without any) of a word of digits, dots and slashes. Bits at fault count as all."""
     word = cursor.take()
-    no_bits = MOST_BITS if "/" in word.text else None
+    bits = MOST_BITS if "/" in word.text else None
     if word.text.count(".") < 3:
         cursor.blame(word.line, left_out("short address"))
-        return 0, no_bits
+        return 0, bits
     found = ADDRESS.fullmatch(word.text)
     if not found or any(value_of(octet) > 255 for octet in found.groups()[:4]):
         cursor.blame(word.line, BAD_ADDRESS)
-        return 0, no_bits
+        return 0, bits
     if found[5] and value_of(found[5]) > MOST_BITS:
         cursor.blame(word.line, BAD_NUMBER)
-    octets = bytes(value_of(octet) for octet in found.groups()[:4])
-    return int.from_bytes(octets, "big"), value_of(found[5]) if found[5] else None
+    elif found[5]:
+        bits = value_of(found[5])
+    return int.from_bytes(bytes(value_of(octet) for octet in found.groups()[:4]), "big"), bits
 
 
 def network(address, bits):
