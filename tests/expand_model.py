@@ -8,7 +8,7 @@ prints the dump of a text, or `line L: KIND` for its first fault. Without an int
 The dump has one line for each option, table, rule and anchor, of words with single blanks between them. All numbers
 are decimal, addresses are a.b.c.d, and what is in square brackets here is written only where it is so.
 
-    timeout NAME SECONDS      each timeout that has an effect, in their order; the options that follow come in this order
+    timeout NAME SECONDS      each timeout that has an effect, in their order; then the options that follow
     limit states NUMBER
     block-policy drop|return
     state-policy if-bound|floating

@@ -220,9 +220,10 @@ class Rules:
     def fits(self, first, meaning):
         """Whether each destination port can be moved by its distance: it is one number or a range, and ends within
         the ports. Behind a fault nothing is asked."""
-        ports = meaning.lists[-1]
-        return bool(meaning.faults) or all(
-            port is not None and port.sign in ("=", ":") and first + port.high - port.low <= MOST_PORT for port in ports)
+        if meaning.faults:
+            return True
+        return all(port is not None and port.sign in ("=", ":") and first + port.high - port.low <= MOST_PORT
+                   for port in meaning.lists[-1])
 
     def make_translation(self, meaning):
         rule = meaning.statement
@@ -230,6 +231,6 @@ class Rules:
             target = meaning.target and meaning.target.what
             ports = rule.target.ports if rule.target else None
             keeps_port = bool(rule.target) and rule.target.keeps_port
-            flat = FlatTranslation(self.translation_count, rule.is_no_rule, rule.passes, match, target, ports, keeps_port)
-            self.translation[rule.kind].append(flat)
+            self.translation[rule.kind].append(FlatTranslation(
+                self.translation_count, rule.is_no_rule, rule.passes, match, target, ports, keeps_port))
             self.translation_count += 1
