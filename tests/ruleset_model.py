@@ -9,9 +9,11 @@ import sys
 
 import ruleset_translation
 from ruleset_parts import (read_braced, read_criteria, read_entry, read_interface, read_list, read_log, read_number,
-                           read_number_or_name, read_separated, read_table_name, read_title, sees_title, value_of)
+                           read_number_or_name, read_separated, read_table_name, read_title, read_use, sees_title,
+                           sees_use, value_of)
+from ruleset_tree import ANY, Anchor, FilterRule, IcmpType, Macro, Option, Table
 from ruleset_words import (ADAPTIVE, BAD_NUMBER, FLAG_LETTERS, ICMP_TYPES, LINE_END, OUT_OF_ORDER, PLAIN, QUOTED, SIGN,
-                           TEXT_END, TIMEOUTS, TOO_DEEP, UNKNOWN, USE, Cursor, Fault, is_name, left_out)
+                           TEXT_END, TIMEOUTS, TOO_DEEP, UNKNOWN, Fault, is_name, left_out, text_cursor)
 
 # Whether rules of translation are read; while they aren't, their first words are left out by name. The answers
 # written for texts that begin a line with such a word change with this.
@@ -32,56 +34,56 @@ def read_set(cursor):
     cursor.demand(PLAIN, "set")
     word = cursor.demand(PLAIN)
     if word.text in FREE_OPTIONS:
-        read_free_option(cursor)
-    elif word.text in SET_OPTIONS:
-        SET_OPTIONS[word.text](cursor)
-    else:
-        raise Fault(word.line, left_out(f"set {word.text}"))
+        return [read_free_option(cursor, word.text)]
+    if word.text in SET_OPTIONS:
+        return SET_OPTIONS[word.text](cursor)
+    raise Fault(word.line, left_out(f"set {word.text}"))
 
 
-def read_free_option(cursor):
+def read_free_option(cursor, name):
     """One word that has no effect."""
-    if cursor.peek().sort not in (PLAIN, QUOTED, USE):
+    if sees_use(cursor):
+        return Option(name, read_use(cursor))
+    if cursor.peek().sort not in (PLAIN, QUOTED):
         raise cursor.refused()
-    cursor.take()
+    return Option(name, cursor.take().text)
 
 
 def read_skip(cursor):
     cursor.demand(PLAIN, "on")
-    read_list(cursor, read_interface)
+    return [Option("skip", read_list(cursor, read_interface))]
 
 
 def read_timeouts(cursor):
     """One timeout, or a braced list of them."""
-    read_list(cursor, read_timeout)
+    return read_list(cursor, read_timeout)
 
 
 def read_timeout(cursor):
     if cursor.sees(PLAIN, *ADAPTIVE):
         raise Fault(cursor.peek().line, left_out("timeout"))
-    cursor.demand(PLAIN, *TIMEOUTS)
-    read_number(cursor, 0, MOST_SECONDS)
+    name = cursor.demand(PLAIN, *TIMEOUTS).text
+    return Option(name, read_number(cursor, 0, MOST_SECONDS))
 
 
 def read_limits(cursor):
     """One limit, or a braced list of them."""
-    read_list(cursor, read_limit)
+    return read_list(cursor, read_limit)
 
 
 def read_limit(cursor):
     word = cursor.demand(PLAIN, "states", *OTHER_LIMITS)
     if word.text == "states":
-        read_number(cursor, 1, MOST_STATES)
-    else:
-        read_number(cursor, 0, MOST_NUMBER)
+        return Option("states", read_number(cursor, 1, MOST_STATES))
+    return Option(word.text, read_number(cursor, 0, MOST_NUMBER))
 
 
 def read_block_policy(cursor):
-    cursor.demand(PLAIN, "drop", "return")
+    return [Option("block-policy", cursor.demand(PLAIN, "drop", "return").text)]
 
 
 def read_state_policy(cursor):
-    cursor.demand(PLAIN, "if-bound", "floating")
+    return [Option("state-policy", cursor.demand(PLAIN, "if-bound", "floating").text)]
 
 
 def read_host_id(cursor):
@@ -89,16 +91,18 @@ def read_host_id(cursor):
     word = cursor.peek()
     digits = word.text[2:]
     if word.sort != PLAIN or not word.text.startswith("0x") or not digits or digits.strip("0123456789abcdefABCDEF"):
-        return read_number(cursor, 1, MOST_NUMBER)
+        return [Option("hostid", read_number(cursor, 1, MOST_NUMBER))]
     if not 1 <= value_of(digits, 16) <= MOST_NUMBER:
         raise Fault(word.line, BAD_NUMBER)
-    return cursor.take()
+    cursor.take()
+    return [Option("hostid", value_of(digits, 16))]
 
 
 def read_optimization(cursor):
     word = cursor.demand(PLAIN)
     if word.text != "normal":
         raise Fault(word.line, left_out("set optimization"))
+    return [Option("optimization", word.text)]
 
 
 SET_OPTIONS = {"skip": read_skip, "timeout": read_timeouts, "limit": read_limits, "block-policy": read_block_policy,
@@ -107,27 +111,33 @@ SET_OPTIONS = {"skip": read_skip, "timeout": read_timeouts, "limit": read_limits
 
 # Options of a filter rule
 
+def flag_bits(letters):
+    return sum(FLAG_LETTERS[letter] for letter in set(letters))
+
+
 def read_flags(cursor):
     """`any`, or flags that are set, a slash and the flags that are looked at, all in one word."""
+    if cursor.takes(PLAIN, "any"):
+        return ANY
     word = cursor.peek()
     flags, slash, mask = word.text.partition("/")
-    spelt = slash and flags and mask and FLAG_LETTERS.issuperset(flags + mask)
-    if word.sort != PLAIN or not (word.text == "any" or spelt):
+    spelt = slash and flags and mask and set(flags + mask) <= FLAG_LETTERS.keys()
+    if word.sort != PLAIN or not spelt:
         raise cursor.refused()
     cursor.take()
+    return flag_bits(flags), flag_bits(mask)
 
 
 def read_icmp_types(cursor):
-    read_list(cursor, read_icmp_type)
+    return read_list(cursor, read_icmp_type)
 
 
 def read_icmp_type(cursor):
     """A use of a macro stands for the type with its code."""
-    if cursor.takes(USE):
-        return
-    read_number_or_name(cursor, ICMP_TYPES, MOST_ICMP)
-    if cursor.takes(PLAIN, "code"):
-        read_number(cursor, 0, MOST_ICMP)
+    if sees_use(cursor):
+        return read_use(cursor)
+    number = read_number_or_name(cursor, ICMP_TYPES, MOST_ICMP)
+    return IcmpType(number, read_number(cursor, 0, MOST_ICMP) if cursor.takes(PLAIN, "code") else None)
 
 
 def read_state_options(cursor):
@@ -147,56 +157,62 @@ def read_state_options(cursor):
 
     cursor.demand(SIGN, "(")
     read_separated(cursor, read_state_option, ")")
+    return frozenset(given)
 
 
-def read_rule_option(cursor, name):
+def read_rule_option(cursor, name, rule):
     """The rest of one option, after its first word."""
     if name == "flags":
-        read_flags(cursor)
+        rule.flags = read_flags(cursor)
     elif name == "icmp-type":
-        read_icmp_types(cursor)
-    elif name == "no":
-        cursor.demand(PLAIN, "state")
-    elif name == "keep":
-        cursor.demand(PLAIN, "state")
-        if cursor.sees(SIGN, "("):
-            read_state_options(cursor)
+        rule.criteria.icmp_types = read_icmp_types(cursor)
+    elif name == "allow-opts":
+        rule.allow_opts = True
     elif name == "label":
         read_title(cursor)
+    else:
+        cursor.demand(PLAIN, "state")
+        rule.keeps_state = name == "keep"
+        if rule.keeps_state and cursor.sees(SIGN, "("):
+            rule.state_options = read_state_options(cursor)
 
 
-def read_rule_options(cursor):
+def read_rule_options(cursor, rule):
     """The options of a filter rule in any order, each at most once; `no state` and `keep state` are one."""
     left = {"flags", "icmp-type", "no", "keep", "allow-opts", "label"}
     while left and cursor.sees(PLAIN, *left):
         name = cursor.take().text
         left -= {"no", "keep"} if name in ("no", "keep") else {name}
-        read_rule_option(cursor, name)
+        read_rule_option(cursor, name, rule)
 
 
 def read_direction(cursor):
-    cursor.takes(PLAIN, "in", "out")
+    return cursor.take().text if cursor.sees(PLAIN, "in", "out") else None
 
 
 def read_filter_rule(cursor):
-    if cursor.demand(PLAIN, "pass", "block").text == "block":
-        cursor.takes(PLAIN, "drop", "return")
-    read_direction(cursor)
+    word = cursor.demand(PLAIN, "pass", "block")
+    action = word.text
+    if action == "block" and cursor.sees(PLAIN, "drop", "return"):
+        action = cursor.take().text
+    direction = read_direction(cursor)
     read_log(cursor)
-    cursor.takes(PLAIN, "quick")
-    read_criteria(cursor)
-    read_rule_options(cursor)
+    quick = cursor.takes(PLAIN, "quick")
+    rule = FilterRule(word.line, action, direction, quick, read_criteria(cursor))
+    read_rule_options(cursor, rule)
     cursor.end_statement()
+    return rule
 
 
 class Reader:
-    """Reads the statements of a text and counts them."""
+    """Reads the statements of a text and counts them. Those in the bodies of anchors count too, and stand there."""
 
     def __init__(self, text, translation):
-        self.cursor = Cursor(text)
+        self.cursor = text_cursor(text)
         self.translation = translation
         self.reached = OPTIONS
         self.count = 0
+        self.statements = []
 
     def read_text(self):
         while self.cursor.peek().sort != TEXT_END:
@@ -209,7 +225,7 @@ class Reader:
         cursor = self.cursor
         if cursor.sees(PLAIN, "set"):
             self.keep_order(OPTIONS)
-            read_set(cursor)
+            self.statements += read_set(cursor)
             cursor.end_statement()
         elif cursor.sees(PLAIN, "table"):
             self.read_table()
@@ -217,7 +233,7 @@ class Reader:
             self.read_translation()
         elif cursor.sees(PLAIN, "pass", "block", "anchor"):
             self.keep_order(FILTER)
-            self.read_filter_or_anchor(1)
+            self.statements.append(self.read_filter_or_anchor(1))
         else:
             self.read_macro()
 
@@ -236,26 +252,29 @@ class Reader:
         cursor.take()
         if not cursor.takes(SIGN, "="):
             raise Fault(word.line, UNKNOWN)
-        self.read_piece()
+        pieces = [self.read_piece()]
         while not cursor.at_statement_end():
-            self.read_piece()
+            pieces.append(self.read_piece())
         cursor.end_statement()
+        self.statements.append(Macro(word.text, pieces))
 
     def read_piece(self):
         """A piece of a macro's value, which is judged where the macro is used."""
-        if self.cursor.peek().sort not in (PLAIN, QUOTED, USE):
+        if sees_use(self.cursor):
+            return read_use(self.cursor)
+        if self.cursor.peek().sort not in (PLAIN, QUOTED):
             raise self.cursor.refused()
-        self.cursor.take()
+        return self.cursor.take()
 
     def read_table(self):
         cursor = self.cursor
-        cursor.demand(PLAIN, "table")
-        read_table_name(cursor)
+        line = cursor.demand(PLAIN, "table").line
+        name = read_table_name(cursor)
         while cursor.takes(PLAIN, "persist", "const", "counters"):
             pass
-        if cursor.sees(SIGN, "{"):
-            read_braced(cursor, read_entry, may_be_empty=True)
+        entries = read_braced(cursor, read_entry, may_be_empty=True) if cursor.sees(SIGN, "{") else []
         cursor.end_statement()
+        self.statements.append(Table(line, *name, entries))
 
     def read_translation(self):
         """Rules and anchors of translation, which are left out as long as the flag says so."""
@@ -263,40 +282,50 @@ class Reader:
             word = self.cursor.peek()
             raise Fault(word.line, left_out(word.text))
         self.keep_order(TRANSLATION)
-        ruleset_translation.read_translation(self.cursor)
+        rule = ruleset_translation.read_translation(self.cursor)
         self.cursor.end_statement()
+        if rule:
+            self.statements.append(rule)
 
     def read_filter_or_anchor(self, depth):
         if self.cursor.sees(PLAIN, "anchor"):
-            self.read_anchor(depth)
-        else:
-            read_filter_rule(self.cursor)
+            return self.read_anchor(depth)
+        return read_filter_rule(self.cursor)
 
     def read_anchor(self, depth):
         cursor = self.cursor
         if depth > DEEPEST:
             raise Fault(cursor.peek().line, TOO_DEEP)
-        cursor.demand(PLAIN, "anchor")
+        line = cursor.demand(PLAIN, "anchor").line
         if sees_title(cursor):
             cursor.take()
-        read_direction(cursor)
-        cursor.takes(PLAIN, "quick")
-        read_criteria(cursor)
-        if cursor.takes(SIGN, "{"):
-            self.read_body(depth)
+        direction = read_direction(cursor)
+        quick = cursor.takes(PLAIN, "quick")
+        criteria = read_criteria(cursor)
+        body = self.read_body(depth) if cursor.takes(SIGN, "{") else []
         cursor.end_statement()
+        return Anchor(line, direction, quick, criteria, body)
 
     def read_body(self, depth):
         """Filter rules and anchors, one a line; the closing brace is the first word of its line."""
         cursor = self.cursor
         cursor.demand(LINE_END)
+        body = []
         while not cursor.takes(SIGN, "}"):
             if cursor.takes(LINE_END):
                 continue
             if not cursor.sees(PLAIN, "pass", "block", "anchor"):
                 raise cursor.refused()
             self.count += 1
-            self.read_filter_or_anchor(depth + 1)
+            body.append(self.read_filter_or_anchor(depth + 1))
+        return body
+
+
+def tree_of(text, translation=READS_TRANSLATION):
+    """The statements of the bytes of a text; a Fault is raised where it has one."""
+    reader = Reader(text.decode("latin-1"), translation)
+    reader.read_text()
+    return reader.statements
 
 
 def read(text, translation=READS_TRANSLATION):

@@ -1,13 +1,15 @@
 """Parts that statements of a ruleset share: numbers, names, lists, interfaces, protocols, addresses, ports.
 
-Each function reads one production at a cursor and raises the fault that it meets first. What needs the value of a
-macro, the definition of a table or the interface of the run is not judged here.
+Each function reads one production at a cursor and answers what it means; it raises the fault that it meets first,
+unless the cursor gathers faults. What needs the value of a macro, the definition of a table or the interface of the
+run is not judged here.
 """
 
 import re
 
-from ruleset_words import (BAD_ADDRESS, BAD_NUMBER, GRAMMAR_WORDS, LEFT_OUT_WORDS, PLAIN, PROTOCOLS, QUOTED, SERVICES,
-                           SIGN, USE, Fault, is_name, left_out)
+from ruleset_tree import ANY, Criteria, Form, Host, Interface, Network, Part, Port, Range, TableName, Use
+from ruleset_words import (BAD_ADDRESS, BAD_NUMBER, GRAMMAR_WORDS, LEFT_OUT_WORDS, NAME, PLAIN, PROTOCOLS, QUOTED,
+                           SERVICES, SIGN, USE, Fault, is_name, left_out)
 
 # names of interfaces have at most so many bytes
 LONGEST_INTERFACE = 15
@@ -31,16 +33,18 @@ def read_number(cursor, least, most):
     """A decimal number. A word that isn't one is out of place; only digits can be out of range."""
     word = cursor.peek()
     if word.sort != PLAIN or not DIGITS.fullmatch(word.text):
-        raise cursor.refused()
+        cursor.refuse()
+        return least
     if not least <= value_of(word.text) <= most:
-        raise Fault(word.line, BAD_NUMBER)
-    cursor.take()
+        cursor.blame(word.line, BAD_NUMBER)
+    return value_of(cursor.take().text)
 
 
 def read_number_or_name(cursor, names, most):
     """A number from 0, or one of the names that stand for one."""
-    if not cursor.takes(PLAIN, *names):
-        read_number(cursor, 0, most)
+    if cursor.sees(PLAIN, *names):
+        return names[cursor.take().text]
+    return read_number(cursor, 0, most)
 
 
 def sees_free_word(cursor):
@@ -51,7 +55,7 @@ def sees_free_word(cursor):
 
 def read_free_word(cursor):
     if not sees_free_word(cursor):
-        raise cursor.refused()
+        return cursor.refuse()
     return cursor.take()
 
 
@@ -71,127 +75,166 @@ def read_table_name(cursor):
     cursor.demand(SIGN, "<")
     word = cursor.peek()
     if word.sort != PLAIN or not is_name(word.text):
-        raise cursor.refused()
-    cursor.take()
+        cursor.refuse()
+    else:
+        cursor.take()
     cursor.demand(SIGN, ">")
+    return TableName(word.text, word.line)
+
+
+def sees_use(cursor):
+    return cursor.sees(USE)
+
+
+def read_use(cursor, negated=False):
+    word = cursor.take()
+    name = NAME.match(word.text)[0]
+    return Use(name, word.text[len(name):], word.line, negated)
 
 
 # Lists
 
 def read_separated(cursor, element, closing):
     """One or more elements, at most one comma between two, up to the sign that closes them."""
-    element(cursor)
+    elements = [element(cursor)]
     while not cursor.sees(SIGN, closing):
         cursor.takes(SIGN, ",")
-        element(cursor)
+        elements.append(element(cursor))
     cursor.take()
+    return elements
 
 
 def read_braced(cursor, element, may_be_empty=False):
     """Elements in braces, over as many lines as they like."""
     cursor.demand(SIGN, "{")
     cursor.in_list = True
+    elements = []
     if not (may_be_empty and cursor.takes(SIGN, "}")):
-        read_separated(cursor, element, "}")
+        elements = read_separated(cursor, element, "}")
     cursor.in_list = False
+    return elements
 
 
 def read_list(cursor, element):
     """One element, or a braced list of them. A list within a list can't be written out."""
     if cursor.sees(SIGN, "{"):
-        read_braced(cursor, element)
-    else:
-        element(cursor)
+        return read_braced(cursor, element)
+    return [element(cursor)]
 
 
 # What a list can hold
 
-def read_interface(cursor):
+def read_interface(cursor, negated=False):
     """An interface's name, whatever its bytes, or a use of a macro."""
-    if cursor.takes(USE):
-        return
-    if not sees_free_word(cursor) or len(cursor.peek().text) > LONGEST_INTERFACE:
+    if sees_use(cursor):
+        return read_use(cursor, negated)
+    if not sees_free_word(cursor):
+        return Interface(cursor.refuse().text, negated)
+    if len(cursor.peek().text) > LONGEST_INTERFACE:
         raise cursor.refused()
-    cursor.take()
+    return Interface(cursor.take().text, negated)
 
 
 def read_interface_or_not(cursor):
-    cursor.takes(SIGN, "!")
-    read_interface(cursor)
+    return read_interface(cursor, cursor.takes(SIGN, "!"))
 
 
 def read_protocol(cursor):
-    if not cursor.takes(USE):
-        read_number_or_name(cursor, PROTOCOLS, MOST_PROTOCOL)
+    if sees_use(cursor):
+        return read_use(cursor)
+    return read_number_or_name(cursor, PROTOCOLS, MOST_PROTOCOL)
 
 
-def spelt_address(word):
-    """Address and bits (None without any) of a word of digits, dots and slashes."""
+def read_numeric(cursor):
+    """Address and bits (None without any) of a word of digits, dots and slashes. Bits at fault count as all."""
+    word = cursor.take()
+    bits = MOST_BITS if "/" in word.text else None
     if word.text.count(".") < 3:
-        raise Fault(word.line, left_out("short address"))
+        cursor.blame(word.line, left_out("short address"))
+        return 0, bits
     found = ADDRESS.fullmatch(word.text)
     if not found or any(value_of(octet) > 255 for octet in found.groups()[:4]):
-        raise Fault(word.line, BAD_ADDRESS)
+        cursor.blame(word.line, BAD_ADDRESS)
+        return 0, bits
     if found[5] and value_of(found[5]) > MOST_BITS:
-        raise Fault(word.line, BAD_NUMBER)
-    octets = bytes(value_of(octet) for octet in found.groups()[:4])
-    return int.from_bytes(octets, "big"), value_of(found[5]) if found[5] else None
+        cursor.blame(word.line, BAD_NUMBER)
+    elif found[5]:
+        bits = value_of(found[5])
+    return int.from_bytes(bytes(value_of(octet) for octet in found.groups()[:4]), "big"), bits
+
+
+def network(address, bits):
+    return Network(address, MOST_BITS if bits is None else bits)
 
 
 def read_bracketed_interface(cursor):
     """A name in round brackets: every free word is taken for one."""
     cursor.demand(SIGN, "(")
-    if not cursor.takes(USE):
-        read_free_word(cursor)
+    line = cursor.peek().line
+    name = read_use(cursor) if sees_use(cursor) else read_free_word(cursor).text
     cursor.demand(SIGN, ")")
+    return Form(name, line)
+
+
+def sees_numeric(cursor):
+    return cursor.sees(PLAIN) and NUMERIC.fullmatch(cursor.peek().text) is not None
+
+
+def read_form(cursor):
+    """A form of the run's interface, or a host's name, which only the run can tell apart."""
+    if cursor.sees(SIGN, "("):
+        return read_bracketed_interface(cursor)
+    if cursor.sees(PLAIN, "self"):
+        word = cursor.take()
+    else:
+        word = read_free_word(cursor)
+    return Form(word.text, word.line)
 
 
 def read_entry(cursor):
     """An entry of a table: an address, a network or a form of an interface, maybe with a not before it."""
-    cursor.takes(SIGN, "!")
-    if cursor.takes(USE) or cursor.takes(PLAIN, "self"):
-        return
-    if cursor.sees(SIGN, "("):
-        read_bracketed_interface(cursor)
-    elif NUMERIC.fullmatch(read_free_word_text(cursor)):
-        spelt_address(cursor.take())
-    else:
-        # a form of the interface, or a host's name, which only the run can tell apart
-        cursor.take()
-
-
-def read_free_word_text(cursor):
-    """The text of a free word, which stays."""
-    if not sees_free_word(cursor):
-        raise cursor.refused()
-    return cursor.peek().text
+    line = cursor.peek().line
+    negated = cursor.takes(SIGN, "!")
+    if sees_use(cursor):
+        return read_use(cursor, negated)
+    if sees_numeric(cursor):
+        return Host(network(*read_numeric(cursor)), negated, line)
+    return Host(read_form(cursor), negated, line)
 
 
 def read_address(cursor):
     """An address of a rule: what an entry can be, and also `any`, a table or a range."""
-    cursor.takes(SIGN, "!")
+    line = cursor.peek().line
+    negated = cursor.takes(SIGN, "!")
+    if sees_use(cursor):
+        return read_use(cursor, negated)
+    return Host(read_host(cursor), negated, line)
+
+
+def read_host(cursor):
     if cursor.takes(PLAIN, "any"):
-        return
+        return ANY
     if cursor.sees(SIGN, "<"):
-        read_table_name(cursor)
-    elif cursor.sees(PLAIN) and NUMERIC.fullmatch(cursor.peek().text):
-        first, bits = spelt_address(cursor.take())
-        if bits is None and cursor.takes(SIGN, "-"):
-            read_range_end(cursor, first)
-    elif cursor.sees(SIGN, "!"):
-        raise cursor.refused()
-    else:
-        read_entry(cursor)
+        return read_table_name(cursor)
+    if not sees_numeric(cursor):
+        return read_form(cursor)
+    first, bits = read_numeric(cursor)
+    if bits is None and cursor.takes(SIGN, "-"):
+        return Range(first, read_range_end(cursor, first))
+    return network(first, bits)
 
 
 def read_range_end(cursor, first):
     """The last address of a range: a plain address not below the first."""
-    text, line = read_free_word_text(cursor), cursor.peek().line
-    if not NUMERIC.fullmatch(text):
-        raise Fault(line, left_out("host name"))
-    last, bits = spelt_address(cursor.take())
+    line = cursor.peek().line
+    if not sees_numeric(cursor):
+        read_free_word(cursor)
+        cursor.blame(line, left_out("host name"))
+        return first
+    last, bits = read_numeric(cursor)
     if bits is not None or last < first:
-        raise Fault(line, BAD_ADDRESS)
+        cursor.blame(line, BAD_ADDRESS)
+    return last
 
 
 def port_value(text):
@@ -201,25 +244,25 @@ def port_value(text):
 
 def read_one_port(cursor):
     """A number or a service."""
-    text, line = read_free_word_text(cursor), cursor.peek().line
-    value = port_value(text)
+    word = read_free_word(cursor)
+    value = port_value(word.text)
     if value is None:
-        raise Fault(line, left_out("service"))
-    if value > MOST_PORT:
-        raise Fault(line, BAD_NUMBER)
-    cursor.take()
+        cursor.blame(word.line, left_out("service"))
+    elif value > MOST_PORT:
+        cursor.blame(word.line, BAD_NUMBER)
+    return value
 
 
 def read_port_range(cursor):
     """Two ports with a colon between them, the first not above the second."""
-    word = cursor.peek()
+    word = cursor.take()
     low, _, high = word.text.partition(":")
     values = port_value(low), port_value(high)
     if None in values:
-        raise Fault(word.line, left_out("service"))
-    if not values[0] <= values[1] <= MOST_PORT:
-        raise Fault(word.line, BAD_NUMBER)
-    cursor.take()
+        cursor.blame(word.line, left_out("service"))
+    elif not values[0] <= values[1] <= MOST_PORT:
+        cursor.blame(word.line, BAD_NUMBER)
+    return values
 
 
 def sees_colon(cursor):
@@ -228,28 +271,29 @@ def sees_colon(cursor):
 
 def read_port(cursor):
     """A port of a rule: one, a range, or signs with one or two of them."""
-    if cursor.takes(USE):
-        return
-    if cursor.takes(SIGN, *ONE_SIDED):
-        read_one_port(cursor)
-    elif sees_colon(cursor):
-        read_port_range(cursor)
-    else:
-        read_one_port(cursor)
-        if cursor.takes(SIGN, *TWO_SIDED):
-            read_one_port(cursor)
+    if sees_use(cursor):
+        return read_use(cursor)
+    if cursor.sees(SIGN, *ONE_SIDED):
+        sign = cursor.take().text
+        port = read_one_port(cursor)
+        return Port(sign, port, port)
+    if sees_colon(cursor):
+        return Port(":", *read_port_range(cursor))
+    port = read_one_port(cursor)
+    if cursor.sees(SIGN, *TWO_SIDED):
+        sign = cursor.take().text
+        return Port(sign, port, read_one_port(cursor))
+    return Port("=", port, port)
 
 
 # Parts of rules
 
 def read_interfaces(cursor):
-    if cursor.takes(PLAIN, "on"):
-        read_list(cursor, read_interface_or_not)
+    return read_list(cursor, read_interface_or_not) if cursor.takes(PLAIN, "on") else None
 
 
 def read_protocols(cursor):
-    if cursor.takes(PLAIN, "proto"):
-        read_list(cursor, read_protocol)
+    return read_list(cursor, read_protocol) if cursor.takes(PLAIN, "proto") else None
 
 
 def read_log(cursor):
@@ -261,23 +305,27 @@ def read_log(cursor):
 def read_hosts(cursor):
     """All hosts, or a source, or a destination, or both, or nothing at all."""
     if cursor.takes(PLAIN, "all"):
-        return
-    for side in ("from", "to"):
-        if cursor.takes(PLAIN, side):
-            read_part(cursor)
+        return Part(), Part()
+    return tuple(read_part(cursor) if cursor.takes(PLAIN, side) else Part() for side in ("from", "to"))
 
 
 def read_part(cursor):
     """Addresses, ports, or both."""
+    part = Part()
     if not cursor.sees(PLAIN, "port"):
-        read_list(cursor, read_address)
-    if cursor.takes(PLAIN, "port"):
-        read_list(cursor, read_port)
+        part.hosts = read_list(cursor, read_address)
+    part.ports = read_ports(cursor)
+    return part
+
+
+def read_ports(cursor):
+    return read_list(cursor, read_port) if cursor.takes(PLAIN, "port") else None
 
 
 def read_criteria(cursor):
     """What rules of all kinds can ask of a packet, from the interface on."""
-    read_interfaces(cursor)
+    interfaces = read_interfaces(cursor)
     cursor.takes(PLAIN, "inet")
-    read_protocols(cursor)
-    read_hosts(cursor)
+    protocols = read_protocols(cursor)
+    source, destination = read_hosts(cursor)
+    return Criteria(interfaces, protocols, None, source, destination)

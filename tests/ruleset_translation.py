@@ -1,9 +1,11 @@
 """Rules and anchors of translation in a model of the reader of rulesets."""
 
-from ruleset_parts import (MOST_BITS, MOST_PORT, NUMERIC, port_value, read_bracketed_interface, read_criteria,
-                           read_free_word_text, read_interfaces, read_list, read_log, read_one_port, read_part,
-                           read_port, read_port_range, read_protocols, read_title, sees_colon, spelt_address)
-from ruleset_words import BAD_ADDRESS, BAD_NUMBER, PLAIN, SIGN, USE, Fault, left_out
+from ruleset_parts import (MOST_BITS, MOST_PORT, network, port_value, read_address, read_criteria,
+                           read_form, read_interfaces, read_list, read_log, read_numeric, read_one_port, read_part,
+                           read_port_range, read_ports, read_protocols, read_range_end, read_table_name, read_title,
+                           read_use, sees_colon, sees_numeric, sees_use)
+from ruleset_tree import ANY, Criteria, Host, Part, Range, Target, Translation
+from ruleset_words import BAD_ADDRESS, BAD_NUMBER, PLAIN, SIGN, Fault, left_out
 
 KINDS = ("nat", "rdr", "binat")
 ANCHORS = ("nat-anchor", "rdr-anchor", "binat-anchor")
@@ -11,72 +13,95 @@ FIRST_WORDS = ("no", *KINDS, *ANCHORS)
 
 
 def read_translation(cursor):
-    """One statement of translation up to its end."""
+    """One statement of translation up to its end. An anchor of translation holds nothing, and means nothing."""
+    line = cursor.peek().line
     if cursor.takes(PLAIN, *ANCHORS):
         read_title(cursor)
-        return
+        return None
     is_no_rule = cursor.takes(PLAIN, "no")
     kind = cursor.demand(PLAIN, *KINDS).text
-    if cursor.takes(PLAIN, "pass"):
+    passes = cursor.takes(PLAIN, "pass")
+    if passes:
         read_log(cursor)
-    if is_no_rule:
-        read_criteria(cursor)
-        return
-    if kind == "binat":
-        read_binat_criteria(cursor)
+    if kind == "binat" and not is_no_rule:
+        criteria = read_binat_criteria(cursor)
     else:
-        read_criteria(cursor)
-    cursor.demand(SIGN, "->")
-    read_target(cursor, kind)
+        criteria = read_criteria(cursor)
+    rule = Translation(line, kind, is_no_rule, passes, criteria)
+    if not is_no_rule:
+        cursor.demand(SIGN, "->")
+        rule.target = read_target(cursor, kind)
+    return rule
 
 
 def read_binat_criteria(cursor):
     """The criteria of a binat rule, whose source has to be one single address."""
-    read_interfaces(cursor)
+    interfaces = read_interfaces(cursor)
     cursor.takes(PLAIN, "inet")
-    read_protocols(cursor)
+    protocols = read_protocols(cursor)
     cursor.demand(PLAIN, "from")
-    read_single_address(cursor, BAD_ADDRESS)
-    if cursor.takes(PLAIN, "port"):
-        read_list(cursor, read_port)
-    if cursor.takes(PLAIN, "to"):
-        read_part(cursor)
+    source = Part([read_single_source(cursor)])
+    source.ports = read_ports(cursor)
+    destination = read_part(cursor) if cursor.takes(PLAIN, "to") else Part()
+    return Criteria(interfaces, protocols, None, source, destination)
 
 
 def read_target(cursor, kind):
     """What stands after the arrow: one address and, but for binat, maybe ports."""
-    read_single_address(cursor, left_out("pool"))
+    target = Target(read_single_target(cursor))
     if kind == "nat":
         if cursor.takes(PLAIN, "port"):
-            read_nat_ports(cursor)
-        cursor.takes(PLAIN, "static-port")
+            target.ports = read_nat_ports(cursor)
+        target.keeps_port = cursor.takes(PLAIN, "static-port")
     elif kind == "rdr" and cursor.takes(PLAIN, "port"):
-        read_rdr_ports(cursor)
+        target.ports_line = cursor.peek().line
+        target.ports = read_rdr_ports(cursor)
+    return target
+
+
+def read_single_source(cursor):
+    return read_single_address(cursor, BAD_ADDRESS)
+
+
+def read_single_target(cursor):
+    return read_single_address(cursor, left_out("pool"))
 
 
 def read_single_address(cursor, table_kind):
     """One address where pf would take a pool of several. A table is refused as the caller says."""
     line = cursor.peek().line
-    if cursor.sees(SIGN, "!") or cursor.sees(PLAIN, "any"):
-        raise Fault(line, BAD_ADDRESS)
     if cursor.sees(SIGN, "{"):
-        raise Fault(line, left_out("pool"))
+        cursor.blame(line, left_out("pool"))
+        return read_list(cursor, read_address)[0]
+    if cursor.sees(SIGN, "!"):
+        cursor.blame(line, BAD_ADDRESS)
+        cursor.take()
+    if cursor.sees(PLAIN, "any"):
+        cursor.blame(line, BAD_ADDRESS)
+        cursor.take()
+        return Host(ANY, False, line)
     if cursor.sees(SIGN, "<"):
-        raise Fault(line, table_kind)
-    if cursor.takes(USE) or cursor.takes(PLAIN, "self"):
-        return
-    if cursor.sees(SIGN, "("):
-        read_bracketed_interface(cursor)
-        return
-    text = read_free_word_text(cursor)
-    word = cursor.take()
-    if NUMERIC.fullmatch(text):
-        _, bits = spelt_address(word)
-        if bits is not None and bits < MOST_BITS:
-            raise Fault(line, left_out("pool"))
-        # a range is told by the dash after a plain address
-        if bits is None and cursor.sees(SIGN, "-"):
-            raise Fault(line, BAD_ADDRESS)
+        cursor.blame(line, table_kind)
+        return Host(read_table_name(cursor), False, line)
+    if sees_use(cursor):
+        return read_use(cursor)
+    if sees_numeric(cursor):
+        return Host(read_single_numeric(cursor), False, line)
+    return Host(read_form(cursor), False, line)
+
+
+def read_single_numeric(cursor):
+    """An address, maybe with all of its bits."""
+    line = cursor.peek().line
+    address, bits = read_numeric(cursor)
+    if bits is not None and bits < MOST_BITS:
+        cursor.blame(line, left_out("pool"))
+    # a range is told by the dash after a plain address
+    if bits is None and cursor.sees(SIGN, "-"):
+        cursor.blame(line, BAD_ADDRESS)
+        cursor.take()
+        return Range(address, read_range_end(cursor, address))
+    return network(address, bits)
 
 
 def refuse_port_list(cursor):
@@ -88,17 +113,15 @@ def read_nat_ports(cursor):
     """One port or a range of them."""
     refuse_port_list(cursor)
     if sees_colon(cursor):
-        read_port_range(cursor)
-    else:
-        read_one_port(cursor)
+        return read_port_range(cursor)
+    return read_one_port(cursor), None
 
 
 def read_rdr_ports(cursor):
     """One port, or the first of as many as are redirected; a range with its last port is a pool."""
     refuse_port_list(cursor)
     if not sees_colon(cursor):
-        read_one_port(cursor)
-        return
+        return read_one_port(cursor), None
     word = cursor.peek()
     low, _, high = word.text.partition(":")
     values = [port_value(low)] + ([] if high == "*" else [port_value(high)])
@@ -109,3 +132,4 @@ def read_rdr_ports(cursor):
     if high != "*":
         raise Fault(word.line, left_out("pool"))
     cursor.take()
+    return values[0], "*"

@@ -35,7 +35,7 @@ PROTOCOLS = {"icmp": 1, "igmp": 2, "tcp": 6, "udp": 17, "gre": 47, "esp": 50, "a
 SERVICES = {"ftp": 21, "ssh": 22, "telnet": 23, "smtp": 25, "domain": 53, "http": 80, "www": 80, "pop3": 110,
             "ntp": 123, "imap": 143, "snmp": 161, "https": 443}
 ICMP_TYPES = {"echorep": 0, "unreach": 3, "redir": 5, "echoreq": 8, "timex": 11, "paramprob": 12}
-FLAG_LETTERS = frozenset("FSRPAUEW")
+FLAG_LETTERS = {"F": 1, "S": 2, "R": 4, "P": 8, "A": 16, "U": 32, "E": 64, "W": 128}
 # the timeouts that a run heeds, and those that are read and have no effect
 TIMEOUTS = frozenset("""
     tcp.first tcp.opening tcp.established tcp.closing tcp.finwait tcp.closed udp.first udp.single udp.multiple
@@ -127,9 +127,9 @@ def sign_word(text, line, is_lone):
     return Word(FAULT, UNTERMINATED if text == "{" else UNKNOWN, line)
 
 
-def words(text):
-    """All words of a text in their order; line ends (several as one) and the end of the text are words too."""
-    lone = lone_braces(text)
+def words(text, lone=frozenset()):
+    """All words of a text in their order; line ends (several as one) and the end of the text are words too. The
+    braces at the lone places have no partner."""
     line = 1
     for found in WORD.finditer(text):
         sort, spelt = found.lastgroup, found[0]
@@ -155,11 +155,13 @@ class Cursor:
     """A place among the words of a text. Statements end at line ends, but between the braces of a list a line end
     is a blank, and is stepped over."""
 
-    def __init__(self, text):
-        self.words = words(text)
+    def __init__(self, words, blamed=None):
+        self.words = words
         self.ahead = next(self.words)
         self.in_list = False
         self.last_line = 1
+        # faults that don't end the reading; without a list of them each ends it
+        self.blamed = blamed
 
     def peek(self):
         """The next word, which stays."""
@@ -188,6 +190,21 @@ class Cursor:
             return Fault(word.line, left_out(word.text))
         return Fault(word.line, UNKNOWN)
 
+    def blame(self, line, kind):
+        """A fault of a word that stands in its place. Where faults are gathered, reading goes on."""
+        if self.blamed is None:
+            raise Fault(line, kind)
+        self.blamed.append(Fault(line, kind))
+
+    def refuse(self):
+        """The next word can't stand here. Where faults are gathered, a word that is left out by its name is read all
+        the same; any other ends the reading."""
+        word = self.peek()
+        if self.blamed is None or word.sort != PLAIN or word.text not in LEFT_OUT_WORDS:
+            raise self.refused()
+        self.blame(word.line, left_out(word.text))
+        return self.take()
+
     def sees(self, sort, *texts):
         """Whether the next word is of this sort and spelt in one of these ways; with none of them, in any way."""
         word = self.peek()
@@ -202,8 +219,8 @@ class Cursor:
 
     def demand(self, sort, *texts):
         """Reads the next word, which has to be one of these."""
-        if not self.sees(sort, *texts):
-            raise self.refused()
+        while not self.sees(sort, *texts):
+            self.refuse()
         return self.take()
 
     def at_statement_end(self):
@@ -211,6 +228,11 @@ class Cursor:
 
     def end_statement(self):
         """The end of a line or of the text; a word that comes before it is one too many."""
-        if not self.at_statement_end():
-            raise self.refused()
+        while not self.at_statement_end():
+            self.refuse()
         self.take()
+
+
+def text_cursor(text):
+    """A cursor at the beginning of a text, whose first fault ends the reading."""
+    return Cursor(words(text, lone_braces(text)))
