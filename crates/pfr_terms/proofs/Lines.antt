@@ -1,5 +1,5 @@
 -- Readers whose faults are on lines of the text.
-use Rattle.std.proofs.Common.{◌≤◌, ℕ, zero, suc, Bool, true, false, if◌then◌else◌, List, [], ◌∷◌, Option, Some, None, Ok, Err}
+use Rattle.std.proofs.Common.{◌≤◌, ℕ, zero, suc, ◌&&◌, Bool, true, false, if◌then◌else◌, List, [], ◌∷◌, Option, Some, None, Ok, Err}
 use Rattle.pfr_words.specs.declared.sign.Sign.{Sign}
 use Rattle.pfr_words.specs.declared.sign.Sign.TheVariants as s
 use Rattle.pfr_words.specs.declared.word.Token.{Token}
@@ -8,7 +8,8 @@ use Rattle.pfr_words.specs.declared.word.Word.{Word}
 use Rattle.pfr_words.specs.Names.{is_left_out as is_left_out_word}
 use Rattle.pfr_terms.specs.declared.error.ConfError.{ConfError}
 use Rattle.pfr_terms.specs.declared.error.ConfErrorKind.{ConfErrorKind}
-use Rattle.pfr_terms.specs.Input.{Input, Outcome, Parser, and_then, ◌>>=◌, pure, is_line_end, words_behind_line_ends, skip_line_ends, stepped, step, next, enter_list, leave_list, line_of, line_ahead, token_refusal, refusal_at, refusal, fault, left_out, refuse, faulty, leave_out, turns, loop_from, loop, eat_sign, eat_word, open_list, close_list, expect_sign, expect_word, taken, named, free_word_by, free_word, number_by, number_in, number_ahead, plain_ahead, sees_sign, sees_word}
+use Rattle.pfr_terms.specs.Faults.{lower}
+use Rattle.pfr_terms.specs.Input.{Input, Outcome, Parser, and_then, ◌>>=◌, pure, is_line_end, words_behind_line_ends, skip_line_ends, stepped, step, next, enter_list, leave_list, line_of, line_ahead, token_refusal, refusal_at, refusal, fault, left_out, refuse, faulty, leave_out, blame, blamed, pass_over_by, pass_over, passing, turns, loop_from, loop, eat_sign, eat_word, open_list, close_list, sign_or_more, expect_sign, end_or_more, finish, is_done, expect_word, taken, named, passed, free_word_by, free_word, number_by, number_in, number_ahead, plain_ahead, sees_sign, sees_word}
 
 -- a line of a text of n lines
 pub record IsLine (n line : ℕ) : Type 0 where
@@ -93,6 +94,11 @@ pub left_out_is : (n : ℕ) (name : List ℕ) (i : Input) → Within n i → IsL
 unfolding left_out
 left_out_is n name i within = line_ahead_is n i within
 
+pub blame_good : (n : ℕ) (e : ConfError) (i : Input) → Within n i → IsLine n e.line → Good n (blame e i)
+unfolding blame
+blame_good n e i within is =
+    either (Good n) i.gathers _ _ (next_within n (record i { gathered = Some (lower i.gathered e) }) (record { words = within.words; line = within.line })) is
+
 -- ---- ways in which readers are put together
 
 pub keeps_pure : {A : Type 0} {n : ℕ} (a : A) → Keeps n (pure a)
@@ -136,6 +142,25 @@ loop_from_keeps n turn each (suc count) s = each (loop_from turn count) (loop_fr
 pub keeps_loop : {S A : Type 0} {n : ℕ} (turn : (S → Parser A) → S → Parser A) (s : S) → ((more : S → Parser A) → ((s : S) → Keeps n (more s)) → (s : S) → Keeps n (turn more s)) → Keeps n (loop turn s)
 keeps_loop {n = n} turn s each = record { from = λ i within. (loop_from_keeps n turn each (turns i) s).from i within }
 
+-- ---- faults behind which reading goes on
+
+pub keeps_blame : {n : ℕ} (f : Input → ConfError) → ((i : Input) → Within n i → IsLine n (f i).line) → Keeps n (blamed f)
+keeps_blame {n = n} f is = record { from = λ i within. blame_good n (f i) i within (is i within) }
+
+pub keeps_blamed_fault : {n : ℕ} (kind : ConfErrorKind) → Keeps n (blamed (fault kind))
+keeps_blamed_fault {n = n} kind = keeps_blame (fault kind) (fault_is n kind)
+
+pub keeps_blamed_left_out : {n : ℕ} (name : List ℕ) → Keeps n (blamed (left_out name))
+keeps_blamed_left_out {n = n} name = keeps_blame (left_out name) (left_out_is n name)
+
+pass_over_by_keeps : {n : ℕ} (found : Option (List ℕ)) → Keeps n (pass_over_by found)
+pass_over_by_keeps None = keeps_refuse
+pass_over_by_keeps (Some word) = keeps_test (λ i. i.gathers && is_left_out_word word) (keeps_blamed_left_out word) keeps_refuse
+
+pub keeps_pass_over : {n : ℕ} → Keeps n pass_over
+unfolding pass_over
+keeps_pass_over = keeps_by plain_ahead pass_over_by pass_over_by_keeps
+
 -- ---- single words
 
 pub keeps_eat_sign : {n : ℕ} (sign : Sign) → Keeps n (eat_sign sign)
@@ -163,17 +188,27 @@ keeps_named {n = n} text = record { from = next_within n }
 
 pub keeps_expect_sign : {n : ℕ} (sign : Sign) → Keeps n (expect_sign sign)
 unfolding expect_sign
-keeps_expect_sign sign = keeps_then (keeps_eat_sign sign) (λ found. keeps_if found (keeps_pure tt) keeps_refuse)
+keeps_expect_sign sign = keeps_loop (sign_or_more sign) tt (λ more rest done.
+    keeps_then (keeps_eat_sign sign) (λ found. keeps_if found (keeps_pure tt) (keeps_then keeps_pass_over (λ passed. rest tt))))
+
+pub keeps_finish : {n : ℕ} → Keeps n finish
+unfolding finish
+keeps_finish = keeps_loop end_or_more tt (λ more rest done.
+    keeps_test is_done (keeps_pure tt) (keeps_then keeps_pass_over (λ passed. rest tt)))
 
 pub keeps_expect_word : {n : ℕ} (word : List ℕ) → Keeps n (expect_word word)
 unfolding expect_word
 keeps_expect_word word = keeps_then (keeps_eat_word word) (λ found. keeps_if found (keeps_pure tt) keeps_refuse)
 
-pub ruleset reading = (keeps_pure, keeps_then, keeps_if, keeps_refuse, keeps_faulty, keeps_leave_out, keeps_eat_sign, keeps_eat_word, keeps_open_list, keeps_close_list, keeps_taken, keeps_named, keeps_expect_sign, keeps_expect_word)
+pub ruleset reading = (keeps_pure, keeps_then, keeps_if, keeps_refuse, keeps_faulty, keeps_leave_out, keeps_blame, keeps_blamed_fault, keeps_pass_over, keeps_eat_sign, keeps_eat_word, keeps_open_list, keeps_close_list, keeps_taken, keeps_named, keeps_expect_sign, keeps_expect_word)
+
+pub keeps_passed : {n : ℕ} (text : List ℕ) → Keeps n (passed text)
+unfolding passed
+keeps_passed text = keeps_by line_ahead (λ line. passing (record { line = line; text = text })) (λ line. search reading)
 
 free_word_keeps : {n : ℕ} (found : Option (List ℕ)) → Keeps n (free_word_by found)
 free_word_keeps None = search reading
-free_word_keeps (Some word) = search reading
+free_word_keeps (Some word) = search (reading, keeps_passed)
 
 pub keeps_free_word : {n : ℕ} → Keeps n free_word
 unfolding free_word

@@ -16,13 +16,13 @@ use Rattle.pfr_terms.specs.declared.port.RangeOperator.{RangeOperator}
 use Rattle.pfr_terms.specs.declared.port.PortWord.{PortWord}
 use Rattle.pfr_terms.specs.declared.port.PortWord.TheVariants.{Port, Unknown}
 use Rattle.pfr_terms.specs.declared.flags.FlagsMatch.{FlagsMatch}
-use Rattle.pfr_terms.specs.Input.{Input, Parser, ◌>>=◌, pure, plain_ahead, macro_ahead, sign_ahead, line_ahead, eat_sign, eat_word, expect_sign}
+use Rattle.pfr_terms.specs.Input.{Input, Parser, ◌>>=◌, pure, blamed, plain_ahead, macro_ahead, sign_ahead, line_ahead, eat_sign, eat_word, expect_sign}
 use Rattle.pfr_terms.specs.Lists as lists
 use Rattle.pfr_terms.specs.Addresses as addresses
 use Rattle.pfr_terms.specs.Ports as ports
 use Rattle.pfr_terms.specs.Terms as terms
 use Rattle.pfr_terms.specs.Hosts as hosts
-use Rattle.pfr_terms.proofs.Lines.{IsLine, Within, Keeps, fault_is, left_out_is, keeps_by, keeps_fault, keeps_loop, keeps_number_in, keeps_free_word, reading}
+use Rattle.pfr_terms.proofs.Lines.{IsLine, Within, Keeps, fault_is, left_out_is, keeps_pure, keeps_then, keeps_by, keeps_blame, keeps_loop, keeps_passed, keeps_number_in, keeps_free_word, reading}
 
 -- ---- lists
 
@@ -52,14 +52,14 @@ address_fault_is n word.Short i within = left_out_is n _ i within
 address_fault_is n word.Name i within = left_out_is n _ i within
 address_fault_is n bad i within = fault_is n _ i within
 
-bad_address_keeps : {A : Type 0} {n : ℕ} (bad : AddressWord) → Keeps {A = A} n (λ i. Err (addresses.address_fault bad i))
-bad_address_keeps {n = n} bad = keeps_fault (addresses.address_fault bad) (address_fault_is n bad)
+bad_address_keeps : {n : ℕ} (bad : AddressWord) → Keeps n (blamed (addresses.address_fault bad))
+bad_address_keeps {n = n} bad = keeps_blame (addresses.address_fault bad) (address_fault_is n bad)
 
 host_by_keeps : {n : ℕ} (text : List ℕ) (found : AddressWord) → Keeps n (addresses.host_by text found)
 host_by_keeps text (word.Address address) = search reading
 host_by_keeps text (word.Network network) = search reading
 host_by_keeps text word.Name = search reading
-host_by_keeps text bad = bad_address_keeps bad
+host_by_keeps text bad = keeps_then (bad_address_keeps bad) (λ done. keeps_pure (addresses.stand_in text))
 
 host_word_keeps : {n : ℕ} (text : List ℕ) → Keeps n (addresses.host_word text)
 unfolding addresses.host_word
@@ -78,7 +78,7 @@ bracketed_keeps = keeps_by macro_ahead (λ found. do
 
 bare_host_by_keeps : {n : ℕ} (found : Option (List ℕ)) → Keeps n (addresses.bare_host_by found)
 bare_host_by_keeps None = search reading
-bare_host_by_keeps (Some text) = search (reading, host_word_keeps)
+bare_host_by_keeps (Some text) = search (reading, host_word_keeps, keeps_passed)
 
 bare_host_keeps : {n : ℕ} → Keeps n addresses.bare_host
 unfolding addresses.bare_host
@@ -88,9 +88,9 @@ pub keeps_host : {n : ℕ} → Keeps n addresses.host
 unfolding addresses.host
 keeps_host = search (reading, bracketed_keeps, bare_host_keeps)
 
-range_end_of_keeps : {n : ℕ} (last : Result Ipv4Address AddressWord) → Keeps n (addresses.range_end_of last)
-range_end_of_keeps (Ok last) = search reading
-range_end_of_keeps (Err bad) = bad_address_keeps bad
+range_end_of_keeps : {n : ℕ} (first : Ipv4Address) (last : Result Ipv4Address AddressWord) → Keeps n (addresses.range_end_of first last)
+range_end_of_keeps first (Ok last) = search reading
+range_end_of_keeps first (Err bad) = keeps_then (bad_address_keeps bad) (λ done. keeps_pure first)
 
 range_end_by_keeps : {n : ℕ} (first : Ipv4Address) (found : Option (List ℕ)) → Keeps n (addresses.range_end_by first found)
 range_end_by_keeps first None = search reading
@@ -107,7 +107,7 @@ keeps_range_from found = search reading
 
 table_name_by_keeps : {n : ℕ} (found : Option (List ℕ)) → Keeps n (addresses.table_name_by found)
 table_name_by_keeps None = search reading
-table_name_by_keeps (Some text) = search reading
+table_name_by_keeps (Some text) = search (reading, keeps_passed)
 
 pub keeps_table_name : {n : ℕ} → Keeps n addresses.table_name
 unfolding addresses.table_name
@@ -141,12 +141,12 @@ port_fault_is : (n : ℕ) (bad : PortWord) (i : Input) → Within n i → IsLine
 port_fault_is n Unknown i within = left_out_is n _ i within
 port_fault_is n bad i within = fault_is n _ i within
 
-bad_port_keeps : {A : Type 0} {n : ℕ} (bad : PortWord) → Keeps {A = A} n (λ i. Err (ports.port_fault bad i))
-bad_port_keeps {n = n} bad = keeps_fault (ports.port_fault bad) (port_fault_is n bad)
+bad_port_keeps : {n : ℕ} (bad : PortWord) → Keeps n (blamed (ports.port_fault bad))
+bad_port_keeps {n = n} bad = keeps_blame (ports.port_fault bad) (port_fault_is n bad)
 
 port_of_keeps : {n : ℕ} (found : PortWord) → Keeps n (ports.port_of found)
 port_of_keeps (Port port) = search reading
-port_of_keeps bad = bad_port_keeps bad
+port_of_keeps bad = keeps_then (bad_port_keeps bad) (λ done. keeps_pure 0)
 
 port_by_keeps : {n : ℕ} (found : Option (List ℕ)) → Keeps n (ports.port_by found)
 port_by_keeps None = search reading
@@ -158,7 +158,7 @@ keeps_port = keeps_by plain_ahead ports.port_by port_by_keeps
 
 ports_of_keeps : {n : ℕ} (found : Result PortMatch PortWord) → Keeps n (ports.ports_of found)
 ports_of_keeps (Ok found) = search reading
-ports_of_keeps (Err bad) = bad_port_keeps bad
+ports_of_keeps (Err bad) = keeps_then (bad_port_keeps bad) (λ done. keeps_pure ports.port_zero)
 
 port_or_range_by_keeps : {n : ℕ} (found : Option (List ℕ)) → Keeps n (ports.port_or_range_by found)
 port_or_range_by_keeps None = search reading
@@ -201,7 +201,7 @@ keeps_port_match = search (reading, eat_comparison_keeps, ports_behind_keeps)
 
 interface_name_by_keeps : {n : ℕ} (found : Option (List ℕ)) → Keeps n (terms.interface_name_by found)
 interface_name_by_keeps None = search reading
-interface_name_by_keeps (Some word) = search reading
+interface_name_by_keeps (Some word) = search (reading, keeps_passed)
 
 pub keeps_interface_name : {n : ℕ} → Keeps n terms.interface_name
 unfolding terms.interface_name

@@ -19,7 +19,7 @@ use Rattle.pfr_terms.specs.declared.address.AddressWord.{AddressWord}
 use Rattle.pfr_terms.specs.declared.address.AddressWord.TheVariants as word
 use Rattle.pfr_terms.specs.declared.address.TableEntry.{TableEntry}
 use Rattle.pfr_terms.specs.Notation.{number, cut_at, dotted}
-use Rattle.pfr_terms.specs.Input.{Input, Parser, ◌>>=◌, pure, refuse, taken, named, free_word, fault, left_out, is_free, plain_ahead, macro_ahead, line_ahead, eat_sign, eat_word, expect_sign}
+use Rattle.pfr_terms.specs.Input.{Input, Parser, ◌>>=◌, pure, refuse, taken, named, passed, passing, blamed, free_word, fault, left_out, is_free, plain_ahead, macro_ahead, line_ahead, eat_sign, eat_word, expect_sign}
 use Rattle.pfr_terms.specs.Lists.{written}
 
 -- ---- one word
@@ -58,6 +58,14 @@ address_fault _ i = fault BadAddress i
 
 -- ---- hosts
 
+abbrev pub stand_in_by : Option (List ℕ × List ℕ) → Host
+stand_in_by None = h.Address (record { 0 = 0 })
+stand_in_by (Some parts) = h.Network (record { address = record { 0 = 0 }; bits = 32 })
+
+-- what stands for a word that is gathered as no address: behind a network no range goes on
+abbrev pub stand_in : List ℕ → Host
+stand_in text = stand_in_by (cut_at 47 text)
+
 abbrev pub host_by : List ℕ → AddressWord → Parser Host
 host_by text (word.Address address) = do
   _ ← taken
@@ -68,7 +76,9 @@ host_by text (word.Network network) = do
 host_by text word.Name = do
   name ← named text
   pure (h.Interface name)
-host_by text bad = λ i. Err (address_fault bad i)
+host_by text bad = do
+  _ ← blamed (address_fault bad)
+  pure (stand_in text)
 
 unfoldable pub host_word : List ℕ → Parser Host
 host_word text = host_by text (address_word text)
@@ -90,7 +100,7 @@ bracketed = λ i. (do
 
 abbrev pub bare_host_by : Option (List ℕ) → Parser Host
 bare_host_by None = refuse
-bare_host_by (Some text) = if is_free text then host_word text else refuse
+bare_host_by (Some text) = if is_free text then host_word text else (do name ← passed text; pure (h.Interface name))
 
 unfoldable pub bare_host : Parser Host
 bare_host = λ i. bare_host_by (plain_ahead i) i
@@ -110,15 +120,17 @@ range_word first (word.Address last) = if nat_le first.0 last.0 then Ok last els
 range_word first (word.Network network) = Err word.Malformed
 range_word first bad = Err bad
 
-abbrev pub range_end_of : Result Ipv4Address AddressWord → Parser Ipv4Address
-range_end_of (Ok last) = do
+abbrev pub range_end_of : Ipv4Address → Result Ipv4Address AddressWord → Parser Ipv4Address
+range_end_of first (Ok last) = do
   _ ← taken
   pure last
-range_end_of (Err bad) = λ i. Err (address_fault bad i)
+range_end_of first (Err bad) = do
+  _ ← blamed (address_fault bad)
+  pure first
 
 abbrev pub range_end_by : Ipv4Address → Option (List ℕ) → Parser Ipv4Address
-range_end_by first None = refuse
-range_end_by first (Some text) = if is_free text then range_end_of (range_word first (address_word text)) else refuse
+range_end_by first None = passing first
+range_end_by first (Some text) = if is_free text then range_end_of first (range_word first (address_word text)) else passing first
 
 -- the second address of a range, which isn't below the first
 unfoldable pub range_end : Ipv4Address → Parser Ipv4Address
@@ -133,7 +145,7 @@ range_from found = pure (a.Host found)
 
 abbrev pub table_name_by : Option (List ℕ) → Parser Name
 table_name_by None = refuse
-table_name_by (Some text) = if is_name text then named text else refuse
+table_name_by (Some text) = if is_name text then named text else passed text
 
 -- NAME, and the `>` behind it
 unfoldable pub table_name : Parser Name

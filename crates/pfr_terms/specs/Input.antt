@@ -16,6 +16,7 @@ use Rattle.pfr_terms.specs.declared.error.ConfErrorKind.{ConfErrorKind}
 use Rattle.pfr_terms.specs.declared.error.ConfErrorKind.TheVariants.{BadByte, Unterminated, UnknownWord, LeftOut, BadNumber, Memory}
 use Rattle.pfr_terms.specs.declared.name.Name.{Name}
 use Rattle.pfr_terms.specs.declared.name.MacroUse.{MacroUse}
+use Rattle.pfr_terms.specs.Faults.{lower}
 use Rattle.pfr_terms.specs.Notation.{number}
 
 pub record Input : Type 0 where
@@ -25,9 +26,18 @@ pub record Input : Type 0 where
   pub line : ℕ
   -- within the braces of a list, where a newline is a blank
   pub in_list : Bool
+  -- whether reading goes on behind a word that is at fault
+  pub gathers : Bool
+  -- the lowest of the faults that reading went on behind
+  pub gathered : Option ConfError
 
+-- a text, whose first fault ends the reading
 abbrev pub start : List Word → Input
-start words = record { words = words; line = 1; in_list = false }
+start words = record { words = words; line = 1; in_list = false; gathers = false; gathered = None }
+
+-- a macro's value, of whose faults the lowest is told
+abbrev pub of_value : List Word → Input
+of_value words = record { words = words; line = 1; in_list = false; gathers = true; gathered = None }
 
 -- ---- functions that read
 
@@ -210,6 +220,29 @@ faulty kind = λ i. Err (fault kind i)
 abbrev pub leave_out : {A : Type 0} → List ℕ → Parser A
 leave_out name = λ i. Err (left_out name i)
 
+-- ---- faults behind which reading goes on
+
+-- behind the next word, whose fault is gathered; a text is refused for it
+unfoldable pub blame : ConfError → Parser (Unit {0})
+blame e = λ i. if i.gathers then Ok (tt, next (record i { gathered = Some (lower i.gathered e) })) else Err e
+
+abbrev pub blamed : (Input → ConfError) → Parser (Unit {0})
+blamed f = λ i. blame (f i) i
+
+abbrev pub pass_over_by : Option (List ℕ) → Parser (Unit {0})
+pass_over_by None = refuse
+pass_over_by (Some word) = λ i. if i.gathers && is_left_out_word word then blame (left_out word i) i else Err (refusal i)
+
+-- behind a word that doesn't belong where it stands, if it is left out and its fault is gathered
+unfoldable pub pass_over : Parser (Unit {0})
+pass_over = λ i. pass_over_by (plain_ahead i) i
+
+-- with what stands for the item that the word isn't
+abbrev pub passing : {A : Type 0} → A → Parser A
+passing x = do
+  _ ← pass_over
+  pure x
+
 -- ---- what is read in turns
 -- A turn goes on with what was read so far, or ends. Each reads a word, so that one turn more than there are words is
 -- enough.
@@ -234,10 +267,25 @@ open_list = λ i. Ok (sees_sign s.OpenBrace i, if sees_sign s.OpenBrace i then e
 unfoldable pub close_list : Parser Bool
 close_list = λ i. Ok (sees_sign s.CloseBrace i, if sees_sign s.CloseBrace i then leave_list i else i)
 
-unfoldable pub expect_sign : Sign → Parser (Unit {0})
-expect_sign sign = do
+abbrev pub sign_or_more : Sign → (Unit {0} → Parser (Unit {0})) → Unit {0} → Parser (Unit {0})
+sign_or_more sign more done = do
   found ← eat_sign sign
-  if found then pure tt else refuse
+  if found then pure tt else (do
+    _ ← pass_over
+    more tt)
+
+-- past this sign, and past words that are gathered as faults
+unfoldable pub expect_sign : Sign → Parser (Unit {0})
+expect_sign sign = loop (sign_or_more sign) tt
+
+abbrev pub end_or_more : (Unit {0} → Parser (Unit {0})) → Unit {0} → Parser (Unit {0})
+end_or_more more done = λ i. if is_done i then pure tt i else (do
+  _ ← pass_over
+  more tt) i
+
+-- at the end of a macro's value, where no word is left
+unfoldable pub finish : Parser (Unit {0})
+finish = loop end_or_more tt
 
 unfoldable pub expect_word : List ℕ → Parser (Unit {0})
 expect_word word = do
@@ -256,9 +304,13 @@ named text = λ i. Ok (record { line = line_ahead i; text = text }, next i)
 unfoldable pub is_free : List ℕ → Bool
 is_free word = not (is_grammar_word word) && not (is_left_out_word word)
 
+-- the next word, which doesn't belong where it stands, with its line
+unfoldable pub passed : List ℕ → Parser Name
+passed text = λ i. passing (record { line = line_ahead i; text = text }) i
+
 abbrev pub free_word_by : Option (List ℕ) → Parser Name
 free_word_by None = refuse
-free_word_by (Some word) = if is_free word then named word else refuse
+free_word_by (Some word) = if is_free word then named word else passed word
 
 unfoldable pub free_word : Parser Name
 free_word = λ i. free_word_by (plain_ahead i) i
@@ -271,8 +323,8 @@ unfoldable pub number_ahead : Input → Option ℕ
 number_ahead i = number_of (plain_ahead i)
 
 abbrev pub number_by : ℕ → ℕ → Option ℕ → Parser ℕ
-number_by low high None = refuse
-number_by low high (Some n) = if nat_le low n && nat_le n high then (do _ ← taken; pure n) else faulty BadNumber
+number_by low high None = passing high
+number_by low high (Some n) = if nat_le low n && nat_le n high then (do _ ← taken; pure n) else (do _ ← blamed (fault BadNumber); pure high)
 
 -- a decimal number from low to high
 unfoldable pub number_in : ℕ → ℕ → Parser ℕ

@@ -1,4 +1,5 @@
 pub mod Addresses
+pub mod Faults
 pub mod Hosts
 pub mod Input
 pub mod Lists

@@ -14,7 +14,7 @@ use Rattle.pfr_terms.specs.declared.port.PortMatch.TheVariants.{Compare, Range}
 use Rattle.pfr_terms.specs.declared.port.PortWord.{PortWord}
 use Rattle.pfr_terms.specs.declared.port.PortWord.TheVariants.{Port, OutOfRange, Unknown}
 use Rattle.pfr_terms.specs.Notation.{number, cut_at}
-use Rattle.pfr_terms.specs.Input.{Input, Parser, ◌>>=◌, pure, refuse, taken, fault, left_out, is_free, plain_ahead, sign_ahead}
+use Rattle.pfr_terms.specs.Input.{Input, Parser, ◌>>=◌, pure, taken, fault, left_out, blamed, passing, is_free, plain_ahead, sign_ahead}
 
 abbrev pub service_word : Option ℕ → PortWord
 service_word None = Unknown
@@ -59,24 +59,32 @@ abbrev pub port_of : PortWord → Parser ℕ
 port_of (Port port) = do
   _ ← taken
   pure port
-port_of word = λ i. Err (port_fault word i)
+port_of word = do
+  _ ← blamed (port_fault word)
+  pure 0
 
 abbrev pub port_by : Option (List ℕ) → Parser ℕ
-port_by None = refuse
-port_by (Some word) = if is_free word then port_of (port_word word) else refuse
+port_by None = passing 0
+port_by (Some word) = if is_free word then port_of (port_word word) else passing 0
 
 unfoldable pub port : Parser ℕ
 port = λ i. port_by (plain_ahead i) i
+
+-- what stands for a port or a range that is gathered as a fault
+abbrev pub port_zero : PortMatch
+port_zero = Compare c.Equal 0
 
 abbrev pub ports_of : Result PortMatch PortWord → Parser PortMatch
 ports_of (Ok ports) = do
   _ ← taken
   pure ports
-ports_of (Err word) = λ i. Err (port_fault word i)
+ports_of (Err word) = do
+  _ ← blamed (port_fault word)
+  pure port_zero
 
 abbrev pub port_or_range_by : Option (List ℕ) → Parser PortMatch
-port_or_range_by None = refuse
-port_or_range_by (Some word) = if is_free word then ports_of (ports_in word) else refuse
+port_or_range_by None = passing port_zero
+port_or_range_by (Some word) = if is_free word then ports_of (ports_in word) else passing port_zero
 
 unfoldable pub port_or_range : Parser PortMatch
 port_or_range = λ i. port_or_range_by (plain_ahead i) i

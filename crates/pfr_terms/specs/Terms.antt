@@ -12,7 +12,7 @@ use Rattle.pfr_terms.specs.declared.interface.InterfaceMatch.{InterfaceMatch}
 use Rattle.pfr_terms.specs.declared.protocol.Protocol.{Protocol}
 use Rattle.pfr_terms.specs.declared.protocol.IcmpMatch.{IcmpMatch}
 use Rattle.pfr_terms.specs.Notation.{cut_at}
-use Rattle.pfr_terms.specs.Input.{Input, Parser, ◌>>=◌, pure, refuse, taken, named, is_free, number_in, plain_ahead, eat_sign, eat_word}
+use Rattle.pfr_terms.specs.Input.{Input, Parser, ◌>>=◌, pure, refuse, taken, named, passed, is_free, number_in, plain_ahead, eat_sign, eat_word}
 use Rattle.pfr_terms.specs.Lists.{written}
 
 -- ---- interfaces
@@ -22,7 +22,7 @@ is_interface_name word = is_free word && nat_le (length word) 15
 
 abbrev pub interface_name_by : Option (List ℕ) → Parser InterfaceName
 interface_name_by None = refuse
-interface_name_by (Some word) = if is_interface_name word then (do name ← named word; pure (record { name = name })) else refuse
+interface_name_by (Some word) = if is_interface_name word then (do name ← named word; pure (record { name = name })) else (do name ← passed word; pure (record { name = name }))
 
 unfoldable pub interface_name : Parser InterfaceName
 interface_name = λ i. interface_name_by (plain_ahead i) i

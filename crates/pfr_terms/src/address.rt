@@ -1,7 +1,7 @@
 //! Addresses, as they are written behind `from` and `to`, and in tables.
-ghost use Rattle.std.specs.Prelude.{◌≡◌};
+ghost use Rattle.std.specs.Prelude.{◌≡◌, IfOk};
 ghost use Rattle.pfr_terms.specs.Addresses as spec;
-ghost use Rattle.pfr_terms.specs.Input.{Reads, Refuses};
+ghost use Rattle.pfr_terms.specs.Input.{Reads};
 
 use crate::error::{ConfError, ConfErrorKind};
 use crate::lists::Item;
@@ -10,7 +10,7 @@ use crate::notation::{cut, dotted, number};
 use crate::reader::{Reader, is_free};
 use pfr_words::names::is_name;
 use pfr_words::{Bytes, Sign};
-use std::alloc::Global;
+use std::alloc::{AllocError, Global};
 
 /// An IPv4 address as a number: the first octet is the highest byte.
 #[derive(Clone, Copy, Debug, PartialEq, Eq)]
@@ -140,14 +140,29 @@ fn address_word(word: &[u8]) -> AddressWord
 }
 
 /// The fault of a plain word that is no address.
-fn address_fault(alloc: Global, reader: &Reader<'_, '_>, word: AddressWord) -> ConfError
-    ensures { Refuses (spec.address_fault word reader.now) result }
+fn address_fault(
+    alloc: Global,
+    reader: &Reader<'_, '_>,
+    word: AddressWord,
+) -> Result<ConfError, AllocError>
+    ensures { IfOk result (λ e. e ≡ spec.address_fault word reader.now) }
 {
     match word {
-        AddressWord::TooManyBits => reader.fault(ConfErrorKind::BadNumber),
-        AddressWord::Short => reader.left_out(alloc, b"short address"),
-        AddressWord::Name => reader.left_out(alloc, b"host name"),
-        _ => reader.fault(ConfErrorKind::BadAddress),
+        AddressWord::TooManyBits => Ok(reader.fault(ConfErrorKind::BadNumber)),
+        AddressWord::Short => reader.name_left_out(alloc, b"short address"),
+        AddressWord::Name => reader.name_left_out(alloc, b"host name"),
+        _ => Ok(reader.fault(ConfErrorKind::BadAddress)),
+    }
+}
+
+/// What stands for a word that is gathered as no address: behind a network no range goes on.
+fn stand_in<'a>(word: &[u8]) -> Host<'a>
+    ensures { result ≡ spec.stand_in word.now }
+{
+    let address = Ipv4Address(0);
+    match cut(b'/', word) {
+        Some(_) => Host::Network(Network { address, bits: 32 }),
+        None => Host::Address(address),
     }
 }
 
@@ -170,7 +185,11 @@ fn host_word<'a>(
             Ok(Host::Network(network))
         }
         AddressWord::Name => Ok(Host::Interface(reader.named(word))),
-        fault => Err(address_fault(alloc, reader, fault)),
+        bad => {
+            let fault = address_fault(alloc, reader, bad)?;
+            reader.blame(fault)?;
+            Ok(stand_in(word.as_slice()))
+        }
     }
 }
 
@@ -197,7 +216,8 @@ fn bare_host<'a>(alloc: Global, reader: &mut Reader<'_, 'a>) -> Result<Host<'a>,
 {
     match reader.plain_ahead() {
         Some(word) if is_free(word.as_slice()) => host_word(alloc, reader, word),
-        _ => Err(reader.refuse(alloc)),
+        Some(word) => Ok(Host::Interface(reader.passed(alloc, word)?)),
+        None => Err(reader.refuse(alloc)),
     }
 }
 
@@ -230,7 +250,7 @@ fn range_word(first: Ipv4Address, word: AddressWord) -> Result<Ipv4Address, Addr
     }
 }
 
-/// The second address of a range.
+/// The second address of a range; the first stands for one that is gathered as a fault.
 #[tactic(auto, unfolding(crate::specs::Addresses::range_end))]
 fn range_end(
     alloc: Global,
@@ -246,10 +266,17 @@ fn range_end(
                     reader.take();
                     Ok(last)
                 }
-                Err(fault) => Err(address_fault(alloc, reader, fault)),
+                Err(bad) => {
+                    let fault = address_fault(alloc, reader, bad)?;
+                    reader.blame(fault)?;
+                    Ok(first)
+                }
             }
         }
-        _ => Err(reader.refuse(alloc)),
+        _ => {
+            reader.pass_over(alloc)?;
+            Ok(first)
+        }
     }
 }
 
@@ -277,7 +304,8 @@ pub fn table_name<'a>(alloc: Global, reader: &mut Reader<'_, 'a>) -> Result<Name
 {
     let name = match reader.plain_ahead() {
         Some(word) if is_name(word.as_slice()) => reader.named(word),
-        _ => return Err(reader.refuse(alloc)),
+        Some(word) => reader.passed(alloc, word)?,
+        None => return Err(reader.refuse(alloc)),
     };
     reader.expect_sign(alloc, Sign::Greater)?;
     Ok(name)

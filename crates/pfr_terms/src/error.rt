@@ -1,5 +1,6 @@
 //! The faults of a ruleset text.
-ghost use Rattle.std.specs.Prelude.{◌≡◌};
+ghost use Rattle.std.specs.Prelude.{◌≡◌, IfOk};
+ghost use Rattle.pfr_terms.specs.Faults as faults;
 ghost use Rattle.pfr_terms.specs.Input as spec;
 ghost use Rattle.pfr_terms.specs.Input.{Refuses};
 
@@ -54,6 +55,42 @@ pub enum ConfErrorKind {
     /// Memory was refused while the text was read.
     #[error("no memory")]
     Memory,
+    /// A macro that isn't defined before its use.
+    #[error("undefined macro")]
+    UndefinedMacro,
+    /// A table that isn't defined before its use.
+    #[error("undefined table")]
+    UndefinedTable,
+    /// More rules or table entries than a ruleset may have.
+    #[error("too many")]
+    TooMany,
+    /// A table that is defined twice, or one entry both with and without `!`.
+    #[error("clash")]
+    Clash,
+}
+
+impl ConfErrorKind {
+    /// The number of the kind: of several faults at one word the lowest is told.
+    #[tactic(auto, unfolding(crate::specs::Faults::kind_number))]
+    pub fn number(&self) -> u8
+        ensures { result ≡ faults.kind_number self.now }
+    {
+        match self {
+            ConfErrorKind::BadByte => 1,
+            ConfErrorKind::Unterminated => 2,
+            ConfErrorKind::UnknownWord => 3,
+            ConfErrorKind::LeftOut(_) => 4,
+            ConfErrorKind::BadNumber => 5,
+            ConfErrorKind::BadAddress => 6,
+            ConfErrorKind::OutOfOrder => 7,
+            ConfErrorKind::TooDeep => 8,
+            ConfErrorKind::Memory => 9,
+            ConfErrorKind::UndefinedMacro => 10,
+            ConfErrorKind::UndefinedTable => 11,
+            ConfErrorKind::TooMany => 12,
+            ConfErrorKind::Clash => 13,
+        }
+    }
 }
 
 /// The first fault of a ruleset text, and its line: from 1, or 0 for want of memory.
@@ -94,11 +131,44 @@ pub(crate) fn kind_of(fault: WordFault) -> ConfErrorKind
 pub fn left_out_at(alloc: Global, line: usize, name: &[u8]) -> ConfError
     ensures { Refuses (spec.left_out_at line name.now) result }
 {
-    match Items::copied(alloc, name) {
-        Ok(name) => ConfError {
-            line,
-            kind: ConfErrorKind::LeftOut(LeftOutName { name }),
-        },
+    match name_left_out(alloc, line, name) {
+        Ok(fault) => fault,
         Err(refused) => ConfError::from(refused),
     }
+}
+
+/// The same fault, apart from want of memory.
+pub(crate) fn name_left_out(
+    alloc: Global,
+    line: usize,
+    name: &[u8],
+) -> Result<ConfError, AllocError>
+    ensures { IfOk result (λ e. e ≡ spec.left_out_at line name.now) }
+{
+    let name = Items::copied(alloc, name)?;
+    Ok(ConfError {
+        line,
+        kind: ConfErrorKind::LeftOut(LeftOutName { name }),
+    })
+}
+
+/// Of two faults the one whose kind has the lower number, of equals the one on the lower line, and of equals in both
+/// the first.
+#[tactic(auto, unfolding(crate::specs::Faults::lower))]
+pub fn lower(first: Option<ConfError>, second: ConfError) -> ConfError
+    ensures { result ≡ faults.lower first second }
+{
+    match first {
+        Some(first) if goes_first(&first, &second) => first,
+        _ => second,
+    }
+}
+
+/// Whether the first of two faults is told.
+fn goes_first(first: &ConfError, second: &ConfError) -> bool
+    ensures { result ≡ faults.goes_first first.now second.now }
+{
+    let number = first.kind.number();
+    let other = second.kind.number();
+    number < other || (number == other && first.line <= second.line)
 }

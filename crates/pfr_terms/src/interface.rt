@@ -29,7 +29,10 @@ impl<'a> Item<'a> for InterfaceName<'a> {
             Some(word) if is_interface_name(word.as_slice()) => Ok(InterfaceName {
                 name: reader.named(word),
             }),
-            _ => Err(reader.refuse(alloc)),
+            Some(word) => Ok(InterfaceName {
+                name: reader.passed(alloc, word)?,
+            }),
+            None => Err(reader.refuse(alloc)),
         }
     }
 }

@@ -1,7 +1,7 @@
 //! Ports, as they are written behind `port`.
 ghost use Rattle.std.specs.Prelude.{◌≡◌, ◌≤◌, Ok, IfOk};
 ghost use Rattle.pfr_terms.specs.Ports as spec;
-ghost use Rattle.pfr_terms.specs.Input.{Reads, Refuses};
+ghost use Rattle.pfr_terms.specs.Input.{Reads};
 
 use crate::error::{ConfError, ConfErrorKind};
 use crate::lists::Item;
@@ -9,7 +9,7 @@ use crate::notation::{cut, number};
 use crate::reader::{Reader, is_free};
 use pfr_words::Sign;
 use pfr_words::names::service_named;
-use std::alloc::Global;
+use std::alloc::{AllocError, Global};
 
 /// How a port is compared with one that is written.
 #[derive(Clone, Copy, Debug, PartialEq, Eq)]
@@ -101,16 +101,20 @@ fn ports_in(word: &[u8]) -> Result<PortMatch, PortWord>
 }
 
 /// The fault of a word that is no port.
-fn port_fault(alloc: Global, reader: &Reader<'_, '_>, word: PortWord) -> ConfError
-    ensures { Refuses (spec.port_fault word reader.now) result }
+fn port_fault(
+    alloc: Global,
+    reader: &Reader<'_, '_>,
+    word: PortWord,
+) -> Result<ConfError, AllocError>
+    ensures { IfOk result (λ e. e ≡ spec.port_fault word reader.now) }
 {
     match word {
-        PortWord::Unknown => reader.left_out(alloc, b"service"),
-        _ => reader.fault(ConfErrorKind::BadNumber),
+        PortWord::Unknown => reader.name_left_out(alloc, b"service"),
+        _ => Ok(reader.fault(ConfErrorKind::BadNumber)),
     }
 }
 
-/// A number or a service.
+/// A number or a service; port 0 stands for one that is gathered as a fault.
 #[tactic(auto, unfolding(crate::specs::Ports::port))]
 pub fn port(alloc: Global, reader: &mut Reader<'_, '_>) -> Result<u16, ConfError>
     ensures { Reads (spec.port reader.old) result reader.new }
@@ -121,11 +125,21 @@ pub fn port(alloc: Global, reader: &mut Reader<'_, '_>) -> Result<u16, ConfError
                 reader.take();
                 Ok(port)
             }
-            fault => Err(port_fault(alloc, reader, fault)),
+            word => {
+                let fault = port_fault(alloc, reader, word)?;
+                reader.blame(fault)?;
+                Ok(0)
+            }
         },
-        _ => Err(reader.refuse(alloc)),
+        _ => {
+            reader.pass_over(alloc)?;
+            Ok(0)
+        }
     }
 }
+
+/// What stands for a port or a range that is gathered as a fault.
+const PORT_ZERO: PortMatch = PortMatch::Compare(Comparison::Equal, 0);
 
 /// `p` or `x:y`.
 #[tactic(auto, unfolding(crate::specs::Ports::port_or_range))]
@@ -138,9 +152,16 @@ pub fn port_or_range(alloc: Global, reader: &mut Reader<'_, '_>) -> Result<PortM
                 reader.take();
                 Ok(ports)
             }
-            Err(fault) => Err(port_fault(alloc, reader, fault)),
+            Err(word) => {
+                let fault = port_fault(alloc, reader, word)?;
+                reader.blame(fault)?;
+                Ok(PORT_ZERO)
+            }
         },
-        _ => Err(reader.refuse(alloc)),
+        _ => {
+            reader.pass_over(alloc)?;
+            Ok(PORT_ZERO)
+        }
     }
 }
 

@@ -4,22 +4,29 @@ ghost use Rattle.std.specs.Option.{option_map};
 ghost use Rattle.pfr_terms.specs.Input as spec;
 ghost use Rattle.pfr_terms.specs.Input.{Reads, Refuses};
 
-use crate::error::{ConfError, ConfErrorKind, kind_of, left_out_at};
+use crate::error::{ConfError, ConfErrorKind, kind_of, left_out_at, lower, name_left_out};
 use crate::name::{MacroUse, Name};
 use crate::notation::number;
 use pfr_words::braces::is_sign;
 use pfr_words::names::{is_grammar_word, is_left_out};
 use pfr_words::{Bytes, Sign, Token, Word};
-use std::alloc::Global;
+use std::alloc::{AllocError, Global};
 use std::marker::Model;
+use std::mem::replace;
 
 /// The words that are left, and the line of the last word that was read. Within the braces of a list a newline is a
 /// blank.
+///
+/// A text is read up to its first fault. A macro's value is read on behind a plain word that is at fault, since of all
+/// its faults the one of the lowest kind is told: such faults are gathered, and something stands for the item that the
+/// word isn't.
 #[derive(Drop)]
 pub struct Reader<'w, 'a> {
     words: &'w [Word<'a>],
     line: usize,
     in_list: bool,
+    gathers: bool,
+    gathered: Option<ConfError>,
 }
 
 impl<'w, 'a> Model for Reader<'w, 'a> {
@@ -27,7 +34,13 @@ impl<'w, 'a> Model for Reader<'w, 'a> {
 
     ghost Value = { Input };
 
-    ghost view = { λ r. record { words = r.words.now; line = r.line; in_list = r.in_list } };
+    ghost view = { λ r. record {
+      words = r.words.now;
+      line = r.line;
+      in_list = r.in_list;
+      gathers = r.gathers;
+      gathered = r.gathered;
+    } };
 }
 
 fn is_line_end(token: &Token<'_>) -> bool
@@ -40,6 +53,7 @@ fn is_line_end(token: &Token<'_>) -> bool
 }
 
 impl<'w, 'a> Reader<'w, 'a> {
+    /// A reader of a text.
     pub fn new(words: &'w [Word<'a>]) -> Reader<'w, 'a>
         ensures { result ≡ spec.start words.now }
     {
@@ -47,7 +61,30 @@ impl<'w, 'a> Reader<'w, 'a> {
             words,
             line: 1,
             in_list: false,
+            gathers: false,
+            gathered: None,
         }
+    }
+
+    /// A reader of a macro's value.
+    pub fn of_value(words: &'w [Word<'a>]) -> Reader<'w, 'a>
+        ensures { result ≡ spec.of_value words.now }
+    {
+        Reader {
+            words,
+            line: 1,
+            in_list: false,
+            gathers: true,
+            gathered: None,
+        }
+    }
+
+    /// The lowest of the faults that reading went on behind.
+    pub fn into_gathered(self) -> Option<ConfError>
+        ensures { result ≡ self.entry.gathered }
+    {
+        let Reader { gathered, .. } = self;
+        gathered
     }
 
     /// More turns than a loop can take of which each reads a word.
@@ -283,16 +320,68 @@ impl<'w, 'a> Reader<'w, 'a> {
         left_out_at(alloc, self.line_ahead(), name)
     }
 
-    /// Goes past this sign, which has to come next.
-    #[tactic(auto, unfolding(crate::specs::Input::expect_sign))]
+    /// The same fault, apart from want of memory.
+    #[tactic(auto, unfolding(crate::specs::Input::left_out))]
+    pub(crate) fn name_left_out(&self, alloc: Global, name: &[u8]) -> Result<ConfError, AllocError>
+        ensures { IfOk result (λ e. e ≡ spec.left_out name.now self.now) }
+    {
+        name_left_out(alloc, self.line_ahead(), name)
+    }
+
+    /// Goes past the next word, which is at fault, and gathers the fault; where none are gathered it is the answer.
+    #[tactic(auto, unfolding(crate::specs::Input::blame))]
+    pub fn blame(&mut self, fault: ConfError) -> Result<(), ConfError>
+        ensures { Reads (spec.blame fault self.old) result self.new }
+    {
+        if !self.gathers {
+            return Err(fault);
+        }
+        let gathered = replace(&mut self.gathered, None);
+        self.gathered = Some(lower(gathered, fault));
+        self.take();
+        Ok(())
+    }
+
+    /// Goes past the next word, which doesn't belong where it stands, if it is left out and faults are gathered.
+    #[tactic(auto, unfolding(crate::specs::Input::pass_over))]
+    pub fn pass_over(&mut self, alloc: Global) -> Result<(), ConfError>
+        ensures { Reads (spec.pass_over self.old) result self.new }
+    {
+        match self.plain_ahead() {
+            Some(word) if self.gathers && is_left_out(word.as_slice()) => {
+                let fault = self.name_left_out(alloc, word.as_slice())?;
+                self.blame(fault)
+            }
+            _ => Err(self.refuse(alloc)),
+        }
+    }
+
+    /// Goes to the end of a macro's value, where no word has to be left.
+    #[tactic(auto, unfolding(crate::specs::Input::finish), using(crate::proofs::Turns::one_turn, crate::proofs::Turns::no_turn))]
+    pub fn finish(&mut self, alloc: Global) -> Result<(), ConfError>
+        ensures { Reads (spec.finish self.old) result self.new }
+    {
+        for _turn in 0..self.turns() {
+            if self.is_done() {
+                return Ok(());
+            }
+            self.pass_over(alloc)?;
+        }
+        Err(self.refuse(alloc))
+    }
+
+    /// Goes past this sign, which has to come next; words before it are passed over where faults are gathered.
+    #[tactic(auto, unfolding(crate::specs::Input::expect_sign), using(crate::proofs::Turns::one_turn, crate::proofs::Turns::no_turn))]
     pub fn expect_sign(&mut self, alloc: Global, sign: Sign) -> Result<(), ConfError>
         ensures { Reads (spec.expect_sign sign self.old) result self.new }
     {
-        if self.eat_sign(sign) {
-            Ok(())
-        } else {
-            Err(self.refuse(alloc))
+        for _turn in 0..self.turns() {
+            if self.eat_sign(sign) {
+                return Ok(());
+            }
+            self.pass_over(alloc)?;
         }
+        Err(self.refuse(alloc))
     }
 
     /// Goes past this word, which has to come next.
@@ -317,6 +406,16 @@ impl<'w, 'a> Reader<'w, 'a> {
         Name { line, text }
     }
 
+    /// Passes over the next word, which doesn't belong where it stands; as a name it stands for the item that it isn't.
+    #[tactic(auto, unfolding(crate::specs::Input::passed))]
+    pub(crate) fn passed(&mut self, alloc: Global, text: Bytes<'a>) -> Result<Name<'a>, ConfError>
+        ensures { Reads (spec.passed text.entry self.old) result self.new }
+    {
+        let line = self.line_ahead();
+        self.pass_over(alloc)?;
+        Ok(Name { line, text })
+    }
+
     /// A plain word that has no meaning in pf.conf(5).
     #[tactic(auto, unfolding(crate::specs::Input::free_word))]
     pub fn free_word(&mut self, alloc: Global) -> Result<Name<'a>, ConfError>
@@ -324,23 +423,31 @@ impl<'w, 'a> Reader<'w, 'a> {
     {
         match self.plain_ahead() {
             Some(word) if is_free(word.as_slice()) => Ok(self.named(word)),
-            _ => Err(self.refuse(alloc)),
+            Some(word) => self.passed(alloc, word),
+            None => Err(self.refuse(alloc)),
         }
     }
 
-    /// A decimal number from `low` to `high`.
+    /// A decimal number from `low` to `high`; `high` stands for one that is gathered as a fault.
     #[tactic(auto, unfolding(crate::specs::Input::number_in))]
     pub fn number(&mut self, alloc: Global, low: u64, high: u64) -> Result<u64, ConfError>
         ensures value { Reads (spec.number_in low high self.old) result self.new }
         ensures within { IfOk result (λ n. n ≤ high) }
     {
         match self.number_ahead() {
-            None => Err(self.refuse(alloc)),
+            None => {
+                self.pass_over(alloc)?;
+                Ok(high)
+            }
             Some(value) if low <= value && value <= high => {
                 self.take();
                 Ok(value)
             }
-            Some(_) => Err(self.fault(ConfErrorKind::BadNumber)),
+            Some(_) => {
+                let fault = self.fault(ConfErrorKind::BadNumber);
+                self.blame(fault)?;
+                Ok(high)
+            }
         }
     }
 

@@ -86,6 +86,48 @@ fn ports_are_refused(rt: HostRuntime) {
     assert!(rt; is_bad_number(port_fault(alloc, b"443:80"), 1));
 }
 
+/// The lowest fault of a macro's value that has to be a list of such items, or the one that ends the reading; nothing
+/// where it has none.
+fn value_fault<'a, T: Item<'a>>(
+    alloc: Global,
+    text: &'a [u8],
+) -> Result<Option<ConfError>, ConfError> {
+    let found = words(alloc, text)?;
+    let mut reader = Reader::of_value(found.as_slice());
+    list::<T>(alloc, &mut reader)?;
+    reader.finish(alloc)?;
+    Ok(reader.into_gathered())
+}
+
+/// Whether the reading of such a list of ports ends at a word that doesn't belong there.
+fn is_unknown_word(alloc: Global, text: &[u8]) -> bool {
+    match value_fault::<PortMatch>(alloc, text) {
+        Err(
+            ConfError {
+                line: 1,
+                kind: ConfErrorKind::UnknownWord,
+            },
+        ) => true,
+        _ => false,
+    }
+}
+
+#[test]
+fn the_lowest_fault_of_a_value_is_told(rt: HostRuntime) -> Result<(), ConfError> {
+    let alloc = rt.alloc();
+    let addresses = b"{ 10.0.0.256 10/8 tag }".as_slice();
+    let fault = value_fault::<AddressMatch<'_>>(alloc, addresses)?;
+    assert!(rt; leaves_out(fault, 1, b"short address"));
+    let fault = value_fault::<PortMatch>(alloc, b"{ 99999 gopher }".as_slice())?;
+    assert!(rt; leaves_out(fault, 1, b"service"));
+    assert!(rt; value_fault::<PortMatch>(alloc, b"{ 80 443 }".as_slice())?.is_none());
+    // a value is one list
+    assert!(rt; is_unknown_word(alloc, b"80 443"));
+    // no word is lower
+    assert!(rt; is_unknown_word(alloc, b"{ 99999 gopher port }"));
+    Ok(())
+}
+
 #[test]
 fn protocols_are_read(rt: HostRuntime) -> Result<(), ConfError> {
     let alloc = rt.alloc();
