@@ -1,0 +1,3 @@
+pub mod Elements
+pub mod Interfaces
+pub mod Values
