@@ -1,0 +1,5 @@
+pub mod KeyLemmas
+pub mod Membership
+pub mod MemberLemmas
+pub mod PrefixLemmas
+pub mod WrittenLemmas
