@@ -5,6 +5,7 @@ ghost use Rattle.pfr_terms.specs.declared.name.MacroUse.{MacroUse};
 ghost use Rattle.pfr_terms.specs.declared.error.ConfErrorKind.TheVariants.{Memory};
 ghost use Rattle.pfr_terms.specs.Input.{Parser, Reads, of_value};
 ghost use Rattle.pfr_words.specs.Words as ws;
+ghost use Rattle.std.specs.Bool.{Decides};
 ghost use Rattle.pfr_elements.specs.declared.scope.Scope.{Scope};
 ghost use Rattle.pfr_elements.specs.Elements as spec;
 ghost use Rattle.pfr_elements.specs.Values.{Makes};
@@ -72,6 +73,16 @@ pub trait Element: Sized {
         reader: &mut Reader<'_, '_>,
     ) -> Result<Option<Self::Flat>, ConfError>
         ensures { Reads (spec.value_item meaning form scope.now reader.old) result reader.new };
+}
+
+/// Whether memory was refused.
+pub(crate) fn is_memory(fault: &ConfError) -> bool
+    ensures { Decides result (fault.now.kind ≡ Memory) }
+{
+    match fault.kind {
+        ConfErrorKind::Memory => true,
+        _ => false,
+    }
 }
 
 /// What a thing of a value means; a fault is gathered.
@@ -188,8 +199,8 @@ fn put_values<T: Element>(
     values: &[T::Flat],
     is_negated: bool,
 ) -> Result<(), AllocError>
-    ensures { OnOk result (found.new.items ≡ found.old.items ++ map (spec.turned_if is_negated T.turned) values.now) }
-    ensures { (found.new.fault ≡ found.old.fault) × (found.new.count ≡ found.old.count) }
+    ensures put { OnOk result (found.new.items ≡ found.old.items ++ map (spec.turned_if is_negated T.turned) values.now) }
+    ensures kept { (found.new.fault ≡ found.old.fault) × (found.new.count ≡ found.old.count) }
 {
     for flat in values {
         let turned = if is_negated { T::turn(*flat) } else { *flat };
@@ -215,7 +226,7 @@ fn add_text<T: Element>(
     let mut reader = Reader::of_value(value.as_slice());
     let values = match value_items::<T>(alloc, scope, &mut reader) {
         Ok(values) => values,
-        Err(ConfError { line: 0, kind: ConfErrorKind::Memory }) => return Err(ConfError::from(AllocError)),
+        Err(fault) if is_memory(&fault) => return Err(fault),
         Err(fault) => {
             found.add_fault(ConfError { line, kind: fault.kind });
             return Ok(());
@@ -280,7 +291,7 @@ pub fn add_element<T: Element>(
 }
 
 /// The elements of a list. Those behind the one that is too many aren't looked at.
-pub fn elements<T: Element>(
+pub fn elements_of<T: Element>(
     alloc: Global,
     scope: &Scope<'_>,
     list: &[T],

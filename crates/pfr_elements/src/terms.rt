@@ -1,5 +1,10 @@
 //! What interfaces, protocols, ports and ICMP types mean in a list.
 ghost use Rattle.std.specs.Prelude.{◌≡◌};
+ghost use Rattle.pfr_terms.specs.Input.{Reads};
+ghost use Rattle.pfr_terms.specs.Lists as lists;
+ghost use Rattle.pfr_terms.specs.Ports as ports;
+ghost use Rattle.pfr_terms.specs.Terms as terms;
+ghost use Rattle.pfr_elements.specs.Elements as elements;
 ghost use Rattle.pfr_elements.specs.Terms as spec;
 
 use crate::element::{Element, noted};
@@ -82,15 +87,19 @@ impl<'a> Element for Written<'a, Protocol> {
         Ok(itself(self))
     }
 
-    fn turn(flat: Protocol) -> Protocol {
+    fn turn(flat: Protocol) -> Protocol
+        ensures { result ≡ spec.same flat }
+    {
         flat
     }
 
     fn read_one(
         alloc: Global,
-        _scope: &Scope<'_>,
+        scope: &Scope<'_>,
         reader: &mut Reader<'_, '_>,
-    ) -> Result<Option<Protocol>, ConfError> {
+    ) -> Result<Option<Protocol>, ConfError>
+        ensures { Reads (elements.value_item spec.itself (lists.written terms.protocol) scope.now reader.old) result reader.new }
+    {
         let found = Written::<'_, Protocol>::read(alloc, reader)?;
         Ok(noted(reader, itself(&found)))
     }
@@ -125,15 +134,19 @@ impl<'a> Element for Written<'a, IcmpMatch> {
         Ok(itself(self))
     }
 
-    fn turn(flat: IcmpMatch) -> IcmpMatch {
+    fn turn(flat: IcmpMatch) -> IcmpMatch
+        ensures { result ≡ spec.same flat }
+    {
         flat
     }
 
     fn read_one(
         alloc: Global,
-        _scope: &Scope<'_>,
+        scope: &Scope<'_>,
         reader: &mut Reader<'_, '_>,
-    ) -> Result<Option<IcmpMatch>, ConfError> {
+    ) -> Result<Option<IcmpMatch>, ConfError>
+        ensures { Reads (elements.value_item spec.itself (lists.written terms.icmp_match) scope.now reader.old) result reader.new }
+    {
         let found = Written::<'_, IcmpMatch>::read(alloc, reader)?;
         Ok(noted(reader, itself(&found)))
     }
@@ -168,15 +181,19 @@ impl<'a> Element for Written<'a, PortMatch> {
         Ok(itself(self))
     }
 
-    fn turn(flat: PortMatch) -> PortMatch {
+    fn turn(flat: PortMatch) -> PortMatch
+        ensures { result ≡ spec.same flat }
+    {
         flat
     }
 
     fn read_one(
         alloc: Global,
-        _scope: &Scope<'_>,
+        scope: &Scope<'_>,
         reader: &mut Reader<'_, '_>,
-    ) -> Result<Option<PortMatch>, ConfError> {
+    ) -> Result<Option<PortMatch>, ConfError>
+        ensures { Reads (elements.value_item spec.itself (lists.written ports.port_match) scope.now reader.old) result reader.new }
+    {
         let found = Written::<'_, PortMatch>::read(alloc, reader)?;
         Ok(noted(reader, itself(&found)))
     }
@@ -220,15 +237,19 @@ impl<'a> Element for Written<'a, InterfaceName<'a>> {
         Ok(skipped(self))
     }
 
-    fn turn(flat: IfName) -> IfName {
+    fn turn(flat: IfName) -> IfName
+        ensures { result ≡ spec.same flat }
+    {
         flat
     }
 
     fn read_one(
         alloc: Global,
-        _scope: &Scope<'_>,
+        scope: &Scope<'_>,
         reader: &mut Reader<'_, '_>,
-    ) -> Result<Option<IfName>, ConfError> {
+    ) -> Result<Option<IfName>, ConfError>
+        ensures { Reads (elements.value_item spec.skipped (lists.written terms.interface_name) scope.now reader.old) result reader.new }
+    {
         let found = Written::<'_, InterfaceName<'_>>::read(alloc, reader)?;
         Ok(noted(reader, skipped(&found)))
     }
@@ -274,7 +295,9 @@ impl<'a> Element for InterfaceMatch<'a> {
         Ok(named(self))
     }
 
-    fn turn(flat: InterfaceCriterion) -> InterfaceCriterion {
+    fn turn(flat: InterfaceCriterion) -> InterfaceCriterion
+        ensures { result ≡ spec.interface_turned flat }
+    {
         InterfaceCriterion {
             is_negated: true,
             ..flat
@@ -283,9 +306,11 @@ impl<'a> Element for InterfaceMatch<'a> {
 
     fn read_one(
         alloc: Global,
-        _scope: &Scope<'_>,
+        scope: &Scope<'_>,
         reader: &mut Reader<'_, '_>,
-    ) -> Result<Option<InterfaceCriterion>, ConfError> {
+    ) -> Result<Option<InterfaceCriterion>, ConfError>
+        ensures { Reads (elements.value_item spec.interface_meaning terms.interface_match scope.now reader.old) result reader.new }
+    {
         let found = InterfaceMatch::read(alloc, reader)?;
         Ok(noted(reader, named(&found)))
     }

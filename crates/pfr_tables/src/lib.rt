@@ -5,7 +5,7 @@
 #![tactic(auto)]
 
 pub mod laws;
-mod network;
+pub mod network;
 pub mod table;
 #[cfg(test)]
 mod tests;

@@ -7,7 +7,7 @@ use pfr_terms::{Ipv4Address, Network};
 
 /// The address without the bits below a prefix of so many bits; more than 32 bits count as 32.
 #[tactic(auto, unfolding(crate::specs::Prefixes::prefix))]
-pub(crate) fn prefix(bits: u8, address: u32) -> u32
+pub fn prefix(bits: u8, address: u32) -> u32
     ensures { result ≡ spec.prefix bits address }
 {
     let size = 1u64 << 32u8.saturating_sub(bits);
