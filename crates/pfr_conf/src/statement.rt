@@ -14,7 +14,7 @@ use pfr_words::{Bytes, Items};
 use std::alloc::Global;
 
 /// A statement of a ruleset.
-#[derive(Debug, Drop)]
+#[derive(Drop)]
 pub enum Statement<'a> {
     Macro(MacroDefinition<'a>),
     Table(TableDefinition<'a>),
@@ -24,7 +24,7 @@ pub enum Statement<'a> {
 }
 
 /// The statements of a ruleset, in the order in which they are written.
-#[derive(Debug, Drop)]
+#[derive(Drop)]
 pub struct Statements<'a> {
     pub statements: Items<Statement<'a>>,
 }

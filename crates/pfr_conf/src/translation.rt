@@ -26,7 +26,7 @@ pub enum TranslationKind {
 }
 
 /// A translation rule, with its line. Without a target (`no nat`) the packets that it holds for aren't translated.
-#[derive(Debug, Drop)]
+#[derive(Drop)]
 pub struct TranslationRule<'a> {
     pub line: usize,
     pub kind: TranslationKind,
@@ -38,7 +38,7 @@ pub struct TranslationRule<'a> {
 }
 
 /// A translation rule, or an anchor of such, which is empty.
-#[derive(Debug, Drop)]
+#[derive(Drop)]
 pub enum TranslationStatement<'a> {
     Rule(TranslationRule<'a>),
     Anchor(TranslationKind, Name<'a>),
