@@ -162,8 +162,12 @@ any_statement_keeps : {n : ℕ} (reached : Section) → Keeps n (statements.any_
 unfolding statements.any_statement
 any_statement_keeps reached = search (reading, keeps_test, rule_or_definition_keeps, set_statement_keeps)
 
+statement_line_keeps : {n : ℕ} (so_far : statements.Lines) → Keeps n (statements.statement_line so_far)
+unfolding statements.statement_line
+statement_line_keeps so_far = search (reading, any_statement_keeps, keeps_end_of_line)
+
 text_line_keeps : {n : ℕ} (more : statements.Lines → Parser (List Statement)) → ((so_far : statements.Lines) → Keeps n (more so_far)) → (so_far : statements.Lines) → Keeps n (statements.text_line more so_far)
-text_line_keeps more rest so_far = search (reading, keeps_test, blank_lines_keeps, any_statement_keeps, keeps_end_of_line, rest) depth 8
+text_line_keeps more rest so_far = search (reading, keeps_test, blank_lines_keeps, statement_line_keeps, rest) depth 8
 
 lines_keep : {n : ℕ} → Keeps n statements.lines
 lines_keep = keeps_loop statements.text_line _ text_line_keeps

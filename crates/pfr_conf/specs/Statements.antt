@@ -1,11 +1,11 @@
 -- A ruleset text as statements.
-use Rattle.std.specs.Prelude.{ℕ, Bool, true, false, not, if◌then◌else◌, List, [], ◌∷◌, ◌++◌, map, Option, Some, None, Result, Ok, Err, codes}
+use Rattle.std.specs.Prelude.{◌≡◌, ◌≢◌, ℕ, Bool, true, false, not, if◌then◌else◌, List, [], ◌∷◌, ◌++◌, map, Option, Some, None, Result, Ok, Err, codes}
 use Rattle.pfr_words.specs.declared.word.Word.{Word}
 use Rattle.pfr_words.specs.Words.{words}
 use Rattle.pfr_words.specs.Names.{is_among}
 use Rattle.pfr_conf.specs.declared.statement.TheConstants.{FILTER_WORDS, TRANSLATION_WORDS}
 use Rattle.pfr_terms.specs.declared.error.ConfError.{ConfError}
-use Rattle.pfr_terms.specs.declared.error.ConfErrorKind.TheVariants.{OutOfOrder}
+use Rattle.pfr_terms.specs.declared.error.ConfErrorKind.TheVariants.{OutOfOrder, Memory}
 use Rattle.pfr_conf.specs.declared.statement.Section.{Section}
 use Rattle.pfr_conf.specs.declared.statement.Section.TheVariants as section
 use Rattle.pfr_conf.specs.declared.statement.Statement.{Statement}
@@ -79,13 +79,22 @@ any_statement reached = λ i.
 abbrev pub Lines : Type 0
 Lines = Section × List Statement
 
+-- what a function promises that reads onto what was found before
+abbrev pub ReadsOnto : {A B : Type 0} → Outcome (A × B) → Result A ConfError → B → Input → Type 0
+ReadsOnto outcome (Ok a) found new = outcome ≡ Ok ((a, found), new)
+ReadsOnto outcome (Err e) found new = e.kind ≢ Memory → outcome ≡ Err e
+
+-- a statement more, which has its line to itself
+unfoldable pub statement_line : Lines → Parser Lines
+statement_line so_far = do
+  found ← any_statement so_far.0
+  _ ← end_of_line
+  pure (found.0, so_far.1 ++ found.1 ∷ [])
+
 abbrev pub text_line : (Lines → Parser (List Statement)) → Lines → Parser (List Statement)
 text_line more so_far = do
   _ ← blank_lines
-  λ i. if is_done i then pure so_far.1 i else (do
-    found ← any_statement so_far.0
-    _ ← end_of_line
-    more (found.0, so_far.1 ++ found.1 ∷ [])) i
+  λ i. if is_done i then pure so_far.1 i else (statement_line so_far >>= more) i
 
 -- the statements, one to a line
 abbrev pub lines : Parser (List Statement)
