@@ -1,7 +1,6 @@
 //! A ruleset text as statements.
 ghost use Rattle.std.specs.Prelude.{◌≡◌};
 ghost use Rattle.pfr_conf.specs.Statements as spec;
-ghost use Rattle.pfr_conf.specs.Statements.{ReadsOnto};
 ghost use Rattle.pfr_terms.specs.Input.{Reads, Gives};
 
 use crate::policy::end_of_line;
@@ -10,22 +9,6 @@ use pfr_terms::{ConfError, Reader};
 use pfr_words::spelling::words;
 use pfr_words::{Items, Word};
 use std::alloc::Global;
-
-/// A statement, which has its line to itself, and how far the ruleset has come with it.
-#[tactic(auto, unfolding(crate::specs::Statements::statement_line))]
-fn statement_line<'a>(
-    alloc: Global,
-    reader: &mut Reader<'_, 'a>,
-    found: &mut Items<Statement<'a>>,
-    reached: Section,
-) -> Result<Section, ConfError>
-    ensures { ReadsOnto (spec.statement_line (reached, found.old) reader.old) result found.new reader.new }
-{
-    let (section, statement) = any_statement(alloc, reader, reached)?;
-    end_of_line(alloc, reader)?;
-    found.push(statement)?;
-    Ok(section)
-}
 
 /// All statements that the words make, one to a line.
 #[tactic(auto, using(pfr_terms::proofs::Turns::one_turn, pfr_terms::proofs::Turns::no_turn))]
@@ -39,7 +22,8 @@ fn lines<'a>(alloc: Global, reader: &mut Reader<'_, 'a>) -> Result<Items<Stateme
         if reader.is_done() {
             return Ok(found);
         }
-        reached = statement_line(alloc, reader, &mut found, reached)?;
+        reached = any_statement(alloc, reader, &mut found, reached)?;
+        end_of_line(alloc, reader)?;
     }
     Err(reader.refuse(alloc))
 }
