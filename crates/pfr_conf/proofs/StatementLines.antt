@@ -135,32 +135,39 @@ word_left_out_by_is : (n : ℕ) (found : Option (List ℕ)) (i : Input) → With
 word_left_out_by_is n (Some word) i within = left_out_is n word i within
 word_left_out_by_is n None i within = refusal_is n i within
 
-translation_line_keeps : {n : ℕ} (reached : Section) → Keeps n (statements.translation_line reached)
+translation_line_keeps : {n : ℕ} (so_far : statements.Lines) → Keeps n (statements.translation_line so_far)
 unfolding statements.translation_line statements.word_left_out
-translation_line_keeps {n = n} reached = record { from = λ i within. word_left_out_by_is n _ i within }
+translation_line_keeps {n = n} so_far = record { from = λ i within. word_left_out_by_is n _ i within }
 
-macro_statement_keeps : {n : ℕ} (reached : Section) → Keeps n (statements.macro_statement reached)
-macro_statement_keeps reached = search (reading, macro_definition_keeps)
+macro_statement_keeps : {n : ℕ} (so_far : statements.Lines) → Keeps n (statements.macro_statement so_far)
+unfolding statements.macro_statement
+macro_statement_keeps so_far = search (reading, macro_definition_keeps)
 
-translation_or_macro_keeps : {n : ℕ} (reached : Section) → Keeps n (statements.translation_or_macro reached)
-translation_or_macro_keeps reached = keeps_test _ (translation_line_keeps reached) (macro_statement_keeps reached)
+table_statement_keeps : {n : ℕ} (line : ℕ) (so_far : statements.Lines) → Keeps n (statements.table_statement line so_far)
+unfolding statements.table_statement
+table_statement_keeps line so_far = search (reading, table_definition_keeps)
 
-definition_keeps : {n : ℕ} (reached : Section) (line : ℕ) → Keeps n (statements.definition reached line)
-definition_keeps reached line = search (reading, table_definition_keeps, translation_or_macro_keeps)
+translation_or_macro_keeps : {n : ℕ} (so_far : statements.Lines) → Keeps n (statements.translation_or_macro so_far)
+translation_or_macro_keeps so_far = keeps_test _ (translation_line_keeps so_far) (macro_statement_keeps so_far)
 
-filter_statement_keeps : {n : ℕ} → Keeps n statements.filter_statement
-filter_statement_keeps = search (reading, statement_keeps)
+definition_keeps : {n : ℕ} (so_far : statements.Lines) (line : ℕ) → Keeps n (statements.definition so_far line)
+definition_keeps so_far line = search (reading, table_statement_keeps, translation_or_macro_keeps)
 
-rule_or_definition_keeps : {n : ℕ} (reached : Section) → Keeps n (statements.rule_or_definition reached)
+filter_statement_keeps : {n : ℕ} (found : List Statement) → Keeps n (statements.filter_statement found)
+unfolding statements.filter_statement
+filter_statement_keeps found = search (reading, statement_keeps)
+
+rule_or_definition_keeps : {n : ℕ} (so_far : statements.Lines) → Keeps n (statements.rule_or_definition so_far)
 unfolding statements.rule_or_definition
-rule_or_definition_keeps reached = keeps_test _ filter_statement_keeps (keeps_by line_ahead (statements.definition reached) (definition_keeps reached))
+rule_or_definition_keeps so_far = keeps_test _ (filter_statement_keeps so_far.1) (keeps_by line_ahead (statements.definition so_far) (definition_keeps so_far))
 
-set_statement_keeps : {n : ℕ} (reached : Section) → Keeps n (statements.set_statement reached)
-set_statement_keeps reached = search (reading, keeps_set_option)
+set_statement_keeps : {n : ℕ} (so_far : statements.Lines) → Keeps n (statements.set_statement so_far)
+unfolding statements.set_statement
+set_statement_keeps so_far = search (reading, keeps_set_option)
 
-any_statement_keeps : {n : ℕ} (reached : Section) → Keeps n (statements.any_statement reached)
+any_statement_keeps : {n : ℕ} (so_far : statements.Lines) → Keeps n (statements.any_statement so_far)
 unfolding statements.any_statement
-any_statement_keeps reached = search (reading, keeps_test, rule_or_definition_keeps, set_statement_keeps)
+any_statement_keeps so_far = search (reading, keeps_test, rule_or_definition_keeps, set_statement_keeps)
 
 text_line_keeps : {n : ℕ} (more : statements.Lines → Parser (List Statement)) → ((so_far : statements.Lines) → Keeps n (more so_far)) → (so_far : statements.Lines) → Keeps n (statements.text_line more so_far)
 text_line_keeps more rest so_far = search (reading, keeps_test, blank_lines_keeps, any_statement_keeps, keeps_end_of_line, rest) depth 8

@@ -98,9 +98,13 @@ passes_keeps : {n : ℕ} → Keeps n translations.passes
 unfolding translations.passes
 passes_keeps = search (reading, keeps_logged)
 
+target_behind_arrow_keeps : {n : ℕ} (kind : TranslationKind) → Keeps n (translations.target_behind_arrow kind)
+unfolding translations.target_behind_arrow
+target_behind_arrow_keeps kind = search (reading, target_keeps)
+
 rule_with_target_keeps : {n : ℕ} (line : ℕ) (kind : TranslationKind) → Keeps n (translations.rule_with_target line kind)
 unfolding translations.rule_with_target
-rule_with_target_keeps line kind = search (reading, passes_keeps, translated_keeps, target_keeps) depth 8
+rule_with_target_keeps line kind = search (reading, passes_keeps, translated_keeps, target_behind_arrow_keeps) depth 8
 
 without_target_keeps : {n : ℕ} (line : ℕ) (found : Option TranslationKind) → Keeps n (translations.without_target line found)
 without_target_keeps line None = search reading

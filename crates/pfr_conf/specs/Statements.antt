@@ -1,11 +1,11 @@
 -- A ruleset text as statements.
-use Rattle.std.specs.Prelude.{ℕ, Bool, true, false, not, if◌then◌else◌, List, [], ◌∷◌, ◌++◌, map, Option, Some, None, Result, Ok, Err, codes}
+use Rattle.std.specs.Prelude.{◌≡◌, ◌≢◌, ℕ, Bool, true, false, not, if◌then◌else◌, List, [], ◌∷◌, ◌++◌, map, Option, Some, None, Result, Ok, Err, codes}
 use Rattle.pfr_words.specs.declared.word.Word.{Word}
 use Rattle.pfr_words.specs.Words.{words}
 use Rattle.pfr_words.specs.Names.{is_among}
 use Rattle.pfr_conf.specs.declared.statement.TheConstants.{FILTER_WORDS, TRANSLATION_WORDS}
 use Rattle.pfr_terms.specs.declared.error.ConfError.{ConfError}
-use Rattle.pfr_terms.specs.declared.error.ConfErrorKind.TheVariants.{OutOfOrder}
+use Rattle.pfr_terms.specs.declared.error.ConfErrorKind.TheVariants.{OutOfOrder, Memory}
 use Rattle.pfr_conf.specs.declared.statement.Section.{Section}
 use Rattle.pfr_conf.specs.declared.statement.Section.TheVariants as section
 use Rattle.pfr_conf.specs.declared.statement.Statement.{Statement}
@@ -38,54 +38,65 @@ word_left_out_by None i = refusal i
 unfoldable pub word_left_out : Input → ConfError
 word_left_out i = word_left_out_by (plain_ahead i) i
 
-abbrev pub filter_statement : Parser (Section × Statement)
-filter_statement = do
-  rule ← statement 16
-  pure (section.Filter, s.Filter rule)
-
-abbrev pub macro_statement : Section → Parser (Section × Statement)
-macro_statement reached = do
-  definition ← macro_definition
-  pure (reached, s.Macro definition)
-
--- nothing translates by translation rules yet: until it does, they are left out here
-unfoldable pub translation_line : Section → Parser (Section × Statement)
-translation_line reached = λ i. Err (word_left_out i)
-
-abbrev pub translation_or_macro : Section → Parser (Section × Statement)
-translation_or_macro reached = λ i. if begins_translation (plain_ahead i) then translation_line reached i else macro_statement reached i
-
-abbrev pub definition : Section → ℕ → Parser (Section × Statement)
-definition reached line = do
-  is_table ← eat_word (codes "table")
-  if is_table then (do table ← table_definition line; pure (reached, s.Table table)) else translation_or_macro reached
-
-unfoldable pub rule_or_definition : Section → Parser (Section × Statement)
-rule_or_definition reached = λ i. if begins_filter (plain_ahead i) then filter_statement i else definition reached (line_ahead i) i
-
-abbrev pub set_statement : Section → Parser (Section × Statement)
-set_statement reached = do
-  _ ← taken
-  option ← set_option
-  pure (reached, s.Option option)
-
--- a statement, and how far the ruleset has come with it
-unfoldable pub any_statement : Section → Parser (Section × Statement)
-any_statement reached = λ i.
-    if not (sees_word (codes "set") i) then rule_or_definition reached i
-    else if may_set reached then set_statement reached i
-    else faulty OutOfOrder i
-
+-- how far the ruleset has come, and its statements up to there
 abbrev pub Lines : Type 0
 Lines = Section × List Statement
+
+-- what a function promises that reads onto what was found before
+abbrev pub ReadsOnto : {A B : Type 0} → Outcome (A × B) → Result A ConfError → B → Input → Type 0
+ReadsOnto outcome (Ok a) found new = outcome ≡ Ok ((a, found), new)
+ReadsOnto outcome (Err e) found new = e.kind ≢ Memory → outcome ≡ Err e
+
+unfoldable pub filter_statement : List Statement → Parser Lines
+filter_statement found = do
+  rule ← statement 16
+  pure (section.Filter, found ++ s.Filter rule ∷ [])
+
+unfoldable pub table_statement : ℕ → Lines → Parser Lines
+table_statement line so_far = do
+  table ← table_definition line
+  pure (so_far.0, so_far.1 ++ s.Table table ∷ [])
+
+unfoldable pub macro_statement : Lines → Parser Lines
+macro_statement so_far = do
+  definition ← macro_definition
+  pure (so_far.0, so_far.1 ++ s.Macro definition ∷ [])
+
+-- nothing translates by translation rules yet: until it does, they are left out here
+unfoldable pub translation_line : Lines → Parser Lines
+translation_line so_far = λ i. Err (word_left_out i)
+
+abbrev pub translation_or_macro : Lines → Parser Lines
+translation_or_macro so_far = λ i. if begins_translation (plain_ahead i) then translation_line so_far i else macro_statement so_far i
+
+abbrev pub definition : Lines → ℕ → Parser Lines
+definition so_far line = do
+  is_table ← eat_word (codes "table")
+  if is_table then table_statement line so_far else translation_or_macro so_far
+
+unfoldable pub rule_or_definition : Lines → Parser Lines
+rule_or_definition so_far = λ i. if begins_filter (plain_ahead i) then filter_statement so_far.1 i else definition so_far (line_ahead i) i
+
+unfoldable pub set_statement : Lines → Parser Lines
+set_statement so_far = do
+  _ ← taken
+  option ← set_option
+  pure (so_far.0, so_far.1 ++ s.Option option ∷ [])
+
+-- a statement more, and how far the ruleset has come with it
+unfoldable pub any_statement : Lines → Parser Lines
+any_statement so_far = λ i.
+    if not (sees_word (codes "set") i) then rule_or_definition so_far i
+    else if may_set so_far.0 then set_statement so_far i
+    else faulty OutOfOrder i
 
 abbrev pub text_line : (Lines → Parser (List Statement)) → Lines → Parser (List Statement)
 text_line more so_far = do
   _ ← blank_lines
   λ i. if is_done i then pure so_far.1 i else (do
-    found ← any_statement so_far.0
+    found ← any_statement so_far
     _ ← end_of_line
-    more (found.0, so_far.1 ++ found.1 ∷ [])) i
+    more found) i
 
 -- the statements, one to a line
 abbrev pub lines : Parser (List Statement)

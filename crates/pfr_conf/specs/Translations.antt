@@ -8,6 +8,7 @@ use Rattle.pfr_terms.specs.declared.address.Address.TheVariants as a
 use Rattle.pfr_terms.specs.declared.address.AddressMatch.{AddressMatch}
 use Rattle.pfr_terms.specs.declared.hosts.Part.{Part}
 use Rattle.pfr_terms.specs.declared.hosts.Criteria as C
+use Rattle.pfr_conf.specs.declared.targets.Target as T
 use Rattle.pfr_conf.specs.declared.translation.TranslationKind.{TranslationKind}
 use Rattle.pfr_conf.specs.declared.translation.TranslationKind.TheVariants.{Nat, Rdr, Binat}
 use Rattle.pfr_words.specs.Names.{entry_of}
@@ -72,12 +73,17 @@ passes = do
   is_passed ← eat_word (codes "pass")
   if is_passed then (do is_logged ← logged; pure (true, is_logged)) else pure (false, false)
 
+-- the arrow, and what a rule of this kind translates to
+unfoldable pub target_behind_arrow : TranslationKind → Parser T.Target
+target_behind_arrow kind = do
+  _ ← expect_sign s.Arrow
+  target kind
+
 unfoldable pub rule_with_target : ℕ → TranslationKind → Parser TranslationRule
 rule_with_target line kind = do
   passed ← passes
   asked ← translated kind
-  _ ← expect_sign s.Arrow
-  to ← target kind
+  to ← target_behind_arrow kind
   pure (record { line = line; kind = kind; passes = passed.0; is_logged = passed.1; criteria = asked; target = Some to })
 
 abbrev pub without_target : ℕ → Option TranslationKind → Parser TranslationRule

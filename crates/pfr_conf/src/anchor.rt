@@ -15,7 +15,7 @@ use std::alloc::Global;
 pub const DEEPEST_ANCHOR: usize = 16;
 
 /// An anchor without its body, with its line.
-#[derive(Debug, Drop)]
+#[derive(Drop)]
 pub struct AnchorRule<'a> {
     pub line: usize,
     pub name: Option<Name<'a>>,
@@ -25,7 +25,7 @@ pub struct AnchorRule<'a> {
 }
 
 /// A filter rule, or an anchor with its body; without one it is empty.
-#[derive(Debug, Drop)]
+#[derive(Drop)]
 pub enum FilterStatement<'a> {
     Rule(FilterRule<'a>),
     Anchor(AnchorRule<'a>, Items<FilterStatement<'a>>),

@@ -18,7 +18,7 @@ pub enum Action {
 }
 
 /// A filter rule, with its line. `log` says nothing about packets.
-#[derive(Debug, Drop)]
+#[derive(Drop)]
 pub struct FilterRule<'a> {
     pub line: usize,
     pub action: Action,

@@ -10,7 +10,7 @@ use pfr_words::{Items, Sign};
 use std::alloc::Global;
 
 /// A part of a macro's value.
-#[derive(Debug, Drop)]
+#[derive(Drop)]
 pub enum Piece<'a> {
     /// A quoted text, whose words are the value's.
     Quoted(Name<'a>),
@@ -21,7 +21,7 @@ pub enum Piece<'a> {
 }
 
 /// A macro: its name, and its value in the order in which it is written.
-#[derive(Debug, Drop)]
+#[derive(Drop)]
 pub struct MacroDefinition<'a> {
     pub name: Name<'a>,
     pub pieces: Items<Piece<'a>>,

@@ -15,7 +15,7 @@ use pfr_words::{Bytes, Items};
 use std::alloc::{AllocError, Global};
 
 /// An option.
-#[derive(Debug, Drop)]
+#[derive(Drop)]
 pub enum SetOption<'a> {
     /// Packets on these interfaces aren't filtered.
     SkipOn(Items<Written<'a, InterfaceName<'a>>>),

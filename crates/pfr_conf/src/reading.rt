@@ -22,10 +22,8 @@ fn lines<'a>(alloc: Global, reader: &mut Reader<'_, 'a>) -> Result<Items<Stateme
         if reader.is_done() {
             return Ok(found);
         }
-        let (section, statement) = any_statement(alloc, reader, reached)?;
+        reached = any_statement(alloc, reader, &mut found, reached)?;
         end_of_line(alloc, reader)?;
-        found.push(statement)?;
-        reached = section;
     }
     Err(reader.refuse(alloc))
 }

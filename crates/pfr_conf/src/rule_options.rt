@@ -28,7 +28,7 @@ pub enum StateKeeping {
 }
 
 /// What is written behind the hosts of a filter rule.
-#[derive(Debug, Drop)]
+#[derive(Drop)]
 pub struct RuleOptions<'a> {
     pub flags: Option<FlagsMatch>,
     pub icmp_types: Option<Items<Written<'a, IcmpMatch>>>,

@@ -1,7 +1,8 @@
 //! Statements, and the order in which they may come.
 ghost use Rattle.std.specs.Prelude.{◌≡◌, codes};
 ghost use Rattle.pfr_conf.specs.Statements as spec;
-ghost use Rattle.pfr_terms.specs.Input.{Reads, Refuses};
+ghost use Rattle.pfr_conf.specs.Statements.{ReadsOnto};
+ghost use Rattle.pfr_terms.specs.Input.{Refuses};
 
 use crate::anchor::{DEEPEST_ANCHOR, FilterStatement, statement};
 use crate::macros::{MacroDefinition, definition as macro_definition};
@@ -14,7 +15,7 @@ use pfr_words::{Bytes, Items};
 use std::alloc::Global;
 
 /// A statement of a ruleset.
-#[derive(Debug, Drop)]
+#[derive(Drop)]
 pub enum Statement<'a> {
     Macro(MacroDefinition<'a>),
     Table(TableDefinition<'a>),
@@ -24,7 +25,7 @@ pub enum Statement<'a> {
 }
 
 /// The statements of a ruleset, in the order in which they are written.
-#[derive(Debug, Drop)]
+#[derive(Drop)]
 pub struct Statements<'a> {
     pub statements: Items<Statement<'a>>,
 }
@@ -93,60 +94,121 @@ fn word_left_out(alloc: Global, reader: &Reader<'_, '_>) -> ConfError
     }
 }
 
-/// A translation rule. `crate::translation` reads them, but nothing translates by them yet: until it does, they are left
-/// out here and nowhere else.
+/// Adds a translation rule. `crate::translation` reads them, but nothing translates by them yet: until it does, they
+/// are left out here and nowhere else.
 #[tactic(auto, unfolding(crate::specs::Statements::translation_line))]
 fn translation_line<'a>(
     alloc: Global,
     reader: &mut Reader<'_, 'a>,
+    found: &mut Items<Statement<'a>>,
     reached: Section,
-) -> Result<(Section, Statement<'a>), ConfError>
-    ensures { Reads (spec.translation_line reached reader.old) result reader.new }
+) -> Result<Section, ConfError>
+    ensures { ReadsOnto (spec.translation_line (reached, found.old) reader.old) result found.new reader.new }
 {
     Err(word_left_out(alloc, reader))
 }
 
-/// A statement that begins with another word than `set`.
+/// Adds a filter rule, or an anchor.
+#[tactic(auto, unfolding(crate::specs::Statements::filter_statement))]
+fn filter_statement<'a>(
+    alloc: Global,
+    reader: &mut Reader<'_, 'a>,
+    found: &mut Items<Statement<'a>>,
+) -> Result<Section, ConfError>
+    ensures { ReadsOnto (spec.filter_statement found.old reader.old) result found.new reader.new }
+{
+    let rule = statement(alloc, reader, DEEPEST_ANCHOR)?;
+    found.push(Statement::Filter(rule))?;
+    Ok(Section::Filter)
+}
+
+/// Adds the table whose definition comes behind `table` on this line.
+#[tactic(auto, unfolding(crate::specs::Statements::table_statement))]
+fn table_statement<'a>(
+    alloc: Global,
+    reader: &mut Reader<'_, 'a>,
+    found: &mut Items<Statement<'a>>,
+    reached: Section,
+    line: usize,
+) -> Result<Section, ConfError>
+    ensures { ReadsOnto (spec.table_statement line (reached, found.old) reader.old) result found.new
+        reader.new }
+{
+    let table = table_definition(alloc, reader, line)?;
+    found.push(Statement::Table(table))?;
+    Ok(reached)
+}
+
+/// Adds the definition of a macro.
+#[tactic(auto, unfolding(crate::specs::Statements::macro_statement))]
+fn macro_statement<'a>(
+    alloc: Global,
+    reader: &mut Reader<'_, 'a>,
+    found: &mut Items<Statement<'a>>,
+    reached: Section,
+) -> Result<Section, ConfError>
+    ensures { ReadsOnto (spec.macro_statement (reached, found.old) reader.old) result found.new reader.new }
+{
+    let definition = macro_definition(alloc, reader)?;
+    found.push(Statement::Macro(definition))?;
+    Ok(reached)
+}
+
+/// Adds a statement that begins with another word than `set`.
 #[tactic(auto, unfolding(crate::specs::Statements::rule_or_definition))]
 fn rule_or_definition<'a>(
     alloc: Global,
     reader: &mut Reader<'_, 'a>,
+    found: &mut Items<Statement<'a>>,
     reached: Section,
-) -> Result<(Section, Statement<'a>), ConfError>
-    ensures { Reads (spec.rule_or_definition reached reader.old) result reader.new }
+) -> Result<Section, ConfError>
+    ensures { ReadsOnto (spec.rule_or_definition (reached, found.old) reader.old) result found.new
+        reader.new }
 {
     if begins_filter(reader.plain_ahead()) {
-        let rule = statement(alloc, reader, DEEPEST_ANCHOR)?;
-        return Ok((Section::Filter, Statement::Filter(rule)));
+        return filter_statement(alloc, reader, found);
     }
     let line = reader.line_ahead();
     if reader.eat_word(b"table") {
-        let table = table_definition(alloc, reader, line)?;
-        return Ok((reached, Statement::Table(table)));
+        return table_statement(alloc, reader, found, reached, line);
     }
     if begins_translation(reader.plain_ahead()) {
-        return translation_line(alloc, reader, reached);
+        return translation_line(alloc, reader, found, reached);
     }
-    let definition = macro_definition(alloc, reader)?;
-    Ok((reached, Statement::Macro(definition)))
+    macro_statement(alloc, reader, found, reached)
 }
 
-/// A statement, and how far the ruleset has come with it.
+/// Adds the option that `set` sets, which comes next.
+#[tactic(auto, unfolding(crate::specs::Statements::set_statement))]
+fn set_statement<'a>(
+    alloc: Global,
+    reader: &mut Reader<'_, 'a>,
+    found: &mut Items<Statement<'a>>,
+    reached: Section,
+) -> Result<Section, ConfError>
+    ensures { ReadsOnto (spec.set_statement (reached, found.old) reader.old) result found.new reader.new }
+{
+    reader.take();
+    let option = option_behind_set(alloc, reader)?;
+    found.push(Statement::Option(option))?;
+    Ok(reached)
+}
+
+/// Adds a statement to those found so far, and answers how far the ruleset has come with it.
 #[tactic(auto, unfolding(crate::specs::Statements::any_statement))]
 pub(crate) fn any_statement<'a>(
     alloc: Global,
     reader: &mut Reader<'_, 'a>,
+    found: &mut Items<Statement<'a>>,
     reached: Section,
-) -> Result<(Section, Statement<'a>), ConfError>
-    ensures { Reads (spec.any_statement reached reader.old) result reader.new }
+) -> Result<Section, ConfError>
+    ensures { ReadsOnto (spec.any_statement (reached, found.old) reader.old) result found.new reader.new }
 {
     if !reader.sees_word(b"set") {
-        return rule_or_definition(alloc, reader, reached);
+        return rule_or_definition(alloc, reader, found, reached);
     }
     if !may_set(reached) {
         return Err(reader.fault(ConfErrorKind::OutOfOrder));
     }
-    reader.take();
-    let option = option_behind_set(alloc, reader)?;
-    Ok((reached, Statement::Option(option)))
+    set_statement(alloc, reader, found, reached)
 }

@@ -11,7 +11,7 @@ use std::alloc::Global;
 
 /// A table of addresses: its name, its line and its entries in the order in which they are written. The flags
 /// `persist`, `const` and `counters` say nothing about packets.
-#[derive(Debug, Drop)]
+#[derive(Drop)]
 pub struct TableDefinition<'a> {
     pub line: usize,
     pub name: Name<'a>,

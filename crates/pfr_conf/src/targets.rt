@@ -23,7 +23,7 @@ pub enum RedirectedPort {
 }
 
 /// The target of a `nat` rule.
-#[derive(Debug, Drop)]
+#[derive(Drop)]
 pub struct NatTarget<'a> {
     pub address: Written<'a, Host<'a>>,
     /// A port, or the ports from one to another.
@@ -33,14 +33,14 @@ pub struct NatTarget<'a> {
 }
 
 /// The target of a `rdr` rule.
-#[derive(Debug, Drop)]
+#[derive(Drop)]
 pub struct RdrTarget<'a> {
     pub address: Written<'a, Host<'a>>,
     pub port: Option<RedirectedPort>,
 }
 
 /// What a translation rule translates to: an address or the use of a macro for one, and maybe ports.
-#[derive(Debug, Drop)]
+#[derive(Drop)]
 pub enum Target<'a> {
     Nat(NatTarget<'a>),
     Rdr(RdrTarget<'a>),

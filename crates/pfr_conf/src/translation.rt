@@ -26,7 +26,7 @@ pub enum TranslationKind {
 }
 
 /// A translation rule, with its line. Without a target (`no nat`) the packets that it holds for aren't translated.
-#[derive(Debug, Drop)]
+#[derive(Drop)]
 pub struct TranslationRule<'a> {
     pub line: usize,
     pub kind: TranslationKind,
@@ -38,7 +38,7 @@ pub struct TranslationRule<'a> {
 }
 
 /// A translation rule, or an anchor of such, which is empty.
-#[derive(Debug, Drop)]
+#[derive(Drop)]
 pub enum TranslationStatement<'a> {
     Rule(TranslationRule<'a>),
     Anchor(TranslationKind, Name<'a>),
@@ -173,6 +173,19 @@ fn translated<'a>(
     }
 }
 
+/// The arrow, and what a rule of this kind translates to.
+#[tactic(auto, unfolding(crate::specs::Translations::target_behind_arrow))]
+fn target_behind_arrow<'a>(
+    alloc: Global,
+    reader: &mut Reader<'_, 'a>,
+    kind: TranslationKind,
+) -> Result<Target<'a>, ConfError>
+    ensures { Reads (spec.target_behind_arrow kind reader.old) result reader.new }
+{
+    reader.expect_sign(alloc, Sign::Arrow)?;
+    target_of(alloc, reader, kind)
+}
+
 /// What comes behind `nat`, `rdr` or `binat` in a rule with a target.
 #[tactic(auto, unfolding(crate::specs::Translations::rule_with_target))]
 fn rule_with_target<'a>(
@@ -185,8 +198,7 @@ fn rule_with_target<'a>(
 {
     let (passes, is_logged) = passes(alloc, reader)?;
     let criteria = translated(alloc, reader, kind)?;
-    reader.expect_sign(alloc, Sign::Arrow)?;
-    let target = target_of(alloc, reader, kind)?;
+    let target = target_behind_arrow(alloc, reader, kind)?;
     Ok(TranslationRule {
         line,
         kind,

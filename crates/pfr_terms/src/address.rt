@@ -24,7 +24,7 @@ pub struct Network {
 }
 
 /// What is written for one address or the network of an interface.
-#[derive(Debug, Drop)]
+#[derive(Drop)]
 pub enum Host<'a> {
     /// `a.b.c.d`
     Address(Ipv4Address),
@@ -40,7 +40,7 @@ pub enum Host<'a> {
 }
 
 /// What an address of a packet is held against.
-#[derive(Debug, Drop)]
+#[derive(Drop)]
 pub enum Address<'a> {
     Any,
     Host(Host<'a>),
@@ -52,14 +52,14 @@ pub enum Address<'a> {
 }
 
 /// An address that a packet has to have, or with `!` must not have.
-#[derive(Debug, Drop)]
+#[derive(Drop)]
 pub struct AddressMatch<'a> {
     pub is_negated: bool,
     pub address: Address<'a>,
 }
 
 /// An entry of a table, with the line that it begins on; with `!` the table doesn't hold it.
-#[derive(Debug, Drop)]
+#[derive(Drop)]
 pub struct TableEntry<'a> {
     pub line: usize,
     pub is_negated: bool,

@@ -15,21 +15,21 @@ use pfr_words::Items;
 use std::alloc::Global;
 
 /// One end of a packet: `LIST port LIST`, where one of both may be missing.
-#[derive(Debug, Drop)]
+#[derive(Drop)]
 pub struct Part<'a> {
     pub addresses: Option<Items<AddressMatch<'a>>>,
     pub ports: Option<Items<Written<'a, PortMatch>>>,
 }
 
 /// Both ends of a packet; `all` is none of both.
-#[derive(Debug, Drop)]
+#[derive(Drop)]
 pub struct Hosts<'a> {
     pub source: Option<Part<'a>>,
     pub destination: Option<Part<'a>>,
 }
 
 /// What rules, anchors and translation rules ask of a packet alike.
-#[derive(Debug, Drop)]
+#[derive(Drop)]
 pub struct Criteria<'a> {
     pub interfaces: Option<Items<InterfaceMatch<'a>>>,
     pub protocols: Option<Items<Written<'a, Protocol>>>,

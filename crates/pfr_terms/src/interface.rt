@@ -13,7 +13,7 @@ use std::alloc::Global;
 pub const LONGEST_INTERFACE_NAME: usize = 15;
 
 /// The name of an interface: a plain word of at most 15 bytes.
-#[derive(Debug, Drop)]
+#[derive(Drop)]
 pub struct InterfaceName<'a> {
     pub name: Name<'a>,
 }
@@ -44,7 +44,7 @@ fn is_interface_name(word: &[u8]) -> bool
 }
 
 /// An interface that a packet has to be on, or with `!` must not be on.
-#[derive(Debug, Drop)]
+#[derive(Drop)]
 pub struct InterfaceMatch<'a> {
     pub is_negated: bool,
     pub interface: Written<'a, InterfaceName<'a>>,
