@@ -4,7 +4,6 @@ use Rattle.std.specs.Bool.{beq}
 use Rattle.std.specs.List.{All, Contains, list_any}
 use Rattle.std.specs.Ordering.{nat_cmp, ordering_then, is_eq, match_ordering}
 use Rattle.std.specs.declared.cmp.Ordering.{Ordering}
-use Rattle.pfr_terms.specs.declared.address.Network.{Network}
 use Rattle.pfr_tables.specs.declared.table.Entry.{Entry}
 use Rattle.pfr_tables.specs.Prefixes.{prefix}
 
