@@ -1,5 +1,5 @@
 -- The entries of a table against those of its map.
-use Rattle.std.proofs.Common.{◌≡◌, ◌≤◌, ◌||◌, ◌&&◌, ℕ, min, Bool, true, false, cond, not, List, [], ◌∷◌, map, Option, Some, None, refl, sym, ap, ◌∙◌, subst, arith}
+use Rattle.std.proofs.Common.{◌≡◌, ◌||◌, ◌&&◌, ℕ, Bool, true, false, cond, not, List, [], ◌∷◌, map, Option, Some, refl, sym, ap, ◌∙◌, subst, arith}
 use Rattle.std.specs.Bool.{beq}
 use Rattle.std.specs.BTreeMap.{insert_entry, is_at}
 use Rattle.std.specs.Cmp.{IsTotalOrder, then_total, on_total, nat_cmp_total}
@@ -16,8 +16,7 @@ use Rattle.std.specs.Ordering.{nat_cmp}
 use Rattle.pfr_terms.specs.declared.address.Network.{Network}
 use Rattle.pfr_tables.specs.declared.table.Entry.{Entry}
 use Rattle.pfr_tables.specs.Keys.{entry_at, key_of, key_cmp, IsKey, AreInOrder, is_other}
-use Rattle.pfr_tables.specs.Prefixes.{prefix}
-use Rattle.pfr_tables.specs.Tables.{kept, clashes, with_entry}
+use Rattle.pfr_tables.specs.Tables.{clashes, with_entry}
 use Rattle.pfr_tables.proofs.PrefixLemmas.{prefix-prefix, prefix-min}
 
 pub key_order : IsTotalOrder key_cmp

@@ -1,3 +1,4 @@
+pub mod ClashLemmas
 pub mod KeyLemmas
 pub mod Membership
 pub mod MemberLemmas

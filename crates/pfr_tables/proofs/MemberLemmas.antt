@@ -1,5 +1,5 @@
 -- Which addresses the entries of a map hold.
-use Rattle.std.proofs.Common.{◌≡◌, ◌↔◌, ◌≤◌, ◌<◌, ℕ, suc, min, Bool, true, false, not, IsTrue, List, map, Option, Some, None, inl, inr, ◌+◌, refl, sym, ap, ◌∙◌, subst, eq-eqb, arith}
+use Rattle.std.proofs.Common.{◌≡◌, ◌↔◌, ◌≤◌, ◌<◌, ℕ, Bool, true, false, not, IsTrue, List, map, Option, Some, None, inl, inr, ◌+◌, sym, ap, ◌∙◌, subst, eq-eqb, arith}
 use Rattle.std.specs.BTreeMap as tree
 use Rattle.std.specs.BTreeMap.{BTreeMap}
 use Rattle.std.specs.List.{All, Contains}

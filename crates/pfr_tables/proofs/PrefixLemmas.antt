@@ -1,5 +1,5 @@
 -- Prefixes of prefixes.
-use Rattle.std.proofs.Common.{◌≡◌, ◌≤◌, ◌-◌, ◌*◌, ◌/◌, ◌^◌, ℕ, min, refl, ap, arith}
+use Rattle.std.proofs.Common.{◌≡◌, ◌-◌, ◌*◌, ◌/◌, ◌^◌, ℕ, min, refl, ap, arith}
 use Rattle.std.proofs.Math.Nat.{mul-div_cancel}
 use Rattle.std.proofs.lemmas.Nat.{pow_pos}
 use Rattle.pfr_tables.specs.Prefixes.{prefix}

@@ -1,5 +1,5 @@
 -- A table says of each address what its entries say as they are written.
-use Rattle.std.proofs.Common.{◌≡◌, ◌↔◌, ◌≤◌, ◌&&◌, ◌||◌, ◌==◌, ℕ, min, ◌⊎◌, inl, inr, Bool, true, false, not, if◌then◌else◌, List, [], ◌∷◌, Option, Some, None, refl, sym, ap, ◌∙◌, subst, arith}
+use Rattle.std.proofs.Common.{◌≡◌, ◌↔◌, ◌≤◌, ◌&&◌, ◌||◌, ℕ, min, ◌⊎◌, inl, inr, Bool, true, false, not, if◌then◌else◌, List, [], ◌∷◌, Option, Some, None, refl, sym, ap, ◌∙◌, arith}
 use Rattle.std.specs.Bool.{beq}
 use Rattle.std.specs.List.{All, Contains}
 use Rattle.std.specs.Ordering.{is_eq, match_ordering}
@@ -62,7 +62,7 @@ member_alike these those address there_too here_too h =
 
 -- ---- one more entry
 
-same_sign : (a b : Bool) → not (beq a b) ≡ false → a ≡ b
+pub same_sign : (a b : Bool) → not (beq a b) ≡ false → a ≡ b
 same_sign true true is = refl
 same_sign false false is = refl
 same_sign true false is = is
@@ -74,7 +74,7 @@ same_entry f e level sign =
     ap (λ (k : ℕ × ℕ). entry_at (k, f.is_negated)) (sym (key_exact ((kept e).network.bits, (kept e).network.address.0) (f.network.bits, f.network.address.0) level))
     ∙ ap (λ (sign : Bool). entry_at (((kept e).network.bits, (kept e).network.address.0), sign)) (same_sign f.is_negated e.is_negated sign)
 
-none_parts : (a b : Bool) → (a || b) ≡ false → (a ≡ false) × (b ≡ false)
+pub none_parts : (a b : Bool) → (a || b) ≡ false → (a ≡ false) × (b ≡ false)
 none_parts false b none = (refl, none)
 none_parts true b none = absurd (cc none)
 
@@ -83,7 +83,7 @@ has_by Less f table more e h = here (kept e) (f ∷ table)
 has_by Equal f table more e h = here (kept e) table
 has_by Greater f table more e h = there f more (kept e) h
 
-has_it : (table : List Entry) (e : Entry) → Contains (with_entry table e) (kept e)
+pub has_it : (table : List Entry) (e : Entry) → Contains (with_entry table e) (kept e)
 has_it [] e = here (kept e) []
 has_it (f ∷ table) e = has_by (order (kept e) f) f table (with_entry table e) e (has_it table e)
 
@@ -96,7 +96,7 @@ only_by Greater f table more e g rest h = elim (in_cons f more g h) [
   | inr old ↦ elim (rest old) [ inl older ↦ inl (there f table g older) | inr is ↦ inr is ]
 ]
 
-only_it : (table : List Entry) (e g : Entry) → Contains (with_entry table e) g → Contains table g ⊎ (kept e ≡ g)
+pub only_it : (table : List Entry) (e g : Entry) → Contains (with_entry table e) g → Contains table g ⊎ (kept e ≡ g)
 only_it [] e g h = elim (in_cons (kept e) [] g h) [ inl is ↦ inr is | inr none ↦ inl none ]
 only_it (f ∷ table) e g h = only_by (order (kept e) f) f table (with_entry table e) e g (only_it table e g) h
 
@@ -112,7 +112,7 @@ keeps_by Greater f table more e g is none rest h = elim (in_cons f table g h) [
   | inr old ↦ there f more g (rest old)
 ]
 
-keeps : (table : List Entry) (e g : Entry) → clashes table e ≡ false → Contains table g → Contains (with_entry table e) g
+pub keeps : (table : List Entry) (e g : Entry) → clashes table e ≡ false → Contains table g → Contains (with_entry table e) g
 keeps [] e g none h = absurd (in_none g h)
 keeps (f ∷ table) e g none h =
     let parts = none_parts (is_eq (order (kept e) f) && not (beq f.is_negated e.is_negated)) (clashes table e) none in
@@ -120,7 +120,7 @@ keeps (f ∷ table) e g none h =
 
 -- ---- all entries
 
-accepted_by : (clash : Bool) (next : Option (List Entry)) (found : List Entry) → (if clash then None else next) ≡ Some found → (clash ≡ false) × (next ≡ Some found)
+pub accepted_by : (clash : Bool) (next : Option (List Entry)) (found : List Entry) → (if clash then None else next) ≡ Some found → (clash ≡ false) × (next ≡ Some found)
 accepted_by false next found is = (refl, is)
 accepted_by true next found is = absurd (cc is)
 
@@ -139,7 +139,7 @@ made_more table entries found e none rest = record {
   ];
 }
 
-made : (entries table found : List Entry) → table_from table entries ≡ Some found → Made table entries found
+pub made : (entries table found : List Entry) → table_from table entries ≡ Some found → Made table entries found
 made [] table found is =
     let same : table ≡ found = cc is in
     rw (← same) (record { keeps = λ g h. h; has = λ e h. absurd (in_none e h); only = λ g h. inl h })

@@ -1,10 +1,9 @@
 -- Tables of addresses.
-use Rattle.std.specs.Prelude.{◌≡◌, ◌≤◌, ◌==◌, ◌&&◌, ℕ, Bool, true, false, not, if◌then◌else◌, min, List, [], ◌∷◌, Option, Some, None}
+use Rattle.std.specs.Prelude.{◌≡◌, ◌≢◌, ◌≤◌, ◌==◌, ◌&&◌, ℕ, Bool, true, false, not, if◌then◌else◌, min, List, [], ◌∷◌, Option, Some, None}
 use Rattle.std.specs.Bool.{beq}
 use Rattle.std.specs.List.{All, Contains, list_any}
 use Rattle.std.specs.Ordering.{nat_cmp, ordering_then, is_eq, match_ordering}
 use Rattle.std.specs.declared.cmp.Ordering.{Ordering}
-use Rattle.pfr_terms.specs.declared.address.Network.{Network}
 use Rattle.pfr_tables.specs.declared.table.Entry.{Entry}
 use Rattle.pfr_tables.specs.Prefixes.{prefix}
 
@@ -49,3 +48,7 @@ table_from table (e ∷ entries) = if clashes table e then None else table_from 
 -- the table of entries in the order in which they are written: none where two of them clash
 unfoldable pub table_of : List Entry → Option (List Entry)
 table_of entries = table_from [] entries
+
+-- two of the entries are one network, once with a `!` and once without
+abbrev pub HasClash : List Entry → Type 0
+HasClash entries = (e : Entry) × (f : Entry) × Contains entries e × Contains entries f × ((kept e).network ≡ (kept f).network) × (e.is_negated ≢ f.is_negated)

@@ -1,5 +1,4 @@
 use Rattle.std.proofs.Common.{not, ap, sym, ◌∙◌}
-use Rattle.pfr_tables.specs.Tables.{clashes, with_entry}
 use Rattle.pfr_tables.proofs.KeyLemmas.{clashes_found, puts, puts_in_order}
 use Rattle.pfr_tables.proofs.table.AddressTable.add.Goals as goal
 

@@ -1,4 +1,4 @@
-use Rattle.std.proofs.Common.{◌≡◌, ◌≤◌, ◌-◌, ◌+◌, ap, arith}
+use Rattle.std.proofs.Common.{◌≤◌, ◌-◌, ◌+◌, ap, arith}
 use Rattle.std.specs.Option.{option_copied}
 use Rattle.pfr_tables.proofs.MemberLemmas.{member_found, none_found, NoneFrom}
 use Rattle.pfr_tables.proofs.table.AddressTable.has.Goals as goal
