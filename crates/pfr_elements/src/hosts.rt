@@ -156,7 +156,7 @@ pub fn host_meaning(
 }
 
 /// The place of a table among those that are defined.
-fn place_of(name: &[u8], tables: &[Bytes<'_>]) -> Option<usize>
+pub fn place_of(name: &[u8], tables: &[Bytes<'_>]) -> Option<usize>
     ensures { result ≡ spec.place_from 0 name.now tables.now }
 {
     let mut place: usize = 0;

@@ -1,5 +1,5 @@
 //! Filter rules and anchors as flat rules, with the anchors round them.
-ghost use Rattle.std.specs.Prelude.{◌≡◌, ◌<◌, ◌≤◌, ◌+◌, ◌++◌, length, map, OnOk, IfOk};
+ghost use Rattle.std.specs.Prelude.{◌≡◌, ◌<◌, ◌≤◌, ◌+◌, ◌++◌, length, map, fold, OnOk, IfOk};
 ghost use Rattle.std.specs.List.{All};
 ghost use Rattle.pfr_terms.specs.Input.{Gives};
 ghost use Rattle.pfr_elements.specs.Elements as faults;
@@ -112,7 +112,7 @@ fn flat_rule(setting: Setting, rule: &FilterRule<'_>) -> FlatRule
     }
 }
 
-fn too_many(line: usize) -> ConfError
+pub(crate) fn too_many(line: usize) -> ConfError
     ensures { result ≡ spec.too_many line }
 {
     ConfError {
@@ -138,7 +138,7 @@ fn put_rules(
     Ok(())
 }
 
-fn first_fault(first: Option<ConfError>, second: ConfError) -> Option<ConfError>
+pub(crate) fn first_fault(first: Option<ConfError>, second: ConfError) -> Option<ConfError>
     ensures { result ≡ faults.first_fault first second }
 {
     match first {
@@ -167,13 +167,16 @@ impl Body {
     }
 
     /// Makes the rules of a rule, unless a fault came before.
+    #[tactic(auto, using(crate::proofs::Places::more_are_placed))]
     fn make(
         &mut self,
         alloc: Global,
         rule: FlatRule,
         choices: Result<Choices, ConfError>,
     ) -> Result<(), AllocError>
-        ensures { OnOk result (self.new ≡ spec.with_made rule choices self.old) }
+        requires { spec.ArePlaced self.old }
+        ensures made { OnOk result (self.new ≡ spec.with_made rule choices self.old) }
+        ensures placed { OnOk result (spec.ArePlaced self.new) }
     {
         match choices {
             Err(fault) => self.add_fault(fault),
@@ -205,9 +208,11 @@ fn add_rule(
     out: &mut Body,
     rule: &FilterRule<'_>,
 ) -> Result<(), ConfError>
-    requires { out.old.count ≤ 65536 }
+    requires few { out.old.count ≤ 65536 }
+    requires placed { spec.ArePlaced out.old }
     ensures made { Adds (spec.with_rule scope.now setting rule.now out.old) result out.new }
     ensures counted { OnOk result (out.new.count ≤ 65536) }
+    ensures placed { OnOk result (spec.ArePlaced out.new) }
 {
     let types = slice_of(&rule.options.icmp_types);
     let lists = lists_of(alloc, scope, &rule.criteria, types)?;
@@ -219,4 +224,193 @@ fn add_rule(
     out.count = count;
     out.make(alloc, flat_rule(setting, rule), choices)?;
     Ok(())
+}
+
+fn or_fault(first: Option<ConfError>, second: Option<ConfError>) -> Option<ConfError>
+    ensures { result ≡ spec.or_fault first second }
+{
+    match first {
+        Some(first) => Some(first),
+        None => second,
+    }
+}
+
+/// Puts anchors behind the others, so many rules further on.
+pub(crate) fn put_anchors(
+    out: &mut Items<FlatAnchor>,
+    place: usize,
+    anchors: &[FlatAnchor],
+) -> Result<(), AllocError>
+    requires { All (λ a. (place + a.first < 18446744073709551616) × (place + a.last < 18446744073709551616)) anchors.now }
+    ensures { OnOk result (out.new ≡ out.old ++ map (spec.moved place) anchors.now) }
+{
+    for anchor in anchors {
+        out.push(FlatAnchor {
+            first: place + anchor.first,
+            last: place + anchor.last,
+            ..*anchor
+        })?;
+    }
+    Ok(())
+}
+
+/// Puts an anchor with a copy of its body behind what is there.
+#[tactic(auto, using(crate::proofs::Places::fits_behind))]
+fn put_copy(
+    out: &mut Body,
+    anchor: FlatAnchor,
+    inner: &Body,
+    packet: PacketMatch,
+) -> Result<(), AllocError>
+    requires some { 0 < length inner.now.rules }
+    requires placed { spec.ArePlaced inner.now }
+    ensures { OnOk result (out.new ≡ spec.with_copy anchor inner.now out.old packet) }
+{
+    let place = out.rules.len();
+    out.rules.extend_from_slice(inner.rules.as_slice())?;
+    out.anchors.push(FlatAnchor {
+        packet,
+        first: place,
+        last: place + (inner.rules.len() - 1),
+        ..anchor
+    })?;
+    put_anchors(&mut out.anchors, place, inner.anchors.as_slice())
+}
+
+/// Puts an anchor with a copy of its body for each match behind what is there.
+#[tactic(auto, using(crate::proofs::Places::copy_is_placed))]
+fn put_copies(
+    out: &mut Body,
+    anchor: FlatAnchor,
+    inner: &Body,
+    matches: &[PacketMatch],
+) -> Result<(), AllocError>
+    requires some { 0 < length inner.now.rules }
+    requires inner { spec.ArePlaced inner.now }
+    requires placed { spec.ArePlaced out.old }
+    ensures made { OnOk result (out.new ≡ fold (spec.with_copy anchor inner.now) out.old matches.now) }
+    ensures placed { OnOk result (spec.ArePlaced out.new) }
+{
+    for packet in matches {
+        put_copy(out, anchor, inner, *packet)?;
+    }
+    Ok(())
+}
+
+/// The anchors of an anchor, each with the whole body, unless there is a fault.
+fn make_copies(
+    alloc: Global,
+    out: &mut Body,
+    anchor: FlatAnchor,
+    choices: Result<Choices, ConfError>,
+    mut inner: Body,
+) -> Result<(), AllocError>
+    requires inner { spec.ArePlaced inner }
+    requires placed { spec.ArePlaced out.old }
+    ensures made { OnOk result (out.new ≡ spec.with_copies anchor choices inner out.old) }
+    ensures placed { OnOk result (spec.ArePlaced out.new) }
+{
+    match choices {
+        Err(fault) => out.add_fault(fault),
+        Ok(choices) => {
+            let before = replace(&mut out.fault, None);
+            out.fault = or_fault(before, replace(&mut inner.fault, None));
+            if out.fault.is_none() && inner.rules.len() > 0 {
+                let matches = combinations(alloc, &choices)?;
+                put_copies(out, anchor, &inner, matches.as_slice())?;
+            }
+        }
+    }
+    Ok(())
+}
+
+fn flat_anchor(anchor: &AnchorRule<'_>) -> FlatAnchor
+    ensures { result ≡ spec.flat_anchor anchor.now }
+{
+    FlatAnchor {
+        direction: anchor.direction,
+        is_quick: anchor.is_quick,
+        packet: NO_MATCH,
+        first: 0,
+        last: 0,
+    }
+}
+
+/// The rules of an anchor, by what its lists and its body come to.
+fn add_anchor(
+    alloc: Global,
+    setting: Setting,
+    out: &mut Body,
+    anchor: &AnchorRule<'_>,
+    lists: Lists,
+    inner: Body,
+) -> Result<(), ConfError>
+    requires few { (out.old.count ≤ 65536) × (inner.count ≤ 65536) }
+    requires inner { spec.ArePlaced inner }
+    requires placed { spec.ArePlaced out.old }
+    ensures made { Adds (spec.counted_anchor setting anchor.now lists inner out.old) result out.new }
+    ensures counted { OnOk result (out.new.count ≤ 65536) }
+    ensures placed { OnOk result (spec.ArePlaced out.new) }
+{
+    let count = out.count + lists.product() * inner.count;
+    if exceeds(setting, &lists, count) {
+        return Err(too_many(setting.line));
+    }
+    let choices = choices_or_fault(alloc, lists)?;
+    out.count = count;
+    make_copies(alloc, out, flat_anchor(anchor), choices, inner)?;
+    Ok(())
+}
+
+/// What a body's statements come to, in each of which at most so many anchors stand in one another.
+#[cycle(nest)]
+fn body_of(
+    alloc: Global,
+    scope: &Scope<'_>,
+    setting: Setting,
+    statements: &[FilterStatement<'_>],
+    depth: usize,
+) -> Result<Body, ConfError>
+    ensures made { Gives (spec.body_from (spec.statement depth scope.now setting) spec.empty_body statements.now) result }
+    ensures counted { IfOk result (λ body. body.count ≤ 65536) }
+    ensures placed { IfOk result (λ body. spec.ArePlaced body) }
+{
+    let mut out = Body::new(alloc);
+    for statement in statements {
+        add_statement(alloc, scope, setting, &mut out, statement, depth)?;
+    }
+    Ok(out)
+}
+
+/// The rules of a statement in which at most so many anchors stand in one another.
+#[cycle(nest)]
+#[tactic(auto, using(crate::proofs::Depths::deepest, crate::proofs::Depths::deeper))]
+pub(crate) fn add_statement(
+    alloc: Global,
+    scope: &Scope<'_>,
+    setting: Setting,
+    out: &mut Body,
+    statement: &FilterStatement<'_>,
+    depth: usize,
+) -> Result<(), ConfError>
+    requires few { out.old.count ≤ 65536 }
+    requires placed { spec.ArePlaced out.old }
+    ensures made { Adds (spec.statement depth scope.now setting statement.now out.old) result out.new }
+    ensures counted { OnOk result (out.new.count ≤ 65536) }
+    ensures placed { OnOk result (spec.ArePlaced out.new) }
+{
+    match statement {
+        FilterStatement::Rule(rule) => add_rule(alloc, scope, setting, out, rule),
+        FilterStatement::Anchor(anchor, body) => {
+            if depth == 0 {
+                return Err(ConfError {
+                    line: anchor.line,
+                    kind: ConfErrorKind::TooDeep,
+                });
+            }
+            let lists = lists_of(alloc, scope, &anchor.criteria, None)?;
+            let inner = body_of(alloc, scope, setting, body.as_slice(), depth - 1)?;
+            add_anchor(alloc, setting, out, anchor, lists, inner)
+        }
+    }
 }

@@ -134,7 +134,7 @@ impl Lists {
         ensures value { result ≡ min (spec.product self.now) 65537 }
         ensures within { result ≤ 65537 }
     {
-        let mut count = times(1, count_of(&self.interfaces));
+        let mut count = count_of(&self.interfaces).min(MOST_RULES + 1);
         count = times(count, count_of(&self.protocols));
         count = times(count, count_of(&self.icmp_types));
         count = times(count, count_of(&self.sources));
