@@ -39,10 +39,10 @@ unfolding AreWithin
 copy_placed anchor inner out m some placed before =
     let e : length (out.rules ++ inner.rules) ≡ length out.rules + length inner.rules = length-append out.rules inner.rules in
     All-append (IsPlaced (length (out.rules ++ inner.rules))) out.anchors (record anchor { packet = m; first = length out.rules; last = length (out.rules ++ inner.rules) - 1 } ∷ map (moved (length out.rules)) inner.anchors)
-      (more_placed out.rules inner.rules out.anchors before)
-      (rw e (All-cons (IsPlaced (length out.rules + length inner.rules)) (record anchor { packet = m; first = length out.rules; last = length out.rules + length inner.rules - 1 }) (map (moved (length out.rules)) inner.anchors)
-        (copy_itself anchor m (length out.rules) (length inner.rules) some)
-        (moved_are_placed (length out.rules) (length inner.rules) inner.anchors placed)))
+    (more_placed out.rules inner.rules out.anchors before)
+    (rw e (All-cons (IsPlaced (length out.rules + length inner.rules)) (record anchor { packet = m; first = length out.rules; last = length out.rules + length inner.rules - 1 }) (map (moved (length out.rules)) inner.anchors)
+    (copy_itself anchor m (length out.rules) (length inner.rules) some)
+    (moved_are_placed (length out.rules) (length inner.rules) inner.anchors placed)))
 
 pub copy_is_placed : (anchor : FlatAnchor) (new inner out : Body) (m : PacketMatch) → new ≡ with_copy anchor inner out m → 0 < length inner.rules → ArePlaced inner.rules inner.anchors → ArePlaced out.rules out.anchors → ArePlaced new.rules new.anchors
 copy_is_placed anchor new inner out m is some placed before = rw is (copy_placed anchor inner out m some placed before)

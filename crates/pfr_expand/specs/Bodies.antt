@@ -79,7 +79,8 @@ flat_rule setting rule =
       packet = no_match;
       flags = flags_of state rule.options.flags;
       state = state;
-      allow_opts = rule.options.allow_opts }
+      allow_opts = rule.options.allow_opts;
+    }
 
 -- ---- counts
 
@@ -132,7 +133,8 @@ with_copy anchor inner out m =
     let place : ℕ = length out.rules in
     record out {
       rules = out.rules ++ inner.rules;
-      anchors = out.anchors ++ record anchor { packet = m; first = place; last = length (out.rules ++ inner.rules) - 1 } ∷ map (moved place) inner.anchors }
+      anchors = out.anchors ++ record anchor { packet = m; first = place; last = length (out.rules ++ inner.rules) - 1 } ∷ map (moved place) inner.anchors;
+    }
 
 -- one for each combination; an anchor that holds no rule makes nothing
 abbrev pub copied_if : Option ConfError → FlatAnchor → C.Choices → Body → Body → Body

@@ -55,13 +55,14 @@ ports_in (Some part) = part.ports
 
 unfoldable pub lists_of : Scope → Criteria → Option (List (Written IcmpMatch)) → L.Lists
 lists_of scope criteria types = record {
-    interfaces = if_written (interfaces scope) criteria.interfaces;
-    protocols = if_written (protocols scope) criteria.protocols;
-    sources = if_written (host_list scope) (addresses_in criteria.hosts.source);
-    source_ports = if_written (port_list scope) (ports_in criteria.hosts.source);
-    destinations = if_written (host_list scope) (addresses_in criteria.hosts.destination);
-    destination_ports = if_written (port_list scope) (ports_in criteria.hosts.destination);
-    icmp_types = if_written (icmp_types scope) types }
+  interfaces = if_written (interfaces scope) criteria.interfaces;
+  protocols = if_written (protocols scope) criteria.protocols;
+  sources = if_written (host_list scope) (addresses_in criteria.hosts.source);
+  source_ports = if_written (port_list scope) (ports_in criteria.hosts.source);
+  destinations = if_written (host_list scope) (addresses_in criteria.hosts.destination);
+  destination_ports = if_written (port_list scope) (ports_in criteria.hosts.destination);
+  icmp_types = if_written (icmp_types scope) types;
+}
 
 -- ---- how many rules they make
 
@@ -105,13 +106,14 @@ hosts_of (Some items) = items
 
 abbrev pub choices : L.Lists → C.Choices
 choices l = record {
-    interfaces = choices_of (items_of l.interfaces);
-    protocols = choices_of (items_of l.protocols);
-    icmp_types = choices_of (items_of l.icmp_types);
-    sources = hosts_of (items_of l.sources);
-    source_ports = choices_of (items_of l.source_ports);
-    destinations = hosts_of (items_of l.destinations);
-    destination_ports = choices_of (items_of l.destination_ports) }
+  interfaces = choices_of (items_of l.interfaces);
+  protocols = choices_of (items_of l.protocols);
+  icmp_types = choices_of (items_of l.icmp_types);
+  sources = hosts_of (items_of l.sources);
+  source_ports = choices_of (items_of l.source_ports);
+  destinations = hosts_of (items_of l.destinations);
+  destination_ports = choices_of (items_of l.destination_ports);
+}
 
 abbrev pub or_choices : C.Choices → Option ConfError → Result C.Choices ConfError
 or_choices c None = Ok c

@@ -1,8 +1,9 @@
 -- The flat ruleset of statements, or the first fault of theirs.
-use Rattle.std.specs.Prelude.{ℕ, ◌+◌, ◌||◌, Bool, true, false, nat_lt, if◌then◌else◌, List, [], ◌∷◌, ◌++◌, length, map, Option, Some, None, Result, Ok, Err}
+use Rattle.std.specs.Prelude.{ℕ, ◌+◌, ◌||◌, Bool, true, false, nat_lt, if◌then◌else◌, List, [], ◌∷◌, ◌++◌, length, map, codes, Option, Some, None, Result, Ok, Err}
 use Rattle.std.specs.Option.{is_some}
 use Rattle.pfr_terms.specs.declared.error.ConfError.{ConfError}
 use Rattle.pfr_terms.specs.declared.name.MacroUse.{MacroUse}
+use Rattle.pfr_terms.specs.Input.{left_out_at}
 use Rattle.pfr_terms.specs.declared.name.Name.{Name}
 use Rattle.pfr_conf.specs.declared.macros.Piece as P
 use Rattle.pfr_conf.specs.declared.macros.Piece.TheVariants as p
@@ -11,6 +12,11 @@ use Rattle.pfr_conf.specs.declared.table.TableDefinition.{TableDefinition}
 use Rattle.pfr_conf.specs.declared.options.SetOption.{SetOption}
 use Rattle.pfr_conf.specs.declared.anchor.FilterStatement.{FilterStatement, out-FilterStatement}
 use Rattle.pfr_conf.specs.declared.anchor.FilterStatement.TheOpen.{FilterStatement-F}
+use Rattle.pfr_conf.specs.declared.targets.Target.{Target}
+use Rattle.pfr_conf.specs.declared.translation.TranslationKind.{TranslationKind}
+use Rattle.pfr_conf.specs.declared.translation.TranslationKind.TheVariants as kind
+use Rattle.pfr_conf.specs.declared.translation.TranslationStatement.{TranslationStatement}
+use Rattle.pfr_conf.specs.declared.translation.TranslationStatement.TheVariants as t
 use Rattle.pfr_conf.specs.declared.statement.Statement.{Statement}
 use Rattle.pfr_conf.specs.declared.statement.Statement.TheVariants as s
 use Rattle.pfr_conf.specs.declared.statement.Statements as S
@@ -68,9 +74,10 @@ clash_of name false = None
 abbrev pub table_by : Work → TableDefinition → Filling → Option ConfError → Result Work ConfError
 table_by work d filling (Some e) = Err e
 table_by work d filling None = Ok (record work {
-    scope = record work.scope { tables = work.scope.tables ++ d.name.text ∷ [] };
-    entries = work.entries + filling.found.count;
-    flat = record work.flat { tables = work.flat.tables ++ filling.table ∷ [] } })
+  scope = record work.scope { tables = work.scope.tables ++ d.name.text ∷ [] };
+  entries = work.entries + filling.found.count;
+  flat = record work.flat { tables = work.flat.tables ++ filling.table ∷ [] };
+})
 
 abbrev pub counted_table : Work → TableDefinition → Filling → Result Work ConfError
 counted_table work d filling =
@@ -104,9 +111,12 @@ setting_of r line = record { block_policy = r.options.block_policy; state_policy
 
 abbrev pub filter_if : Work → Body → Option ConfError → Result Work ConfError
 filter_if work body (Some e) = Err e
-filter_if work body None = Ok (record work { flat = record work.flat {
+filter_if work body None = Ok (record work {
+  flat = record work.flat {
     rules = work.flat.rules ++ body.rules;
-    anchors = work.flat.anchors ++ map (moved (length work.flat.rules)) body.anchors } })
+    anchors = work.flat.anchors ++ map (moved (length work.flat.rules)) body.anchors;
+  };
+})
 
 abbrev pub filter_by : Work → Result Body ConfError → Result Work ConfError
 filter_by work (Ok body) = filter_if work body body.fault
@@ -115,13 +125,29 @@ filter_by work (Err e) = Err e
 unfoldable pub with_filter : FilterStatement → Work → Result Work ConfError
 with_filter x work = filter_by work (filter_statement 16 work.scope (setting_of work.flat (line_of x)) x empty_body)
 
+-- ---- translation rules, by which nothing is translated yet
+
+abbrev pub word_of : TranslationKind → List ℕ
+word_of kind.Nat = codes "nat"
+word_of kind.Rdr = codes "rdr"
+word_of kind.Binat = codes "binat"
+
+abbrev pub first_word : TranslationKind → Option Target → List ℕ
+first_word found (Some target) = word_of found
+first_word found None = codes "no"
+
+-- an anchor of translation rules is empty, and a rule is left out by its first word
+abbrev pub with_translation : TranslationStatement → Work → Result Work ConfError
+with_translation (t.Anchor found name) work = Ok work
+with_translation (t.Rule rule) work = Err (left_out_at rule.line (first_word rule.kind rule.target))
+
 -- ---- all statements
 
 unfoldable pub with_statement : Statement → Work → Result Work ConfError
 with_statement (s.Macro d) work = with_definition d work
 with_statement (s.Table d) work = with_table d work
 with_statement (s.Option option) work = with_set option work
-with_statement (s.Translation rule) work = Ok work
+with_statement (s.Translation found) work = with_translation found work
 with_statement (s.Filter x) work = with_filter x work
 
 abbrev pub and_more : Result Work ConfError → (Work → Result Work ConfError) → Result Work ConfError

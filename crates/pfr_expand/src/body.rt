@@ -293,7 +293,12 @@ fn put_copy(
         last: out.rules.len() - 1,
         ..anchor
     })?;
-    put_anchors(&mut out.anchors, place, inner.rules.len(), inner.anchors.as_slice())
+    put_anchors(
+        &mut out.anchors,
+        place,
+        inner.rules.len(),
+        inner.anchors.as_slice(),
+    )
 }
 
 /// The same, said of the places too.

@@ -6,6 +6,7 @@ ghost use Rattle.pfr_elements.specs.Hosts.{place_from};
 ghost use Rattle.pfr_elements.specs.Values.{begun};
 ghost use Rattle.pfr_expand.specs.Bodies.{Adds, ArePlaced, moved};
 ghost use Rattle.pfr_expand.specs.Rulesets as spec;
+ghost use Rattle.pfr_expand.specs.declared.expansion.Work as W;
 
 use crate::body::{Body, Setting, add_statement, put_anchors, too_many};
 use crate::flat::{FlatAnchor, FlatRule};
@@ -16,11 +17,12 @@ use crate::tables::{Filling, clash, fill};
 use pfr_conf::anchor::DEEPEST_ANCHOR;
 use pfr_conf::{
     Bytes, ConfError, FilterStatement, Items, MacroDefinition, Name, Piece, SetOption, Statement,
-    Statements, TableDefinition,
+    Statements, TableDefinition, TranslationKind, TranslationStatement,
 };
 use pfr_elements::hosts::place_of;
 use pfr_elements::value::Draft;
 use pfr_elements::{Elements, Interface, MOST_ELEMENTS, Macros, Scope};
+use pfr_terms::error::left_out_at;
 use std::alloc::{AllocError, Global};
 
 /// How far an expansion has come: what gives words their meaning, how many entries all tables have together, and the
@@ -153,7 +155,9 @@ impl<'a> Work<'a> {
         if let Some(fault) = fault {
             return Err(fault);
         }
-        self.scope.tables.push(Bytes::new(definition.name.text.as_slice()))?;
+        self.scope
+            .tables
+            .push(Bytes::new(definition.name.text.as_slice()))?;
         self.entries += count;
         self.flat.tables.push(table)?;
         Ok(())
@@ -181,8 +185,20 @@ impl<'a> Work<'a> {
             line: line_of(statement),
         };
         let mut body = Body::new(alloc);
-        add_statement(alloc, &self.scope, setting, &mut body, statement, DEEPEST_ANCHOR)?;
-        let Body { rules, anchors, fault, .. } = body;
+        add_statement(
+            alloc,
+            &self.scope,
+            setting,
+            &mut body,
+            statement,
+            DEEPEST_ANCHOR,
+        )?;
+        let Body {
+            rules,
+            anchors,
+            fault,
+            ..
+        } = body;
         if let Some(fault) = fault {
             return Err(fault);
         }
@@ -198,8 +214,34 @@ impl<'a> Work<'a> {
             Statement::Macro(definition) => self.define(alloc, definition),
             Statement::Table(definition) => self.add_table(alloc, definition),
             Statement::Option(option) => self.set(alloc, option),
-            Statement::Translation(_) => Ok(()),
+            Statement::Translation(found) => check_translation(alloc, found),
             Statement::Filter(rule) => self.add_filter(alloc, rule),
+        }
+    }
+}
+
+fn word_of(kind: TranslationKind) -> &'static [u8]
+    ensures { result.now ≡ spec.word_of kind }
+{
+    match kind {
+        TranslationKind::Nat => b"nat",
+        TranslationKind::Rdr => b"rdr",
+        TranslationKind::Binat => b"binat",
+    }
+}
+
+/// A translation rule. Nothing translates by them yet: until it does they are left out, as `read` leaves them out.
+fn check_translation(alloc: Global, found: &TranslationStatement<'_>) -> Result<(), ConfError>
+    ensures { (work : W.Work) → Adds (spec.with_translation found.now work) result work }
+{
+    match found {
+        TranslationStatement::Anchor(_, _) => Ok(()),
+        TranslationStatement::Rule(rule) => {
+            let word = match &rule.target {
+                Some(_) => word_of(rule.kind),
+                None => b"no".as_slice(),
+            };
+            Err(left_out_at(alloc, rule.line, word))
         }
     }
 }

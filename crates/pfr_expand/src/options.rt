@@ -77,7 +77,11 @@ fn skip(options: &mut Options, line: usize, found: Elements<IfName>) -> Result<(
 }
 
 /// An option without effect, whose word may be a macro.
-fn check_word(alloc: Global, scope: &Scope<'_>, word: &Written<'_, Name<'_>>) -> Result<(), ConfError>
+fn check_word(
+    alloc: Global,
+    scope: &Scope<'_>,
+    word: &Written<'_, Name<'_>>,
+) -> Result<(), ConfError>
     ensures { (options : O.Options) → Adds (spec.without_effect scope.now options word.now) result options }
 {
     match word {
