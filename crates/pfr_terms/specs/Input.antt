@@ -226,6 +226,10 @@ leave_out name = λ i. Err (left_out name i)
 unfoldable pub blame : ConfError → Parser (Unit {0})
 blame e = λ i. if i.gathers then Ok (tt, next (record i { gathered = Some (lower i.gathered e) })) else Err e
 
+-- a fault of what was read, which is none of a word by itself, is gathered
+unfoldable pub note : ConfError → Parser (Unit {0})
+note e = λ i. Ok (tt, record i { gathered = Some (lower i.gathered e) })
+
 abbrev pub blamed : (Input → ConfError) → Parser (Unit {0})
 blamed f = λ i. blame (f i) i
 

@@ -342,6 +342,15 @@ impl<'w, 'a> Reader<'w, 'a> {
         Ok(())
     }
 
+    /// Gathers a fault of what was read, which is none of a word by itself.
+    #[tactic(auto, unfolding(crate::specs::Input::note))]
+    pub fn note(&mut self, fault: ConfError)
+        ensures { spec.note fault self.old ≡ Ok (tt, self.new) }
+    {
+        let gathered = replace(&mut self.gathered, None);
+        self.gathered = Some(lower(gathered, fault));
+    }
+
     /// Goes past the next word, which doesn't belong where it stands, if it is left out and faults are gathered.
     #[tactic(auto, unfolding(crate::specs::Input::pass_over))]
     pub fn pass_over(&mut self, alloc: Global) -> Result<(), ConfError>

@@ -26,7 +26,8 @@ pub(crate) fn byte_at(text: &[u8], place: usize) -> u8
     if place < text.len() { text[place] } else { 0 }
 }
 
-pub(crate) fn is_blank(byte: u8) -> bool
+/// Whether the byte separates words within a line.
+pub fn is_blank(byte: u8) -> bool
     ensures { result ≡ spec.is_blank byte }
 {
     byte == b' ' || byte == b'\t' || byte == b'\r'

@@ -58,6 +58,14 @@ impl<T: Copy> Items<T> {
         let elements = Vec::from_slice(alloc, elements)?;
         Ok(Items { elements })
     }
+
+    /// Puts a copy of the elements at the end.
+    pub fn extend_from_slice(&mut self, elements: &[T]) -> Result<(), AllocError>
+        ensures { OnOk result (self.new ≡ self.old ++ elements.now) }
+    {
+        self.elements.extend_from_slice(elements)?;
+        Ok(())
+    }
 }
 
 impl<T: Drop> Items<T> {

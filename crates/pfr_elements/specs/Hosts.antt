@@ -1,0 +1,142 @@
+-- What addresses mean in a list: interface forms by the run's interface, tables by their places.
+use Rattle.std.specs.Prelude.{ℕ, suc, Bool, true, false, List, [], ◌∷◌, Option, Some, None, Result, Ok, Err, if◌then◌else◌, codes}
+use Rattle.std.specs.Str.{bytes_eq}
+use Rattle.pfr_words.specs.Words.{words}
+use Rattle.pfr_terms.specs.declared.error.ConfError.{ConfError}
+use Rattle.pfr_terms.specs.declared.error.ConfErrorKind.TheVariants.{UndefinedTable}
+use Rattle.pfr_terms.specs.declared.name.Name.{Name}
+use Rattle.pfr_terms.specs.declared.name.MacroUse.{MacroUse}
+use Rattle.pfr_terms.specs.declared.name.Written.{Written}
+use Rattle.pfr_terms.specs.declared.name.Written.TheVariants as w
+use Rattle.pfr_terms.specs.declared.address.Network.{Network}
+use Rattle.pfr_terms.specs.declared.address.Host.{Host}
+use Rattle.pfr_terms.specs.declared.address.Host.TheVariants as h
+use Rattle.pfr_terms.specs.declared.address.Address.{Address}
+use Rattle.pfr_terms.specs.declared.address.Address.TheVariants as a
+use Rattle.pfr_terms.specs.declared.address.AddressMatch.{AddressMatch}
+use Rattle.pfr_terms.specs.declared.address.TableEntry.{TableEntry}
+use Rattle.pfr_terms.specs.Input.{Outcome, Parser, ◌>>=◌, pure, unknown_word, left_out_at, free_word, finish, of_value}
+use Rattle.pfr_tables.specs.declared.table.Entry.{Entry}
+use Rattle.pfr_elements.specs.declared.interface.Interface.{Interface}
+use Rattle.pfr_elements.specs.declared.hosts.HostSet.{HostSet}
+use Rattle.pfr_elements.specs.declared.hosts.HostSet.TheVariants as set
+use Rattle.pfr_elements.specs.declared.hosts.HostCriterion.{HostCriterion}
+use Rattle.pfr_elements.specs.declared.scope.Scope.{Scope}
+use Rattle.pfr_elements.specs.declared.value.Value.{Value}
+use Rattle.pfr_elements.specs.declared.value.Value.TheVariants.{Text, TooLong}
+use Rattle.pfr_elements.specs.Values.{value_at}
+use Rattle.pfr_elements.specs.Interfaces.{whole, masked, form_of}
+use Rattle.pfr_elements.specs.Elements.{noted}
+use Rattle.pfr_elements.specs.Terms.{use_in, misplaced}
+
+-- ---- interface forms
+
+abbrev pub form_by : ℕ → Option Network → Result Network ConfError
+form_by line (Some network) = Ok network
+form_by line None = Err (left_out_at line (codes "host name"))
+
+-- a word that is no form of the interface is the name of a host
+unfoldable pub form_meaning : Interface → Name → Result Network ConfError
+form_meaning interface name = form_by name.line (form_of interface name.text)
+
+-- the one name in the value of a macro
+unfoldable pub value_form : Interface → Parser (Option Network)
+value_form interface = do
+  name ← free_word
+  found ← noted (form_meaning interface name)
+  _ ← finish
+  pure found
+
+abbrev pub network_or_unknown : ℕ → Option Network → Result Network ConfError
+network_or_unknown line (Some network) = Ok network
+network_or_unknown line None = Err (unknown_word line)
+
+abbrev pub form_gathered : ℕ → Option Network → Option ConfError → Result Network ConfError
+form_gathered line found (Some e) = Err (record { line = line; kind = e.kind })
+form_gathered line found None = network_or_unknown line found
+
+abbrev pub form_read : ℕ → Outcome (Option Network) → Result Network ConfError
+form_read line (Err e) = Err (record { line = line; kind = e.kind })
+form_read line (Ok p) = form_gathered line p.0 p.1.gathered
+
+abbrev pub form_in : Interface → ℕ → Result Value ConfError → Result Network ConfError
+form_in interface line (Err e) = Err e
+form_in interface line (Ok (TooLong is_list)) = Err (unknown_word line)
+form_in interface line (Ok (Text text)) = form_read line (value_form interface (of_value (words text)))
+
+-- the use of a macro in round brackets
+unfoldable pub used_form : Scope → MacroUse → Result Network ConfError
+used_form scope found = form_in scope.interface found.line (value_at scope.macros false found)
+
+-- ---- hosts
+
+unfoldable pub host_meaning : Scope → Host → Result Network ConfError
+host_meaning scope (h.Address address) = Ok (whole address)
+host_meaning scope (h.Network network) = Ok (masked network)
+host_meaning scope h.Own = Ok (whole scope.interface.address)
+host_meaning scope (h.Interface name) = form_meaning scope.interface name
+host_meaning scope (h.InterfaceMacro found) = used_form scope found
+
+-- ---- addresses of rules
+
+-- the place of a table among those that are defined
+abbrev pub place_from : ℕ → List ℕ → List (List ℕ) → Option ℕ
+place_from place name [] = None
+place_from place name (t ∷ tables) = if bytes_eq t name then Some place else place_from (suc place) name tables
+
+abbrev pub table_by : Name → Option ℕ → Result HostSet ConfError
+table_by name (Some place) = Ok (set.Table place)
+table_by name None = Err (record { line = name.line; kind = UndefinedTable })
+
+abbrev pub network_set : Result Network ConfError → Result HostSet ConfError
+network_set (Ok network) = Ok (set.Network network)
+network_set (Err e) = Err e
+
+unfoldable pub address_meaning : Scope → Address → Result HostSet ConfError
+address_meaning scope a.Any = Ok set.Any
+address_meaning scope (a.Host host) = network_set (host_meaning scope host)
+address_meaning scope (a.Range first last) = Ok (set.Range first last)
+address_meaning scope (a.Table name) = table_by name (place_from 0 name.text scope.tables)
+address_meaning scope (a.Macro found) = Err (misplaced found)
+
+abbrev pub with_sign : Bool → Result HostSet ConfError → Result HostCriterion ConfError
+with_sign is_negated (Ok hosts) = Ok (record { is_negated = is_negated; hosts = hosts })
+with_sign is_negated (Err e) = Err e
+
+abbrev pub host_use_by : Address → Option MacroUse
+host_use_by (a.Macro found) = Some found
+host_use_by address = None
+
+abbrev pub host_use : AddressMatch → Option MacroUse
+host_use m = host_use_by m.address
+
+abbrev pub host_negated : AddressMatch → Bool
+host_negated m = m.is_negated
+
+abbrev pub host_criterion : Scope → AddressMatch → Result HostCriterion ConfError
+host_criterion scope m = with_sign m.is_negated (address_meaning scope m.address)
+
+abbrev pub host_turned : HostCriterion → HostCriterion
+host_turned c = record c { is_negated = true }
+
+-- ---- entries of tables
+
+abbrev pub entry_of : Bool → Result Network ConfError → Result Entry ConfError
+entry_of is_negated (Ok network) = Ok (record { network = network; is_negated = is_negated })
+entry_of is_negated (Err e) = Err e
+
+abbrev pub entry_by : Scope → Bool → Written Host → Result Entry ConfError
+entry_by scope is_negated (w.Item host) = entry_of is_negated (host_meaning scope host)
+entry_by scope is_negated (w.Macro found) = Err (misplaced found)
+
+abbrev pub entry_use : TableEntry → Option MacroUse
+entry_use e = use_in e.host
+
+abbrev pub entry_negated : TableEntry → Bool
+entry_negated e = e.is_negated
+
+abbrev pub entry_meaning : Scope → TableEntry → Result Entry ConfError
+entry_meaning scope e = entry_by scope e.is_negated e.host
+
+abbrev pub entry_turned : Entry → Entry
+entry_turned e = record e { is_negated = true }

@@ -1,0 +1,60 @@
+-- What interfaces, protocols, ports and ICMP types mean in a list.
+use Rattle.std.specs.Prelude.{ℕ, Bool, true, false, Option, Some, None, Result, Ok, Err}
+use Rattle.pfr_terms.specs.declared.error.ConfError.{ConfError}
+use Rattle.pfr_terms.specs.declared.name.MacroUse.{MacroUse}
+use Rattle.pfr_terms.specs.declared.name.Written.{Written}
+use Rattle.pfr_terms.specs.declared.name.Written.TheVariants as w
+use Rattle.pfr_terms.specs.declared.interface.InterfaceName.{InterfaceName}
+use Rattle.pfr_terms.specs.declared.interface.InterfaceMatch.{InterfaceMatch}
+use Rattle.pfr_terms.specs.Input.{unknown_word}
+use Rattle.pfr_elements.specs.declared.interface.IfName.{IfName}
+use Rattle.pfr_elements.specs.declared.terms.InterfaceCriterion.{InterfaceCriterion}
+use Rattle.pfr_elements.specs.declared.scope.Scope.{Scope}
+use Rattle.pfr_elements.specs.Interfaces.{if_name}
+
+abbrev pub use_in : {A : Type 0} → Written A → Option MacroUse
+use_in (w.Macro found) = Some found
+use_in (w.Item x) = None
+
+-- a thing that is never behind a `!`
+abbrev pub never : {A : Type 0} → A → Bool
+never x = false
+
+abbrev pub same : {A : Type 0} → A → A
+same x = x
+
+-- a use within a value, which can't be: a `$` is no word of it
+abbrev pub misplaced : MacroUse → ConfError
+misplaced found = unknown_word found.line
+
+abbrev pub literal : {A : Type 0} → Written A → Result A ConfError
+literal (w.Item x) = Ok x
+literal (w.Macro found) = Err (misplaced found)
+
+abbrev pub itself : {A : Type 0} → Scope → Written A → Result A ConfError
+itself scope written = literal written
+
+-- ---- interfaces
+
+abbrev pub skip_name : Written InterfaceName → Result IfName ConfError
+skip_name (w.Item found) = Ok (if_name found.name.text)
+skip_name (w.Macro found) = Err (misplaced found)
+
+abbrev pub skipped : Scope → Written InterfaceName → Result IfName ConfError
+skipped scope written = skip_name written
+
+abbrev pub named : Bool → Written InterfaceName → Result InterfaceCriterion ConfError
+named is_negated (w.Item found) = Ok (record { is_negated = is_negated; name = if_name found.name.text })
+named is_negated (w.Macro found) = Err (misplaced found)
+
+abbrev pub interface_use : InterfaceMatch → Option MacroUse
+interface_use m = use_in m.interface
+
+abbrev pub interface_negated : InterfaceMatch → Bool
+interface_negated m = m.is_negated
+
+abbrev pub interface_meaning : Scope → InterfaceMatch → Result InterfaceCriterion ConfError
+interface_meaning scope m = named m.is_negated m.interface
+
+abbrev pub interface_turned : InterfaceCriterion → InterfaceCriterion
+interface_turned c = record c { is_negated = true }

@@ -1,0 +1,309 @@
+//! The elements of lists.
+ghost use Rattle.std.specs.Prelude.{◌≡◌, ◌<◌, ◌≤◌, ◌++◌, ◌∷◌, [], List, map, length, Option, Result, Bool, Ok, OnOk, IfErr};
+ghost use Rattle.pfr_terms.specs.declared.error.ConfError.{ConfError};
+ghost use Rattle.pfr_terms.specs.declared.name.MacroUse.{MacroUse};
+ghost use Rattle.pfr_terms.specs.declared.error.ConfErrorKind.TheVariants.{Memory};
+ghost use Rattle.pfr_terms.specs.Input.{Parser, Reads, of_value};
+ghost use Rattle.pfr_words.specs.Words as ws;
+ghost use Rattle.std.specs.Bool.{Decides};
+ghost use Rattle.pfr_elements.specs.declared.scope.Scope.{Scope};
+ghost use Rattle.pfr_elements.specs.Elements as spec;
+ghost use Rattle.pfr_elements.specs.Values.{Makes};
+
+use crate::scope::Scope;
+use crate::value::Value;
+use pfr_terms::{ConfError, ConfErrorKind, MacroUse, Reader};
+use pfr_words::spelling::words;
+use pfr_words::{Items, Sign, Word};
+use std::alloc::{AllocError, Global};
+use std::mem::replace;
+
+/// The most elements that a list may have.
+pub const MOST_ELEMENTS: usize = 1048576;
+
+/// What a list comes to: what its elements mean, the first fault of one, and how many there are. One at fault counts
+/// as one.
+#[derive(Drop)]
+pub struct Elements<T> {
+    pub items: Items<T>,
+    pub fault: Option<ConfError>,
+    pub count: usize,
+}
+
+/// What may stand in a list.
+pub trait Element: Sized {
+    /// What it means.
+    type Flat: Copy;
+
+    /// How it is read.
+    ghost form: { Parser Self };
+
+    /// The macro that it uses, if it is a use and nothing else.
+    ghost use_in: { Self → Option MacroUse };
+
+    /// Whether it has a `!`.
+    ghost negated: { Self → Bool };
+
+    /// What it means, if it is no use.
+    ghost meaning: { Scope → Self → Result Self.Flat ConfError };
+
+    /// What a thing of a macro's value means behind a `!`.
+    ghost turned: { Self.Flat → Self.Flat };
+
+    fn macro_use(&self) -> Option<MacroUse<'_>>
+        ensures { result ≡ use_in self.now };
+
+    fn is_negated(&self) -> bool
+        ensures { result ≡ negated self.now };
+
+    fn resolve(
+        &self,
+        alloc: Global,
+        scope: &Scope<'_>,
+    ) -> Result<Result<Self::Flat, ConfError>, ConfError>
+        ensures { Makes (meaning scope.now self.now) result };
+
+    fn turn(flat: Self::Flat) -> Self::Flat
+        ensures { result ≡ turned flat };
+
+    /// Reads one in the value of a macro, and says what it means; of one at fault nothing.
+    fn read_one(
+        alloc: Global,
+        scope: &Scope<'_>,
+        reader: &mut Reader<'_, '_>,
+    ) -> Result<Option<Self::Flat>, ConfError>
+        ensures { Reads (spec.value_item meaning form scope.now reader.old) result reader.new };
+}
+
+/// Whether memory was refused.
+pub(crate) fn is_memory(fault: &ConfError) -> bool
+    ensures { Decides result (fault.now.kind ≡ Memory) }
+{
+    match fault.kind {
+        ConfErrorKind::Memory => true,
+        _ => false,
+    }
+}
+
+/// What a thing of a value means; a fault is gathered.
+pub(crate) fn noted<T: Copy>(reader: &mut Reader<'_, '_>, meaning: Result<T, ConfError>) -> Option<T>
+    ensures { spec.noted meaning reader.old ≡ Ok (result, reader.new) }
+{
+    match meaning {
+        Ok(flat) => Some(flat),
+        Err(fault) => {
+            reader.note(fault);
+            None
+        }
+    }
+}
+
+fn put_some<T: Copy>(found: &mut Items<T>, flat: Option<T>) -> Result<(), AllocError>
+    ensures { OnOk result (found.new ≡ spec.with_some found.old flat) }
+{
+    match flat {
+        Some(flat) => found.push(flat),
+        None => Ok(()),
+    }
+}
+
+/// What the things of a value mean up to the closing brace, of which there is at least one.
+#[tactic(auto, using(pfr_terms::proofs::Turns::one_turn, pfr_terms::proofs::Turns::no_turn))]
+fn value_members<T: Element>(
+    alloc: Global,
+    scope: &Scope<'_>,
+    reader: &mut Reader<'_, '_>,
+) -> Result<Items<T::Flat>, ConfError>
+    ensures { Reads (spec.value_members (spec.value_item T.meaning T.form scope.now) reader.old) result reader.new }
+{
+    let mut found = Items::new(alloc);
+    for _turn in 0..reader.turns() {
+        let flat = T::read_one(alloc, scope, reader)?;
+        put_some(&mut found, flat)?;
+        if reader.close_list() {
+            return Ok(found);
+        }
+        reader.eat_sign(Sign::Comma);
+    }
+    Err(reader.refuse(alloc))
+}
+
+/// What the things of a value mean.
+#[tactic(auto, unfolding(crate::specs::Elements::value_items))]
+fn value_items<T: Element>(
+    alloc: Global,
+    scope: &Scope<'_>,
+    reader: &mut Reader<'_, '_>,
+) -> Result<Items<T::Flat>, ConfError>
+    ensures { Reads (spec.value_items (spec.value_item T.meaning T.form scope.now) reader.old) result reader.new }
+{
+    let found = if reader.open_list() {
+        value_members::<T>(alloc, scope, reader)?
+    } else {
+        let mut only = Items::new(alloc);
+        put_some(&mut only, T::read_one(alloc, scope, reader)?)?;
+        only
+    };
+    reader.finish(alloc)?;
+    Ok(found)
+}
+
+fn first_fault(first: Option<ConfError>, second: ConfError) -> Option<ConfError>
+    ensures { result ≡ spec.first_fault first second }
+{
+    match first {
+        Some(first) => Some(first),
+        None => Some(second),
+    }
+}
+
+impl<T: Copy> Elements<T> {
+    pub fn new(alloc: Global) -> Elements<T>
+        ensures { result ≡ spec.none_yet }
+    {
+        Elements {
+            items: Items::new(alloc),
+            fault: None,
+            count: 0,
+        }
+    }
+
+    /// One more element, which is at fault.
+    fn add_fault(&mut self, fault: ConfError)
+        requires { self.old.count ≤ 1048576 }
+        ensures { self.new ≡ spec.with_fault fault self.old }
+    {
+        self.fault = first_fault(replace(&mut self.fault, None), fault);
+        self.count += 1;
+    }
+
+    /// One more element, by what it means.
+    pub fn add_meaning(&mut self, meaning: Result<T, ConfError>) -> Result<(), AllocError>
+        requires { self.old.count ≤ 1048576 }
+        ensures { OnOk result (self.new ≡ spec.with_meaning meaning self.old) }
+    {
+        match meaning {
+            Ok(flat) => {
+                self.items.push(flat)?;
+                self.count += 1;
+            }
+            Err(fault) => self.add_fault(fault),
+        }
+        Ok(())
+    }
+}
+
+/// Puts what the things of a value mean behind the other elements, each behind a `!` if the use has one.
+fn put_values<T: Element>(
+    found: &mut Elements<T::Flat>,
+    values: &[T::Flat],
+    is_negated: bool,
+) -> Result<(), AllocError>
+    ensures put { OnOk result (found.new.items ≡ found.old.items ++ map (spec.turned_if is_negated T.turned) values.now) }
+    ensures kept { (found.new.fault ≡ found.old.fault) × (found.new.count ≡ found.old.count) }
+{
+    for flat in values {
+        let turned = if is_negated { T::turn(*flat) } else { *flat };
+        found.items.push(turned)?;
+    }
+    Ok(())
+}
+
+/// The elements that the use of a macro stands for with this text as its value.
+fn add_text<T: Element>(
+    alloc: Global,
+    scope: &Scope<'_>,
+    found: &mut Elements<T::Flat>,
+    line: usize,
+    is_negated: bool,
+    text: &[u8],
+) -> Result<(), ConfError>
+    requires { found.old.count ≤ 1048576 }
+    ensures made { OnOk result (found.new ≡ spec.with_values (spec.turned_if is_negated T.turned) line (spec.value_items (spec.value_item T.meaning T.form scope.now) (of_value (ws.words text.now))) found.old) }
+    ensures refused { IfErr result (λ e. e.kind ≡ Memory) }
+{
+    let value = words(alloc, text)?;
+    let mut reader = Reader::of_value(value.as_slice());
+    let values = match value_items::<T>(alloc, scope, &mut reader) {
+        Ok(values) => values,
+        Err(fault) if is_memory(&fault) => return Err(fault),
+        Err(fault) => {
+            found.add_fault(ConfError { line, kind: fault.kind });
+            return Ok(());
+        }
+    };
+    match reader.into_gathered() {
+        Some(fault) => found.add_fault(ConfError { line, kind: fault.kind }),
+        None => {
+            put_values::<T>(found, values.as_slice(), is_negated)?;
+            found.count += values.len();
+        }
+    }
+    Ok(())
+}
+
+/// The elements that the use of a macro stands for.
+fn add_use<T: Element>(
+    alloc: Global,
+    scope: &Scope<'_>,
+    found: &mut Elements<T::Flat>,
+    is_negated: bool,
+    used: &MacroUse<'_>,
+) -> Result<(), ConfError>
+    requires { found.old.count ≤ 1048576 }
+    ensures made { OnOk result (found.new ≡ spec.with_use (spec.value_item T.meaning T.form scope.now) T.turned scope.now is_negated used.now found.old) }
+    ensures refused { IfErr result (λ e. e.kind ≡ Memory) }
+{
+    match scope.macros.value_at(alloc, used, is_negated)? {
+        Err(fault) => found.add_fault(fault),
+        Ok(Value::TooLong(true)) => found.count += MOST_ELEMENTS + 1,
+        Ok(Value::TooLong(false)) => found.add_fault(ConfError {
+            line: used.line,
+            kind: ConfErrorKind::UnknownWord,
+        }),
+        Ok(Value::Text(text)) => {
+            add_text::<T>(alloc, scope, found, used.line, is_negated, text.as_slice())?;
+        }
+    }
+    Ok(())
+}
+
+/// One more element of a list.
+#[tactic(auto, unfolding(crate::specs::Elements::with_element))]
+pub fn add_element<T: Element>(
+    alloc: Global,
+    scope: &Scope<'_>,
+    found: &mut Elements<T::Flat>,
+    element: &T,
+) -> Result<(), ConfError>
+    requires { found.old.count ≤ 1048576 }
+    ensures made { OnOk result (found.new ≡ spec.with_element T.use_in T.negated T.meaning T.form T.turned scope.now found.old element.now) }
+    ensures refused { IfErr result (λ e. e.kind ≡ Memory) }
+{
+    match element.macro_use() {
+        Some(used) => add_use::<T>(alloc, scope, found, element.is_negated(), &used),
+        None => {
+            let meaning = element.resolve(alloc, scope)?;
+            found.add_meaning(meaning)?;
+            Ok(())
+        }
+    }
+}
+
+/// The elements of a list. Those behind the one that is too many aren't looked at.
+pub fn elements_of<T: Element>(
+    alloc: Global,
+    scope: &Scope<'_>,
+    list: &[T],
+) -> Result<Elements<T::Flat>, ConfError>
+    ensures { Makes (spec.elements_from (spec.with_element T.use_in T.negated T.meaning T.form T.turned scope.now) spec.none_yet list.now) result }
+{
+    let mut found = Elements::new(alloc);
+    for element in list {
+        if found.count > MOST_ELEMENTS {
+            return Ok(found);
+        }
+        add_element(alloc, scope, &mut found, element)?;
+    }
+    Ok(found)
+}

@@ -1,0 +1,345 @@
+//! What addresses mean in a list.
+ghost use Rattle.std.specs.Prelude.{◌≡◌, ◌<◌, ◌≤◌, codes, IfOk, Ok};
+ghost use Rattle.pfr_terms.specs.Addresses as addresses;
+ghost use Rattle.pfr_elements.specs.Elements as elements;
+ghost use Rattle.pfr_elements.specs.Hosts as spec;
+ghost use Rattle.pfr_elements.specs.Values.{Makes};
+ghost use Rattle.pfr_terms.specs.Input.{Reads, of_value, left_out_at};
+ghost use Rattle.pfr_words.specs.Words as ws;
+
+use crate::element::{Element, is_memory, noted};
+use crate::interface::{Interface, masked, whole};
+use crate::scope::Scope;
+use crate::terms::{misplaced, use_in};
+use crate::value::Value;
+use pfr_tables::Entry;
+use pfr_terms::error::LeftOutName;
+use pfr_terms::lists::Item;
+use pfr_terms::{
+    Address, AddressMatch, ConfError, ConfErrorKind, Host, Ipv4Address, MacroUse, Name, Network,
+    Reader, TableEntry, Written,
+};
+use pfr_words::spelling::words;
+use pfr_words::{Bytes, Items};
+use std::alloc::{AllocError, Global};
+
+/// Addresses that a packet's is held against.
+#[derive(Clone, Copy, Debug, PartialEq, Eq)]
+pub enum HostSet {
+    Any,
+    /// No address has a bit below the network's prefix.
+    Network(Network),
+    /// From the first address to the second.
+    Range(Ipv4Address, Ipv4Address),
+    /// The table at this place among the tables of the ruleset.
+    Table(usize),
+}
+
+/// Addresses that a packet's has to be among, or with `!` must not be among.
+#[derive(Clone, Copy, Debug, PartialEq, Eq)]
+pub struct HostCriterion {
+    pub is_negated: bool,
+    pub hosts: HostSet,
+}
+
+/// The fault of a name that isn't the interface's.
+fn host_name(alloc: Global, line: usize) -> Result<ConfError, AllocError>
+    ensures { IfOk result (λ e. e ≡ left_out_at line (codes "host name")) }
+{
+    let name = Items::copied(alloc, b"host name".as_slice())?;
+    Ok(ConfError {
+        line,
+        kind: ConfErrorKind::LeftOut(LeftOutName { name }),
+    })
+}
+
+/// What a name means as a form of the interface.
+#[tactic(auto, unfolding(crate::specs::Hosts::form_meaning))]
+fn form_meaning(
+    alloc: Global,
+    interface: &Interface,
+    name: &Name<'_>,
+) -> Result<Result<Network, ConfError>, ConfError>
+    ensures { Makes (spec.form_meaning interface.now name.now) result }
+{
+    match interface.form(name.text.as_slice()) {
+        Some(network) => Ok(Ok(network)),
+        None => Ok(Err(host_name(alloc, name.line)?)),
+    }
+}
+
+/// What the one name means that is the value of a macro.
+#[tactic(auto, unfolding(crate::specs::Hosts::value_form))]
+fn value_form(
+    alloc: Global,
+    interface: &Interface,
+    reader: &mut Reader<'_, '_>,
+) -> Result<Option<Network>, ConfError>
+    ensures { Reads (spec.value_form interface.now reader.old) result reader.new }
+{
+    let name = reader.free_word(alloc)?;
+    let meaning = form_meaning(alloc, interface, &name)?;
+    let found = noted(reader, meaning);
+    reader.finish(alloc)?;
+    Ok(found)
+}
+
+/// What the text of a macro's value means in round brackets.
+fn form_read(
+    alloc: Global,
+    interface: &Interface,
+    line: usize,
+    text: &[u8],
+) -> Result<Result<Network, ConfError>, ConfError>
+    ensures { Makes (spec.form_read line (spec.value_form interface.now (of_value (ws.words text.now)))) result }
+{
+    let value = words(alloc, text)?;
+    let mut reader = Reader::of_value(value.as_slice());
+    let found = match value_form(alloc, interface, &mut reader) {
+        Ok(found) => found,
+        Err(fault) if is_memory(&fault) => return Err(fault),
+        Err(fault) => {
+            return Ok(Err(ConfError {
+                line,
+                kind: fault.kind,
+            }));
+        }
+    };
+    match (reader.into_gathered(), found) {
+        (Some(fault), _) => Ok(Err(ConfError {
+            line,
+            kind: fault.kind,
+        })),
+        (None, Some(network)) => Ok(Ok(network)),
+        (None, None) => Ok(Err(ConfError {
+            line,
+            kind: ConfErrorKind::UnknownWord,
+        })),
+    }
+}
+
+/// What the use of a macro means in round brackets.
+#[tactic(auto, unfolding(crate::specs::Hosts::used_form))]
+fn used_form(
+    alloc: Global,
+    scope: &Scope<'_>,
+    found: &MacroUse<'_>,
+) -> Result<Result<Network, ConfError>, ConfError>
+    ensures { Makes (spec.used_form scope.now found.now) result }
+{
+    match scope.macros.value_at(alloc, found, false)? {
+        Err(fault) => Ok(Err(fault)),
+        Ok(Value::TooLong(_)) => Ok(Err(ConfError {
+            line: found.line,
+            kind: ConfErrorKind::UnknownWord,
+        })),
+        Ok(Value::Text(text)) => form_read(alloc, &scope.interface, found.line, text.as_slice()),
+    }
+}
+
+/// What one address or network means.
+#[tactic(auto, unfolding(crate::specs::Hosts::host_meaning))]
+pub fn host_meaning(
+    alloc: Global,
+    scope: &Scope<'_>,
+    host: &Host<'_>,
+) -> Result<Result<Network, ConfError>, ConfError>
+    ensures { Makes (spec.host_meaning scope.now host.now) result }
+{
+    match host {
+        Host::Address(address) => Ok(Ok(whole(*address))),
+        Host::Network(network) => Ok(Ok(masked(*network))),
+        Host::Own => Ok(Ok(whole(scope.interface.address))),
+        Host::Interface(name) => form_meaning(alloc, &scope.interface, name),
+        Host::InterfaceMacro(found) => used_form(alloc, scope, found),
+    }
+}
+
+/// The place of a table among those that are defined.
+pub fn place_of(name: &[u8], tables: &[Bytes<'_>]) -> Option<usize>
+    ensures { result ≡ spec.place_from 0 name.now tables.now }
+{
+    let mut place: usize = 0;
+    for table in tables {
+        if table.as_slice() == name {
+            return Some(place);
+        }
+        place += 1;
+    }
+    None
+}
+
+fn table_meaning(scope: &Scope<'_>, name: &Name<'_>) -> Result<HostSet, ConfError>
+    ensures { result ≡ spec.table_by name.now (spec.place_from 0 name.now.text scope.now.tables) }
+{
+    match place_of(name.text.as_slice(), scope.tables.as_slice()) {
+        Some(place) => Ok(HostSet::Table(place)),
+        None => Err(ConfError {
+            line: name.line,
+            kind: ConfErrorKind::UndefinedTable,
+        }),
+    }
+}
+
+/// What an address of a rule means.
+#[tactic(auto, unfolding(crate::specs::Hosts::address_meaning))]
+fn address_meaning(
+    alloc: Global,
+    scope: &Scope<'_>,
+    address: &Address<'_>,
+) -> Result<Result<HostSet, ConfError>, ConfError>
+    ensures { Makes (spec.address_meaning scope.now address.now) result }
+{
+    match address {
+        Address::Any => Ok(Ok(HostSet::Any)),
+        Address::Host(host) => match host_meaning(alloc, scope, host)? {
+            Ok(network) => Ok(Ok(HostSet::Network(network))),
+            Err(fault) => Ok(Err(fault)),
+        },
+        Address::Range(first, last) => Ok(Ok(HostSet::Range(*first, *last))),
+        Address::Table(name) => Ok(table_meaning(scope, name)),
+        Address::Macro(found) => Ok(Err(misplaced(found))),
+    }
+}
+
+fn criterion(
+    alloc: Global,
+    scope: &Scope<'_>,
+    found: &AddressMatch<'_>,
+) -> Result<Result<HostCriterion, ConfError>, ConfError>
+    ensures { Makes (spec.host_criterion scope.now found.now) result }
+{
+    match address_meaning(alloc, scope, &found.address)? {
+        Ok(hosts) => Ok(Ok(HostCriterion {
+            is_negated: found.is_negated,
+            hosts,
+        })),
+        Err(fault) => Ok(Err(fault)),
+    }
+}
+
+impl<'a> Element for AddressMatch<'a> {
+    ghost use Rattle.pfr_terms.specs.Addresses as addresses;
+    ghost use Rattle.pfr_elements.specs.Hosts as spec;
+
+    type Flat = HostCriterion;
+
+    ghost form = { addresses.address_match };
+    ghost use_in = { spec.host_use };
+    ghost negated = { spec.host_negated };
+    ghost meaning = { spec.host_criterion };
+    ghost turned = { spec.host_turned };
+
+    fn macro_use(&self) -> Option<MacroUse<'_>> {
+        match &self.address {
+            Address::Macro(found) => Some(MacroUse {
+                line: found.line,
+                name: Bytes::new(found.name.as_slice()),
+                suffix: Bytes::new(found.suffix.as_slice()),
+            }),
+            _ => None,
+        }
+    }
+
+    fn is_negated(&self) -> bool {
+        self.is_negated
+    }
+
+    fn resolve(
+        &self,
+        alloc: Global,
+        scope: &Scope<'_>,
+    ) -> Result<Result<HostCriterion, ConfError>, ConfError> {
+        criterion(alloc, scope, self)
+    }
+
+    fn turn(flat: HostCriterion) -> HostCriterion
+        ensures { result ≡ spec.host_turned flat }
+    {
+        HostCriterion {
+            is_negated: true,
+            ..flat
+        }
+    }
+
+    fn read_one(
+        alloc: Global,
+        scope: &Scope<'_>,
+        reader: &mut Reader<'_, '_>,
+    ) -> Result<Option<HostCriterion>, ConfError>
+        ensures { Reads (elements.value_item spec.host_criterion addresses.address_match scope.now reader.old) result reader.new }
+    {
+        let found = AddressMatch::read(alloc, reader)?;
+        let meaning = criterion(alloc, scope, &found)?;
+        Ok(noted(reader, meaning))
+    }
+}
+
+fn entry(
+    alloc: Global,
+    scope: &Scope<'_>,
+    found: &TableEntry<'_>,
+) -> Result<Result<Entry, ConfError>, ConfError>
+    ensures { Makes (spec.entry_meaning scope.now found.now) result }
+{
+    match &found.host {
+        Written::Item(host) => match host_meaning(alloc, scope, host)? {
+            Ok(network) => Ok(Ok(Entry {
+                network,
+                is_negated: found.is_negated,
+            })),
+            Err(fault) => Ok(Err(fault)),
+        },
+        Written::Macro(used) => Ok(Err(misplaced(used))),
+    }
+}
+
+impl<'a> Element for TableEntry<'a> {
+    ghost use Rattle.pfr_terms.specs.Addresses as addresses;
+    ghost use Rattle.pfr_elements.specs.Hosts as spec;
+
+    type Flat = Entry;
+
+    ghost form = { addresses.table_entry };
+    ghost use_in = { spec.entry_use };
+    ghost negated = { spec.entry_negated };
+    ghost meaning = { spec.entry_meaning };
+    ghost turned = { spec.entry_turned };
+
+    fn macro_use(&self) -> Option<MacroUse<'_>> {
+        use_in(&self.host)
+    }
+
+    fn is_negated(&self) -> bool {
+        self.is_negated
+    }
+
+    fn resolve(
+        &self,
+        alloc: Global,
+        scope: &Scope<'_>,
+    ) -> Result<Result<Entry, ConfError>, ConfError> {
+        entry(alloc, scope, self)
+    }
+
+    fn turn(flat: Entry) -> Entry
+        ensures { result ≡ spec.entry_turned flat }
+    {
+        Entry {
+            is_negated: true,
+            ..flat
+        }
+    }
+
+    fn read_one(
+        alloc: Global,
+        scope: &Scope<'_>,
+        reader: &mut Reader<'_, '_>,
+    ) -> Result<Option<Entry>, ConfError>
+        ensures { Reads (elements.value_item spec.entry_meaning addresses.table_entry scope.now reader.old) result reader.new }
+    {
+        let found = TableEntry::read(alloc, reader)?;
+        let meaning = entry(alloc, scope, &found)?;
+        Ok(noted(reader, meaning))
+    }
+}

@@ -1,0 +1,22 @@
+//! What the lists of a ruleset come to, once its macros, its tables and the run's interface are known.
+//!
+//! A list stands in a statement as it is written. [`elements_of`] gives each of its elements a meaning:
+//! a word that is an interface form its address, a table's name its place, the use of a macro all elements of its value.
+#![tactic(auto)]
+
+pub mod element;
+pub mod hosts;
+pub mod interface;
+pub mod macros;
+pub mod scope;
+pub mod terms;
+pub mod text;
+pub mod value;
+
+pub use element::{Element, Elements, MOST_ELEMENTS, elements_of};
+pub use hosts::{HostCriterion, HostSet};
+pub use interface::{IfName, Interface};
+pub use macros::Macros;
+pub use scope::Scope;
+pub use terms::InterfaceCriterion;
+pub use value::Value;

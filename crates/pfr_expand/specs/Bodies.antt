@@ -1,0 +1,189 @@
+-- Filter rules and anchors as flat rules, with the anchors round them.
+use Rattle.std.specs.Prelude.{◌≡◌, ◌≤◌, ◌<◌, ℕ, zero, suc, ◌+◌, ◌-◌, ◌*◌, ◌==◌, ◌||◌, Bool, true, false, nat_lt, if◌then◌else◌, List, [], ◌∷◌, ◌++◌, length, map, fold, Option, Some, None, Result, Ok, Err, Unit, tt, ◌≢◌}
+use Rattle.std.specs.List.{All}
+use Rattle.pfr_terms.specs.declared.error.ConfError.{ConfError}
+use Rattle.pfr_terms.specs.declared.error.ConfErrorKind.TheVariants.{TooMany, TooDeep, Memory}
+use Rattle.pfr_terms.specs.declared.flags.FlagsMatch.{FlagsMatch}
+use Rattle.pfr_terms.specs.declared.flags.FlagsMatch.TheVariants as flags
+use Rattle.pfr_conf.specs.declared.policy.BlockPolicy.{BlockPolicy}
+use Rattle.pfr_conf.specs.declared.policy.BlockPolicy.TheVariants as b
+use Rattle.pfr_conf.specs.declared.policy.Binding.{Binding}
+use Rattle.pfr_conf.specs.declared.filter.Action.{Action}
+use Rattle.pfr_conf.specs.declared.filter.Action.TheVariants as a
+use Rattle.pfr_conf.specs.declared.filter.FilterRule.{FilterRule}
+use Rattle.pfr_conf.specs.declared.rule_options.StateKeeping.{StateKeeping}
+use Rattle.pfr_conf.specs.declared.rule_options.StateKeeping.TheVariants as k
+use Rattle.pfr_conf.specs.declared.anchor.AnchorRule.{AnchorRule}
+use Rattle.pfr_conf.specs.declared.anchor.FilterStatement.{FilterStatement, FilterStatement-F}
+use Rattle.pfr_conf.specs.declared.anchor.FilterStatement.TheOpen.{out-FilterStatement}
+use Rattle.pfr_conf.specs.declared.anchor.FilterStatement.TheVariants as s
+use Rattle.pfr_elements.specs.declared.scope.Scope.{Scope}
+use Rattle.pfr_elements.specs.Elements.{first_fault}
+use Rattle.pfr_expand.specs.declared.flat.PacketMatch.{PacketMatch}
+use Rattle.pfr_expand.specs.declared.flat.FilterAction.{FilterAction}
+use Rattle.pfr_expand.specs.declared.flat.FilterAction.TheVariants as action
+use Rattle.pfr_expand.specs.declared.flat.FlagsCriterion.{FlagsCriterion}
+use Rattle.pfr_expand.specs.declared.flat.FlagsCriterion.TheVariants as asked
+use Rattle.pfr_expand.specs.declared.flat.StateRule.{StateRule}
+use Rattle.pfr_expand.specs.declared.flat.FlatRule.{FlatRule}
+use Rattle.pfr_expand.specs.declared.flat.FlatAnchor.{FlatAnchor}
+use Rattle.pfr_expand.specs.declared.choices.Choices as C
+use Rattle.pfr_expand.specs.declared.lists.Lists as L
+use Rattle.pfr_expand.specs.declared.body.Setting.{Setting}
+use Rattle.pfr_expand.specs.declared.body.Body.{Body}
+use Rattle.pfr_expand.specs.Choices.{no_match, combinations}
+use Rattle.pfr_expand.specs.Lists.{lists_of, product, has_long_list, choices_or_fault}
+
+-- what a function that adds promises: the outcome, unless memory is refused
+abbrev pub Adds : {A : Type 0} → Result A ConfError → Result (Unit {0}) ConfError → A → Type 0
+Adds outcome (Ok done) new = outcome ≡ Ok new
+Adds outcome (Err e) new = e.kind ≢ Memory → outcome ≡ Err e
+
+-- ---- one rule
+
+abbrev pub blocked : BlockPolicy → FilterAction
+blocked b.Drop = action.Drop
+blocked b.Return = action.Return
+
+-- `block` alone does what the block policy says
+abbrev pub action_of : BlockPolicy → Action → FilterAction
+action_of policy a.Pass = action.Pass
+action_of policy (a.Block (Some written)) = blocked written
+action_of policy (a.Block None) = blocked policy
+
+abbrev pub binding_of : Binding → Option Binding → Binding
+binding_of policy (Some written) = written
+binding_of policy None = policy
+
+-- a pass rule keeps state unless it says that it doesn't; a block rule never does
+abbrev pub state_of : Binding → Action → Option StateKeeping → Option StateRule
+state_of policy (a.Block written) keeping = None
+state_of policy a.Pass None = Some (record { binding = policy; no_sync = false })
+state_of policy a.Pass (Some k.No) = None
+state_of policy a.Pass (Some (k.Keep options)) = Some (record { binding = binding_of policy options.binding; no_sync = options.no_sync })
+
+-- a rule that keeps state and writes no flags asks for S/SA
+abbrev pub flags_of : Option StateRule → Option FlagsMatch → FlagsCriterion
+flags_of None None = asked.Any
+flags_of (Some state) None = asked.Default
+flags_of state (Some flags.Any) = asked.Any
+flags_of state (Some (flags.Of set mask)) = asked.Written set mask
+
+-- what all flat rules of one rule have alike
+unfoldable pub flat_rule : Setting → FilterRule → FlatRule
+flat_rule setting rule =
+    let state : Option StateRule = state_of setting.state_policy rule.action rule.options.state in
+    record {
+      action = action_of setting.block_policy rule.action;
+      direction = rule.direction;
+      is_quick = rule.is_quick;
+      packet = no_match;
+      flags = flags_of state rule.options.flags;
+      state = state;
+      allow_opts = rule.options.allow_opts }
+
+-- ---- counts
+
+abbrev pub too_many : ℕ → ConfError
+too_many line = record { line = line; kind = TooMany }
+
+-- more rules than a ruleset may have, or a list of more elements than it may have
+abbrev pub exceeds : Setting → L.Lists → ℕ → Bool
+exceeds setting lists count = has_long_list lists || nat_lt 65536 (setting.used + count)
+
+-- ---- rules
+
+abbrev pub made_if : Option ConfError → FlatRule → C.Choices → Body → Body
+made_if (Some e) rule choices out = out
+made_if None rule choices out = record out { rules = out.rules ++ map (λ m. record rule { packet = m }) (combinations choices) }
+
+-- behind a fault rules are only counted
+abbrev pub with_made : FlatRule → Result C.Choices ConfError → Body → Body
+with_made rule (Err e) out = record out { fault = first_fault out.fault e }
+with_made rule (Ok choices) out = made_if out.fault rule choices out
+
+abbrev pub counted_rule : Setting → FilterRule → L.Lists → Body → Result Body ConfError
+counted_rule setting rule lists out =
+    let count : ℕ = out.count + product lists in
+    if exceeds setting lists count then Err (too_many setting.line)
+    else Ok (with_made (flat_rule setting rule) (choices_or_fault lists) (record out { count = count }))
+
+unfoldable pub with_rule : Scope → Setting → FilterRule → Body → Result Body ConfError
+with_rule scope setting rule out = counted_rule setting rule (lists_of scope rule.criteria rule.options.icmp_types) out
+
+-- ---- anchors
+
+abbrev pub flat_anchor : AnchorRule → FlatAnchor
+flat_anchor anchor = record { direction = anchor.direction; is_quick = anchor.is_quick; packet = no_match; first = 0; last = 0 }
+
+-- an anchor so many rules further on
+abbrev pub moved : ℕ → FlatAnchor → FlatAnchor
+moved places anchor = record anchor { first = places + anchor.first; last = places + anchor.last }
+
+-- an anchor with a copy of its body, behind what is there
+abbrev pub with_copy : FlatAnchor → Body → Body → PacketMatch → Body
+with_copy anchor inner out m =
+    let place : ℕ = length out.rules in
+    record out {
+      rules = out.rules ++ inner.rules;
+      anchors = out.anchors ++ record anchor { packet = m; first = place; last = place + (length inner.rules - 1) } ∷ map (moved place) inner.anchors }
+
+-- one for each combination; an anchor that holds no rule makes nothing
+abbrev pub copied_if : Option ConfError → FlatAnchor → C.Choices → Body → Body → Body
+copied_if (Some e) anchor choices inner out = out
+copied_if None anchor choices inner out = if length inner.rules == 0 then out else fold (with_copy anchor inner) out (combinations choices)
+
+abbrev pub or_fault : Option ConfError → Option ConfError → Option ConfError
+or_fault (Some e) other = Some e
+or_fault None other = other
+
+abbrev pub with_copies : FlatAnchor → Result C.Choices ConfError → Body → Body → Body
+with_copies anchor (Err e) inner out = record out { fault = first_fault out.fault e }
+with_copies anchor (Ok choices) inner out =
+    let fault : Option ConfError = or_fault out.fault inner.fault in
+    copied_if fault anchor choices inner (record out { fault = fault })
+
+abbrev pub counted_anchor : Setting → AnchorRule → L.Lists → Body → Body → Result Body ConfError
+counted_anchor setting anchor lists inner out =
+    let count : ℕ = out.count + product lists * inner.count in
+    if exceeds setting lists count then Err (too_many setting.line)
+    else Ok (with_copies (flat_anchor anchor) (choices_or_fault lists) inner (record out { count = count }))
+
+abbrev pub empty_body : Body
+empty_body = record { rules = []; anchors = []; fault = None; count = 0 }
+
+-- ---- bodies
+
+abbrev pub Adding : Type 0
+Adding = FilterStatement → Body → Result Body ConfError
+
+abbrev pub and_then : Result Body ConfError → (Body → Result Body ConfError) → Result Body ConfError
+and_then (Ok out) f = f out
+and_then (Err e) f = Err e
+
+abbrev pub body_from : Adding → Body → List FilterStatement → Result Body ConfError
+body_from add out [] = Ok out
+body_from add out (x ∷ xs) = and_then (add x out) (λ more. body_from add more xs)
+
+abbrev pub with_anchor : Setting → AnchorRule → L.Lists → Result Body ConfError → Body → Result Body ConfError
+with_anchor setting anchor lists (Ok inner) out = counted_anchor setting anchor lists inner out
+with_anchor setting anchor lists (Err e) out = Err e
+
+-- a rule, or an anchor by what its body comes to
+abbrev pub statement_by : (AnchorRule → List FilterStatement → Body → Result Body ConfError) → Scope → Setting → FilterStatement-F FilterStatement → Body → Result Body ConfError
+statement_by anchored scope setting (s.Rule rule) out = with_rule scope setting rule out
+statement_by anchored scope setting (s.Anchor anchor body) out = anchored anchor body out
+
+-- a statement in which at most so many anchors stand in one another
+unfoldable pub statement : ℕ → Scope → Setting → Adding
+statement zero scope setting x out = statement_by (λ anchor body out. Err (record { line = anchor.line; kind = TooDeep })) scope setting (out-FilterStatement x) out
+statement (suc depth) scope setting x out = statement_by (λ anchor body out. with_anchor setting anchor (lists_of scope anchor.criteria None) (body_from (statement depth scope setting) empty_body body) out) scope setting (out-FilterStatement x) out
+
+-- ---- places
+
+-- each anchor's places are places of the rules
+abbrev pub IsPlaced : ℕ → FlatAnchor → Type 0
+IsPlaced size anchor = (anchor.first ≤ anchor.last) × (anchor.last < size)
+
+abbrev pub ArePlaced : Body → Type 0
+ArePlaced body = All (IsPlaced (length body.rules)) body.anchors

@@ -1,0 +1,112 @@
+-- Options, as pf.conf(5) has them. Of one that is set twice the last counts; interfaces that are skipped add up.
+use Rattle.std.specs.Prelude.{ℕ, ◌+◌, ◌||◌, Bool, nat_lt, if◌then◌else◌, List, [], ◌∷◌, ◌++◌, length, fold, Option, Some, None, Result, Ok, Err, Unit, tt}
+use lib.ListN.{set}
+use Rattle.pfr_terms.specs.declared.error.ConfError.{ConfError}
+use Rattle.pfr_terms.specs.declared.interface.InterfaceName.{InterfaceName}
+use Rattle.pfr_terms.specs.declared.name.Name.{Name}
+use Rattle.pfr_terms.specs.declared.name.Written.{Written}
+use Rattle.pfr_terms.specs.declared.name.Written.TheVariants as w
+use Rattle.pfr_terms.specs.Lists as lists
+use Rattle.pfr_terms.specs.Terms as terms
+use Rattle.pfr_conf.specs.declared.policy.BlockPolicy.TheVariants as b
+use Rattle.pfr_conf.specs.declared.policy.Binding.TheVariants as binding
+use Rattle.pfr_conf.specs.declared.settings.Timeout.{Timeout}
+use Rattle.pfr_conf.specs.declared.settings.Timeout.TheVariants as t
+use Rattle.pfr_conf.specs.declared.settings.TimeoutSetting.{TimeoutSetting}
+use Rattle.pfr_conf.specs.declared.settings.Limit.{Limit}
+use Rattle.pfr_conf.specs.declared.settings.Limit.TheVariants as limit
+use Rattle.pfr_conf.specs.declared.settings.LimitSetting.{LimitSetting}
+use Rattle.pfr_conf.specs.declared.options.SetOption.{SetOption}
+use Rattle.pfr_conf.specs.declared.options.SetOption.TheVariants as o
+use Rattle.pfr_elements.specs.declared.element.Elements as E
+use Rattle.pfr_elements.specs.declared.interface.IfName.{IfName}
+use Rattle.pfr_elements.specs.declared.scope.Scope.{Scope}
+use Rattle.pfr_elements.specs.Elements.{elements_from, with_element, none_yet, most_elements}
+use Rattle.pfr_elements.specs.Terms.{use_in, never, same, skipped}
+use Rattle.pfr_elements.specs.Values.{plain_word_at}
+use Rattle.pfr_expand.specs.declared.timeouts.Timeouts.{Timeouts}
+use Rattle.pfr_expand.specs.declared.options.Options as O
+use Rattle.pfr_expand.specs.Bodies.{too_many}
+
+-- ---- timeouts
+
+abbrev pub code_of : Timeout → Option ℕ
+code_of t.TcpFirst = Some 0
+code_of t.TcpOpening = Some 1
+code_of t.TcpEstablished = Some 2
+code_of t.TcpClosing = Some 3
+code_of t.TcpFinWait = Some 4
+code_of t.TcpClosed = Some 5
+code_of t.UdpFirst = Some 6
+code_of t.UdpSingle = Some 7
+code_of t.UdpMultiple = Some 8
+code_of t.IcmpFirst = Some 9
+code_of t.IcmpError = Some 10
+code_of t.OtherFirst = Some 11
+code_of t.OtherSingle = Some 12
+code_of t.OtherMultiple = Some 13
+code_of t.Interval = None
+code_of t.Fragment = None
+code_of t.SourceTracking = None
+
+abbrev pub default_timeouts : Timeouts
+default_timeouts = record { seconds = 120 ∷ 30 ∷ 86400 ∷ 900 ∷ 45 ∷ 90 ∷ 60 ∷ 30 ∷ 60 ∷ 20 ∷ 10 ∷ 60 ∷ 30 ∷ 60 ∷ [] }
+
+abbrev pub with_seconds : Option ℕ → ℕ → Timeouts → Timeouts
+with_seconds None seconds timeouts = timeouts
+with_seconds (Some code) seconds timeouts = record { seconds = set timeouts.seconds code seconds }
+
+abbrev pub with_timeout : Timeout → ℕ → Timeouts → Timeouts
+with_timeout timeout seconds timeouts = with_seconds (code_of timeout) seconds timeouts
+
+-- ---- options
+
+abbrev pub default_options : O.Options
+default_options = record { timeouts = default_timeouts; state_limit = 100000; block_policy = b.Drop; state_policy = binding.Floating; host_id = 1; skipped = [] }
+
+abbrev pub timeout_set : O.Options → TimeoutSetting → O.Options
+timeout_set options setting = record options { timeouts = with_timeout setting.timeout setting.seconds options.timeouts }
+
+-- only the limit of states has an effect
+abbrev pub limit_by : Limit → ℕ → O.Options → O.Options
+limit_by limit.States number options = record options { state_limit = number }
+limit_by other number options = options
+
+abbrev pub limit_set : O.Options → LimitSetting → O.Options
+limit_set options setting = limit_by setting.limit setting.number options
+
+abbrev pub line_of : Written InterfaceName → ℕ
+line_of (w.Item found) = found.name.line
+line_of (w.Macro found) = found.line
+
+abbrev pub first_line : List (Written InterfaceName) → ℕ
+first_line [] = 0
+first_line (x ∷ xs) = line_of x
+
+abbrev pub skipped_by : O.Options → Option ConfError → List IfName → Result O.Options ConfError
+skipped_by options (Some e) names = Err e
+skipped_by options None names = Ok (record options { skipped = options.skipped ++ names })
+
+-- so many names as there may be rules
+abbrev pub with_skipped : ℕ → O.Options → E.Elements IfName → Result O.Options ConfError
+with_skipped line options found =
+    if nat_lt most_elements found.count || nat_lt 65536 (length options.skipped + found.count) then Err (too_many line)
+    else skipped_by options found.fault found.items
+
+abbrev pub checked : O.Options → Result (Unit {0}) ConfError → Result O.Options ConfError
+checked options (Ok done) = Ok options
+checked options (Err e) = Err e
+
+abbrev pub without_effect : Scope → O.Options → Written Name → Result O.Options ConfError
+without_effect scope options (w.Item name) = Ok options
+without_effect scope options (w.Macro found) = checked options (plain_word_at scope.macros found)
+
+unfoldable pub with_option : Scope → SetOption → O.Options → Result O.Options ConfError
+with_option scope (o.SkipOn list) options = with_skipped (first_line list) options (elements_from (with_element use_in never skipped (lists.written terms.interface_name) same scope) none_yet list)
+with_option scope (o.Timeouts settings) options = Ok (fold timeout_set options settings)
+with_option scope (o.Limits settings) options = Ok (fold limit_set options settings)
+with_option scope (o.BlockPolicy policy) options = Ok (record options { block_policy = policy })
+with_option scope (o.StatePolicy policy) options = Ok (record options { state_policy = policy })
+with_option scope (o.HostId number) options = Ok (record options { host_id = number })
+with_option scope o.NormalOptimization options = Ok options
+with_option scope (o.WithoutEffect written) options = without_effect scope options written

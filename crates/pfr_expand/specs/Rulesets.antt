@@ -1,0 +1,148 @@
+-- The flat ruleset of statements, or the first fault of theirs.
+use Rattle.std.specs.Prelude.{ℕ, ◌+◌, ◌||◌, Bool, true, false, nat_lt, if◌then◌else◌, List, [], ◌∷◌, ◌++◌, length, map, Option, Some, None, Result, Ok, Err}
+use Rattle.std.specs.Option.{is_some}
+use Rattle.pfr_terms.specs.declared.error.ConfError.{ConfError}
+use Rattle.pfr_terms.specs.declared.name.MacroUse.{MacroUse}
+use Rattle.pfr_terms.specs.declared.name.Name.{Name}
+use Rattle.pfr_conf.specs.declared.macros.Piece as P
+use Rattle.pfr_conf.specs.declared.macros.Piece.TheVariants as p
+use Rattle.pfr_conf.specs.declared.macros.MacroDefinition.{MacroDefinition}
+use Rattle.pfr_conf.specs.declared.table.TableDefinition.{TableDefinition}
+use Rattle.pfr_conf.specs.declared.options.SetOption.{SetOption}
+use Rattle.pfr_conf.specs.declared.anchor.FilterStatement.{FilterStatement, FilterStatement-F}
+use Rattle.pfr_conf.specs.declared.anchor.FilterStatement.TheOpen.{out-FilterStatement}
+use Rattle.pfr_conf.specs.declared.anchor.FilterStatement.TheVariants as f
+use Rattle.pfr_conf.specs.declared.statement.Statement.{Statement}
+use Rattle.pfr_conf.specs.declared.statement.Statement.TheVariants as s
+use Rattle.pfr_conf.specs.declared.statement.Statements as S
+use Rattle.pfr_elements.specs.declared.interface.Interface.{Interface}
+use Rattle.pfr_elements.specs.declared.scope.Scope.{Scope}
+use Rattle.pfr_elements.specs.declared.macros.Macros.{Macros}
+use Rattle.pfr_elements.specs.declared.value.Value.{Value}
+use Rattle.pfr_elements.specs.declared.value.Draft.{Draft}
+use Rattle.pfr_elements.specs.Values.{value_at, with_text, with_macro, begun, defined, no_macros}
+use Rattle.pfr_elements.specs.Hosts.{place_from}
+use Rattle.pfr_elements.specs.Elements.{most_elements}
+use Rattle.pfr_expand.specs.declared.body.Setting.{Setting}
+use Rattle.pfr_expand.specs.declared.body.Body.{Body}
+use Rattle.pfr_expand.specs.declared.options.Options as O
+use Rattle.pfr_expand.specs.declared.tables.Filling.{Filling}
+use Rattle.pfr_expand.specs.declared.ruleset.Ruleset as R
+use Rattle.pfr_expand.specs.declared.expansion.Work.{Work}
+use Rattle.pfr_expand.specs.Bodies.{too_many, moved, empty_body, statement as filter_statement}
+use Rattle.pfr_expand.specs.Options.{default_options, with_option}
+use Rattle.pfr_expand.specs.Tables.{clash, filled, unfilled}
+
+-- ---- macros
+
+abbrev pub with_use : Draft → Result Value ConfError → Result Draft ConfError
+with_use draft (Ok value) = Ok (with_macro value draft)
+with_use draft (Err e) = Err e
+
+-- one more piece of a macro's value
+abbrev pub with_piece : Macros → Draft → P.Piece → Result Draft ConfError
+with_piece macros draft (p.Quoted name) = Ok (with_text name.text draft)
+with_piece macros draft (p.Plain name) = Ok (with_text name.text draft)
+with_piece macros draft (p.Macro found) = with_use draft (value_at macros false found)
+
+abbrev pub and_pieces : Result Draft ConfError → (Draft → Result Draft ConfError) → Result Draft ConfError
+and_pieces (Ok draft) more = more draft
+and_pieces (Err e) more = Err e
+
+abbrev pub pieces_from : Macros → Draft → List P.Piece → Result Draft ConfError
+pieces_from macros draft [] = Ok draft
+pieces_from macros draft (x ∷ xs) = and_pieces (with_piece macros draft x) (λ d. pieces_from macros d xs)
+
+abbrev pub macro_by : Work → Name → Result Draft ConfError → Result Work ConfError
+macro_by work name (Ok draft) = Ok (record work { scope = record work.scope { macros = defined name.text draft work.scope.macros } })
+macro_by work name (Err e) = Err e
+
+unfoldable pub with_definition : MacroDefinition → Work → Result Work ConfError
+with_definition d work = macro_by work d.name (pieces_from work.scope.macros (begun work.scope.macros) d.pieces)
+
+-- ---- tables
+
+abbrev pub clash_of : Name → Bool → Option ConfError
+clash_of name true = Some (clash name.line)
+clash_of name false = None
+
+abbrev pub table_by : Work → TableDefinition → Filling → Option ConfError → Result Work ConfError
+table_by work d filling (Some e) = Err e
+table_by work d filling None = Ok (record work {
+    scope = record work.scope { tables = work.scope.tables ++ d.name.text ∷ [] };
+    entries = work.entries + filling.found.count;
+    ruleset = record work.ruleset { tables = work.ruleset.tables ++ filling.table ∷ [] } })
+
+abbrev pub counted_table : Work → TableDefinition → Filling → Result Work ConfError
+counted_table work d filling =
+    if nat_lt most_elements filling.found.count || nat_lt 65536 (work.entries + filling.found.count) then Err (too_many d.line)
+    else table_by work d filling filling.found.fault
+
+unfoldable pub with_table : TableDefinition → Work → Result Work ConfError
+with_table d work =
+    counted_table work d (filled work.scope (unfilled (clash_of d.name (is_some (place_from 0 d.name.text work.scope.tables)))) d.entries)
+
+-- ---- options
+
+abbrev pub option_by : Work → Result O.Options ConfError → Result Work ConfError
+option_by work (Ok options) = Ok (record work { ruleset = record work.ruleset { options = options } })
+option_by work (Err e) = Err e
+
+unfoldable pub with_set : SetOption → Work → Result Work ConfError
+with_set option work = option_by work (with_option work.scope option work.ruleset.options)
+
+-- ---- filter rules
+
+abbrev pub line_by : FilterStatement-F FilterStatement → ℕ
+line_by (f.Rule rule) = rule.line
+line_by (f.Anchor anchor body) = anchor.line
+
+unfoldable pub line_of : FilterStatement → ℕ
+line_of x = line_by (out-FilterStatement x)
+
+abbrev pub setting_of : R.Ruleset → ℕ → Setting
+setting_of r line = record { block_policy = r.options.block_policy; state_policy = r.options.state_policy; used = length r.rules; line = line }
+
+abbrev pub filter_if : Work → Body → Option ConfError → Result Work ConfError
+filter_if work body (Some e) = Err e
+filter_if work body None = Ok (record work { ruleset = record work.ruleset {
+    rules = work.ruleset.rules ++ body.rules;
+    anchors = work.ruleset.anchors ++ map (moved (length work.ruleset.rules)) body.anchors } })
+
+abbrev pub filter_by : Work → Result Body ConfError → Result Work ConfError
+filter_by work (Ok body) = filter_if work body body.fault
+filter_by work (Err e) = Err e
+
+unfoldable pub with_filter : FilterStatement → Work → Result Work ConfError
+with_filter x work = filter_by work (filter_statement 16 work.scope (setting_of work.ruleset (line_of x)) x empty_body)
+
+-- ---- all statements
+
+unfoldable pub with_statement : Statement → Work → Result Work ConfError
+with_statement (s.Macro d) work = with_definition d work
+with_statement (s.Table d) work = with_table d work
+with_statement (s.Option option) work = with_set option work
+with_statement (s.Translation rule) work = Ok work
+with_statement (s.Filter x) work = with_filter x work
+
+abbrev pub and_more : Result Work ConfError → (Work → Result Work ConfError) → Result Work ConfError
+and_more (Ok work) more = more work
+and_more (Err e) more = Err e
+
+abbrev pub expanded_from : Work → List Statement → Result Work ConfError
+expanded_from work [] = Ok work
+expanded_from work (x ∷ xs) = and_more (with_statement x work) (λ w. expanded_from w xs)
+
+abbrev pub empty_ruleset : R.Ruleset
+empty_ruleset = record { options = default_options; tables = []; rules = []; anchors = [] }
+
+abbrev pub started : Interface → Work
+started interface = record { scope = record { interface = interface; macros = no_macros; tables = [] }; entries = 0; ruleset = empty_ruleset }
+
+abbrev pub ruleset_in : Result Work ConfError → Result R.Ruleset ConfError
+ruleset_in (Ok work) = Ok work.ruleset
+ruleset_in (Err e) = Err e
+
+-- what the statements mean for an interface
+unfoldable pub expanded : S.Statements → Interface → Result R.Ruleset ConfError
+expanded statements interface = ruleset_in (expanded_from (started interface) statements.statements)

@@ -1,0 +1,416 @@
+//! Filter rules and anchors as flat rules, with the anchors round them.
+ghost use Rattle.std.specs.Prelude.{◌≡◌, ◌<◌, ◌≤◌, ◌+◌, ◌++◌, length, map, fold, OnOk, IfOk};
+ghost use Rattle.std.specs.List.{All};
+ghost use Rattle.pfr_terms.specs.Input.{Gives};
+ghost use Rattle.pfr_elements.specs.Elements as faults;
+ghost use Rattle.pfr_expand.specs.Bodies as spec;
+ghost use Rattle.pfr_expand.specs.Bodies.{Adds};
+
+use crate::choices::{ANYONE, Choices, combinations};
+use crate::flat::{FilterAction, FlagsCriterion, FlatAnchor, FlatRule, PacketMatch, StateRule};
+use crate::lists::{Lists, MOST_RULES, choices_or_fault, lists_of, slice_of};
+use pfr_conf::{
+    Action, AnchorRule, Binding, BlockPolicy, ConfError, ConfErrorKind, FilterRule,
+    FilterStatement, FlagsMatch, Items, StateKeeping,
+};
+use pfr_elements::Scope;
+use std::alloc::{AllocError, Global};
+use std::mem::replace;
+
+/// What the options say of rules, how many rules stand before a statement, and the statement's line.
+#[derive(Clone, Copy, Debug)]
+pub struct Setting {
+    pub block_policy: BlockPolicy,
+    pub state_policy: Binding,
+    pub used: usize,
+    pub line: usize,
+}
+
+/// The rules of a statement or an anchor's body, and the anchors round them; or the first fault, behind which the rules
+/// are only counted.
+#[derive(Drop)]
+pub struct Body {
+    pub rules: Items<FlatRule>,
+    pub anchors: Items<FlatAnchor>,
+    pub fault: Option<ConfError>,
+    pub count: usize,
+}
+
+/// A match that asks for nothing.
+const NO_MATCH: PacketMatch = PacketMatch {
+    interface: None,
+    protocol: None,
+    icmp: None,
+    source: ANYONE,
+    source_port: None,
+    destination: ANYONE,
+    destination_port: None,
+};
+
+fn blocked(policy: BlockPolicy) -> FilterAction
+    ensures { result ≡ spec.blocked policy }
+{
+    match policy {
+        BlockPolicy::Drop => FilterAction::Drop,
+        BlockPolicy::Return => FilterAction::Return,
+    }
+}
+
+fn action_of(policy: BlockPolicy, action: Action) -> FilterAction
+    ensures { result ≡ spec.action_of policy action }
+{
+    match action {
+        Action::Pass => FilterAction::Pass,
+        Action::Block(Some(written)) => blocked(written),
+        Action::Block(None) => blocked(policy),
+    }
+}
+
+/// The state that a rule keeps.
+fn state_of(policy: Binding, action: Action, keeping: Option<StateKeeping>) -> Option<StateRule>
+    ensures { result ≡ spec.state_of policy action keeping }
+{
+    match (action, keeping) {
+        (Action::Block(_), _) => None,
+        (Action::Pass, None) => Some(StateRule {
+            binding: policy,
+            no_sync: false,
+        }),
+        (Action::Pass, Some(StateKeeping::No)) => None,
+        (Action::Pass, Some(StateKeeping::Keep(options))) => Some(StateRule {
+            binding: options.binding.unwrap_or(policy),
+            no_sync: options.no_sync,
+        }),
+    }
+}
+
+fn flags_of(state: Option<StateRule>, flags: Option<FlagsMatch>) -> FlagsCriterion
+    ensures { result ≡ spec.flags_of state flags }
+{
+    match flags {
+        None if state.is_some() => FlagsCriterion::Default,
+        None => FlagsCriterion::Any,
+        Some(FlagsMatch::Any) => FlagsCriterion::Any,
+        Some(FlagsMatch::Of { set, mask }) => FlagsCriterion::Written { set, mask },
+    }
+}
+
+/// What all flat rules of one rule have alike.
+#[tactic(auto, unfolding(crate::specs::Bodies::flat_rule))]
+fn flat_rule(setting: Setting, rule: &FilterRule<'_>) -> FlatRule
+    ensures { result ≡ spec.flat_rule setting rule.now }
+{
+    let state = state_of(setting.state_policy, rule.action, rule.options.state);
+    FlatRule {
+        action: action_of(setting.block_policy, rule.action),
+        direction: rule.direction,
+        is_quick: rule.is_quick,
+        packet: NO_MATCH,
+        flags: flags_of(state, rule.options.flags),
+        state,
+        allow_opts: rule.options.allow_opts,
+    }
+}
+
+pub(crate) fn too_many(line: usize) -> ConfError
+    ensures { result ≡ spec.too_many line }
+{
+    ConfError {
+        line,
+        kind: ConfErrorKind::TooMany,
+    }
+}
+
+/// Puts a flat rule for each match behind the others.
+fn put_rules(
+    out: &mut Items<FlatRule>,
+    rule: FlatRule,
+    matches: &[PacketMatch],
+) -> Result<(), AllocError>
+    ensures { OnOk result (out.new ≡ out.old ++ map (λ m. record rule { packet = m }) matches.now) }
+{
+    for packet in matches {
+        out.push(FlatRule {
+            packet: *packet,
+            ..rule
+        })?;
+    }
+    Ok(())
+}
+
+pub(crate) fn first_fault(first: Option<ConfError>, second: ConfError) -> Option<ConfError>
+    ensures { result ≡ faults.first_fault first second }
+{
+    match first {
+        Some(first) => Some(first),
+        None => Some(second),
+    }
+}
+
+impl Body {
+    pub fn new(alloc: Global) -> Body
+        ensures made { result ≡ spec.empty_body }
+        ensures placed { spec.ArePlaced result }
+    {
+        Body {
+            rules: Items::new(alloc),
+            anchors: Items::new(alloc),
+            fault: None,
+            count: 0,
+        }
+    }
+
+    fn add_fault(&mut self, fault: ConfError)
+        ensures { self.new ≡ record self.old { fault = faults.first_fault self.old.fault fault } }
+    {
+        self.fault = first_fault(replace(&mut self.fault, None), fault);
+    }
+
+    /// Makes the rules of a rule, unless a fault came before.
+    #[tactic(auto, using(crate::proofs::Places::more_are_placed))]
+    fn make(
+        &mut self,
+        alloc: Global,
+        rule: FlatRule,
+        choices: Result<Choices, ConfError>,
+    ) -> Result<(), AllocError>
+        requires { spec.ArePlaced self.old }
+        ensures made { OnOk result (self.new ≡ spec.with_made rule choices self.old) }
+        ensures placed { OnOk result (spec.ArePlaced self.new) }
+    {
+        match choices {
+            Err(fault) => self.add_fault(fault),
+            Ok(choices) => {
+                if self.fault.is_none() {
+                    let matches = combinations(alloc, &choices)?;
+                    put_rules(&mut self.rules, rule, matches.as_slice())?;
+                }
+            }
+        }
+        Ok(())
+    }
+}
+
+/// Whether there are more rules than a ruleset may have, or a list has more elements than it may have.
+fn exceeds(setting: Setting, lists: &Lists, count: usize) -> bool
+    requires { count ≤ 4611686018427387904 }
+    ensures { result ≡ spec.exceeds setting lists.now count }
+{
+    lists.has_long_list() || setting.used > MOST_RULES || count > MOST_RULES - setting.used
+}
+
+/// The rules of a rule.
+#[tactic(auto, unfolding(crate::specs::Bodies::with_rule))]
+fn add_rule(
+    alloc: Global,
+    scope: &Scope<'_>,
+    setting: Setting,
+    out: &mut Body,
+    rule: &FilterRule<'_>,
+) -> Result<(), ConfError>
+    requires few { out.old.count ≤ 65536 }
+    requires placed { spec.ArePlaced out.old }
+    ensures made { Adds (spec.with_rule scope.now setting rule.now out.old) result out.new }
+    ensures counted { OnOk result (out.new.count ≤ 65536) }
+    ensures placed { OnOk result (spec.ArePlaced out.new) }
+{
+    let types = slice_of(&rule.options.icmp_types);
+    let lists = lists_of(alloc, scope, &rule.criteria, types)?;
+    let count = out.count + lists.product();
+    if exceeds(setting, &lists, count) {
+        return Err(too_many(setting.line));
+    }
+    let choices = choices_or_fault(alloc, lists)?;
+    out.count = count;
+    out.make(alloc, flat_rule(setting, rule), choices)?;
+    Ok(())
+}
+
+fn or_fault(first: Option<ConfError>, second: Option<ConfError>) -> Option<ConfError>
+    ensures { result ≡ spec.or_fault first second }
+{
+    match first {
+        Some(first) => Some(first),
+        None => second,
+    }
+}
+
+/// Puts anchors behind the others, so many rules further on.
+pub(crate) fn put_anchors(
+    out: &mut Items<FlatAnchor>,
+    place: usize,
+    anchors: &[FlatAnchor],
+) -> Result<(), AllocError>
+    requires { All (λ a. (place + a.first < 18446744073709551616) × (place + a.last < 18446744073709551616)) anchors.now }
+    ensures { OnOk result (out.new ≡ out.old ++ map (spec.moved place) anchors.now) }
+{
+    for anchor in anchors {
+        out.push(FlatAnchor {
+            first: place + anchor.first,
+            last: place + anchor.last,
+            ..*anchor
+        })?;
+    }
+    Ok(())
+}
+
+/// Puts an anchor with a copy of its body behind what is there.
+#[tactic(auto, using(crate::proofs::Places::fits_behind))]
+fn put_copy(
+    out: &mut Body,
+    anchor: FlatAnchor,
+    inner: &Body,
+    packet: PacketMatch,
+) -> Result<(), AllocError>
+    requires some { 0 < length inner.now.rules }
+    requires placed { spec.ArePlaced inner.now }
+    ensures { OnOk result (out.new ≡ spec.with_copy anchor inner.now out.old packet) }
+{
+    let place = out.rules.len();
+    out.rules.extend_from_slice(inner.rules.as_slice())?;
+    out.anchors.push(FlatAnchor {
+        packet,
+        first: place,
+        last: place + (inner.rules.len() - 1),
+        ..anchor
+    })?;
+    put_anchors(&mut out.anchors, place, inner.anchors.as_slice())
+}
+
+/// Puts an anchor with a copy of its body for each match behind what is there.
+#[tactic(auto, using(crate::proofs::Places::copy_is_placed))]
+fn put_copies(
+    out: &mut Body,
+    anchor: FlatAnchor,
+    inner: &Body,
+    matches: &[PacketMatch],
+) -> Result<(), AllocError>
+    requires some { 0 < length inner.now.rules }
+    requires inner { spec.ArePlaced inner.now }
+    requires placed { spec.ArePlaced out.old }
+    ensures made { OnOk result (out.new ≡ fold (spec.with_copy anchor inner.now) out.old matches.now) }
+    ensures placed { OnOk result (spec.ArePlaced out.new) }
+{
+    for packet in matches {
+        put_copy(out, anchor, inner, *packet)?;
+    }
+    Ok(())
+}
+
+/// The anchors of an anchor, each with the whole body, unless there is a fault.
+fn make_copies(
+    alloc: Global,
+    out: &mut Body,
+    anchor: FlatAnchor,
+    choices: Result<Choices, ConfError>,
+    mut inner: Body,
+) -> Result<(), AllocError>
+    requires inner { spec.ArePlaced inner }
+    requires placed { spec.ArePlaced out.old }
+    ensures made { OnOk result (out.new ≡ spec.with_copies anchor choices inner out.old) }
+    ensures placed { OnOk result (spec.ArePlaced out.new) }
+{
+    match choices {
+        Err(fault) => out.add_fault(fault),
+        Ok(choices) => {
+            let before = replace(&mut out.fault, None);
+            out.fault = or_fault(before, replace(&mut inner.fault, None));
+            if out.fault.is_none() && inner.rules.len() > 0 {
+                let matches = combinations(alloc, &choices)?;
+                put_copies(out, anchor, &inner, matches.as_slice())?;
+            }
+        }
+    }
+    Ok(())
+}
+
+fn flat_anchor(anchor: &AnchorRule<'_>) -> FlatAnchor
+    ensures { result ≡ spec.flat_anchor anchor.now }
+{
+    FlatAnchor {
+        direction: anchor.direction,
+        is_quick: anchor.is_quick,
+        packet: NO_MATCH,
+        first: 0,
+        last: 0,
+    }
+}
+
+/// The rules of an anchor, by what its lists and its body come to.
+fn add_anchor(
+    alloc: Global,
+    setting: Setting,
+    out: &mut Body,
+    anchor: &AnchorRule<'_>,
+    lists: Lists,
+    inner: Body,
+) -> Result<(), ConfError>
+    requires few { (out.old.count ≤ 65536) × (inner.count ≤ 65536) }
+    requires inner { spec.ArePlaced inner }
+    requires placed { spec.ArePlaced out.old }
+    ensures made { Adds (spec.counted_anchor setting anchor.now lists inner out.old) result out.new }
+    ensures counted { OnOk result (out.new.count ≤ 65536) }
+    ensures placed { OnOk result (spec.ArePlaced out.new) }
+{
+    let count = out.count + lists.product() * inner.count;
+    if exceeds(setting, &lists, count) {
+        return Err(too_many(setting.line));
+    }
+    let choices = choices_or_fault(alloc, lists)?;
+    out.count = count;
+    make_copies(alloc, out, flat_anchor(anchor), choices, inner)?;
+    Ok(())
+}
+
+/// What a body's statements come to, in each of which at most so many anchors stand in one another.
+#[cycle(nest)]
+fn body_of(
+    alloc: Global,
+    scope: &Scope<'_>,
+    setting: Setting,
+    statements: &[FilterStatement<'_>],
+    depth: usize,
+) -> Result<Body, ConfError>
+    ensures made { Gives (spec.body_from (spec.statement depth scope.now setting) spec.empty_body statements.now) result }
+    ensures counted { IfOk result (λ body. body.count ≤ 65536) }
+    ensures placed { IfOk result (λ body. spec.ArePlaced body) }
+{
+    let mut out = Body::new(alloc);
+    for statement in statements {
+        add_statement(alloc, scope, setting, &mut out, statement, depth)?;
+    }
+    Ok(out)
+}
+
+/// The rules of a statement in which at most so many anchors stand in one another.
+#[cycle(nest)]
+#[tactic(auto, using(crate::proofs::Depths::deepest, crate::proofs::Depths::deeper))]
+pub(crate) fn add_statement(
+    alloc: Global,
+    scope: &Scope<'_>,
+    setting: Setting,
+    out: &mut Body,
+    statement: &FilterStatement<'_>,
+    depth: usize,
+) -> Result<(), ConfError>
+    requires few { out.old.count ≤ 65536 }
+    requires placed { spec.ArePlaced out.old }
+    ensures made { Adds (spec.statement depth scope.now setting statement.now out.old) result out.new }
+    ensures counted { OnOk result (out.new.count ≤ 65536) }
+    ensures placed { OnOk result (spec.ArePlaced out.new) }
+{
+    match statement {
+        FilterStatement::Rule(rule) => add_rule(alloc, scope, setting, out, rule),
+        FilterStatement::Anchor(anchor, body) => {
+            if depth == 0 {
+                return Err(ConfError {
+                    line: anchor.line,
+                    kind: ConfErrorKind::TooDeep,
+                });
+            }
+            let lists = lists_of(alloc, scope, &anchor.criteria, None)?;
+            let inner = body_of(alloc, scope, setting, body.as_slice(), depth - 1)?;
+            add_anchor(alloc, setting, out, anchor, lists, inner)
+        }
+    }
+}

@@ -1,0 +1,231 @@
+//! From statements to the flat ruleset.
+ghost use Rattle.std.specs.Prelude.{◌≡◌, ◌<◌, ◌≤◌, ◌+◌, ◌++◌, length, map, OnOk, IfOk};
+ghost use Rattle.std.specs.Option.{is_some};
+ghost use Rattle.pfr_terms.specs.Input.{Gives};
+ghost use Rattle.pfr_elements.specs.Hosts.{place_from};
+ghost use Rattle.pfr_elements.specs.Values.{begun};
+ghost use Rattle.pfr_expand.specs.Bodies.{Adds, ArePlaced, moved};
+ghost use Rattle.pfr_expand.specs.Rulesets as spec;
+
+use crate::body::{Body, Setting, add_statement, put_anchors, too_many};
+use crate::lists::MOST_RULES;
+use crate::options::Options;
+use crate::ruleset::Ruleset;
+use crate::tables::{clash, fill};
+use pfr_conf::anchor::DEEPEST_ANCHOR;
+use pfr_conf::{
+    Bytes, ConfError, FilterStatement, Items, MacroDefinition, Name, Piece, SetOption, Statement,
+    Statements, TableDefinition,
+};
+use pfr_elements::hosts::place_of;
+use pfr_elements::value::Draft;
+use pfr_elements::{Interface, MOST_ELEMENTS, Macros, Scope};
+use std::alloc::{AllocError, Global};
+
+/// How far an expansion has come: what gives words their meaning, how many entries all tables have together, and the
+/// ruleset so far.
+#[derive(Drop)]
+pub struct Work<'a> {
+    pub scope: Scope<'a>,
+    pub entries: usize,
+    pub ruleset: Ruleset,
+}
+
+/// Puts a piece behind a macro's value.
+fn add_piece(
+    alloc: Global,
+    macros: &Macros<'_>,
+    draft: &mut Draft,
+    piece: &Piece<'_>,
+) -> Result<(), ConfError>
+    ensures { Adds (spec.with_piece macros.now draft.old piece.now) result draft.new }
+{
+    match piece {
+        Piece::Quoted(name) => draft.add_text(name.text.as_slice())?,
+        Piece::Plain(name) => draft.add_text(name.text.as_slice())?,
+        Piece::Macro(found) => {
+            let value = macros.value_at(alloc, found, false)??;
+            draft.add_value(&value)?;
+        }
+    }
+    Ok(())
+}
+
+/// The value that the pieces of a macro make.
+fn draft_of(alloc: Global, macros: &Macros<'_>, pieces: &[Piece<'_>]) -> Result<Draft, ConfError>
+    ensures { Gives (spec.pieces_from macros.now (begun macros.now) pieces.now) result }
+{
+    let mut draft = macros.begin(alloc);
+    for piece in pieces {
+        add_piece(alloc, macros, &mut draft, piece)?;
+    }
+    Ok(draft)
+}
+
+/// The line of a filter rule or an anchor.
+#[tactic(auto, unfolding(crate::specs::Rulesets::line_of))]
+fn line_of(statement: &FilterStatement<'_>) -> usize
+    ensures { result ≡ spec.line_of statement.now }
+{
+    match statement {
+        FilterStatement::Rule(rule) => rule.line,
+        FilterStatement::Anchor(anchor, _) => anchor.line,
+    }
+}
+
+impl Ruleset {
+    /// A ruleset that says nothing.
+    pub(crate) fn new(alloc: Global) -> Ruleset
+        ensures { result ≡ spec.empty_ruleset }
+    {
+        Ruleset {
+            options: Options::new(alloc),
+            tables: Items::new(alloc),
+            rules: Items::new(alloc),
+            anchors: Items::new(alloc),
+        }
+    }
+
+    /// Puts the rules of a body behind the others.
+    #[tactic(auto, using(crate::proofs::Places::fits_behind))]
+    fn add_body(&mut self, body: &Body) -> Result<(), AllocError>
+        requires { ArePlaced body.now }
+        ensures { OnOk result (self.new ≡ record self.old { rules = self.old.rules ++ body.now.rules; anchors = self.old.anchors ++ map (moved (length self.old.rules)) body.now.anchors }) }
+    {
+        let place = self.rules.len();
+        self.rules.extend_from_slice(body.rules.as_slice())?;
+        put_anchors(&mut self.anchors, place, body.anchors.as_slice())
+    }
+}
+
+impl<'a> Work<'a> {
+    fn new(alloc: Global, interface: Interface) -> Work<'a>
+        ensures { result ≡ spec.started interface }
+    {
+        Work {
+            scope: Scope {
+                interface,
+                macros: Macros::new(alloc),
+                tables: Items::new(alloc),
+            },
+            entries: 0,
+            ruleset: Ruleset::new(alloc),
+        }
+    }
+
+    #[tactic(auto, unfolding(crate::specs::Rulesets::with_definition))]
+    fn define(&mut self, alloc: Global, definition: &MacroDefinition<'a>) -> Result<(), ConfError>
+        ensures { Adds (spec.with_definition definition.now self.old) result self.new }
+    {
+        let draft = draft_of(alloc, &self.scope.macros, definition.pieces.as_slice())?;
+        let name = Bytes::new(definition.name.text.as_slice());
+        self.scope.macros.define(name, draft)?;
+        Ok(())
+    }
+
+    /// The fault of a table that is defined already.
+    fn clash_of(&self, name: &Name<'_>) -> Option<ConfError>
+        ensures { result ≡ spec.clash_of name.now (is_some (place_from 0 name.now.text self.now.scope.tables)) }
+    {
+        match place_of(name.text.as_slice(), self.scope.tables.as_slice()) {
+            Some(_) => Some(clash(name.line)),
+            None => None,
+        }
+    }
+
+    #[tactic(auto, unfolding(crate::specs::Rulesets::with_table))]
+    fn add_table(
+        &mut self,
+        alloc: Global,
+        definition: &TableDefinition<'a>,
+    ) -> Result<(), ConfError>
+        ensures { Adds (spec.with_table definition.now self.old) result self.new }
+    {
+        let fault = self.clash_of(&definition.name);
+        let filling = fill(alloc, &self.scope, fault, definition.entries.as_slice())?;
+        let count = filling.found.count;
+        if count > MOST_ELEMENTS || self.entries > MOST_RULES || count > MOST_RULES - self.entries {
+            return Err(too_many(definition.line));
+        }
+        if let Some(fault) = filling.found.fault {
+            return Err(fault);
+        }
+        self.scope.tables.push(Bytes::new(definition.name.text.as_slice()))?;
+        self.entries += count;
+        self.ruleset.tables.push(filling.table)?;
+        Ok(())
+    }
+
+    #[tactic(auto, unfolding(crate::specs::Rulesets::with_set))]
+    fn set(&mut self, alloc: Global, option: &SetOption<'_>) -> Result<(), ConfError>
+        ensures { Adds (spec.with_set option.now self.old) result self.new }
+    {
+        self.ruleset.options.set(alloc, &self.scope, option)
+    }
+
+    #[tactic(auto, unfolding(crate::specs::Rulesets::with_filter))]
+    fn add_filter(
+        &mut self,
+        alloc: Global,
+        statement: &FilterStatement<'_>,
+    ) -> Result<(), ConfError>
+        ensures { Adds (spec.with_filter statement.now self.old) result self.new }
+    {
+        let setting = Setting {
+            block_policy: self.ruleset.options.block_policy,
+            state_policy: self.ruleset.options.state_policy,
+            used: self.ruleset.rules.len(),
+            line: line_of(statement),
+        };
+        let mut body = Body::new(alloc);
+        add_statement(alloc, &self.scope, setting, &mut body, statement, DEEPEST_ANCHOR)?;
+        self.ruleset.add_body(&body)?;
+        match body.fault {
+            Some(fault) => Err(fault),
+            None => Ok(()),
+        }
+    }
+
+    #[tactic(auto, unfolding(crate::specs::Rulesets::with_statement))]
+    fn add(&mut self, alloc: Global, statement: &Statement<'a>) -> Result<(), ConfError>
+        ensures { Adds (spec.with_statement statement.now self.old) result self.new }
+    {
+        match statement {
+            Statement::Macro(definition) => self.define(alloc, definition),
+            Statement::Table(definition) => self.add_table(alloc, definition),
+            Statement::Option(option) => self.set(alloc, option),
+            Statement::Translation(_) => Ok(()),
+            Statement::Filter(rule) => self.add_filter(alloc, rule),
+        }
+    }
+}
+
+/// All statements, one after the other.
+fn work_of<'a>(
+    alloc: Global,
+    statements: &[Statement<'a>],
+    interface: Interface,
+) -> Result<Work<'a>, ConfError>
+    ensures { Gives (spec.expanded_from (spec.started interface) statements.now) result }
+{
+    let mut work = Work::new(alloc, interface);
+    for statement in statements {
+        work.add(alloc, statement)?;
+    }
+    Ok(work)
+}
+
+/// The flat ruleset that statements mean for an interface, or the first fault of theirs in the order of the text: of a
+/// macro's value, a table that isn't defined or clashes, a name that isn't the interface's, or of too many rules or
+/// entries.
+#[tactic(auto, unfolding(crate::specs::Rulesets::expanded))]
+pub fn expand(
+    alloc: Global,
+    statements: &Statements<'_>,
+    interface: &Interface,
+) -> Result<Ruleset, ConfError>
+    ensures { Gives (spec.expanded statements.now interface.now) result }
+{
+    let work = work_of(alloc, statements.statements.as_slice(), *interface)?;
+    Ok(work.ruleset)
+}

@@ -1,0 +1,128 @@
+//! Options.
+ghost use Rattle.std.specs.Prelude.{◌≡◌, ◌++◌, fold, OnOk, length};
+ghost use Rattle.pfr_expand.specs.Bodies.{Adds};
+ghost use Rattle.pfr_expand.specs.Options as spec;
+ghost use Rattle.pfr_expand.specs.declared.options.Options as O;
+
+use crate::body::too_many;
+use crate::lists::MOST_RULES;
+use crate::timeouts::Timeouts;
+use pfr_conf::{
+    Binding, BlockPolicy, ConfError, InterfaceName, Items, Limit, LimitSetting, Name, SetOption,
+    TimeoutSetting, Written,
+};
+use pfr_elements::{Elements, IfName, MOST_ELEMENTS, Scope, elements_of};
+use std::alloc::{AllocError, Global};
+
+/// What the options of a ruleset say.
+#[derive(Drop)]
+pub struct Options {
+    pub timeouts: Timeouts,
+    /// How many states there may be.
+    pub state_limit: u32,
+    pub block_policy: BlockPolicy,
+    pub state_policy: Binding,
+    /// The number by which this firewall's states are known to others.
+    pub host_id: u32,
+    /// The interfaces whose packets aren't filtered, each as often as it is named.
+    pub skipped: Items<IfName>,
+}
+
+fn set_timeouts(options: &mut Options, settings: &[TimeoutSetting])
+    ensures { options.new ≡ fold spec.timeout_set options.old settings.now }
+{
+    for setting in settings {
+        options.timeouts.set(setting.timeout, setting.seconds);
+    }
+}
+
+fn set_limits(options: &mut Options, settings: &[LimitSetting])
+    ensures { options.new ≡ fold spec.limit_set options.old settings.now }
+{
+    for setting in settings {
+        if setting.limit == Limit::States {
+            options.state_limit = setting.number;
+        }
+    }
+}
+
+fn first_line(list: &[Written<'_, InterfaceName<'_>>]) -> usize
+    ensures { result ≡ spec.first_line list.now }
+{
+    match list {
+        [] => 0,
+        [first, ..] => match first {
+            Written::Item(found) => found.name.line,
+            Written::Macro(found) => found.line,
+        },
+    }
+}
+
+/// Adds the names of a list to those that are skipped.
+fn skip(options: &mut Options, line: usize, found: Elements<IfName>) -> Result<(), ConfError>
+    ensures { Adds (spec.with_skipped line options.old found) result options.new }
+{
+    if found.count > MOST_ELEMENTS || options.skipped.len() > MOST_RULES {
+        return Err(too_many(line));
+    }
+    if found.count > MOST_RULES - options.skipped.len() {
+        return Err(too_many(line));
+    }
+    if let Some(fault) = found.fault {
+        return Err(fault);
+    }
+    options.skipped.extend_from_slice(found.items.as_slice())?;
+    Ok(())
+}
+
+/// An option without effect, whose word may be a macro.
+fn check_word(alloc: Global, scope: &Scope<'_>, word: &Written<'_, Name<'_>>) -> Result<(), ConfError>
+    ensures { (options : O.Options) → Adds (spec.without_effect scope.now options word.now) result options }
+{
+    match word {
+        Written::Item(_) => Ok(()),
+        Written::Macro(found) => scope.macros.is_plain_word(alloc, found)?,
+    }
+}
+
+impl Options {
+    /// What holds where nothing is set.
+    pub fn new(alloc: Global) -> Options
+        ensures { result ≡ spec.default_options }
+    {
+        Options {
+            timeouts: Timeouts::new(),
+            state_limit: 100000,
+            block_policy: BlockPolicy::Drop,
+            state_policy: Binding::Floating,
+            host_id: 1,
+            skipped: Items::new(alloc),
+        }
+    }
+
+    /// Takes an option.
+    #[tactic(auto, unfolding(crate::specs::Options::with_option))]
+    pub fn set(
+        &mut self,
+        alloc: Global,
+        scope: &Scope<'_>,
+        option: &SetOption<'_>,
+    ) -> Result<(), ConfError>
+        ensures { Adds (spec.with_option scope.now option.now self.old) result self.new }
+    {
+        match option {
+            SetOption::SkipOn(list) => {
+                let found = elements_of(alloc, scope, list.as_slice())?;
+                return skip(self, first_line(list.as_slice()), found);
+            }
+            SetOption::Timeouts(settings) => set_timeouts(self, settings.as_slice()),
+            SetOption::Limits(settings) => set_limits(self, settings.as_slice()),
+            SetOption::BlockPolicy(policy) => self.block_policy = *policy,
+            SetOption::StatePolicy(policy) => self.state_policy = *policy,
+            SetOption::HostId(number) => self.host_id = *number,
+            SetOption::NormalOptimization => {}
+            SetOption::WithoutEffect(word) => check_word(alloc, scope, word)?,
+        }
+        Ok(())
+    }
+}
