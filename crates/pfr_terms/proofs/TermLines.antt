@@ -156,9 +156,9 @@ pub keeps_port : {n : ℕ} → Keeps n ports.port
 unfolding ports.port
 keeps_port = keeps_by plain_ahead ports.port_by port_by_keeps
 
-ports_of_keeps : {n : ℕ} (found : Result PortMatch PortWord) → Keeps n (ports.ports_of found)
-ports_of_keeps (Ok found) = search reading
-ports_of_keeps (Err bad) = keeps_then (bad_port_keeps bad) (λ done. keeps_pure ports.port_zero)
+ports_of_keeps : {n : ℕ} (word : List ℕ) (found : Result PortMatch PortWord) → Keeps n (ports.ports_of word found)
+ports_of_keeps word (Ok found) = search reading
+ports_of_keeps word (Err bad) = keeps_then (bad_port_keeps bad) (λ done. keeps_pure (ports.stand_in word))
 
 port_or_range_by_keeps : {n : ℕ} (found : Option (List ℕ)) → Keeps n (ports.port_or_range_by found)
 port_or_range_by_keeps None = search reading

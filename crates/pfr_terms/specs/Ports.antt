@@ -74,17 +74,25 @@ port = λ i. port_by (plain_ahead i) i
 abbrev pub port_zero : PortMatch
 port_zero = Compare c.Equal 0
 
-abbrev pub ports_of : Result PortMatch PortWord → Parser PortMatch
-ports_of (Ok ports) = do
+abbrev pub stand_in_by : Option (List ℕ × List ℕ) → PortMatch
+stand_in_by None = port_zero
+stand_in_by (Some parts) = Range r.Inclusive 0 0
+
+-- what stands for the ports that a word isn't: of an `x:y` a range, behind which no operator comes
+abbrev pub stand_in : List ℕ → PortMatch
+stand_in word = stand_in_by (cut_at 58 word)
+
+abbrev pub ports_of : List ℕ → Result PortMatch PortWord → Parser PortMatch
+ports_of word (Ok ports) = do
   _ ← taken
   pure ports
-ports_of (Err word) = do
-  _ ← blamed (port_fault word)
-  pure port_zero
+ports_of word (Err bad) = do
+  _ ← blamed (port_fault bad)
+  pure (stand_in word)
 
 abbrev pub port_or_range_by : Option (List ℕ) → Parser PortMatch
 port_or_range_by None = passing port_zero
-port_or_range_by (Some word) = if is_free word then ports_of (ports_in word) else passing port_zero
+port_or_range_by (Some word) = if is_free word then ports_of word (ports_in word) else passing port_zero
 
 unfoldable pub port_or_range : Parser PortMatch
 port_or_range = λ i. port_or_range_by (plain_ahead i) i

@@ -141,6 +141,16 @@ pub fn port(alloc: Global, reader: &mut Reader<'_, '_>) -> Result<u16, ConfError
 /// What stands for a port or a range that is gathered as a fault.
 const PORT_ZERO: PortMatch = PortMatch::Compare(Comparison::Equal, 0);
 
+/// What stands for the ports that a word isn't: of an `x:y` a range, behind which no operator comes.
+fn stand_in(word: &[u8]) -> PortMatch
+    ensures { result ≡ spec.stand_in word.now }
+{
+    match cut(b':', word) {
+        None => PORT_ZERO,
+        Some(_) => PortMatch::Range(RangeOperator::Inclusive, 0, 0),
+    }
+}
+
 /// `p` or `x:y`.
 #[tactic(auto, unfolding(crate::specs::Ports::port_or_range))]
 pub fn port_or_range(alloc: Global, reader: &mut Reader<'_, '_>) -> Result<PortMatch, ConfError>
@@ -152,10 +162,10 @@ pub fn port_or_range(alloc: Global, reader: &mut Reader<'_, '_>) -> Result<PortM
                 reader.take();
                 Ok(ports)
             }
-            Err(word) => {
-                let fault = port_fault(alloc, reader, word)?;
+            Err(bad) => {
+                let fault = port_fault(alloc, reader, bad)?;
                 reader.blame(fault)?;
-                Ok(PORT_ZERO)
+                Ok(stand_in(word.as_slice()))
             }
         },
         _ => {
