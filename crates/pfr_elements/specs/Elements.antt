@@ -3,10 +3,8 @@ use Rattle.std.specs.Prelude.{ℕ, ◌+◌, Bool, true, false, nat_lt, if◌then
 use Rattle.pfr_words.specs.declared.sign.Sign.TheVariants as s
 use Rattle.pfr_words.specs.Words.{words}
 use Rattle.pfr_terms.specs.declared.error.ConfError.{ConfError}
-use Rattle.pfr_terms.specs.declared.error.ConfErrorKind.{ConfErrorKind}
-use Rattle.pfr_terms.specs.declared.error.ConfErrorKind.TheVariants.{UnknownWord}
 use Rattle.pfr_terms.specs.declared.name.MacroUse.{MacroUse}
-use Rattle.pfr_terms.specs.Input.{Input, Parser, Outcome, ◌>>=◌, pure, loop, note, finish, eat_sign, open_list, close_list, of_value}
+use Rattle.pfr_terms.specs.Input.{Parser, Outcome, ◌>>=◌, pure, loop, note, finish, eat_sign, open_list, close_list, of_value, unknown_word}
 use Rattle.pfr_elements.specs.declared.value.Value.{Value}
 use Rattle.pfr_elements.specs.declared.value.Value.TheVariants.{Text, TooLong}
 use Rattle.pfr_elements.specs.declared.scope.Scope.{Scope}
@@ -68,14 +66,18 @@ value_items item = do
   _ ← finish
   pure found
 
+-- the same fault on this line
+abbrev pub at_line : ℕ → ConfError → ConfError
+at_line line e = record { line = line; kind = e.kind }
+
 abbrev pub with_gathered : {A : Type 0} → (A → A) → ℕ → List A → Option ConfError → E.Elements A → E.Elements A
 with_gathered turned line values None found = record { items = found.items ++ map turned values; fault = found.fault; count = found.count + length values }
-with_gathered turned line values (Some e) found = with_fault (record { line = line; kind = e.kind }) found
+with_gathered turned line values (Some e) found = with_fault (at_line line e) found
 
 -- all faults of a value stand where it is used, and the lowest is told
 abbrev pub with_values : {A : Type 0} → (A → A) → ℕ → Outcome (List A) → E.Elements A → E.Elements A
 with_values turned line (Ok p) found = with_gathered turned line p.0 p.1.gathered found
-with_values turned line (Err e) found = with_fault (record { line = line; kind = e.kind }) found
+with_values turned line (Err e) found = with_fault (at_line line e) found
 
 -- ---- a list
 
@@ -86,7 +88,7 @@ most_elements = 1048576
 abbrev pub with_value : {A : Type 0} → Parser (Option A) → (A → A) → ℕ → Result Value ConfError → E.Elements A → E.Elements A
 with_value item turned line (Err e) found = with_fault e found
 with_value item turned line (Ok (TooLong true)) found = record found { count = found.count + (most_elements + 1) }
-with_value item turned line (Ok (TooLong false)) found = with_fault (record { line = line; kind = UnknownWord }) found
+with_value item turned line (Ok (TooLong false)) found = with_fault (unknown_word line) found
 with_value item turned line (Ok (Text text)) found = with_values turned line (value_items item (of_value (words text))) found
 
 abbrev pub turned_if : {A : Type 0} → Bool → (A → A) → A → A

@@ -26,7 +26,7 @@ use Rattle.pfr_elements.specs.declared.value.Value.{Value}
 use Rattle.pfr_elements.specs.declared.value.Value.TheVariants.{Text, TooLong}
 use Rattle.pfr_elements.specs.Values.{value_at}
 use Rattle.pfr_elements.specs.Interfaces.{whole, masked, form_of}
-use Rattle.pfr_elements.specs.Elements.{noted}
+use Rattle.pfr_elements.specs.Elements.{noted, at_line}
 use Rattle.pfr_elements.specs.Terms.{use_in, misplaced}
 
 -- ---- interface forms
@@ -52,11 +52,11 @@ network_or_unknown line (Some network) = Ok network
 network_or_unknown line None = Err (unknown_word line)
 
 abbrev pub form_gathered : ℕ → Option Network → Option ConfError → Result Network ConfError
-form_gathered line found (Some e) = Err (record { line = line; kind = e.kind })
+form_gathered line found (Some e) = Err (at_line line e)
 form_gathered line found None = network_or_unknown line found
 
 abbrev pub form_read : ℕ → Outcome (Option Network) → Result Network ConfError
-form_read line (Err e) = Err (record { line = line; kind = e.kind })
+form_read line (Err e) = Err (at_line line e)
 form_read line (Ok p) = form_gathered line p.0 p.1.gathered
 
 abbrev pub form_in : Interface → ℕ → Result Value ConfError → Result Network ConfError

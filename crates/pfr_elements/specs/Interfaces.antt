@@ -1,5 +1,5 @@
 -- Interfaces, as pf.conf(5) has them.
-use Rattle.std.specs.Prelude.{ℕ, ◌-◌, ◌==◌, ◌&&◌, ◌||◌, Bool, min, nat_le, if◌then◌else◌, List, [], ◌∷◌, ◌++◌, length, take, drop, codes, Option, Some, None}
+use Rattle.std.specs.Prelude.{ℕ, ◌-◌, ◌&&◌, ◌||◌, Bool, min, nat_le, if◌then◌else◌, List, [], ◌++◌, length, take, drop, codes, Option, Some, None}
 use lib.ListN.{replicate}
 use Rattle.std.specs.Str.{bytes_eq}
 use Rattle.pfr_terms.specs.declared.address.Ipv4Address.{Ipv4Address}

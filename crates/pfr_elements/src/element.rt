@@ -10,6 +10,7 @@ ghost use Rattle.pfr_elements.specs.declared.scope.Scope.{Scope};
 ghost use Rattle.pfr_elements.specs.Elements as spec;
 ghost use Rattle.pfr_elements.specs.Values.{Makes};
 
+use crate::faults::{at_line, unknown_word};
 use crate::scope::Scope;
 use crate::value::Value;
 use pfr_terms::{ConfError, ConfErrorKind, MacroUse, Reader};
@@ -86,7 +87,10 @@ pub(crate) fn is_memory(fault: &ConfError) -> bool
 }
 
 /// What a thing of a value means; a fault is gathered.
-pub(crate) fn noted<T: Copy>(reader: &mut Reader<'_, '_>, meaning: Result<T, ConfError>) -> Option<T>
+pub(crate) fn noted<T: Copy>(
+    reader: &mut Reader<'_, '_>,
+    meaning: Result<T, ConfError>,
+) -> Option<T>
     ensures { spec.noted meaning reader.old ≡ Ok (result, reader.new) }
 {
     match meaning {
@@ -228,12 +232,12 @@ fn add_text<T: Element>(
         Ok(values) => values,
         Err(fault) if is_memory(&fault) => return Err(fault),
         Err(fault) => {
-            found.add_fault(ConfError { line, kind: fault.kind });
+            found.add_fault(at_line(line, fault));
             return Ok(());
         }
     };
     match reader.into_gathered() {
-        Some(fault) => found.add_fault(ConfError { line, kind: fault.kind }),
+        Some(fault) => found.add_fault(at_line(line, fault)),
         None => {
             put_values::<T>(found, values.as_slice(), is_negated)?;
             found.count += values.len();
@@ -257,10 +261,7 @@ fn add_use<T: Element>(
     match scope.macros.value_at(alloc, used, is_negated)? {
         Err(fault) => found.add_fault(fault),
         Ok(Value::TooLong(true)) => found.count += MOST_ELEMENTS + 1,
-        Ok(Value::TooLong(false)) => found.add_fault(ConfError {
-            line: used.line,
-            kind: ConfErrorKind::UnknownWord,
-        }),
+        Ok(Value::TooLong(false)) => found.add_fault(unknown_word(used.line)),
         Ok(Value::Text(text)) => {
             add_text::<T>(alloc, scope, found, used.line, is_negated, text.as_slice())?;
         }

@@ -8,9 +8,10 @@ ghost use Rattle.pfr_terms.specs.Input.{Reads, of_value, left_out_at};
 ghost use Rattle.pfr_words.specs.Words as ws;
 
 use crate::element::{Element, is_memory, noted};
+use crate::faults::{at_line, unknown_word};
 use crate::interface::{Interface, masked, whole};
 use crate::scope::Scope;
-use crate::terms::{misplaced, use_in};
+use crate::terms::{copied, misplaced, use_in};
 use crate::value::Value;
 use pfr_tables::Entry;
 use pfr_terms::error::LeftOutName;
@@ -98,23 +99,12 @@ fn form_read(
     let found = match value_form(alloc, interface, &mut reader) {
         Ok(found) => found,
         Err(fault) if is_memory(&fault) => return Err(fault),
-        Err(fault) => {
-            return Ok(Err(ConfError {
-                line,
-                kind: fault.kind,
-            }));
-        }
+        Err(fault) => return Ok(Err(at_line(line, fault))),
     };
     match (reader.into_gathered(), found) {
-        (Some(fault), _) => Ok(Err(ConfError {
-            line,
-            kind: fault.kind,
-        })),
+        (Some(fault), _) => Ok(Err(at_line(line, fault))),
         (None, Some(network)) => Ok(Ok(network)),
-        (None, None) => Ok(Err(ConfError {
-            line,
-            kind: ConfErrorKind::UnknownWord,
-        })),
+        (None, None) => Ok(Err(unknown_word(line))),
     }
 }
 
@@ -129,10 +119,7 @@ fn used_form(
 {
     match scope.macros.value_at(alloc, found, false)? {
         Err(fault) => Ok(Err(fault)),
-        Ok(Value::TooLong(_)) => Ok(Err(ConfError {
-            line: found.line,
-            kind: ConfErrorKind::UnknownWord,
-        })),
+        Ok(Value::TooLong(_)) => Ok(Err(unknown_word(found.line))),
         Ok(Value::Text(text)) => form_read(alloc, &scope.interface, found.line, text.as_slice()),
     }
 }
@@ -225,18 +212,18 @@ impl<'a> Element for AddressMatch<'a> {
     type Flat = HostCriterion;
 
     ghost form = { addresses.address_match };
+
     ghost use_in = { spec.host_use };
+
     ghost negated = { spec.host_negated };
+
     ghost meaning = { spec.host_criterion };
+
     ghost turned = { spec.host_turned };
 
     fn macro_use(&self) -> Option<MacroUse<'_>> {
         match &self.address {
-            Address::Macro(found) => Some(MacroUse {
-                line: found.line,
-                name: Bytes::new(found.name.as_slice()),
-                suffix: Bytes::new(found.suffix.as_slice()),
-            }),
+            Address::Macro(found) => Some(copied(found)),
             _ => None,
         }
     }
@@ -301,9 +288,13 @@ impl<'a> Element for TableEntry<'a> {
     type Flat = Entry;
 
     ghost form = { addresses.table_entry };
+
     ghost use_in = { spec.entry_use };
+
     ghost negated = { spec.entry_negated };
+
     ghost meaning = { spec.entry_meaning };
+
     ghost turned = { spec.entry_turned };
 
     fn macro_use(&self) -> Option<MacroUse<'_>> {

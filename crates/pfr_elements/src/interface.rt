@@ -56,7 +56,8 @@ impl Interface {
     fn is_named(&self, word: &[u8]) -> bool
         ensures { result ≡ spec.is_named self.now word.now }
     {
-        word.len() <= LONGEST_NAME && IfName::new(word).bytes.as_slice() == self.name.bytes.as_slice()
+        word.len() <= LONGEST_NAME
+            && IfName::new(word).bytes.as_slice() == self.name.bytes.as_slice()
     }
 
     /// Whether a word is the interface's name and this behind it.

@@ -5,11 +5,14 @@
 #![tactic(auto)]
 
 pub mod element;
+mod faults;
 pub mod hosts;
 pub mod interface;
 pub mod macros;
 pub mod scope;
 pub mod terms;
+#[cfg(test)]
+mod tests;
 pub mod text;
 pub mod value;
 

@@ -3,8 +3,8 @@ ghost use Rattle.std.specs.Prelude.{◌≡◌, ◌<◌, ◌≤◌, length, take,
 ghost use Rattle.std.specs.Option.{option_map, option_copied};
 ghost use Rattle.pfr_elements.specs.Values as spec;
 ghost use Rattle.pfr_elements.specs.Values.{Makes};
-ghost use Rattle.pfr_terms.specs.Input as input;
 
+use crate::faults::unknown_word;
 use crate::text::is_sound;
 use crate::value::{Draft, Value};
 use pfr_terms::{ConfError, ConfErrorKind, MacroUse};
@@ -24,15 +24,6 @@ pub struct Definition<'a> {
 pub struct Macros<'a> {
     pub definitions: Items<Definition<'a>>,
     pub spliced: usize,
-}
-
-fn unknown_word(line: usize) -> ConfError
-    ensures { result ≡ input.unknown_word line }
-{
-    ConfError {
-        line,
-        kind: ConfErrorKind::UnknownWord,
-    }
 }
 
 /// The value that the last definition of this name gives.

@@ -8,12 +8,13 @@ ghost use Rattle.pfr_elements.specs.Elements as elements;
 ghost use Rattle.pfr_elements.specs.Terms as spec;
 
 use crate::element::{Element, noted};
+use crate::faults::unknown_word;
 use crate::interface::IfName;
 use crate::scope::Scope;
 use pfr_terms::lists::Item;
 use pfr_terms::{
-    ConfError, ConfErrorKind, IcmpMatch, InterfaceMatch, InterfaceName, MacroUse, PortMatch,
-    Protocol, Reader, Written,
+    ConfError, IcmpMatch, InterfaceMatch, InterfaceName, MacroUse, PortMatch, Protocol, Reader,
+    Written,
 };
 use pfr_words::Bytes;
 use std::alloc::Global;
@@ -25,16 +26,23 @@ pub struct InterfaceCriterion {
     pub name: IfName,
 }
 
+/// The same use.
+pub(crate) fn copied<'w>(found: &'w MacroUse<'_>) -> MacroUse<'w>
+    ensures { result ≡ found.now }
+{
+    MacroUse {
+        line: found.line,
+        name: Bytes::new(found.name.as_slice()),
+        suffix: Bytes::new(found.suffix.as_slice()),
+    }
+}
+
 /// The macro that is used, if it is a use.
 pub(crate) fn use_in<'w, T>(written: &'w Written<'_, T>) -> Option<MacroUse<'w>>
     ensures { result ≡ spec.use_in written.now }
 {
     match written {
-        Written::Macro(found) => Some(MacroUse {
-            line: found.line,
-            name: Bytes::new(found.name.as_slice()),
-            suffix: Bytes::new(found.suffix.as_slice()),
-        }),
+        Written::Macro(found) => Some(copied(found)),
         Written::Item(_) => None,
     }
 }
@@ -43,10 +51,7 @@ pub(crate) fn use_in<'w, T>(written: &'w Written<'_, T>) -> Option<MacroUse<'w>>
 pub(crate) fn misplaced(found: &MacroUse<'_>) -> ConfError
     ensures { result ≡ spec.misplaced found.now }
 {
-    ConfError {
-        line: found.line,
-        kind: ConfErrorKind::UnknownWord,
-    }
+    unknown_word(found.line)
 }
 
 fn itself<T: Copy>(written: &Written<'_, T>) -> Result<T, ConfError>
@@ -66,9 +71,13 @@ impl<'a> Element for Written<'a, Protocol> {
     type Flat = Protocol;
 
     ghost form = { lists.written terms.protocol };
+
     ghost use_in = { spec.use_in };
+
     ghost negated = { spec.never };
+
     ghost meaning = { spec.itself };
+
     ghost turned = { spec.same };
 
     fn macro_use(&self) -> Option<MacroUse<'_>> {
@@ -113,9 +122,13 @@ impl<'a> Element for Written<'a, IcmpMatch> {
     type Flat = IcmpMatch;
 
     ghost form = { lists.written terms.icmp_match };
+
     ghost use_in = { spec.use_in };
+
     ghost negated = { spec.never };
+
     ghost meaning = { spec.itself };
+
     ghost turned = { spec.same };
 
     fn macro_use(&self) -> Option<MacroUse<'_>> {
@@ -160,9 +173,13 @@ impl<'a> Element for Written<'a, PortMatch> {
     type Flat = PortMatch;
 
     ghost form = { lists.written ports.port_match };
+
     ghost use_in = { spec.use_in };
+
     ghost negated = { spec.never };
+
     ghost meaning = { spec.itself };
+
     ghost turned = { spec.same };
 
     fn macro_use(&self) -> Option<MacroUse<'_>> {
@@ -216,9 +233,13 @@ impl<'a> Element for Written<'a, InterfaceName<'a>> {
     type Flat = IfName;
 
     ghost form = { lists.written terms.interface_name };
+
     ghost use_in = { spec.use_in };
+
     ghost negated = { spec.never };
+
     ghost meaning = { spec.skipped };
+
     ghost turned = { spec.same };
 
     fn macro_use(&self) -> Option<MacroUse<'_>> {
@@ -274,9 +295,13 @@ impl<'a> Element for InterfaceMatch<'a> {
     type Flat = InterfaceCriterion;
 
     ghost form = { terms.interface_match };
+
     ghost use_in = { spec.interface_use };
+
     ghost negated = { spec.interface_negated };
+
     ghost meaning = { spec.interface_meaning };
+
     ghost turned = { spec.interface_turned };
 
     fn macro_use(&self) -> Option<MacroUse<'_>> {

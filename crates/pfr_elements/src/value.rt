@@ -104,7 +104,10 @@ impl Draft {
                 put_behind(before, text.as_slice())
             }
             Value::Text(text) => {
-                self.value = Value::TooLong(is_long_list(before.as_slice(), begins_list(text.as_slice())));
+                self.value = Value::TooLong(is_long_list(
+                    before.as_slice(),
+                    begins_list(text.as_slice()),
+                ));
                 Ok(())
             }
         }
