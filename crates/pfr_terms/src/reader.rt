@@ -347,8 +347,8 @@ impl<'w, 'a> Reader<'w, 'a> {
     pub fn note(&mut self, fault: ConfError)
         ensures { spec.note fault self.old ≡ Ok (tt, self.new) }
     {
-        let gathered = replace(&mut self.gathered, None);
-        self.gathered = Some(lower(gathered, fault));
+        let before = replace(&mut self.gathered, None);
+        self.gathered = Some(lower(before, fault));
     }
 
     /// Goes past the next word, which doesn't belong where it stands, if it is left out and faults are gathered.
