@@ -341,9 +341,9 @@ def addresses(count):
     return ", ".join(f"10.{n >> 16}.{n >> 8 & 255}.{n & 255}" for n in range(count))
 
 
-def nested(head, body):
-    """Sixteen anchors in one another round the lines of a body."""
-    return f"{head} {{\n" * 16 + body + "}\n" * 16
+def nested(head, body, depth=16):
+    """Anchors in one another round the lines of a body."""
+    return f"{head} {{\n" * depth + body + "}\n" * depth
 
 
 def doubled(times, item="1"):
@@ -369,6 +369,7 @@ def hostile():
         ("256 by 256 and an anchor of none", many + "anchor {\n}\nanchor proto { 1 2 }\n", counted(65536)),
         ("256 by 256 and a table", many + f"table <t> {{ {addresses(65536)} }}\n", counted(65536)),
         ("16 anchors of two", pair, counted(65536)),
+        ("11 anchors of two, with all lines", nested("anchor proto { tcp, udp }", "pass\n", 11), None),
         ("16 anchors of two round two rules", nested("anchor proto { tcp, udp }", "pass\npass\n"), "line 1: too many"),
         ("16 anchors of two and a rule", pair + "pass\n", "line 34: too many"),
         ("a rule and 16 anchors of two", "pass\n" + pair, "line 2: too many"),
@@ -377,7 +378,7 @@ def hostile():
         ("16 anchors of a hundred round none and a rule", nested(f"anchor proto {hundred}", "") + "pass\n", counted(1)),
         ("16 anchors of a hundred round a fault", nested(f"anchor proto {hundred}", "anchor proto $x\n"),
          "line 17: too deep"),
-        ("15 anchors of a hundred round a fault", f"anchor proto {hundred} {{\n" * 15 + "anchor proto $x\n" + "}\n" * 15,
+        ("15 anchors of a hundred round a fault", nested(f"anchor proto {hundred}", "anchor proto $x\n", 15),
          "line 16: undefined macro"),
         ("a table of 65536", f"# entries\ntable <t> {{ {addresses(65536)} }}\n", counted(0)),
         ("a table of 65537", f"# entries\ntable <t> {{ {addresses(65537)} }}\n", "line 2: too many"),
