@@ -1,5 +1,5 @@
 -- Filter rules and anchors as flat rules, with the anchors round them.
-use Rattle.std.specs.Prelude.{◌≡◌, ◌≤◌, ◌<◌, ℕ, zero, suc, ◌+◌, ◌-◌, ◌*◌, ◌==◌, ◌||◌, Bool, true, false, nat_lt, if◌then◌else◌, List, [], ◌∷◌, ◌++◌, length, map, fold, Option, Some, None, Result, Ok, Err, Unit, tt, ◌≢◌}
+use Rattle.std.specs.Prelude.{◌≡◌, ◌≤◌, ◌<◌, ℕ, zero, suc, ◌+◌, ◌-◌, ◌*◌, ◌==◌, ◌||◌, Bool, true, false, nat_lt, if◌then◌else◌, List, [], ◌∷◌, ◌++◌, length, map, fold, Option, Some, None, Result, Ok, Err, ◌≢◌}
 use Rattle.std.specs.List.{All}
 use Rattle.pfr_terms.specs.declared.error.ConfError.{ConfError}
 use Rattle.pfr_terms.specs.declared.error.ConfErrorKind.TheVariants.{TooMany, TooDeep, Memory}
@@ -14,9 +14,8 @@ use Rattle.pfr_conf.specs.declared.filter.FilterRule.{FilterRule}
 use Rattle.pfr_conf.specs.declared.rule_options.StateKeeping.{StateKeeping}
 use Rattle.pfr_conf.specs.declared.rule_options.StateKeeping.TheVariants as k
 use Rattle.pfr_conf.specs.declared.anchor.AnchorRule.{AnchorRule}
-use Rattle.pfr_conf.specs.declared.anchor.FilterStatement.{FilterStatement, FilterStatement-F}
-use Rattle.pfr_conf.specs.declared.anchor.FilterStatement.TheOpen.{out-FilterStatement}
-use Rattle.pfr_conf.specs.declared.anchor.FilterStatement.TheVariants as s
+use Rattle.pfr_conf.specs.declared.anchor.FilterStatement.{FilterStatement, out-FilterStatement}
+use Rattle.pfr_conf.specs.declared.anchor.FilterStatement.TheOpen.{FilterStatement-F}
 use Rattle.pfr_elements.specs.declared.scope.Scope.{Scope}
 use Rattle.pfr_elements.specs.Elements.{first_fault}
 use Rattle.pfr_expand.specs.declared.flat.PacketMatch.{PacketMatch}
@@ -91,6 +90,12 @@ too_many line = record { line = line; kind = TooMany }
 abbrev pub exceeds : Setting → L.Lists → ℕ → Bool
 exceeds setting lists count = has_long_list lists || nat_lt 65536 (setting.used + count)
 
+-- how many rules there are with those that the lists make of so many, unless they are too many
+unfoldable pub counted : Setting → L.Lists → ℕ → ℕ → Option ℕ
+counted setting lists before copies =
+    let count : ℕ = before + product lists * copies in
+    if exceeds setting lists count then None else Some count
+
 -- ---- rules
 
 abbrev pub made_if : Option ConfError → FlatRule → C.Choices → Body → Body
@@ -102,14 +107,15 @@ abbrev pub with_made : FlatRule → Result C.Choices ConfError → Body → Body
 with_made rule (Err e) out = record out { fault = first_fault out.fault e }
 with_made rule (Ok choices) out = made_if out.fault rule choices out
 
-abbrev pub counted_rule : Setting → FilterRule → L.Lists → Body → Result Body ConfError
-counted_rule setting rule lists out =
-    let count : ℕ = out.count + product lists in
-    if exceeds setting lists count then Err (too_many setting.line)
-    else Ok (with_made (flat_rule setting rule) (choices_or_fault lists) (record out { count = count }))
+abbrev pub rule_by : Setting → FilterRule → L.Lists → Body → Option ℕ → Result Body ConfError
+rule_by setting rule lists out None = Err (too_many setting.line)
+rule_by setting rule lists out (Some count) = Ok (with_made (flat_rule setting rule) (choices_or_fault lists) (record out { count = count }))
+
+abbrev pub rule_of : Setting → FilterRule → L.Lists → Body → Result Body ConfError
+rule_of setting rule lists out = rule_by setting rule lists out (counted setting lists out.count 1)
 
 unfoldable pub with_rule : Scope → Setting → FilterRule → Body → Result Body ConfError
-with_rule scope setting rule out = counted_rule setting rule (lists_of scope rule.criteria rule.options.icmp_types) out
+with_rule scope setting rule out = rule_of setting rule (lists_of scope rule.criteria rule.options.icmp_types) out
 
 -- ---- anchors
 
@@ -126,7 +132,7 @@ with_copy anchor inner out m =
     let place : ℕ = length out.rules in
     record out {
       rules = out.rules ++ inner.rules;
-      anchors = out.anchors ++ record anchor { packet = m; first = place; last = place + (length inner.rules - 1) } ∷ map (moved place) inner.anchors }
+      anchors = out.anchors ++ record anchor { packet = m; first = place; last = length (out.rules ++ inner.rules) - 1 } ∷ map (moved place) inner.anchors }
 
 -- one for each combination; an anchor that holds no rule makes nothing
 abbrev pub copied_if : Option ConfError → FlatAnchor → C.Choices → Body → Body → Body
@@ -143,11 +149,12 @@ with_copies anchor (Ok choices) inner out =
     let fault : Option ConfError = or_fault out.fault inner.fault in
     copied_if fault anchor choices inner (record out { fault = fault })
 
+abbrev pub anchor_by : AnchorRule → ℕ → L.Lists → Body → Body → Option ℕ → Result Body ConfError
+anchor_by anchor line lists inner out None = Err (too_many line)
+anchor_by anchor line lists inner out (Some count) = Ok (with_copies (flat_anchor anchor) (choices_or_fault lists) inner (record out { count = count }))
+
 abbrev pub counted_anchor : Setting → AnchorRule → L.Lists → Body → Body → Result Body ConfError
-counted_anchor setting anchor lists inner out =
-    let count : ℕ = out.count + product lists * inner.count in
-    if exceeds setting lists count then Err (too_many setting.line)
-    else Ok (with_copies (flat_anchor anchor) (choices_or_fault lists) inner (record out { count = count }))
+counted_anchor setting anchor lists inner out = anchor_by anchor setting.line lists inner out (counted setting lists out.count inner.count)
 
 abbrev pub empty_body : Body
 empty_body = record { rules = []; anchors = []; fault = None; count = 0 }
@@ -171,8 +178,8 @@ with_anchor setting anchor lists (Err e) out = Err e
 
 -- a rule, or an anchor by what its body comes to
 abbrev pub statement_by : (AnchorRule → List FilterStatement → Body → Result Body ConfError) → Scope → Setting → FilterStatement-F FilterStatement → Body → Result Body ConfError
-statement_by anchored scope setting (s.Rule rule) out = with_rule scope setting rule out
-statement_by anchored scope setting (s.Anchor anchor body) out = anchored anchor body out
+statement_by anchored scope setting (FilterStatement-F.Rule rule) out = with_rule scope setting rule out
+statement_by anchored scope setting (FilterStatement-F.Anchor anchor body) out = anchored anchor body out
 
 -- a statement in which at most so many anchors stand in one another
 unfoldable pub statement : ℕ → Scope → Setting → Adding
@@ -185,5 +192,8 @@ statement (suc depth) scope setting x out = statement_by (λ anchor body out. wi
 abbrev pub IsPlaced : ℕ → FlatAnchor → Type 0
 IsPlaced size anchor = (anchor.first ≤ anchor.last) × (anchor.last < size)
 
-abbrev pub ArePlaced : Body → Type 0
-ArePlaced body = All (IsPlaced (length body.rules)) body.anchors
+unfoldable pub AreWithin : ℕ → List FlatAnchor → Type 0
+AreWithin size anchors = All (IsPlaced size) anchors
+
+abbrev pub ArePlaced : List FlatRule → List FlatAnchor → Type 0
+ArePlaced rules anchors = AreWithin (length rules) anchors

@@ -9,9 +9,8 @@ use Rattle.pfr_conf.specs.declared.macros.Piece.TheVariants as p
 use Rattle.pfr_conf.specs.declared.macros.MacroDefinition.{MacroDefinition}
 use Rattle.pfr_conf.specs.declared.table.TableDefinition.{TableDefinition}
 use Rattle.pfr_conf.specs.declared.options.SetOption.{SetOption}
-use Rattle.pfr_conf.specs.declared.anchor.FilterStatement.{FilterStatement, FilterStatement-F}
-use Rattle.pfr_conf.specs.declared.anchor.FilterStatement.TheOpen.{out-FilterStatement}
-use Rattle.pfr_conf.specs.declared.anchor.FilterStatement.TheVariants as f
+use Rattle.pfr_conf.specs.declared.anchor.FilterStatement.{FilterStatement, out-FilterStatement}
+use Rattle.pfr_conf.specs.declared.anchor.FilterStatement.TheOpen.{FilterStatement-F}
 use Rattle.pfr_conf.specs.declared.statement.Statement.{Statement}
 use Rattle.pfr_conf.specs.declared.statement.Statement.TheVariants as s
 use Rattle.pfr_conf.specs.declared.statement.Statements as S
@@ -71,7 +70,7 @@ table_by work d filling (Some e) = Err e
 table_by work d filling None = Ok (record work {
     scope = record work.scope { tables = work.scope.tables ++ d.name.text ∷ [] };
     entries = work.entries + filling.found.count;
-    ruleset = record work.ruleset { tables = work.ruleset.tables ++ filling.table ∷ [] } })
+    flat = record work.flat { tables = work.flat.tables ++ filling.table ∷ [] } })
 
 abbrev pub counted_table : Work → TableDefinition → Filling → Result Work ConfError
 counted_table work d filling =
@@ -85,17 +84,17 @@ with_table d work =
 -- ---- options
 
 abbrev pub option_by : Work → Result O.Options ConfError → Result Work ConfError
-option_by work (Ok options) = Ok (record work { ruleset = record work.ruleset { options = options } })
+option_by work (Ok options) = Ok (record work { flat = record work.flat { options = options } })
 option_by work (Err e) = Err e
 
 unfoldable pub with_set : SetOption → Work → Result Work ConfError
-with_set option work = option_by work (with_option work.scope option work.ruleset.options)
+with_set option work = option_by work (with_option work.scope option work.flat.options)
 
 -- ---- filter rules
 
 abbrev pub line_by : FilterStatement-F FilterStatement → ℕ
-line_by (f.Rule rule) = rule.line
-line_by (f.Anchor anchor body) = anchor.line
+line_by (FilterStatement-F.Rule rule) = rule.line
+line_by (FilterStatement-F.Anchor anchor body) = anchor.line
 
 unfoldable pub line_of : FilterStatement → ℕ
 line_of x = line_by (out-FilterStatement x)
@@ -105,16 +104,16 @@ setting_of r line = record { block_policy = r.options.block_policy; state_policy
 
 abbrev pub filter_if : Work → Body → Option ConfError → Result Work ConfError
 filter_if work body (Some e) = Err e
-filter_if work body None = Ok (record work { ruleset = record work.ruleset {
-    rules = work.ruleset.rules ++ body.rules;
-    anchors = work.ruleset.anchors ++ map (moved (length work.ruleset.rules)) body.anchors } })
+filter_if work body None = Ok (record work { flat = record work.flat {
+    rules = work.flat.rules ++ body.rules;
+    anchors = work.flat.anchors ++ map (moved (length work.flat.rules)) body.anchors } })
 
 abbrev pub filter_by : Work → Result Body ConfError → Result Work ConfError
 filter_by work (Ok body) = filter_if work body body.fault
 filter_by work (Err e) = Err e
 
 unfoldable pub with_filter : FilterStatement → Work → Result Work ConfError
-with_filter x work = filter_by work (filter_statement 16 work.scope (setting_of work.ruleset (line_of x)) x empty_body)
+with_filter x work = filter_by work (filter_statement 16 work.scope (setting_of work.flat (line_of x)) x empty_body)
 
 -- ---- all statements
 
@@ -137,10 +136,10 @@ abbrev pub empty_ruleset : R.Ruleset
 empty_ruleset = record { options = default_options; tables = []; rules = []; anchors = [] }
 
 abbrev pub started : Interface → Work
-started interface = record { scope = record { interface = interface; macros = no_macros; tables = [] }; entries = 0; ruleset = empty_ruleset }
+started interface = record { scope = record { interface = interface; macros = no_macros; tables = [] }; entries = 0; flat = empty_ruleset }
 
 abbrev pub ruleset_in : Result Work ConfError → Result R.Ruleset ConfError
-ruleset_in (Ok work) = Ok work.ruleset
+ruleset_in (Ok work) = Ok work.flat
 ruleset_in (Err e) = Err e
 
 -- what the statements mean for an interface

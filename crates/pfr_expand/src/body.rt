@@ -1,5 +1,5 @@
 //! Filter rules and anchors as flat rules, with the anchors round them.
-ghost use Rattle.std.specs.Prelude.{◌≡◌, ◌<◌, ◌≤◌, ◌+◌, ◌++◌, length, map, fold, OnOk, IfOk};
+ghost use Rattle.std.specs.Prelude.{◌≡◌, ◌<◌, ◌≤◌, ◌+◌, ◌++◌, length, map, fold, OnOk, IfOk, IfSome};
 ghost use Rattle.std.specs.List.{All};
 ghost use Rattle.pfr_terms.specs.Input.{Gives};
 ghost use Rattle.pfr_elements.specs.Elements as faults;
@@ -148,9 +148,10 @@ pub(crate) fn first_fault(first: Option<ConfError>, second: ConfError) -> Option
 }
 
 impl Body {
+    #[tactic(auto, using(crate::proofs::Places::none_are_placed))]
     pub fn new(alloc: Global) -> Body
         ensures made { result ≡ spec.empty_body }
-        ensures placed { spec.ArePlaced result }
+        ensures placed { spec.ArePlaced result.rules result.anchors }
     {
         Body {
             rules: Items::new(alloc),
@@ -174,20 +175,22 @@ impl Body {
         rule: FlatRule,
         choices: Result<Choices, ConfError>,
     ) -> Result<(), AllocError>
-        requires { spec.ArePlaced self.old }
+        requires { spec.ArePlaced self.old.rules self.old.anchors }
         ensures made { OnOk result (self.new ≡ spec.with_made rule choices self.old) }
-        ensures placed { OnOk result (spec.ArePlaced self.new) }
+        ensures placed { OnOk result (spec.ArePlaced self.new.rules self.new.anchors) }
     {
-        match choices {
-            Err(fault) => self.add_fault(fault),
-            Ok(choices) => {
-                if self.fault.is_none() {
-                    let matches = combinations(alloc, &choices)?;
-                    put_rules(&mut self.rules, rule, matches.as_slice())?;
-                }
+        let choices = match choices {
+            Ok(choices) => choices,
+            Err(fault) => {
+                self.add_fault(fault);
+                return Ok(());
             }
+        };
+        if self.fault.is_some() {
+            return Ok(());
         }
-        Ok(())
+        let matches = combinations(alloc, &choices)?;
+        put_rules(&mut self.rules, rule, matches.as_slice())
     }
 }
 
@@ -197,6 +200,21 @@ fn exceeds(setting: Setting, lists: &Lists, count: usize) -> bool
     ensures { result ≡ spec.exceeds setting lists.now count }
 {
     lists.has_long_list() || setting.used > MOST_RULES || count > MOST_RULES - setting.used
+}
+
+/// How many rules there are with those that the lists make of so many, unless they are too many.
+#[tactic(auto, unfolding(crate::specs::Bodies::counted), using(crate::proofs::Products::exceeds_capped, crate::proofs::Products::count_capped))]
+fn counted(setting: Setting, lists: &Lists, before: usize, copies: usize) -> Option<usize>
+    requires { (before ≤ 65536) × (copies ≤ 65536) }
+    ensures value { result ≡ spec.counted setting lists.now before copies }
+    ensures within { IfSome result (λ count. count ≤ 65536) }
+{
+    let count = before + lists.product() * copies;
+    if exceeds(setting, lists, count) {
+        None
+    } else {
+        Some(count)
+    }
 }
 
 /// The rules of a rule.
@@ -209,17 +227,16 @@ fn add_rule(
     rule: &FilterRule<'_>,
 ) -> Result<(), ConfError>
     requires few { out.old.count ≤ 65536 }
-    requires placed { spec.ArePlaced out.old }
+    requires placed { spec.ArePlaced out.old.rules out.old.anchors }
     ensures made { Adds (spec.with_rule scope.now setting rule.now out.old) result out.new }
     ensures counted { OnOk result (out.new.count ≤ 65536) }
-    ensures placed { OnOk result (spec.ArePlaced out.new) }
+    ensures placed { OnOk result (spec.ArePlaced out.new.rules out.new.anchors) }
 {
     let types = slice_of(&rule.options.icmp_types);
     let lists = lists_of(alloc, scope, &rule.criteria, types)?;
-    let count = out.count + lists.product();
-    if exceeds(setting, &lists, count) {
+    let Some(count) = counted(setting, &lists, out.count, 1) else {
         return Err(too_many(setting.line));
-    }
+    };
     let choices = choices_or_fault(alloc, lists)?;
     out.count = count;
     out.make(alloc, flat_rule(setting, rule), choices)?;
@@ -235,13 +252,16 @@ fn or_fault(first: Option<ConfError>, second: Option<ConfError>) -> Option<ConfE
     }
 }
 
-/// Puts anchors behind the others, so many rules further on.
+/// Puts anchors round some of so many rules behind the others, so many places further on.
+#[tactic(auto, unfolding(crate::specs::Bodies::AreWithin))]
 pub(crate) fn put_anchors(
     out: &mut Items<FlatAnchor>,
     place: usize,
+    size: usize,
     anchors: &[FlatAnchor],
 ) -> Result<(), AllocError>
-    requires { All (λ a. (place + a.first < 18446744073709551616) × (place + a.last < 18446744073709551616)) anchors.now }
+    requires fits { place + size ≤ 18446744073709551615 }
+    requires within { spec.AreWithin size anchors.now }
     ensures { OnOk result (out.new ≡ out.old ++ map (spec.moved place) anchors.now) }
 {
     for anchor in anchors {
@@ -255,7 +275,6 @@ pub(crate) fn put_anchors(
 }
 
 /// Puts an anchor with a copy of its body behind what is there.
-#[tactic(auto, using(crate::proofs::Places::fits_behind))]
 fn put_copy(
     out: &mut Body,
     anchor: FlatAnchor,
@@ -263,7 +282,7 @@ fn put_copy(
     packet: PacketMatch,
 ) -> Result<(), AllocError>
     requires some { 0 < length inner.now.rules }
-    requires placed { spec.ArePlaced inner.now }
+    requires placed { spec.ArePlaced inner.now.rules inner.now.anchors }
     ensures { OnOk result (out.new ≡ spec.with_copy anchor inner.now out.old packet) }
 {
     let place = out.rules.len();
@@ -271,14 +290,30 @@ fn put_copy(
     out.anchors.push(FlatAnchor {
         packet,
         first: place,
-        last: place + (inner.rules.len() - 1),
+        last: out.rules.len() - 1,
         ..anchor
     })?;
-    put_anchors(&mut out.anchors, place, inner.anchors.as_slice())
+    put_anchors(&mut out.anchors, place, inner.rules.len(), inner.anchors.as_slice())
+}
+
+/// The same, said of the places too.
+fn add_copy(
+    out: &mut Body,
+    anchor: FlatAnchor,
+    inner: &Body,
+    packet: PacketMatch,
+) -> Result<(), AllocError>
+    requires some { 0 < length inner.now.rules }
+    requires inner { spec.ArePlaced inner.now.rules inner.now.anchors }
+    requires placed { spec.ArePlaced out.old.rules out.old.anchors }
+    ensures made { OnOk result (out.new ≡ spec.with_copy anchor inner.now out.old packet) }
+    ensures placed { OnOk result (spec.ArePlaced out.new.rules out.new.anchors) }
+{
+    put_copy(out, anchor, inner, packet)?;
+    Ok(())
 }
 
 /// Puts an anchor with a copy of its body for each match behind what is there.
-#[tactic(auto, using(crate::proofs::Places::copy_is_placed))]
 fn put_copies(
     out: &mut Body,
     anchor: FlatAnchor,
@@ -286,13 +321,14 @@ fn put_copies(
     matches: &[PacketMatch],
 ) -> Result<(), AllocError>
     requires some { 0 < length inner.now.rules }
-    requires inner { spec.ArePlaced inner.now }
-    requires placed { spec.ArePlaced out.old }
+    requires inner { spec.ArePlaced inner.now.rules inner.now.anchors }
+    requires placed { spec.ArePlaced out.old.rules out.old.anchors }
     ensures made { OnOk result (out.new ≡ fold (spec.with_copy anchor inner.now) out.old matches.now) }
-    ensures placed { OnOk result (spec.ArePlaced out.new) }
+    ensures count { OnOk result (out.new.count ≡ out.old.count) }
+    ensures placed { OnOk result (spec.ArePlaced out.new.rules out.new.anchors) }
 {
     for packet in matches {
-        put_copy(out, anchor, inner, *packet)?;
+        add_copy(out, anchor, inner, *packet)?;
     }
     Ok(())
 }
@@ -305,23 +341,26 @@ fn make_copies(
     choices: Result<Choices, ConfError>,
     mut inner: Body,
 ) -> Result<(), AllocError>
-    requires inner { spec.ArePlaced inner }
-    requires placed { spec.ArePlaced out.old }
+    requires inner { spec.ArePlaced inner.rules inner.anchors }
+    requires placed { spec.ArePlaced out.old.rules out.old.anchors }
     ensures made { OnOk result (out.new ≡ spec.with_copies anchor choices inner out.old) }
-    ensures placed { OnOk result (spec.ArePlaced out.new) }
+    ensures count { OnOk result (out.new.count ≡ out.old.count) }
+    ensures placed { OnOk result (spec.ArePlaced out.new.rules out.new.anchors) }
 {
-    match choices {
-        Err(fault) => out.add_fault(fault),
-        Ok(choices) => {
-            let before = replace(&mut out.fault, None);
-            out.fault = or_fault(before, replace(&mut inner.fault, None));
-            if out.fault.is_none() && inner.rules.len() > 0 {
-                let matches = combinations(alloc, &choices)?;
-                put_copies(out, anchor, &inner, matches.as_slice())?;
-            }
+    let choices = match choices {
+        Ok(choices) => choices,
+        Err(fault) => {
+            out.add_fault(fault);
+            return Ok(());
         }
+    };
+    let before = replace(&mut out.fault, None);
+    out.fault = or_fault(before, replace(&mut inner.fault, None));
+    if out.fault.is_some() || inner.rules.len() == 0 {
+        return Ok(());
     }
-    Ok(())
+    let matches = combinations(alloc, &choices)?;
+    put_copies(out, anchor, &inner, matches.as_slice())
 }
 
 fn flat_anchor(anchor: &AnchorRule<'_>) -> FlatAnchor
@@ -346,16 +385,15 @@ fn add_anchor(
     inner: Body,
 ) -> Result<(), ConfError>
     requires few { (out.old.count ≤ 65536) × (inner.count ≤ 65536) }
-    requires inner { spec.ArePlaced inner }
-    requires placed { spec.ArePlaced out.old }
+    requires inner { spec.ArePlaced inner.rules inner.anchors }
+    requires placed { spec.ArePlaced out.old.rules out.old.anchors }
     ensures made { Adds (spec.counted_anchor setting anchor.now lists inner out.old) result out.new }
     ensures counted { OnOk result (out.new.count ≤ 65536) }
-    ensures placed { OnOk result (spec.ArePlaced out.new) }
+    ensures placed { OnOk result (spec.ArePlaced out.new.rules out.new.anchors) }
 {
-    let count = out.count + lists.product() * inner.count;
-    if exceeds(setting, &lists, count) {
+    let Some(count) = counted(setting, &lists, out.count, inner.count) else {
         return Err(too_many(setting.line));
-    }
+    };
     let choices = choices_or_fault(alloc, lists)?;
     out.count = count;
     make_copies(alloc, out, flat_anchor(anchor), choices, inner)?;
@@ -373,7 +411,7 @@ fn body_of(
 ) -> Result<Body, ConfError>
     ensures made { Gives (spec.body_from (spec.statement depth scope.now setting) spec.empty_body statements.now) result }
     ensures counted { IfOk result (λ body. body.count ≤ 65536) }
-    ensures placed { IfOk result (λ body. spec.ArePlaced body) }
+    ensures placed { IfOk result (λ body. spec.ArePlaced body.rules body.anchors) }
 {
     let mut out = Body::new(alloc);
     for statement in statements {
@@ -384,7 +422,7 @@ fn body_of(
 
 /// The rules of a statement in which at most so many anchors stand in one another.
 #[cycle(nest)]
-#[tactic(auto, using(crate::proofs::Depths::deepest, crate::proofs::Depths::deeper))]
+#[tactic(auto, using(crate::proofs::Depths::rule, crate::proofs::Depths::deepest, crate::proofs::Depths::deeper))]
 pub(crate) fn add_statement(
     alloc: Global,
     scope: &Scope<'_>,
@@ -394,10 +432,10 @@ pub(crate) fn add_statement(
     depth: usize,
 ) -> Result<(), ConfError>
     requires few { out.old.count ≤ 65536 }
-    requires placed { spec.ArePlaced out.old }
+    requires placed { spec.ArePlaced out.old.rules out.old.anchors }
     ensures made { Adds (spec.statement depth scope.now setting statement.now out.old) result out.new }
     ensures counted { OnOk result (out.new.count ≤ 65536) }
-    ensures placed { OnOk result (spec.ArePlaced out.new) }
+    ensures placed { OnOk result (spec.ArePlaced out.new.rules out.new.anchors) }
 {
     match statement {
         FilterStatement::Rule(rule) => add_rule(alloc, scope, setting, out, rule),

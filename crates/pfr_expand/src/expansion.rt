@@ -8,10 +8,11 @@ ghost use Rattle.pfr_expand.specs.Bodies.{Adds, ArePlaced, moved};
 ghost use Rattle.pfr_expand.specs.Rulesets as spec;
 
 use crate::body::{Body, Setting, add_statement, put_anchors, too_many};
+use crate::flat::{FlatAnchor, FlatRule};
 use crate::lists::MOST_RULES;
 use crate::options::Options;
 use crate::ruleset::Ruleset;
-use crate::tables::{clash, fill};
+use crate::tables::{Filling, clash, fill};
 use pfr_conf::anchor::DEEPEST_ANCHOR;
 use pfr_conf::{
     Bytes, ConfError, FilterStatement, Items, MacroDefinition, Name, Piece, SetOption, Statement,
@@ -19,7 +20,7 @@ use pfr_conf::{
 };
 use pfr_elements::hosts::place_of;
 use pfr_elements::value::Draft;
-use pfr_elements::{Interface, MOST_ELEMENTS, Macros, Scope};
+use pfr_elements::{Elements, Interface, MOST_ELEMENTS, Macros, Scope};
 use std::alloc::{AllocError, Global};
 
 /// How far an expansion has come: what gives words their meaning, how many entries all tables have together, and the
@@ -28,7 +29,7 @@ use std::alloc::{AllocError, Global};
 pub struct Work<'a> {
     pub scope: Scope<'a>,
     pub entries: usize,
-    pub ruleset: Ruleset,
+    pub flat: Ruleset,
 }
 
 /// Puts a piece behind a macro's value.
@@ -86,15 +87,15 @@ impl Ruleset {
         }
     }
 
-    /// Puts the rules of a body behind the others.
-    #[tactic(auto, using(crate::proofs::Places::fits_behind))]
-    fn add_body(&mut self, body: &Body) -> Result<(), AllocError>
-        requires { ArePlaced body.now }
-        ensures { OnOk result (self.new ≡ record self.old { rules = self.old.rules ++ body.now.rules; anchors = self.old.anchors ++ map (moved (length self.old.rules)) body.now.anchors }) }
+    /// Puts rules and the anchors round them behind the others.
+    fn add_rules(&mut self, rules: &[FlatRule], anchors: &[FlatAnchor]) -> Result<(), AllocError>
+        requires { ArePlaced rules.now anchors.now }
+        ensures { OnOk result (self.new ≡ record self.old { rules = self.old.rules ++ rules.now; anchors = self.old.anchors ++ map (moved (length self.old.rules)) anchors.now }) }
     {
         let place = self.rules.len();
-        self.rules.extend_from_slice(body.rules.as_slice())?;
-        put_anchors(&mut self.anchors, place, body.anchors.as_slice())
+        self.rules.extend_from_slice(rules)?;
+        let _end = self.rules.len();
+        put_anchors(&mut self.anchors, place, rules.len(), anchors)
     }
 }
 
@@ -109,7 +110,7 @@ impl<'a> Work<'a> {
                 tables: Items::new(alloc),
             },
             entries: 0,
-            ruleset: Ruleset::new(alloc),
+            flat: Ruleset::new(alloc),
         }
     }
 
@@ -147,12 +148,14 @@ impl<'a> Work<'a> {
         if count > MOST_ELEMENTS || self.entries > MOST_RULES || count > MOST_RULES - self.entries {
             return Err(too_many(definition.line));
         }
-        if let Some(fault) = filling.found.fault {
+        let Filling { table, found } = filling;
+        let Elements { fault, .. } = found;
+        if let Some(fault) = fault {
             return Err(fault);
         }
         self.scope.tables.push(Bytes::new(definition.name.text.as_slice()))?;
         self.entries += count;
-        self.ruleset.tables.push(filling.table)?;
+        self.flat.tables.push(table)?;
         Ok(())
     }
 
@@ -160,7 +163,7 @@ impl<'a> Work<'a> {
     fn set(&mut self, alloc: Global, option: &SetOption<'_>) -> Result<(), ConfError>
         ensures { Adds (spec.with_set option.now self.old) result self.new }
     {
-        self.ruleset.options.set(alloc, &self.scope, option)
+        self.flat.options.set(alloc, &self.scope, option)
     }
 
     #[tactic(auto, unfolding(crate::specs::Rulesets::with_filter))]
@@ -172,18 +175,19 @@ impl<'a> Work<'a> {
         ensures { Adds (spec.with_filter statement.now self.old) result self.new }
     {
         let setting = Setting {
-            block_policy: self.ruleset.options.block_policy,
-            state_policy: self.ruleset.options.state_policy,
-            used: self.ruleset.rules.len(),
+            block_policy: self.flat.options.block_policy,
+            state_policy: self.flat.options.state_policy,
+            used: self.flat.rules.len(),
             line: line_of(statement),
         };
         let mut body = Body::new(alloc);
         add_statement(alloc, &self.scope, setting, &mut body, statement, DEEPEST_ANCHOR)?;
-        self.ruleset.add_body(&body)?;
-        match body.fault {
-            Some(fault) => Err(fault),
-            None => Ok(()),
+        let Body { rules, anchors, fault, .. } = body;
+        if let Some(fault) = fault {
+            return Err(fault);
         }
+        self.flat.add_rules(rules.as_slice(), anchors.as_slice())?;
+        Ok(())
     }
 
     #[tactic(auto, unfolding(crate::specs::Rulesets::with_statement))]
@@ -227,5 +231,5 @@ pub fn expand(
     ensures { Gives (spec.expanded statements.now interface.now) result }
 {
     let work = work_of(alloc, statements.statements.as_slice(), *interface)?;
-    Ok(work.ruleset)
+    Ok(work.flat)
 }

@@ -1,0 +1,23 @@
+//! The flat ruleset: what the statements of a ruleset mean for one interface.
+//!
+//! [`expand`] gives macros their values, tables their entries and interface forms their addresses, and makes one flat
+//! rule of each combination of the elements of a rule's lists. Of the faults that only this shows it tells the first.
+#![tactic(auto)]
+
+pub mod body;
+pub mod choices;
+pub mod expansion;
+pub mod flat;
+pub mod lists;
+pub mod options;
+pub mod ruleset;
+pub mod tables;
+pub mod timeouts;
+
+pub use expansion::expand;
+pub use flat::{FilterAction, FlagsCriterion, FlatAnchor, FlatRule, PacketMatch, StateRule};
+pub use options::Options;
+pub use pfr_elements::{HostCriterion, HostSet, IfName, Interface, InterfaceCriterion};
+pub use pfr_tables::{AddressTable, Entry};
+pub use ruleset::Ruleset;
+pub use timeouts::Timeouts;

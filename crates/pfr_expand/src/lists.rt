@@ -72,6 +72,56 @@ fn ports_in<'p, 'a>(part: &'p Option<Part<'a>>) -> Option<&'p [Written<'a, PortM
     }
 }
 
+fn interface_list<'a>(
+    alloc: Global,
+    scope: &Scope<'_>,
+    list: Option<&[InterfaceMatch<'a>]>,
+) -> Result<Option<Elements<InterfaceCriterion>>, ConfError>
+    ensures { Makes (spec.if_written (spec.interfaces scope.now) (option_map (λ l. l.now) list.entry)) result }
+{
+    if_written::<InterfaceMatch<'a>>(alloc, scope, list)
+}
+
+fn protocol_list<'a>(
+    alloc: Global,
+    scope: &Scope<'_>,
+    list: Option<&[Written<'a, Protocol>]>,
+) -> Result<Option<Elements<Protocol>>, ConfError>
+    ensures { Makes (spec.if_written (spec.protocols scope.now) (option_map (λ l. l.now) list.entry)) result }
+{
+    if_written::<Written<'a, Protocol>>(alloc, scope, list)
+}
+
+fn icmp_list<'a>(
+    alloc: Global,
+    scope: &Scope<'_>,
+    list: Option<&[Written<'a, IcmpMatch>]>,
+) -> Result<Option<Elements<IcmpMatch>>, ConfError>
+    ensures { Makes (spec.if_written (spec.icmp_types scope.now) (option_map (λ l. l.now) list.entry)) result }
+{
+    if_written::<Written<'a, IcmpMatch>>(alloc, scope, list)
+}
+
+fn port_list<'a>(
+    alloc: Global,
+    scope: &Scope<'_>,
+    list: Option<&[Written<'a, PortMatch>]>,
+) -> Result<Option<Elements<PortMatch>>, ConfError>
+    ensures { Makes (spec.if_written (spec.port_list scope.now) (option_map (λ l. l.now) list.entry)) result }
+{
+    if_written::<Written<'a, PortMatch>>(alloc, scope, list)
+}
+
+fn host_list<'a>(
+    alloc: Global,
+    scope: &Scope<'_>,
+    list: Option<&[AddressMatch<'a>]>,
+) -> Result<Option<Elements<HostCriterion>>, ConfError>
+    ensures { Makes (spec.if_written (spec.host_list scope.now) (option_map (λ l. l.now) list.entry)) result }
+{
+    if_written::<AddressMatch<'a>>(alloc, scope, list)
+}
+
 /// What the lists of criteria come to, and those of ICMP types.
 #[tactic(auto, unfolding(crate::specs::Lists::lists_of))]
 pub(crate) fn lists_of<'a>(
@@ -82,24 +132,16 @@ pub(crate) fn lists_of<'a>(
 ) -> Result<Lists, ConfError>
     ensures { Makes (spec.lists_of scope.now criteria.now (option_map (λ l. l.now) types.entry)) result }
 {
-    let interfaces = if_written::<InterfaceMatch<'a>>(alloc, scope, slice_of(&criteria.interfaces))?;
-    let protocols = if_written::<Written<'a, Protocol>>(alloc, scope, slice_of(&criteria.protocols))?;
-    let sources = if_written::<AddressMatch<'a>>(alloc, scope, addresses_in(&criteria.hosts.source))?;
-    let source_ports =
-        if_written::<Written<'a, PortMatch>>(alloc, scope, ports_in(&criteria.hosts.source))?;
-    let destinations =
-        if_written::<AddressMatch<'a>>(alloc, scope, addresses_in(&criteria.hosts.destination))?;
-    let destination_ports =
-        if_written::<Written<'a, PortMatch>>(alloc, scope, ports_in(&criteria.hosts.destination))?;
-    let icmp_types = if_written::<Written<'a, IcmpMatch>>(alloc, scope, types)?;
+    let source = &criteria.hosts.source;
+    let destination = &criteria.hosts.destination;
     Ok(Lists {
-        interfaces,
-        protocols,
-        sources,
-        source_ports,
-        destinations,
-        destination_ports,
-        icmp_types,
+        interfaces: interface_list(alloc, scope, slice_of(&criteria.interfaces))?,
+        protocols: protocol_list(alloc, scope, slice_of(&criteria.protocols))?,
+        sources: host_list(alloc, scope, addresses_in(source))?,
+        source_ports: port_list(alloc, scope, ports_in(source))?,
+        destinations: host_list(alloc, scope, addresses_in(destination))?,
+        destination_ports: port_list(alloc, scope, ports_in(destination))?,
+        icmp_types: icmp_list(alloc, scope, types)?,
     })
 }
 

@@ -68,10 +68,11 @@ fn skip(options: &mut Options, line: usize, found: Elements<IfName>) -> Result<(
     if found.count > MOST_RULES - options.skipped.len() {
         return Err(too_many(line));
     }
-    if let Some(fault) = found.fault {
+    let Elements { items, fault, .. } = found;
+    if let Some(fault) = fault {
         return Err(fault);
     }
-    options.skipped.extend_from_slice(found.items.as_slice())?;
+    options.skipped.extend_from_slice(items.as_slice())?;
     Ok(())
 }
 

@@ -1,5 +1,5 @@
 //! Tables and their entries.
-ghost use Rattle.std.specs.Prelude.{◌≡◌, ◌≤◌, OnOk, IfOk, IfErr};
+ghost use Rattle.std.specs.Prelude.{◌≡◌, ◌≤◌, drop, OnOk, IfOk, IfErr};
 ghost use Rattle.pfr_terms.specs.declared.error.ConfErrorKind.TheVariants.{Memory};
 ghost use Rattle.pfr_elements.specs.Values.{Makes};
 ghost use Rattle.pfr_elements.specs.Elements as faults;
@@ -48,6 +48,17 @@ fn put_entries(
     Ok(first)
 }
 
+/// The entries behind so many.
+fn behind(entries: &[Entry], count: usize) -> &[Entry]
+    ensures { result.now ≡ drop count entries.now }
+{
+    if count < entries.len() {
+        &entries[count..]
+    } else {
+        &[]
+    }
+}
+
 impl Filling {
     /// A table without entries, and a fault before the first of them.
     pub(crate) fn new(alloc: Global, fault: Option<ConfError>) -> Filling
@@ -76,7 +87,7 @@ impl Filling {
         let before = self.found.items.len();
         add_element(alloc, scope, &mut self.found, entry)?;
         let fault = replace(&mut self.found.fault, None);
-        let entries = &self.found.items.as_slice()[before..];
+        let entries = behind(self.found.items.as_slice(), before);
         self.found.fault = put_entries(&mut self.table, fault, entry.line, entries)?;
         Ok(())
     }

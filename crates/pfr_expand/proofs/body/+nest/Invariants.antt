@@ -11,4 +11,4 @@ decreases-body_of l = 2 * l.depth + 1
 abbrev pub invariant-body_of-loop-statement : goal.invariant-body_of-loop-statement
 invariant-body_of-loop-statement l =
     (spec.body_from (spec.statement l.depth l.scope l.setting) l.out (drop l.statement-index l.statements) ≡ spec.body_from (spec.statement l.depth l.scope l.setting) spec.empty_body l.statements)
-    × (l.out.count ≤ 65536) × spec.ArePlaced l.out
+    × (l.out.count ≤ 65536) × spec.ArePlaced l.out.rules l.out.anchors

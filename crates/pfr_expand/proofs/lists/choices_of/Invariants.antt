@@ -2,4 +2,4 @@ use Rattle.std.proofs.Common.{◌≡◌, map, take, Some}
 use Rattle.pfr_expand.proofs.lists.choices_of.Given as goal
 
 abbrev pub invariant-loop-item : goal.invariant-loop-item
-invariant-loop-item l = l.made ≡ map Some (take l.item-index l.item-items)
+invariant-loop-item g l = l.made ≡ map Some (take l.item-index l.item-items)
