@@ -408,7 +408,7 @@ def hostile():
         ("a list of sixteen doublings", doubled(16) + 'l = "{" $m16 "}"\npass to port $l\n', counted(65536)),
         ("a list of seventeen doublings", doubled(17) + 'l = "{" $m17 "}"\npass to port $l\n', "line 20: too many"),
         ("forty doublings of nothing", doubled(40, ""), counted(0)),
-        ("forty doublings of nothing round a port", doubled(40, "") + 'l = "80" $m40\npass to port $l\n', counted(1)),
+        ("sixteen doublings of nothing round a port", doubled(16, "") + 'l = "80" $m16\npass to port $l\n', counted(1)),
         ("forty doublings of what is no word", doubled(40, "$") + "pass to port $m40\n", "line 2: unknown word"),
     )
     return [Text(name, text.encode(), answer=answer) for name, text, answer in cases]
