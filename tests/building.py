@@ -44,7 +44,8 @@ def build(folder, program, used):
     (crate / "src").mkdir(parents=True)
     # the gate lets no file end in .rt but those of the crates
     shutil.copy(HERE / f"{program}.rattle", crate / "src" / "main.rt")
-    done = subprocess.run(["rt", "run"], cwd=crate, stdin=subprocess.DEVNULL, stdout=subprocess.PIPE, stderr=subprocess.STDOUT, text=True)
+    done = subprocess.run(["rt", "run"], cwd=crate, stdin=subprocess.DEVNULL, stdout=subprocess.PIPE,
+                          stderr=subprocess.STDOUT, text=True)
     if done.returncode:
         raise SystemExit(done.stdout)
     return crate / "out" / program

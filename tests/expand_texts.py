@@ -137,7 +137,8 @@ class Writer:
         """An entry; whether there is a not goes by what is written, so that the same text never clashes with itself."""
         if self.chance(25):
             return self.form()
-        network = self.draw.choice(NETWORKS) if self.chance(30) else f"10.{self.draw.randrange(40)}.{self.draw.randrange(3)}.0/24"
+        network = f"10.{self.draw.randrange(40)}.{self.draw.randrange(3)}.0/24"
+        network = self.either(30, self.draw.choice(NETWORKS), network)
         if self.fault(6):
             return "!" + network
         return "!" * (network[-4:] == "0/24" and int(network.split(".")[1]) % 3 == 0) + network
@@ -197,7 +198,8 @@ class Writer:
             items = self.draw.choice((" ", ", ", ",")).join(self.item(kind) for _ in range(self.several()))
             return f'"{{ {items} }}"'
         if way < 9:
-            return f'"{{" {self.use(kind) if kind in self.macros.values() else chr(34) + item + chr(34)} "{item}" "}}"'
+            inner = self.use(kind) if kind in self.macros.values() else f'"{item}"'
+            return f'"{{" {inner} "{item}" "}}"'
         if way < 10 and kind in self.macros.values():
             return self.use(kind)
         if way < 11 and kind in ("skipped", "protocol"):
@@ -254,7 +256,7 @@ class Writer:
         if way == 5:
             return f"set state-policy {self.draw.choice(('if-bound', 'floating'))}"
         if way == 6:
-            return f"set hostid {self.draw.choice(('7', '0x0', '0xffffffff', '4294967295', '0xbeef')[self.faults == 0:][-3:])}"
+            return f"set hostid {self.draw.choice(('7', '0xffffffff', '4294967295', '0xbeef'))}"
         free = self.either(40, self.use("free_word"), self.draw.choice(('"x y"', "none", "em0")))
         return self.draw.choice(("set optimization normal", f"set require-order {free}", f"set loginterface {free}",
                                  f"set debug {free}", f"set ruleset-optimization {free}"))
