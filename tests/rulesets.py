@@ -7,40 +7,23 @@ The program is a crate of its own on the reader of rulesets, in a temporary fold
 before, it takes a minute.
 """
 
-import shutil
 import subprocess
 import sys
 import tempfile
 from pathlib import Path
 
+sys.dont_write_bytecode = True
+
+import building
+
 HERE = Path(__file__).resolve().parent
-ROOT = HERE.parent
 # texts for which each allocation is refused: what they hold covers the statements, and two are faulty
 SHORT_OF_MEMORY = ("example_router", "example_web_server", "left_out_scrub", "set_fingerprints")
-# lowest first, with what each uses
-CRATES = {
-    "pfr_words": "",
-    "pfr_terms": "pfr_words thiserror",
-    "pfr_conf": "pfr_words pfr_terms",
-}
 
 
 def build(folder):
-    """Makes a repository of the crates and the program, and answers the program that is built of them."""
-    lines = [f"{name}: {used}\n" for name, used in CRATES.items()]
-    (folder / "crates.txt").write_text("".join(lines) + "read_rulesets: pfr_words pfr_conf\n")
-    shutil.copy(ROOT / "HANDLES", folder)
-    for name in CRATES:
-        # what earlier checks of a crate have left spares proving it again
-        shutil.copytree(ROOT / "crates" / name, folder / "crates" / name, ignore=shutil.ignore_patterns("must-fail"))
-    crate = folder / "crates" / "read_rulesets"
-    (crate / "src").mkdir(parents=True)
-    # the gate lets no file end in .rt but those of the crates
-    shutil.copy(HERE / "read_rulesets.rattle", crate / "src" / "main.rt")
-    done = subprocess.run(["rt", "run"], cwd=crate, stdin=subprocess.DEVNULL, stdout=subprocess.PIPE, stderr=subprocess.STDOUT, text=True)
-    if done.returncode:
-        raise SystemExit(done.stdout)
-    return crate / "out" / "read_rulesets"
+    """The program, built in this folder."""
+    return building.build(folder, "read_rulesets", ["pfr_words", "pfr_conf"])
 
 
 def refuse_memory(program):

@@ -11,19 +11,28 @@ TARGETS = (MEMORY,)
 # in the order of the summary
 ENDINGS = ("whole", "no memory", "ended")
 
-NO_MEMORY = b"line 0: no memory"
+NO_MEMORY = b"line 0: no memory\n"
+
+
+def lines_in(out):
+    return out.splitlines(keepends=True)
+
+
+def judge_answers(trial, seen, answers_in):
+    """The ending of a run whose output holds the answers that `answers_in` cuts it into."""
+    if seen == trial.clean:
+        return "whole"
+    whole, answers = answers_in(trial.clean.out), answers_in(seen.out)
+    if seen.status != trial.clean.status:
+        if seen.status != 1 or whole[:len(answers)] != answers:
+            raise Unlawful("the program ended otherwise than by an error behind right answers")
+        return "ended"
+    changed = [answer for answer, right in zip(answers, whole) if answer != right]
+    if len(answers) != len(whole) or changed != [NO_MEMORY]:
+        raise Unlawful("another answer than want of memory for one text")
+    return "no memory"
 
 
 def judge(trial, fault, counts, seen):
     """The ending of a run with this fault, one of ENDINGS; Unlawful where it is none of them."""
-    if seen == trial.clean:
-        return "whole"
-    whole, lines = trial.clean.out.splitlines(), seen.out.splitlines()
-    if seen.status != trial.clean.status:
-        if seen.status != 1 or whole[:len(lines)] != lines:
-            raise Unlawful("the program ended otherwise than by an error behind right answers")
-        return "ended"
-    changed = [line for line, answer in zip(lines, whole) if line != answer]
-    if len(lines) != len(whole) or changed != [NO_MEMORY]:
-        raise Unlawful("another answer than want of memory for one text")
-    return "no memory"
+    return judge_answers(trial, seen, lines_in)

@@ -1,0 +1,59 @@
+#!/usr/bin/env python3
+"""Builds the program beside it, which expands rulesets, hands it to expand_compare.py, and refuses it each allocation in
+turn.
+
+    expansions.py
+
+The program is a crate of its own on the expansion of rulesets, in a temporary folder. Where the crates under it were
+checked before, it takes two minutes.
+"""
+
+import subprocess
+import sys
+import tempfile
+from pathlib import Path
+
+sys.dont_write_bytecode = True
+
+import building
+from expand_compare import record
+from expand_rulesets import EXPANSIONS
+from expand_texts import Text
+
+HERE = Path(__file__).resolve().parent
+# texts for which each allocation is refused, with their interfaces: what they hold covers the expansion, and the last
+# has a fault
+SHORT_OF_MEMORY = (
+    ("example_router", "igb1", "10.1.0.1/16"),
+    ("tables_entries_of_macros_laid_flat", "em0", "192.0.2.1/24"),
+    ("options_skip_adds_up", "em0", "192.0.2.1/24"),
+    ("anchors_nested_lists", "em0", "192.0.2.1/24"),
+    ("tables_clash_with_a_value", "em0", "192.0.2.1/24"),
+)
+
+
+def build(folder):
+    """The program, built in this folder."""
+    return building.build(folder, "expand_rulesets", ["pfr_conf", "pfr_expand"])
+
+
+def refuse_memory(program):
+    """Whether the program answers as it has to where an allocation is refused, each in turn."""
+    with tempfile.TemporaryFile() as given:
+        for name, interface, network in SHORT_OF_MEMORY:
+            text = (EXPANSIONS / f"{name}.conf").read_bytes()
+            given.write(record(Text(name, text, interface, network)))
+        given.seek(0)
+        words = [HERE / "faults" / "run.py", "--judge", "expansions", program]
+        return subprocess.run(words, stdin=given, check=False).returncode == 0
+
+
+def main():
+    with tempfile.TemporaryDirectory() as name:
+        program = build(Path(name))
+        answers = subprocess.run([HERE / "expand_compare.py", program], check=False).returncode == 0
+        sys.exit(not (answers and refuse_memory(program)))
+
+
+if __name__ == "__main__":
+    main()
