@@ -1,3 +1,4 @@
+pub mod Combinations
 pub mod Depths
 pub mod Places
 pub mod Products

@@ -8,6 +8,7 @@ pub mod body;
 pub mod choices;
 pub mod expansion;
 pub mod flat;
+pub mod laws;
 pub mod lists;
 pub mod options;
 pub mod ruleset;
