@@ -2,6 +2,7 @@
 use crate::expansion::expand;
 use crate::flat::{FilterAction, FlagsCriterion, FlatRule, PacketMatch, StateRule};
 use crate::ruleset::Ruleset;
+use crate::timeouts::Timeouts;
 use pfr_conf::{
     Binding, BlockPolicy, Comparison, ConfError, ConfErrorKind, FlagSet, Ipv4Address, Network,
     PortMatch, Protocol, read,
@@ -153,8 +154,8 @@ fn stand_at(ruleset: &Ruleset, expected: &[(usize, usize)]) -> bool {
     if anchors.len() != expected.len() {
         return false;
     }
-    for (anchor, (first, last)) in anchors.iter().zip(expected) {
-        if anchor.first != *first || anchor.last != *last {
+    for (anchor, places) in anchors.iter().zip(expected) {
+        if (anchor.first, anchor.last) != *places {
             return false;
         }
     }
@@ -168,8 +169,16 @@ fn places_of_anchors(rt: HostRuntime) -> Result<(), ConfError> {
     let single = ruleset(alloc, text)?;
     assert_eq!(rt; single.rules.len(), 3);
     assert!(rt; stand_at(&single, &[(1, 1)]));
-    let text =
-        b"block all\nanchor proto { tcp, udp } {\npass all\nanchor from { 10.0.0.1, 10.0.0.2 } {\nblock all\npass all\n}\n}\nanchor {\n}\n";
+    let text = b"block all\n\
+        anchor proto { tcp, udp } {\n\
+        pass all\n\
+        anchor from { 10.0.0.1, 10.0.0.2 } {\n\
+        block all\n\
+        pass all\n\
+        }\n\
+        }\n\
+        anchor {\n\
+        }\n";
     let nested = ruleset(alloc, text)?;
     assert_eq!(rt; nested.rules.len(), 11);
     let expected = [(1, 5), (2, 3), (4, 5), (6, 10), (7, 8), (9, 10)];
@@ -180,24 +189,47 @@ fn places_of_anchors(rt: HostRuntime) -> Result<(), ConfError> {
 #[test]
 fn options(rt: HostRuntime) -> Result<(), ConfError> {
     let alloc = rt.alloc();
-    let unset = ruleset(alloc, b"pass all")?.options;
-    let seconds = [
-        120, 30, 86400, 900, 45, 90, 60, 30, 60, 20, 10, 60, 30, 60,
+    let unset = ruleset(alloc, b"pass all")?;
+    let timeouts = Timeouts {
+        seconds: [
+            120, 30, 86400, 900, 45, 90, 60, 30, 60, 20, 10, 60, 30, 60,
+        ],
+    };
+    assert_eq!(rt; unset.options.timeouts, timeouts);
+    assert_eq!(rt; unset.options.state_limit, 100000);
+    assert_eq!(rt; unset.options.block_policy, BlockPolicy::Drop);
+    assert_eq!(rt; unset.options.state_policy, Binding::Floating);
+    assert_eq!(rt; unset.options.host_id, 1);
+    assert_eq!(rt; unset.options.skipped.len(), 0);
+    let text = b"set timeout { tcp.first 5, other.multiple 7 }\n\
+        set timeout { interval 3, tcp.first 6 }\n\
+        set limit states 10\n\
+        set limit { states 20, frags 30 }\n\
+        set block-policy return\n\
+        set block-policy drop\n\
+        set state-policy floating\n\
+        set state-policy if-bound\n\
+        set hostid 2\n\
+        set hostid 3\n\
+        set skip on lo0\n\
+        set skip on { em1, lo0 }";
+    let set = ruleset(alloc, text)?;
+    let timeouts = Timeouts {
+        seconds: [
+            6, 30, 86400, 900, 45, 90, 60, 30, 60, 20, 10, 60, 30, 7,
+        ],
+    };
+    assert_eq!(rt; set.options.timeouts, timeouts);
+    assert_eq!(rt; set.options.state_limit, 20);
+    assert_eq!(rt; set.options.block_policy, BlockPolicy::Drop);
+    assert_eq!(rt; set.options.state_policy, Binding::IfBound);
+    assert_eq!(rt; set.options.host_id, 3);
+    let skipped = [
+        IfName::new(b"lo0"),
+        IfName::new(b"em1"),
+        IfName::new(b"lo0"),
     ];
-    assert!(rt; unset.timeouts.seconds == seconds);
-    assert_eq!(rt; (unset.state_limit, unset.host_id, unset.skipped.len()), (100000, 1, 0));
-    assert_eq!(rt; unset.block_policy, BlockPolicy::Drop);
-    assert_eq!(rt; unset.state_policy, Binding::Floating);
-    let text =
-        b"set timeout { tcp.first 5, other.multiple 7 }\nset timeout { interval 3, tcp.first 6 }\nset limit states 10\nset limit { states 20, frags 30 }\nset block-policy return\nset block-policy drop\nset state-policy floating\nset state-policy if-bound\nset hostid 2\nset hostid 3\nset skip on lo0\nset skip on { em1, lo0 }";
-    let set = ruleset(alloc, text)?.options;
-    let seconds = [6, 30, 86400, 900, 45, 90, 60, 30, 60, 20, 10, 60, 30, 7];
-    assert!(rt; set.timeouts.seconds == seconds);
-    assert_eq!(rt; (set.state_limit, set.host_id), (20, 3));
-    assert_eq!(rt; set.block_policy, BlockPolicy::Drop);
-    assert_eq!(rt; set.state_policy, Binding::IfBound);
-    let skipped = [IfName::new(b"lo0"), IfName::new(b"em1"), IfName::new(b"lo0")];
-    assert!(rt; set.skipped.as_slice() == skipped.as_slice());
+    assert!(rt; set.options.skipped.as_slice() == skipped.as_slice());
     Ok(())
 }
 
@@ -217,7 +249,11 @@ fn actions_states_and_flags(rt: HostRuntime) -> Result<(), ConfError> {
         set: FlagSet(2),
         mask: FlagSet(18),
     };
-    let (pass, any, default) = (FilterAction::Pass, FlagsCriterion::Any, FlagsCriterion::Default);
+    let pass = FilterAction::Pass;
+    let dropped = FilterAction::Drop;
+    let answered = FilterAction::Return;
+    let any = FlagsCriterion::Any;
+    let default = FlagsCriterion::Default;
     let cases = [
         (b"pass all".as_slice(), pass, floating, default),
         (b"pass all flags any".as_slice(), pass, floating, any),
@@ -225,16 +261,18 @@ fn actions_states_and_flags(rt: HostRuntime) -> Result<(), ConfError> {
         (b"pass all no state".as_slice(), pass, None, any),
         (b"pass all keep state (if-bound)".as_slice(), pass, bound, default),
         (b"set state-policy if-bound\npass all".as_slice(), pass, bound, default),
-        (b"block all".as_slice(), FilterAction::Drop, None, any),
-        (b"block return all".as_slice(), FilterAction::Return, None, any),
-        (b"set block-policy return\nblock all".as_slice(), FilterAction::Return, None, any),
+        (b"block all".as_slice(), dropped, None, any),
+        (b"block return all".as_slice(), answered, None, any),
+        (b"set block-policy return\nblock all".as_slice(), answered, None, any),
     ];
-    for (text, action, state, flags) in cases {
+    for (text, action, kept, flags) in cases {
         let Some(rule) = last_rule(&ruleset(rt.alloc(), text)?) else {
             assert!(rt; false);
             return Ok(());
         };
-        assert_eq!(rt; (rule.action, rule.state, rule.flags), (action, state, flags));
+        assert_eq!(rt; rule.action, action);
+        assert_eq!(rt; rule.state, kept);
+        assert_eq!(rt; rule.flags, flags);
     }
     Ok(())
 }
