@@ -123,8 +123,16 @@ fn faults(rt: HostRuntime) {
         (b"pass in from $x to any".as_slice(), 1, macros),
         (b"pass from <nowhere> to any".as_slice(), 1, tables),
         (b"table <t> { 10.0.0.1, !10.0.0.1 }".as_slice(), 1, clash),
-        (b"table <t> { 10.0.0.1 }\n\ntable <t> { 10.0.0.2 }".as_slice(), 3, clash),
-        (b"block all\nanchor {\npass from <t>\npass to $x\n}".as_slice(), 3, tables),
+        (
+            b"table <t> { 10.0.0.1 }\n\ntable <t> { 10.0.0.2 }".as_slice(),
+            3,
+            clash,
+        ),
+        (
+            b"block all\nanchor {\npass from <t>\npass to $x\n}".as_slice(),
+            3,
+            tables,
+        ),
     ];
     for (text, line, kind) in cases {
         assert_eq!(rt; fault(alloc, text), Some((line, kind)));
@@ -191,9 +199,7 @@ fn options(rt: HostRuntime) -> Result<(), ConfError> {
     let alloc = rt.alloc();
     let unset = ruleset(alloc, b"pass all")?;
     let timeouts = Timeouts {
-        seconds: [
-            120, 30, 86400, 900, 45, 90, 60, 30, 60, 20, 10, 60, 30, 60,
-        ],
+        seconds: [120, 30, 86400, 900, 45, 90, 60, 30, 60, 20, 10, 60, 30, 60],
     };
     assert_eq!(rt; unset.options.timeouts, timeouts);
     assert_eq!(rt; unset.options.state_limit, 100000);
@@ -215,9 +221,7 @@ fn options(rt: HostRuntime) -> Result<(), ConfError> {
         set skip on { em1, lo0 }";
     let set = ruleset(alloc, text)?;
     let timeouts = Timeouts {
-        seconds: [
-            6, 30, 86400, 900, 45, 90, 60, 30, 60, 20, 10, 60, 30, 7,
-        ],
+        seconds: [6, 30, 86400, 900, 45, 90, 60, 30, 60, 20, 10, 60, 30, 7],
     };
     assert_eq!(rt; set.options.timeouts, timeouts);
     assert_eq!(rt; set.options.state_limit, 20);
@@ -259,11 +263,26 @@ fn actions_states_and_flags(rt: HostRuntime) -> Result<(), ConfError> {
         (b"pass all flags any".as_slice(), pass, floating, any),
         (b"pass all flags S/SA".as_slice(), pass, floating, syn),
         (b"pass all no state".as_slice(), pass, None, any),
-        (b"pass all keep state (if-bound)".as_slice(), pass, bound, default),
-        (b"set state-policy if-bound\npass all".as_slice(), pass, bound, default),
+        (
+            b"pass all keep state (if-bound)".as_slice(),
+            pass,
+            bound,
+            default,
+        ),
+        (
+            b"set state-policy if-bound\npass all".as_slice(),
+            pass,
+            bound,
+            default,
+        ),
         (b"block all".as_slice(), dropped, None, any),
         (b"block return all".as_slice(), answered, None, any),
-        (b"set block-policy return\nblock all".as_slice(), answered, None, any),
+        (
+            b"set block-policy return\nblock all".as_slice(),
+            answered,
+            None,
+            any,
+        ),
     ];
     for (text, action, kept, flags) in cases {
         let Some(rule) = last_rule(&ruleset(rt.alloc(), text)?) else {
@@ -307,8 +326,16 @@ fn so_many_rules_and_no_more(rt: HostRuntime) -> Result<(), ConfError> {
     let cases = [
         (b"".as_slice(), b"\nblock all\n".as_slice(), 2),
         (b"block all\n".as_slice(), b"\n".as_slice(), 2),
-        (b"\nanchor {\n".as_slice(), b"\nblock all\n}\n".as_slice(), 2),
-        (b"block all\nanchor {\nanchor {\n".as_slice(), b"\n}\n}\n".as_slice(), 2),
+        (
+            b"\nanchor {\n".as_slice(),
+            b"\nblock all\n}\n".as_slice(),
+            2,
+        ),
+        (
+            b"block all\nanchor {\nanchor {\n".as_slice(),
+            b"\n}\n}\n".as_slice(),
+            2,
+        ),
     ];
     for (before, behind, line) in cases {
         let text = with_many(alloc, before, behind)?;
