@@ -13,6 +13,8 @@ pub mod lists;
 pub mod options;
 pub mod ruleset;
 pub mod tables;
+#[cfg(test)]
+mod tests;
 pub mod timeouts;
 
 pub use expansion::expand;
