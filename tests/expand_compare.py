@@ -7,8 +7,7 @@ The program takes any number of records on standard input: a byte, 1 where only 
 else 0; the interface's name with its length before it in one byte, its address in four and the bits of its network in
 one; and the text with its length before it in four, the greatest first. It answers each with the lines of the dump of
 expand_model.py, the line `F filter, T translation`, or `line L: KIND` for the first fault, and behind it a line `end`.
-The texts of the folder `expansions` have their answers written beside them, and so have hostile texts, each of which
-has to be answered in a few seconds. What is made from the texts of the folders, macros of every word in every place and
+The texts of the folder `expansions` have their answers written beside them, and so have hostile texts. What is made from the texts of the folders, macros of every word in every place and
 random rulesets are answered by the model. It exits with 1 where an answer is another one, and shows such texts. Rules of
 translation aren't handed to the program.
 """
@@ -26,9 +25,8 @@ import read_rulesets
 from expand_texts import RUNS, SEED, Text, each_value, hostile, random_texts
 from ruleset_model import worded
 
-TIME_LIMIT = 120
-# for one hostile text
-SHORT_TIME_LIMIT = 5
+# for the texts that the program gets at once, so that one without an end is told
+TIME_LIMIT = 600
 MOST_SHOWN = 10
 SHOWN_BYTES, SHOWN_LINES = 500, 4
 RANDOM_TEXTS = 18000
@@ -48,12 +46,12 @@ def record(text, counts_alone=False):
             + len(text.text).to_bytes(4, "big") + text.text)
 
 
-def answers_of(command, records, time_limit=TIME_LIMIT):
+def answers_of(command, records):
     """What the program says to the records, each a list of lines; it may have stopped before the last."""
     try:
-        seen = subprocess.run(command, input=b"".join(records), stdout=subprocess.PIPE, timeout=time_limit, check=False)
+        seen = subprocess.run(command, input=b"".join(records), stdout=subprocess.PIPE, timeout=TIME_LIMIT, check=False)
     except subprocess.TimeoutExpired:
-        return [[f"no answer in {time_limit} seconds"]] * len(records)
+        return [[f"no answer in {TIME_LIMIT} seconds"]] * len(records)
     answers, lines = [], []
     for line in seen.stdout.decode("latin-1").splitlines():
         if line == "end":
@@ -87,11 +85,11 @@ def answer_of(text):
     return [text.answer] if isinstance(text.answer, str) else text.answer
 
 
-def differences(command, texts, time_limit=TIME_LIMIT):
+def differences(command, texts):
     """The texts to which the program says something else, with the lines expected and those that came."""
     expected = [answer_of(text) for text in texts]
     records = [record(text, is_of_counts(answer)) for text, answer in zip(texts, expected)]
-    return [(text, answer, seen) for text, answer, seen in zip(texts, expected, answers_of(command, records, time_limit))
+    return [(text, answer, seen) for text, answer, seen in zip(texts, expected, answers_of(command, records))
             if seen != answer]
 
 
@@ -129,7 +127,7 @@ def compare(command):
     others = [*changed(files), *each_value(), *random_texts(RANDOM_TEXTS)]
     wrong = differences(command, files)
     for text in hard:
-        wrong += differences(command, [text], SHORT_TIME_LIMIT)
+        wrong += differences(command, [text])
     with ProcessPoolExecutor() as pool:
         for some in pool.map(differences, [command] * len(chunks(others)), chunks(others)):
             wrong += some
