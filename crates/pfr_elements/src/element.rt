@@ -152,7 +152,8 @@ fn value_items<T: Element>(
     Ok(found)
 }
 
-fn first_fault(first: Option<ConfError>, second: ConfError) -> Option<ConfError>
+/// The first of two faults.
+pub fn first_fault(first: Option<ConfError>, second: ConfError) -> Option<ConfError>
     ensures { result ≡ spec.first_fault first second }
 {
     match first {

@@ -8,7 +8,7 @@ use Rattle.pfr_conf.specs.declared.anchor.FilterStatement.TheVariants as s
 use Rattle.pfr_elements.specs.declared.scope.Scope.{Scope}
 use Rattle.pfr_expand.specs.declared.body.Setting.{Setting}
 use Rattle.pfr_expand.specs.declared.body.Body.{Body}
-use Rattle.pfr_expand.specs.Lists.{lists_of}
+use Rattle.pfr_flat.specs.Lists.{lists_of}
 use Rattle.pfr_expand.specs.Bodies.{statement, with_rule, with_anchor, body_from, empty_body}
 
 pub rule : (depth : ℕ) (scope : Scope) (setting : Setting) (r : FilterRule) (out : Body) → statement depth scope setting (s.Rule r) out ≡ with_rule scope setting r out

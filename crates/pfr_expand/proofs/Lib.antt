@@ -1,4 +1,2 @@
-pub mod Combinations
 pub mod Depths
 pub mod Places
-pub mod Products

@@ -3,9 +3,9 @@ use Rattle.std.proofs.Common.{◌≡◌, ◌<◌, ◌≤◌, ◌+◌, ◌-◌, �
 use Rattle.std.specs.List.{All}
 use Rattle.std.proofs.lemmas.List.{length-append}
 use Rattle.std.proofs.lemmas.List.Elements.{All-nil, All-weaker, All-append, All-cons, All-map}
-use Rattle.pfr_expand.specs.declared.flat.PacketMatch.{PacketMatch}
-use Rattle.pfr_expand.specs.declared.flat.FlatRule.{FlatRule}
-use Rattle.pfr_expand.specs.declared.flat.FlatAnchor.{FlatAnchor}
+use Rattle.pfr_flat.specs.declared.flat.PacketMatch.{PacketMatch}
+use Rattle.pfr_flat.specs.declared.flat.FlatRule.{FlatRule}
+use Rattle.pfr_flat.specs.declared.flat.FlatAnchor.{FlatAnchor}
 use Rattle.pfr_expand.specs.declared.body.Body.{Body}
 use Rattle.pfr_expand.specs.Bodies.{IsPlaced, AreWithin, ArePlaced, moved, with_copy}
 

@@ -2,7 +2,7 @@
 use Rattle.std.specs.Prelude.{◌≡◌, ◌≤◌, ◌<◌, ℕ, zero, suc, ◌+◌, ◌-◌, ◌*◌, ◌==◌, ◌||◌, Bool, true, false, nat_lt, if◌then◌else◌, List, [], ◌∷◌, ◌++◌, length, map, fold, Option, Some, None, Result, Ok, Err, ◌≢◌}
 use Rattle.std.specs.List.{All}
 use Rattle.pfr_terms.specs.declared.error.ConfError.{ConfError}
-use Rattle.pfr_terms.specs.declared.error.ConfErrorKind.TheVariants.{TooMany, TooDeep, Memory}
+use Rattle.pfr_terms.specs.declared.error.ConfErrorKind.TheVariants.{TooDeep, Memory}
 use Rattle.pfr_terms.specs.declared.flags.FlagsMatch.{FlagsMatch}
 use Rattle.pfr_terms.specs.declared.flags.FlagsMatch.TheVariants as flags
 use Rattle.pfr_conf.specs.declared.policy.BlockPolicy.{BlockPolicy}
@@ -18,20 +18,21 @@ use Rattle.pfr_conf.specs.declared.anchor.FilterStatement.{FilterStatement, out-
 use Rattle.pfr_conf.specs.declared.anchor.FilterStatement.TheOpen.{FilterStatement-F}
 use Rattle.pfr_elements.specs.declared.scope.Scope.{Scope}
 use Rattle.pfr_elements.specs.Elements.{first_fault}
-use Rattle.pfr_expand.specs.declared.flat.PacketMatch.{PacketMatch}
-use Rattle.pfr_expand.specs.declared.flat.FilterAction.{FilterAction}
-use Rattle.pfr_expand.specs.declared.flat.FilterAction.TheVariants as action
-use Rattle.pfr_expand.specs.declared.flat.FlagsCriterion.{FlagsCriterion}
-use Rattle.pfr_expand.specs.declared.flat.FlagsCriterion.TheVariants as asked
-use Rattle.pfr_expand.specs.declared.flat.StateRule.{StateRule}
-use Rattle.pfr_expand.specs.declared.flat.FlatRule.{FlatRule}
-use Rattle.pfr_expand.specs.declared.flat.FlatAnchor.{FlatAnchor}
-use Rattle.pfr_expand.specs.declared.choices.Choices as C
-use Rattle.pfr_expand.specs.declared.lists.Lists as L
+use Rattle.pfr_flat.specs.declared.flat.PacketMatch.{PacketMatch}
+use Rattle.pfr_flat.specs.declared.flat.FilterAction.{FilterAction}
+use Rattle.pfr_flat.specs.declared.flat.FilterAction.TheVariants as action
+use Rattle.pfr_flat.specs.declared.flat.FlagsCriterion.{FlagsCriterion}
+use Rattle.pfr_flat.specs.declared.flat.FlagsCriterion.TheVariants as asked
+use Rattle.pfr_flat.specs.declared.flat.StateRule.{StateRule}
+use Rattle.pfr_flat.specs.declared.flat.FlatRule.{FlatRule}
+use Rattle.pfr_flat.specs.declared.flat.FlatAnchor.{FlatAnchor}
+use Rattle.pfr_flat.specs.declared.choices.Choices as C
+use Rattle.pfr_flat.specs.declared.lists.Lists as L
 use Rattle.pfr_expand.specs.declared.body.Setting.{Setting}
 use Rattle.pfr_expand.specs.declared.body.Body.{Body}
-use Rattle.pfr_expand.specs.Choices.{no_match, combinations}
-use Rattle.pfr_expand.specs.Lists.{lists_of, product, has_long_list, choices_or_fault}
+use Rattle.pfr_flat.specs.Choices.{no_match, combinations}
+use Rattle.pfr_flat.specs.Counts.{counted, too_many}
+use Rattle.pfr_flat.specs.Lists.{lists_of, choices_or_fault}
 
 -- what a function that adds promises: the outcome, unless memory is refused
 abbrev pub Adds : {A : Type 0} → Result A ConfError → Result (Unit {0}) ConfError → A → Type 0
@@ -82,21 +83,6 @@ flat_rule setting rule =
       allow_opts = rule.options.allow_opts;
     }
 
--- ---- counts
-
-abbrev pub too_many : ℕ → ConfError
-too_many line = record { line = line; kind = TooMany }
-
--- more rules than a ruleset may have, or a list of more elements than it may have
-abbrev pub exceeds : Setting → L.Lists → ℕ → Bool
-exceeds setting lists count = has_long_list lists || nat_lt 65536 (setting.used + count)
-
--- how many rules there are with those that the lists make of so many, unless they are too many
-unfoldable pub counted : Setting → L.Lists → ℕ → ℕ → Option ℕ
-counted setting lists before copies =
-    let count : ℕ = before + product lists * copies in
-    if exceeds setting lists count then None else Some count
-
 -- ---- rules
 
 abbrev pub made_if : Option ConfError → FlatRule → C.Choices → Body → Body
@@ -113,7 +99,7 @@ rule_by setting rule lists out None = Err (too_many setting.line)
 rule_by setting rule lists out (Some count) = Ok (with_made (flat_rule setting rule) (choices_or_fault lists) (record out { count = count }))
 
 abbrev pub rule_of : Setting → FilterRule → L.Lists → Body → Result Body ConfError
-rule_of setting rule lists out = rule_by setting rule lists out (counted setting lists out.count 1)
+rule_of setting rule lists out = rule_by setting rule lists out (counted setting.used lists out.count 1)
 
 unfoldable pub with_rule : Scope → Setting → FilterRule → Body → Result Body ConfError
 with_rule scope setting rule out = rule_of setting rule (lists_of scope rule.criteria rule.options.icmp_types) out
@@ -156,7 +142,7 @@ anchor_by anchor line lists inner out None = Err (too_many line)
 anchor_by anchor line lists inner out (Some count) = Ok (with_copies (flat_anchor anchor) (choices_or_fault lists) inner (record out { count = count }))
 
 abbrev pub counted_anchor : Setting → AnchorRule → L.Lists → Body → Body → Result Body ConfError
-counted_anchor setting anchor lists inner out = anchor_by anchor setting.line lists inner out (counted setting lists out.count inner.count)
+counted_anchor setting anchor lists inner out = anchor_by anchor setting.line lists inner out (counted setting.used lists out.count inner.count)
 
 abbrev pub empty_body : Body
 empty_body = record { rules = []; anchors = []; fault = None; count = 0 }

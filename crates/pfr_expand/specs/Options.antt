@@ -26,7 +26,7 @@ use Rattle.pfr_elements.specs.Terms.{use_in, never, same, skipped}
 use Rattle.pfr_elements.specs.Values.{plain_word_at}
 use Rattle.pfr_expand.specs.declared.timeouts.Timeouts.{Timeouts}
 use Rattle.pfr_expand.specs.declared.options.Options as O
-use Rattle.pfr_expand.specs.Bodies.{too_many}
+use Rattle.pfr_flat.specs.Counts.{too_many}
 
 -- ---- timeouts
 

@@ -34,7 +34,8 @@ use Rattle.pfr_expand.specs.declared.options.Options as O
 use Rattle.pfr_expand.specs.declared.tables.Filling.{Filling}
 use Rattle.pfr_expand.specs.declared.ruleset.Ruleset as R
 use Rattle.pfr_expand.specs.declared.expansion.Work.{Work}
-use Rattle.pfr_expand.specs.Bodies.{too_many, moved, empty_body, statement as filter_statement}
+use Rattle.pfr_flat.specs.Counts.{too_many}
+use Rattle.pfr_expand.specs.Bodies.{moved, empty_body, statement as filter_statement}
 use Rattle.pfr_expand.specs.Options.{default_options, with_option}
 use Rattle.pfr_expand.specs.Tables.{clash, filled, unfilled}
 

@@ -6,14 +6,16 @@ ghost use Rattle.pfr_elements.specs.Elements as faults;
 ghost use Rattle.pfr_expand.specs.Bodies as spec;
 ghost use Rattle.pfr_expand.specs.Bodies.{Adds};
 
-use crate::choices::{ANYONE, Choices, combinations};
-use crate::flat::{FilterAction, FlagsCriterion, FlatAnchor, FlatRule, PacketMatch, StateRule};
-use crate::lists::{Lists, MOST_RULES, choices_or_fault, lists_of, slice_of};
 use pfr_conf::{
     Action, AnchorRule, Binding, BlockPolicy, ConfError, ConfErrorKind, FilterRule,
     FilterStatement, FlagsMatch, Items, StateKeeping,
 };
+use pfr_elements::element::first_fault;
 use pfr_elements::Scope;
+use pfr_flat::{
+    Choices, FilterAction, FlagsCriterion, FlatAnchor, FlatRule, Lists, NO_MATCH, PacketMatch,
+    StateRule, choices_or_fault, combinations, counted, lists_of, slice_of, too_many,
+};
 use std::alloc::{AllocError, Global};
 use std::mem::replace;
 
@@ -35,17 +37,6 @@ pub struct Body {
     pub fault: Option<ConfError>,
     pub count: usize,
 }
-
-/// A match that asks for nothing.
-const NO_MATCH: PacketMatch = PacketMatch {
-    interface: None,
-    protocol: None,
-    icmp: None,
-    source: ANYONE,
-    source_port: None,
-    destination: ANYONE,
-    destination_port: None,
-};
 
 fn blocked(policy: BlockPolicy) -> FilterAction
     ensures { result ≡ spec.blocked policy }
@@ -112,15 +103,6 @@ fn flat_rule(setting: Setting, rule: &FilterRule<'_>) -> FlatRule
     }
 }
 
-pub(crate) fn too_many(line: usize) -> ConfError
-    ensures { result ≡ spec.too_many line }
-{
-    ConfError {
-        line,
-        kind: ConfErrorKind::TooMany,
-    }
-}
-
 /// Puts a flat rule for each match behind the others.
 fn put_rules(
     out: &mut Items<FlatRule>,
@@ -136,15 +118,6 @@ fn put_rules(
         })?;
     }
     Ok(())
-}
-
-pub(crate) fn first_fault(first: Option<ConfError>, second: ConfError) -> Option<ConfError>
-    ensures { result ≡ faults.first_fault first second }
-{
-    match first {
-        Some(first) => Some(first),
-        None => Some(second),
-    }
 }
 
 impl Body {
@@ -194,29 +167,6 @@ impl Body {
     }
 }
 
-/// Whether there are more rules than a ruleset may have, or a list has more elements than it may have.
-fn exceeds(setting: Setting, lists: &Lists, count: usize) -> bool
-    requires { count ≤ 4611686018427387904 }
-    ensures { result ≡ spec.exceeds setting lists.now count }
-{
-    lists.has_long_list() || setting.used > MOST_RULES || count > MOST_RULES - setting.used
-}
-
-/// How many rules there are with those that the lists make of so many, unless they are too many.
-#[tactic(auto, unfolding(crate::specs::Bodies::counted), using(crate::proofs::Products::exceeds_capped, crate::proofs::Products::count_capped))]
-fn counted(setting: Setting, lists: &Lists, before: usize, copies: usize) -> Option<usize>
-    requires { (before ≤ 65536) × (copies ≤ 65536) }
-    ensures value { result ≡ spec.counted setting lists.now before copies }
-    ensures within { IfSome result (λ count. count ≤ 65536) }
-{
-    let count = before + lists.product() * copies;
-    if exceeds(setting, lists, count) {
-        None
-    } else {
-        Some(count)
-    }
-}
-
 /// The rules of a rule.
 #[tactic(auto, unfolding(crate::specs::Bodies::with_rule))]
 fn add_rule(
@@ -234,7 +184,7 @@ fn add_rule(
 {
     let types = slice_of(&rule.options.icmp_types);
     let lists = lists_of(alloc, scope, &rule.criteria, types)?;
-    let Some(count) = counted(setting, &lists, out.count, 1) else {
+    let Some(count) = counted(setting.used, &lists, out.count, 1) else {
         return Err(too_many(setting.line));
     };
     let choices = choices_or_fault(alloc, lists)?;
@@ -396,7 +346,7 @@ fn add_anchor(
     ensures counted { OnOk result (out.new.count ≤ 65536) }
     ensures placed { OnOk result (spec.ArePlaced out.new.rules out.new.anchors) }
 {
-    let Some(count) = counted(setting, &lists, out.count, inner.count) else {
+    let Some(count) = counted(setting.used, &lists, out.count, inner.count) else {
         return Err(too_many(setting.line));
     };
     let choices = choices_or_fault(alloc, lists)?;

@@ -8,9 +8,7 @@ ghost use Rattle.pfr_expand.specs.Bodies.{Adds, ArePlaced, moved};
 ghost use Rattle.pfr_expand.specs.Rulesets as spec;
 ghost use Rattle.pfr_expand.specs.declared.expansion.Work as W;
 
-use crate::body::{Body, Setting, add_statement, put_anchors, too_many};
-use crate::flat::{FlatAnchor, FlatRule};
-use crate::lists::MOST_RULES;
+use crate::body::{Body, Setting, add_statement, put_anchors};
 use crate::options::Options;
 use crate::ruleset::Ruleset;
 use crate::tables::{Filling, clash, fill};
@@ -22,6 +20,7 @@ use pfr_conf::{
 use pfr_elements::hosts::place_of;
 use pfr_elements::value::Draft;
 use pfr_elements::{Elements, Interface, MOST_ELEMENTS, Macros, Scope};
+use pfr_flat::{FlatAnchor, FlatRule, MOST_RULES, too_many};
 use pfr_terms::error::left_out_at;
 use std::alloc::{AllocError, Global};
 

@@ -5,11 +5,7 @@
 #![tactic(auto)]
 
 pub mod body;
-pub mod choices;
 pub mod expansion;
-pub mod flat;
-pub mod laws;
-pub mod lists;
 pub mod options;
 pub mod ruleset;
 pub mod tables;
@@ -18,9 +14,9 @@ mod tests;
 pub mod timeouts;
 
 pub use expansion::expand;
-pub use flat::{FilterAction, FlagsCriterion, FlatAnchor, FlatRule, PacketMatch, StateRule};
 pub use options::Options;
 pub use pfr_elements::{HostCriterion, HostSet, IfName, Interface, InterfaceCriterion};
+pub use pfr_flat::{FilterAction, FlagsCriterion, FlatAnchor, FlatRule, PacketMatch, StateRule};
 pub use pfr_tables::{AddressTable, Entry};
 pub use ruleset::Ruleset;
 pub use timeouts::Timeouts;

@@ -4,14 +4,13 @@ ghost use Rattle.pfr_expand.specs.Bodies.{Adds};
 ghost use Rattle.pfr_expand.specs.Options as spec;
 ghost use Rattle.pfr_expand.specs.declared.options.Options as O;
 
-use crate::body::too_many;
-use crate::lists::MOST_RULES;
 use crate::timeouts::Timeouts;
 use pfr_conf::{
     Binding, BlockPolicy, ConfError, InterfaceName, Items, Limit, LimitSetting, Name, SetOption,
     TimeoutSetting, Written,
 };
 use pfr_elements::{Elements, IfName, MOST_ELEMENTS, Scope, elements_of};
+use pfr_flat::{MOST_RULES, too_many};
 use std::alloc::{AllocError, Global};
 
 /// What the options of a ruleset say.

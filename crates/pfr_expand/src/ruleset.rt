@@ -1,9 +1,9 @@
 //! The flat ruleset.
 ghost use Rattle.std.specs.Prelude.{◌≡◌, length};
 
-use crate::flat::{FlatAnchor, FlatRule};
 use crate::options::Options;
 use pfr_conf::Items;
+use pfr_flat::{FlatAnchor, FlatRule};
 use pfr_tables::AddressTable;
 use std::alloc::Global;
 

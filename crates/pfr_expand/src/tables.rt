@@ -5,9 +5,8 @@ ghost use Rattle.pfr_elements.specs.Values.{Makes};
 ghost use Rattle.pfr_elements.specs.Elements as faults;
 ghost use Rattle.pfr_expand.specs.Tables as spec;
 
-use crate::body::first_fault;
 use pfr_conf::{ConfError, ConfErrorKind, TableEntry};
-use pfr_elements::element::add_element;
+use pfr_elements::element::{add_element, first_fault};
 use pfr_elements::{Elements, MOST_ELEMENTS, Scope};
 use pfr_tables::{AddressTable, Entry};
 use std::alloc::{AllocError, Global};

@@ -1,6 +1,5 @@
 //! Rulesets written out by hand, and what pf.conf(5) makes of them for the interface em0 with 192.0.2.1/24.
 use crate::expansion::expand;
-use crate::flat::{FilterAction, FlagsCriterion, FlatRule, PacketMatch, StateRule};
 use crate::ruleset::Ruleset;
 use crate::timeouts::Timeouts;
 use pfr_conf::{
@@ -8,6 +7,7 @@ use pfr_conf::{
     PortMatch, Protocol, read,
 };
 use pfr_elements::{HostCriterion, HostSet, IfName, Interface};
+use pfr_flat::{FilterAction, FlagsCriterion, FlatRule, PacketMatch, StateRule};
 use std::alloc::{AllocError, Global};
 use std::process::Abort;
 

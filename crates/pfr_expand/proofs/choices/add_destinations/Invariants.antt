@@ -1,6 +1,0 @@
-use Rattle.std.proofs.Common.{◌≡◌, ◌++◌, map, flat_map, take}
-use Rattle.pfr_expand.specs.Choices as spec
-use Rattle.pfr_expand.proofs.choices.add_destinations.Given as goal
-
-abbrev pub invariant-loop-destination : goal.invariant-loop-destination
-invariant-loop-destination l = l.out ≡ l.fn.out ++ flat_map (λ x. spec.by_destination_port l.choices (record l.chosen { destination = x })) (take l.destination-index l.destination-items)

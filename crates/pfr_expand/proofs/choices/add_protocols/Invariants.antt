@@ -1,6 +1,0 @@
-use Rattle.std.proofs.Common.{◌≡◌, ◌++◌, map, flat_map, take}
-use Rattle.pfr_expand.specs.Choices as spec
-use Rattle.pfr_expand.proofs.choices.add_protocols.Given as goal
-
-abbrev pub invariant-loop-protocol : goal.invariant-loop-protocol
-invariant-loop-protocol l = l.out ≡ l.fn.out ++ flat_map (λ x. spec.by_icmp l.choices (record l.chosen { protocol = x })) (take l.protocol-index l.protocol-items)

@@ -1,5 +1,0 @@
-use Rattle.pfr_expand.proofs.Combinations.{combination_count}
-use Rattle.pfr_expand.proofs.laws.rules_are_as_many_as_combinations.Goals as goal
-
-pub returns : goal.returns
-returns c = combination_count

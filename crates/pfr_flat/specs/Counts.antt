@@ -1,0 +1,19 @@
+-- How many rules the lists of a statement make.
+use Rattle.std.specs.Prelude.{ℕ, ◌+◌, ◌*◌, ◌||◌, Bool, nat_lt, if◌then◌else◌, Option, Some, None}
+use Rattle.pfr_terms.specs.declared.error.ConfError.{ConfError}
+use Rattle.pfr_terms.specs.declared.error.ConfErrorKind.TheVariants.{TooMany}
+use Rattle.pfr_flat.specs.declared.lists.Lists as L
+use Rattle.pfr_flat.specs.Lists.{product, has_long_list}
+
+abbrev pub too_many : ℕ → ConfError
+too_many line = record { line = line; kind = TooMany }
+
+-- more rules than a ruleset may have with those that it has, or a list of more elements than it may have
+abbrev pub exceeds : ℕ → L.Lists → ℕ → Bool
+exceeds used lists count = has_long_list lists || nat_lt 65536 (used + count)
+
+-- how many rules a statement has with those that the lists make of so many, unless they are too many
+unfoldable pub counted : ℕ → L.Lists → ℕ → ℕ → Option ℕ
+counted used lists before copies =
+    let count : ℕ = before + product lists * copies in
+    if exceeds used lists count then None else Some count

@@ -1,0 +1,43 @@
+//! How many rules the lists of a statement make.
+ghost use Rattle.std.specs.Prelude.{◌≡◌, ◌≤◌, IfSome};
+ghost use Rattle.pfr_flat.specs.Counts as spec;
+
+use crate::lists::Lists;
+use pfr_conf::{ConfError, ConfErrorKind};
+
+/// The most filter rules and translation rules of a ruleset, together.
+pub const MOST_RULES: usize = 65536;
+
+/// More rules than a ruleset may have, or entries of its tables, by the statement on this line.
+pub fn too_many(line: usize) -> ConfError
+    ensures { result ≡ spec.too_many line }
+{
+    ConfError {
+        line,
+        kind: ConfErrorKind::TooMany,
+    }
+}
+
+/// Whether there are more rules than a ruleset may have, or a list has more elements than it may have.
+fn exceeds(used: usize, lists: &Lists, count: usize) -> bool
+    requires { count ≤ 4611686018427387904 }
+    ensures { result ≡ spec.exceeds used lists.now count }
+{
+    lists.has_long_list() || used > MOST_RULES || count > MOST_RULES - used
+}
+
+/// How many rules a statement has with those that the lists make of so many, unless they are too many with the rules
+/// that the ruleset has.
+#[tactic(auto, unfolding(crate::specs::Counts::counted), using(crate::proofs::Products::exceeds_capped, crate::proofs::Products::count_capped))]
+pub fn counted(used: usize, lists: &Lists, before: usize, copies: usize) -> Option<usize>
+    requires { (before ≤ 65536) × (copies ≤ 65536) }
+    ensures value { result ≡ spec.counted used lists.now before copies }
+    ensures within { IfSome result (λ count. count ≤ 65536) }
+{
+    let count = before + lists.product() * copies;
+    if exceeds(used, lists, count) {
+        None
+    } else {
+        Some(count)
+    }
+}

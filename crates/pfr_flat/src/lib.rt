@@ -1,0 +1,18 @@
+//! What the lists of one statement make: flat rules, of which each asks for one thing of a kind.
+//!
+//! [`lists_of`] gives the lists of a statement's criteria their elements, [`counted`] says how many rules they make
+//! before any is made, and [`combinations`] makes a match of each choice from all of them.
+#![tactic(auto)]
+
+pub mod choices;
+pub mod counts;
+pub mod flat;
+pub mod laws;
+pub mod lists;
+
+pub use choices::{Choices, combinations};
+pub use counts::{MOST_RULES, counted, too_many};
+pub use flat::{
+    FilterAction, FlagsCriterion, FlatAnchor, FlatRule, NO_MATCH, PacketMatch, StateRule,
+};
+pub use lists::{Lists, choices_or_fault, lists_of, lists_with, slice_of};
