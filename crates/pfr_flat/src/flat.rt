@@ -1,5 +1,5 @@
 //! Flat rules and anchors, of which each asks for one thing of a kind.
-use pfr_conf::{Binding, Direction, FlagSet, IcmpMatch, PortMatch, Protocol};
+use pfr_conf::{Binding, Direction, FlagSet, IcmpMatch, Ipv4Address, PortMatch, Protocol};
 use pfr_elements::{HostCriterion, HostSet, InterfaceCriterion};
 
 /// What a flat rule or anchor asks of a packet, but for its direction. None asks for nothing.
@@ -80,4 +80,49 @@ pub struct FlatAnchor {
     pub packet: PacketMatch,
     pub first: usize,
     pub last: usize,
+}
+
+/// Ports from the first to the second.
+#[derive(Clone, Copy, Debug, PartialEq, Eq)]
+pub struct PortRange {
+    pub low: u16,
+    pub high: u16,
+}
+
+/// What `nat` makes of a packet's source.
+#[derive(Clone, Copy, Debug, PartialEq, Eq)]
+pub struct NatAddress {
+    pub address: Ipv4Address,
+    /// The ports of which one is picked, if the rule says which.
+    pub ports: Option<PortRange>,
+    /// The source port is kept.
+    pub static_port: bool,
+}
+
+/// What `rdr` makes of a destination port.
+#[derive(Clone, Copy, Debug, PartialEq, Eq)]
+pub enum PortChange {
+    Kept,
+    To(u16),
+    /// The first port that the rule asks for goes to this one, the next to the next.
+    From(u16),
+}
+
+/// What `rdr` makes of a packet's destination.
+#[derive(Clone, Copy, Debug, PartialEq, Eq)]
+pub struct RdrAddress {
+    pub address: Ipv4Address,
+    pub port: PortChange,
+}
+
+/// A translation rule of one kind.
+#[derive(Clone, Copy, Debug, PartialEq, Eq)]
+pub struct FlatTranslation<T> {
+    /// Its place among the translation rules of all kinds.
+    pub number: usize,
+    /// What it translates isn't filtered.
+    pub passes: bool,
+    pub packet: PacketMatch,
+    /// None: a packet that the rule holds for isn't translated by its kind.
+    pub target: Option<T>,
 }

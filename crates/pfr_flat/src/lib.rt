@@ -9,10 +9,13 @@ pub mod counts;
 pub mod flat;
 pub mod laws;
 pub mod lists;
+pub mod translations;
 
 pub use choices::{Choices, combinations};
 pub use counts::{MOST_RULES, counted, too_many};
 pub use flat::{
-    FilterAction, FlagsCriterion, FlatAnchor, FlatRule, NO_MATCH, PacketMatch, StateRule,
+    FilterAction, FlagsCriterion, FlatAnchor, FlatRule, FlatTranslation, NO_MATCH, NatAddress,
+    PacketMatch, PortChange, PortRange, RdrAddress, StateRule,
 };
 pub use lists::{Lists, choices_or_fault, lists_of, lists_with, slice_of};
+pub use translations::{all_fit, put_translations};

@@ -53,7 +53,8 @@ pub fn slice_of<T>(list: &Option<Items<T>>) -> Option<&[T]>
     }
 }
 
-fn addresses_in<'p, 'a>(part: &'p Option<Part<'a>>) -> Option<&'p [AddressMatch<'a>]>
+/// The addresses of a part, if they are written.
+pub fn addresses_in<'p, 'a>(part: &'p Option<Part<'a>>) -> Option<&'p [AddressMatch<'a>]>
     ensures { option_map (λ l. l.now) result ≡ spec.addresses_in part.now }
 {
     match part {
