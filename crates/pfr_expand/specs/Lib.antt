@@ -2,3 +2,4 @@ pub mod Bodies
 pub mod Options
 pub mod Rulesets
 pub mod Tables
+pub mod Translations

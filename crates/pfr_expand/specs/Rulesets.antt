@@ -1,9 +1,8 @@
 -- The flat ruleset of statements, or the first fault of theirs.
-use Rattle.std.specs.Prelude.{ℕ, ◌+◌, ◌||◌, Bool, true, false, nat_lt, if◌then◌else◌, List, [], ◌∷◌, ◌++◌, length, map, codes, Option, Some, None, Result, Ok, Err}
+use Rattle.std.specs.Prelude.{ℕ, ◌+◌, ◌||◌, Bool, true, false, nat_lt, if◌then◌else◌, List, [], ◌∷◌, ◌++◌, length, map, min, Option, Some, None, Result, Ok, Err}
 use Rattle.std.specs.Option.{is_some}
 use Rattle.pfr_terms.specs.declared.error.ConfError.{ConfError}
 use Rattle.pfr_terms.specs.declared.name.MacroUse.{MacroUse}
-use Rattle.pfr_terms.specs.Input.{left_out_at}
 use Rattle.pfr_terms.specs.declared.name.Name.{Name}
 use Rattle.pfr_conf.specs.declared.macros.Piece as P
 use Rattle.pfr_conf.specs.declared.macros.Piece.TheVariants as p
@@ -12,9 +11,7 @@ use Rattle.pfr_conf.specs.declared.table.TableDefinition.{TableDefinition}
 use Rattle.pfr_conf.specs.declared.options.SetOption.{SetOption}
 use Rattle.pfr_conf.specs.declared.anchor.FilterStatement.{FilterStatement, out-FilterStatement}
 use Rattle.pfr_conf.specs.declared.anchor.FilterStatement.TheOpen.{FilterStatement-F}
-use Rattle.pfr_conf.specs.declared.targets.Target.{Target}
-use Rattle.pfr_conf.specs.declared.translation.TranslationKind.{TranslationKind}
-use Rattle.pfr_conf.specs.declared.translation.TranslationKind.TheVariants as kind
+use Rattle.pfr_conf.specs.declared.translation.TranslationRule.{TranslationRule}
 use Rattle.pfr_conf.specs.declared.translation.TranslationStatement.{TranslationStatement}
 use Rattle.pfr_conf.specs.declared.translation.TranslationStatement.TheVariants as t
 use Rattle.pfr_conf.specs.declared.statement.Statement.{Statement}
@@ -34,9 +31,13 @@ use Rattle.pfr_expand.specs.declared.options.Options as O
 use Rattle.pfr_expand.specs.declared.tables.Filling.{Filling}
 use Rattle.pfr_expand.specs.declared.ruleset.Ruleset as R
 use Rattle.pfr_expand.specs.declared.expansion.Work.{Work}
-use Rattle.pfr_flat.specs.Counts.{too_many}
+use Rattle.pfr_flat.specs.declared.lists.Lists as L
+use Rattle.pfr_flat.specs.Counts.{counted, too_many}
+use Rattle.pfr_flat.specs.Lists.{choices_or_fault}
 use Rattle.pfr_expand.specs.Bodies.{moved, empty_body, statement as filter_statement}
 use Rattle.pfr_expand.specs.Options.{default_options, with_option}
+use Rattle.pfr_expand.specs.declared.translation.Translations.{Translations}
+use Rattle.pfr_expand.specs.Translations.{no_translations, translation_lists, with_choices}
 use Rattle.pfr_expand.specs.Tables.{clash, filled, unfilled}
 
 -- ---- macros
@@ -107,8 +108,8 @@ line_by (FilterStatement-F.Anchor anchor body) = anchor.line
 unfoldable pub line_of : FilterStatement → ℕ
 line_of x = line_by (out-FilterStatement x)
 
-abbrev pub setting_of : R.Ruleset → ℕ → Setting
-setting_of r line = record { block_policy = r.options.block_policy; state_policy = r.options.state_policy; used = length r.rules; line = line }
+abbrev pub setting_of : Work → ℕ → Setting
+setting_of work line = record { block_policy = work.flat.options.block_policy; state_policy = work.flat.options.state_policy; used = length work.flat.rules + work.translations; line = line }
 
 abbrev pub filter_if : Work → Body → Option ConfError → Result Work ConfError
 filter_if work body (Some e) = Err e
@@ -124,23 +125,29 @@ filter_by work (Ok body) = filter_if work body body.fault
 filter_by work (Err e) = Err e
 
 unfoldable pub with_filter : FilterStatement → Work → Result Work ConfError
-with_filter x work = filter_by work (filter_statement 16 work.scope (setting_of work.flat (line_of x)) x empty_body)
+with_filter x work = filter_by work (filter_statement 16 work.scope (setting_of work (line_of x)) x empty_body)
 
--- ---- translation rules, by which nothing is translated yet
+-- ---- translation rules
 
-abbrev pub word_of : TranslationKind → List ℕ
-word_of kind.Nat = codes "nat"
-word_of kind.Rdr = codes "rdr"
-word_of kind.Binat = codes "binat"
+abbrev pub translated : Work → ℕ → Result Translations ConfError → Result Work ConfError
+translated work count (Ok translations) = Ok (record work { translations = work.translations + count; flat = record work.flat { translations = translations } })
+translated work count (Err e) = Err e
 
-abbrev pub first_word : TranslationKind → Option Target → List ℕ
-first_word found (Some target) = word_of found
-first_word found None = codes "no"
+abbrev pub translation_by : Work → TranslationRule → L.Lists → Option ℕ → Result Work ConfError
+translation_by work rule lists None = Err (too_many rule.line)
+translation_by work rule lists (Some count) = translated work count (with_choices work.scope work.translations rule (choices_or_fault lists) work.flat.translations)
 
--- an anchor of translation rules is empty, and a rule is left out by its first word
-abbrev pub with_translation : TranslationStatement → Work → Result Work ConfError
-with_translation (t.Anchor found name) work = Ok work
-with_translation (t.Rule rule) work = Err (left_out_at rule.line (first_word rule.kind rule.target))
+abbrev pub translation_of : Work → TranslationRule → L.Lists → Result Work ConfError
+translation_of work rule lists = translation_by work rule lists (counted (length work.flat.rules + work.translations) lists 0 1)
+
+-- a rule's number is how many translation rules of all kinds stand before it
+unfoldable pub with_translation : TranslationRule → Work → Result Work ConfError
+with_translation rule work = translation_of work rule (translation_lists work.scope rule)
+
+-- an anchor of translation rules is empty
+abbrev pub with_translations : TranslationStatement → Work → Result Work ConfError
+with_translations (t.Anchor found name) work = Ok work
+with_translations (t.Rule rule) work = with_translation rule work
 
 -- ---- all statements
 
@@ -148,7 +155,7 @@ unfoldable pub with_statement : Statement → Work → Result Work ConfError
 with_statement (s.Macro d) work = with_definition d work
 with_statement (s.Table d) work = with_table d work
 with_statement (s.Option option) work = with_set option work
-with_statement (s.Translation found) work = with_translation found work
+with_statement (s.Translation found) work = with_translations found work
 with_statement (s.Filter x) work = with_filter x work
 
 abbrev pub and_more : Result Work ConfError → (Work → Result Work ConfError) → Result Work ConfError
@@ -160,10 +167,10 @@ expanded_from work [] = Ok work
 expanded_from work (x ∷ xs) = and_more (with_statement x work) (λ w. expanded_from w xs)
 
 abbrev pub empty_ruleset : R.Ruleset
-empty_ruleset = record { options = default_options; tables = []; rules = []; anchors = [] }
+empty_ruleset = record { options = default_options; tables = []; rules = []; anchors = []; translations = no_translations }
 
 abbrev pub started : Interface → Work
-started interface = record { scope = record { interface = interface; macros = no_macros; tables = [] }; entries = 0; flat = empty_ruleset }
+started interface = record { scope = record { interface = interface; macros = no_macros; tables = [] }; entries = 0; translations = 0; flat = empty_ruleset }
 
 abbrev pub ruleset_in : Result Work ConfError → Result R.Ruleset ConfError
 ruleset_in (Ok work) = Ok work.flat
@@ -172,3 +179,7 @@ ruleset_in (Err e) = Err e
 -- what the statements mean for an interface
 unfoldable pub expanded : S.Statements → Interface → Result R.Ruleset ConfError
 expanded statements interface = ruleset_in (expanded_from (started interface) statements.statements)
+
+-- how many filter rules and how many translation rules there are, up to the greatest number of 32 bits
+abbrev pub counts : R.Ruleset → ℕ × ℕ
+counts r = (min (length r.rules) 4294967295, min (length r.translations.nats + length r.translations.rdrs + length r.translations.binats) 4294967295)

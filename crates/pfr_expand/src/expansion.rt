@@ -6,22 +6,21 @@ ghost use Rattle.pfr_elements.specs.Hosts.{place_from};
 ghost use Rattle.pfr_elements.specs.Values.{begun};
 ghost use Rattle.pfr_expand.specs.Bodies.{Adds, ArePlaced, moved};
 ghost use Rattle.pfr_expand.specs.Rulesets as spec;
-ghost use Rattle.pfr_expand.specs.declared.expansion.Work as W;
 
 use crate::body::{Body, Setting, add_statement, put_anchors};
 use crate::options::Options;
 use crate::ruleset::Ruleset;
 use crate::tables::{Filling, clash, fill};
+use crate::translation::{Translations, translation_lists};
 use pfr_conf::anchor::DEEPEST_ANCHOR;
 use pfr_conf::{
     Bytes, ConfError, FilterStatement, Items, MacroDefinition, Name, Piece, SetOption, Statement,
-    Statements, TableDefinition, TranslationKind, TranslationStatement,
+    Statements, TableDefinition, TranslationRule, TranslationStatement,
 };
 use pfr_elements::hosts::place_of;
 use pfr_elements::value::Draft;
 use pfr_elements::{Elements, Interface, MOST_ELEMENTS, Macros, Scope};
-use pfr_flat::{FlatAnchor, FlatRule, MOST_RULES, too_many};
-use pfr_terms::error::left_out_at;
+use pfr_flat::{FlatAnchor, FlatRule, MOST_RULES, choices_or_fault, counted, too_many};
 use std::alloc::{AllocError, Global};
 
 /// How far an expansion has come: what gives words their meaning, how many entries all tables have together, and the
@@ -30,6 +29,8 @@ use std::alloc::{AllocError, Global};
 pub struct Work<'a> {
     pub scope: Scope<'a>,
     pub entries: usize,
+    /// How many translation rules of all kinds there are.
+    pub translations: usize,
     pub flat: Ruleset,
 }
 
@@ -85,6 +86,7 @@ impl Ruleset {
             tables: Items::new(alloc),
             rules: Items::new(alloc),
             anchors: Items::new(alloc),
+            translations: Translations::new(alloc),
         }
     }
 
@@ -111,13 +113,15 @@ impl<'a> Work<'a> {
                 tables: Items::new(alloc),
             },
             entries: 0,
+            translations: 0,
             flat: Ruleset::new(alloc),
         }
     }
 
     #[tactic(auto, unfolding(crate::specs::Rulesets::with_definition))]
     fn define(&mut self, alloc: Global, definition: &MacroDefinition<'a>) -> Result<(), ConfError>
-        ensures { Adds (spec.with_definition definition.now self.old) result self.new }
+        ensures made { Adds (spec.with_definition definition.now self.old) result self.new }
+        ensures few { self.new.translations ≡ self.old.translations }
     {
         let draft = draft_of(alloc, &self.scope.macros, definition.pieces.as_slice())?;
         let name = Bytes::new(definition.name.text.as_slice());
@@ -141,7 +145,8 @@ impl<'a> Work<'a> {
         alloc: Global,
         definition: &TableDefinition<'a>,
     ) -> Result<(), ConfError>
-        ensures { Adds (spec.with_table definition.now self.old) result self.new }
+        ensures made { Adds (spec.with_table definition.now self.old) result self.new }
+        ensures few { self.new.translations ≡ self.old.translations }
     {
         let fault = self.clash_of(&definition.name);
         let filling = fill(alloc, &self.scope, fault, definition.entries.as_slice())?;
@@ -164,7 +169,8 @@ impl<'a> Work<'a> {
 
     #[tactic(auto, unfolding(crate::specs::Rulesets::with_set))]
     fn set(&mut self, alloc: Global, option: &SetOption<'_>) -> Result<(), ConfError>
-        ensures { Adds (spec.with_set option.now self.old) result self.new }
+        ensures made { Adds (spec.with_set option.now self.old) result self.new }
+        ensures few { self.new.translations ≡ self.old.translations }
     {
         self.flat.options.set(alloc, &self.scope, option)
     }
@@ -175,12 +181,14 @@ impl<'a> Work<'a> {
         alloc: Global,
         statement: &FilterStatement<'_>,
     ) -> Result<(), ConfError>
-        ensures { Adds (spec.with_filter statement.now self.old) result self.new }
+        requires { self.old.translations ≤ 65536 }
+        ensures made { Adds (spec.with_filter statement.now self.old) result self.new }
+        ensures few { self.new.translations ≡ self.old.translations }
     {
         let setting = Setting {
             block_policy: self.flat.options.block_policy,
             state_policy: self.flat.options.state_policy,
-            used: self.flat.rules.len(),
+            used: self.flat.rules.len() + self.translations,
             line: line_of(statement),
         };
         let mut body = Body::new(alloc);
@@ -205,42 +213,58 @@ impl<'a> Work<'a> {
         Ok(())
     }
 
+    #[tactic(auto, unfolding(crate::specs::Rulesets::with_translation))]
+    fn add_translation(
+        &mut self,
+        alloc: Global,
+        rule: &TranslationRule<'_>,
+    ) -> Result<(), ConfError>
+        requires { self.old.translations ≤ 65536 }
+        ensures made { Adds (spec.with_translation rule.now self.old) result self.new }
+        ensures few { OnOk result (self.new.translations ≤ 65536) }
+    {
+        let lists = translation_lists(alloc, &self.scope, rule)?;
+        let used = self.flat.rules.len() + self.translations;
+        let Some(count) = counted(used, &lists, 0, 1) else {
+            return Err(too_many(rule.line));
+        };
+        let choices = choices_or_fault(alloc, lists)?;
+        let number = self.translations;
+        self.flat
+            .translations
+            .add(alloc, &self.scope, number, rule, choices)?;
+        self.translations += count;
+        Ok(())
+    }
+
+    /// A translation rule; an anchor of such is empty.
+    fn add_translations(
+        &mut self,
+        alloc: Global,
+        statement: &TranslationStatement<'_>,
+    ) -> Result<(), ConfError>
+        requires { self.old.translations ≤ 65536 }
+        ensures made { Adds (spec.with_translations statement.now self.old) result self.new }
+        ensures few { OnOk result (self.new.translations ≤ 65536) }
+    {
+        match statement {
+            TranslationStatement::Anchor(_, _) => Ok(()),
+            TranslationStatement::Rule(rule) => self.add_translation(alloc, rule),
+        }
+    }
+
     #[tactic(auto, unfolding(crate::specs::Rulesets::with_statement))]
     fn add(&mut self, alloc: Global, statement: &Statement<'a>) -> Result<(), ConfError>
-        ensures { Adds (spec.with_statement statement.now self.old) result self.new }
+        requires { self.old.translations ≤ 65536 }
+        ensures made { Adds (spec.with_statement statement.now self.old) result self.new }
+        ensures few { OnOk result (self.new.translations ≤ 65536) }
     {
         match statement {
             Statement::Macro(definition) => self.define(alloc, definition),
             Statement::Table(definition) => self.add_table(alloc, definition),
             Statement::Option(option) => self.set(alloc, option),
-            Statement::Translation(found) => check_translation(alloc, found),
+            Statement::Translation(found) => self.add_translations(alloc, found),
             Statement::Filter(rule) => self.add_filter(alloc, rule),
-        }
-    }
-}
-
-fn word_of(kind: TranslationKind) -> &'static [u8]
-    ensures { result.now ≡ spec.word_of kind }
-{
-    match kind {
-        TranslationKind::Nat => b"nat",
-        TranslationKind::Rdr => b"rdr",
-        TranslationKind::Binat => b"binat",
-    }
-}
-
-/// A translation rule. Nothing translates by them yet: until it does they are left out, as `read` leaves them out.
-fn check_translation(alloc: Global, found: &TranslationStatement<'_>) -> Result<(), ConfError>
-    ensures { (work : W.Work) → Adds (spec.with_translation found.now work) result work }
-{
-    match found {
-        TranslationStatement::Anchor(_, _) => Ok(()),
-        TranslationStatement::Rule(rule) => {
-            let word = match &rule.target {
-                Some(_) => word_of(rule.kind),
-                None => b"no".as_slice(),
-            };
-            Err(left_out_at(alloc, rule.line, word))
         }
     }
 }

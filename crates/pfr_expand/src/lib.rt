@@ -12,11 +12,16 @@ pub mod tables;
 #[cfg(test)]
 mod tests;
 pub mod timeouts;
+pub mod translation;
 
 pub use expansion::expand;
 pub use options::Options;
 pub use pfr_elements::{HostCriterion, HostSet, IfName, Interface, InterfaceCriterion};
-pub use pfr_flat::{FilterAction, FlagsCriterion, FlatAnchor, FlatRule, PacketMatch, StateRule};
+pub use pfr_flat::{
+    FilterAction, FlagsCriterion, FlatAnchor, FlatRule, FlatTranslation, NatAddress, PacketMatch,
+    PortChange, PortRange, RdrAddress, StateRule,
+};
 pub use pfr_tables::{AddressTable, Entry};
 pub use ruleset::Ruleset;
 pub use timeouts::Timeouts;
+pub use translation::Translations;

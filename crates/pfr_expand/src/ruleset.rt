@@ -1,7 +1,9 @@
 //! The flat ruleset.
-ghost use Rattle.std.specs.Prelude.{◌≡◌, length};
+ghost use Rattle.std.specs.Prelude.{◌≡◌, length, min};
+ghost use Rattle.pfr_expand.specs.Rulesets as spec;
 
 use crate::options::Options;
+use crate::translation::Translations;
 use pfr_conf::Items;
 use pfr_flat::{FlatAnchor, FlatRule};
 use pfr_tables::AddressTable;
@@ -17,4 +19,27 @@ pub struct Ruleset {
     pub rules: Items<FlatRule>,
     /// The anchors round them, one that begins first before one that begins later, an outer one before those in it.
     pub anchors: Items<FlatAnchor>,
+    pub translations: Translations,
+}
+
+impl Ruleset {
+    /// How many filter rules and how many translation rules there are. [`expand`](crate::expand) makes at most 65536 of
+    /// both together.
+    pub fn counts(&self) -> (u32, u32)
+        ensures { result ≡ spec.counts self.now }
+    {
+        let translations = self
+            .translations
+            .nats
+            .len()
+            .saturating_add(self.translations.rdrs.len())
+            .saturating_add(self.translations.binats.len());
+        (counted(self.rules.len()), counted(translations))
+    }
+}
+
+fn counted(count: usize) -> u32
+    ensures { result ≡ min count 4294967295 }
+{
+    count.min(4294967295) as u32
 }

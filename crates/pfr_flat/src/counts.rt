@@ -1,5 +1,5 @@
 //! How many rules the lists of a statement make.
-ghost use Rattle.std.specs.Prelude.{◌≡◌, ◌≤◌, IfSome};
+ghost use Rattle.std.specs.Prelude.{◌≡◌, ◌≤◌, ◌+◌, IfSome};
 ghost use Rattle.pfr_flat.specs.Counts as spec;
 
 use crate::lists::Lists;
@@ -32,7 +32,7 @@ fn exceeds(used: usize, lists: &Lists, count: usize) -> bool
 pub fn counted(used: usize, lists: &Lists, before: usize, copies: usize) -> Option<usize>
     requires { (before ≤ 65536) × (copies ≤ 65536) }
     ensures value { result ≡ spec.counted used lists.now before copies }
-    ensures within { IfSome result (λ count. count ≤ 65536) }
+    ensures within { IfSome result (λ count. used + count ≤ 65536) }
 {
     let count = before + lists.product() * copies;
     if exceeds(used, lists, count) {
