@@ -79,6 +79,21 @@ abbrev pub with_values : {A : Type 0} → (A → A) → ℕ → Outcome (List A)
 with_values turned line (Ok p) found = with_gathered turned line p.0 p.1.gathered found
 with_values turned line (Err e) found = with_fault (at_line line e) found
 
+-- ---- the value of a macro that is one thing
+
+abbrev pub one_or_unknown : {A : Type 0} → ℕ → Option A → Result A ConfError
+one_or_unknown line (Some x) = Ok x
+one_or_unknown line None = Err (unknown_word line)
+
+abbrev pub one_gathered : {A : Type 0} → ℕ → Option A → Option ConfError → Result A ConfError
+one_gathered line found (Some e) = Err (at_line line e)
+one_gathered line found None = one_or_unknown line found
+
+-- all faults of it stand where it is used
+abbrev pub one_read : {A : Type 0} → ℕ → Outcome (Option A) → Result A ConfError
+one_read line (Err e) = Err (at_line line e)
+one_read line (Ok p) = one_gathered line p.0 p.1.gathered
+
 -- ---- a list
 
 -- the most elements that a list may have

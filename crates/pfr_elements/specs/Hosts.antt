@@ -15,7 +15,7 @@ use Rattle.pfr_terms.specs.declared.address.Address.{Address}
 use Rattle.pfr_terms.specs.declared.address.Address.TheVariants as a
 use Rattle.pfr_terms.specs.declared.address.AddressMatch.{AddressMatch}
 use Rattle.pfr_terms.specs.declared.address.TableEntry.{TableEntry}
-use Rattle.pfr_terms.specs.Input.{Outcome, Parser, ◌>>=◌, pure, unknown_word, left_out_at, free_word, finish, of_value}
+use Rattle.pfr_terms.specs.Input.{Parser, ◌>>=◌, pure, unknown_word, left_out_at, free_word, finish, of_value}
 use Rattle.pfr_tables.specs.declared.table.Entry.{Entry}
 use Rattle.pfr_elements.specs.declared.interface.Interface.{Interface}
 use Rattle.pfr_elements.specs.declared.hosts.HostSet.{HostSet}
@@ -26,7 +26,7 @@ use Rattle.pfr_elements.specs.declared.value.Value.{Value}
 use Rattle.pfr_elements.specs.declared.value.Value.TheVariants.{Text, TooLong}
 use Rattle.pfr_elements.specs.Values.{value_at}
 use Rattle.pfr_elements.specs.Interfaces.{whole, masked, form_of}
-use Rattle.pfr_elements.specs.Elements.{noted, at_line}
+use Rattle.pfr_elements.specs.Elements.{noted, one_read}
 use Rattle.pfr_elements.specs.Terms.{use_in, misplaced}
 
 -- ---- interface forms
@@ -47,22 +47,10 @@ value_form interface = do
   _ ← finish
   pure found
 
-abbrev pub network_or_unknown : ℕ → Option Network → Result Network ConfError
-network_or_unknown line (Some network) = Ok network
-network_or_unknown line None = Err (unknown_word line)
-
-abbrev pub form_gathered : ℕ → Option Network → Option ConfError → Result Network ConfError
-form_gathered line found (Some e) = Err (at_line line e)
-form_gathered line found None = network_or_unknown line found
-
-abbrev pub form_read : ℕ → Outcome (Option Network) → Result Network ConfError
-form_read line (Err e) = Err (at_line line e)
-form_read line (Ok p) = form_gathered line p.0 p.1.gathered
-
 abbrev pub form_in : Interface → ℕ → Result Value ConfError → Result Network ConfError
 form_in interface line (Err e) = Err e
 form_in interface line (Ok (TooLong is_list)) = Err (unknown_word line)
-form_in interface line (Ok (Text text)) = form_read line (value_form interface (of_value (words text)))
+form_in interface line (Ok (Text text)) = one_read line (value_form interface (of_value (words text)))
 
 -- the use of a macro in round brackets
 unfoldable pub used_form : Scope → MacroUse → Result Network ConfError

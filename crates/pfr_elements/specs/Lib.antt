@@ -1,5 +1,6 @@
 pub mod Elements
 pub mod Hosts
 pub mod Interfaces
+pub mod Single
 pub mod Terms
 pub mod Values

@@ -134,7 +134,7 @@ fn value_members<T: Element>(
 
 /// What the things of a value mean.
 #[tactic(auto, unfolding(crate::specs::Elements::value_items))]
-fn value_items<T: Element>(
+pub(crate) fn value_items<T: Element>(
     alloc: Global,
     scope: &Scope<'_>,
     reader: &mut Reader<'_, '_>,
@@ -150,6 +150,21 @@ fn value_items<T: Element>(
     };
     reader.finish(alloc)?;
     Ok(found)
+}
+
+/// What the one thing of a value means; a fault that was gathered stands on the line of the use.
+pub(crate) fn one_gathered<T: Copy>(
+    line: usize,
+    found: Option<T>,
+    gathered: Option<ConfError>,
+) -> Result<T, ConfError>
+    ensures { result ≡ spec.one_gathered line found gathered }
+{
+    match (gathered, found) {
+        (Some(fault), _) => Err(at_line(line, fault)),
+        (None, Some(flat)) => Ok(flat),
+        (None, None) => Err(unknown_word(line)),
+    }
 }
 
 /// The first of two faults.

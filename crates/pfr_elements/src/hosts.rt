@@ -1,28 +1,27 @@
 //! What addresses mean in a list.
-ghost use Rattle.std.specs.Prelude.{◌≡◌, ◌<◌, ◌≤◌, codes, IfOk, Ok};
+ghost use Rattle.std.specs.Prelude.{◌≡◌, ◌<◌, ◌≤◌, codes, Ok};
 ghost use Rattle.pfr_terms.specs.Addresses as addresses;
 ghost use Rattle.pfr_elements.specs.Elements as elements;
 ghost use Rattle.pfr_elements.specs.Hosts as spec;
 ghost use Rattle.pfr_elements.specs.Values.{Makes};
-ghost use Rattle.pfr_terms.specs.Input.{Reads, of_value, left_out_at};
+ghost use Rattle.pfr_terms.specs.Input.{Reads, of_value};
 ghost use Rattle.pfr_words.specs.Words as ws;
 
-use crate::element::{Element, is_memory, noted};
-use crate::faults::{at_line, unknown_word};
+use crate::element::{Element, is_memory, noted, one_gathered};
+use crate::faults::{at_line, left_out, unknown_word};
 use crate::interface::{Interface, masked, whole};
 use crate::scope::Scope;
 use crate::terms::{copied, misplaced, use_in};
 use crate::value::Value;
 use pfr_tables::Entry;
-use pfr_terms::error::LeftOutName;
 use pfr_terms::lists::Item;
 use pfr_terms::{
     Address, AddressMatch, ConfError, ConfErrorKind, Host, Ipv4Address, MacroUse, Name, Network,
     Reader, TableEntry, Written,
 };
+use pfr_words::Bytes;
 use pfr_words::spelling::words;
-use pfr_words::{Bytes, Items};
-use std::alloc::{AllocError, Global};
+use std::alloc::Global;
 
 /// Addresses that a packet's is held against.
 #[derive(Clone, Copy, Debug, PartialEq, Eq)]
@@ -43,17 +42,6 @@ pub struct HostCriterion {
     pub hosts: HostSet,
 }
 
-/// The fault of a name that isn't the interface's.
-fn host_name(alloc: Global, line: usize) -> Result<ConfError, AllocError>
-    ensures { IfOk result (λ e. e ≡ left_out_at line (codes "host name")) }
-{
-    let name = Items::copied(alloc, b"host name".as_slice())?;
-    Ok(ConfError {
-        line,
-        kind: ConfErrorKind::LeftOut(LeftOutName { name }),
-    })
-}
-
 /// What a name means as a form of the interface.
 #[tactic(auto, unfolding(crate::specs::Hosts::form_meaning))]
 fn form_meaning(
@@ -65,7 +53,7 @@ fn form_meaning(
 {
     match interface.form(name.text.as_slice()) {
         Some(network) => Ok(Ok(network)),
-        None => Ok(Err(host_name(alloc, name.line)?)),
+        None => Ok(Err(left_out(alloc, name.line, b"host name")?)),
     }
 }
 
@@ -92,7 +80,7 @@ fn form_read(
     line: usize,
     text: &[u8],
 ) -> Result<Result<Network, ConfError>, ConfError>
-    ensures { Makes (spec.form_read line (spec.value_form interface.now (of_value (ws.words text.now)))) result }
+    ensures { Makes (elements.one_read line (spec.value_form interface.now (of_value (ws.words text.now)))) result }
 {
     let value = words(alloc, text)?;
     let mut reader = Reader::of_value(value.as_slice());
@@ -101,11 +89,7 @@ fn form_read(
         Err(fault) if is_memory(&fault) => return Err(fault),
         Err(fault) => return Ok(Err(at_line(line, fault))),
     };
-    match (reader.into_gathered(), found) {
-        (Some(fault), _) => Ok(Err(at_line(line, fault))),
-        (None, Some(network)) => Ok(Ok(network)),
-        (None, None) => Ok(Err(unknown_word(line))),
-    }
+    Ok(one_gathered(line, found, reader.into_gathered()))
 }
 
 /// What the use of a macro means in round brackets.

@@ -10,6 +10,7 @@ pub mod hosts;
 pub mod interface;
 pub mod macros;
 pub mod scope;
+pub mod single;
 pub mod terms;
 #[cfg(test)]
 mod tests;
@@ -21,5 +22,6 @@ pub use hosts::{HostCriterion, HostSet};
 pub use interface::{IfName, Interface};
 pub use macros::Macros;
 pub use scope::Scope;
+pub use single::{single_sources, written_single};
 pub use terms::InterfaceCriterion;
 pub use value::Value;

@@ -1,0 +1,270 @@
+//! One address, where pf.conf(5) would take a pool of several: the target of a translation rule, and the source of a
+//! binat rule.
+ghost use Rattle.std.specs.Prelude.{◌≡◌, ◌<◌, ◌≤◌, IfOk, Ok};
+ghost use Rattle.pfr_elements.specs.Elements as elements;
+ghost use Rattle.pfr_elements.specs.Single as spec;
+ghost use Rattle.pfr_elements.specs.Values.{Makes};
+ghost use Rattle.pfr_terms.specs.Input.{Reads, of_value};
+ghost use Rattle.pfr_words.specs.Words as ws;
+
+use crate::element::{Elements, MOST_ELEMENTS, is_memory, noted, one_gathered, value_items};
+use crate::faults::{at_line, left_out, unknown_word};
+use crate::hosts::{HostCriterion, HostSet, host_meaning};
+use crate::interface::whole;
+use crate::scope::Scope;
+use crate::value::Value;
+use pfr_terms::{
+    Address, AddressMatch, ConfError, ConfErrorKind, Host, Ipv4Address, MacroUse, Network, Reader,
+    Written,
+};
+use pfr_words::Sign;
+use pfr_words::spelling::words;
+use std::alloc::{AllocError, Global};
+
+/// The fault of more than one address, which is left out.
+fn pool(alloc: Global, line: usize) -> Result<ConfError, AllocError>
+    ensures { IfOk result (λ e. e ≡ spec.pool line) }
+{
+    left_out(alloc, line, b"pool")
+}
+
+/// The fault of what is no address that may stand here.
+fn bad_address(line: usize) -> ConfError
+    ensures { result ≡ spec.bad_address line }
+{
+    ConfError {
+        line,
+        kind: ConfErrorKind::BadAddress,
+    }
+}
+
+/// The fault of a table, which stands for several addresses, or for none that may stand here.
+fn table_fault(alloc: Global, has_tables: bool, line: usize) -> Result<ConfError, AllocError>
+    ensures { IfOk result (λ e. e ≡ spec.table_fault has_tables line) }
+{
+    if has_tables {
+        pool(alloc, line)
+    } else {
+        Ok(bad_address(line))
+    }
+}
+
+/// The address of what an address of a rule means, where one address has to stand.
+fn one_in(
+    alloc: Global,
+    has_tables: bool,
+    line: usize,
+    found: &HostCriterion,
+) -> Result<Result<Ipv4Address, ConfError>, ConfError>
+    ensures { Makes (spec.one_in has_tables found.now.is_negated line found.now.hosts) result }
+{
+    match found.hosts {
+        HostSet::Network(network) => {
+            if network.bits < 32 {
+                Ok(Err(pool(alloc, line)?))
+            } else if found.is_negated {
+                Ok(Err(bad_address(line)))
+            } else {
+                Ok(Ok(network.address))
+            }
+        }
+        HostSet::Table(_) => Ok(Err(table_fault(alloc, has_tables, line)?)),
+        _ => Ok(Err(bad_address(line))),
+    }
+}
+
+/// Gathers the fault of a list or a table that comes next. It is more than one address even if it has only one.
+#[tactic(auto, unfolding(crate::specs::Single::note_ahead))]
+fn note_ahead(alloc: Global, reader: &mut Reader<'_, '_>, has_tables: bool) -> Result<(), ConfError>
+    ensures { Reads (spec.note_ahead has_tables reader.old) result reader.new }
+{
+    if reader.sees_sign(Sign::OpenBrace) || (has_tables && reader.sees_sign(Sign::Less)) {
+        let fault = pool(alloc, reader.line_ahead())?;
+        reader.note(fault);
+    }
+    Ok(())
+}
+
+/// The address that the addresses of a value come to; of several the fault is gathered already.
+fn only_in(
+    alloc: Global,
+    reader: &mut Reader<'_, '_>,
+    has_tables: bool,
+    found: &[HostCriterion],
+) -> Result<Option<Ipv4Address>, ConfError>
+    ensures { Reads (spec.only_in has_tables found.now reader.old) result reader.new }
+{
+    match found {
+        [only] => {
+            let address = one_in(alloc, has_tables, 0, only)?;
+            Ok(noted(reader, address))
+        }
+        _ => Ok(None),
+    }
+}
+
+/// The one address that is the value of a macro.
+#[tactic(auto, unfolding(crate::specs::Single::value_single))]
+fn value_single(
+    alloc: Global,
+    scope: &Scope<'_>,
+    reader: &mut Reader<'_, '_>,
+    has_tables: bool,
+) -> Result<Option<Ipv4Address>, ConfError>
+    ensures { Reads (spec.value_single has_tables scope.now reader.old) result reader.new }
+{
+    note_ahead(alloc, reader, has_tables)?;
+    let found = value_items::<AddressMatch<'_>>(alloc, scope, reader)?;
+    only_in(alloc, reader, has_tables, found.as_slice())
+}
+
+/// The address that the text of a macro's value stands for. All its faults stand on the line of the use.
+fn single_read(
+    alloc: Global,
+    scope: &Scope<'_>,
+    has_tables: bool,
+    line: usize,
+    text: &[u8],
+) -> Result<Result<Ipv4Address, ConfError>, ConfError>
+    ensures { Makes (elements.one_read line (spec.value_single has_tables scope.now (of_value (ws.words text.now)))) result }
+{
+    let value = words(alloc, text)?;
+    let mut reader = Reader::of_value(value.as_slice());
+    let found = match value_single(alloc, scope, &mut reader, has_tables) {
+        Ok(found) => found,
+        Err(fault) if is_memory(&fault) => return Err(fault),
+        Err(fault) => return Ok(Err(at_line(line, fault))),
+    };
+    Ok(one_gathered(line, found, reader.into_gathered()))
+}
+
+/// The address that the use of a macro stands for.
+#[tactic(auto, unfolding(crate::specs::Single::used_single))]
+fn used_single(
+    alloc: Global,
+    scope: &Scope<'_>,
+    has_tables: bool,
+    found: &MacroUse<'_>,
+) -> Result<Result<Ipv4Address, ConfError>, ConfError>
+    ensures { Makes (spec.used_single has_tables scope.now found.now) result }
+{
+    match scope.macros.value_at(alloc, found, false)? {
+        Err(fault) => Ok(Err(fault)),
+        Ok(Value::TooLong(true)) => Ok(Err(pool(alloc, found.line)?)),
+        Ok(Value::TooLong(false)) => Ok(Err(unknown_word(found.line))),
+        Ok(Value::Text(text)) => {
+            single_read(alloc, scope, has_tables, found.line, text.as_slice())
+        }
+    }
+}
+
+/// The line of a host that is a name, else this line.
+fn host_line(line: usize, host: &Host<'_>) -> usize
+    ensures { result ≡ spec.host_line line host.now }
+{
+    match host {
+        Host::Interface(name) => name.line,
+        Host::InterfaceMacro(found) => found.line,
+        _ => line,
+    }
+}
+
+/// The address of a network of one address.
+fn one_network(
+    alloc: Global,
+    line: usize,
+    network: Network,
+) -> Result<Result<Ipv4Address, ConfError>, ConfError>
+    ensures { Makes (spec.one_network line (Ok network)) result }
+{
+    if network.bits < 32 {
+        Ok(Err(pool(alloc, line)?))
+    } else {
+        Ok(Ok(network.address))
+    }
+}
+
+/// The address of a host, in a rule on this line.
+fn one_host(
+    alloc: Global,
+    scope: &Scope<'_>,
+    line: usize,
+    host: &Host<'_>,
+) -> Result<Result<Ipv4Address, ConfError>, ConfError>
+    ensures { Makes (spec.one_host scope.now line host.now) result }
+{
+    match host_meaning(alloc, scope, host)? {
+        Ok(network) => one_network(alloc, host_line(line, host), network),
+        Err(fault) => Ok(Err(fault)),
+    }
+}
+
+/// The address that is written as the target of a rule on this line, or what is wrong with it. More than one is left
+/// out; with `has_tables` a table counts as more than one, else as none that may stand here. A fault of a macro's value
+/// stands on the line of the use.
+#[tactic(auto, unfolding(crate::specs::Single::written_single))]
+pub fn written_single(
+    alloc: Global,
+    scope: &Scope<'_>,
+    has_tables: bool,
+    line: usize,
+    host: &Written<'_, Host<'_>>,
+) -> Result<Result<Ipv4Address, ConfError>, ConfError>
+    ensures { Makes (spec.written_single has_tables scope.now line host.now) result }
+{
+    match host {
+        Written::Item(host) => one_host(alloc, scope, line, host),
+        Written::Macro(found) => used_single(alloc, scope, has_tables, found),
+    }
+}
+
+/// The one address that an address of a rule's source is.
+#[tactic(auto, unfolding(crate::specs::Single::source_single))]
+fn source_single(
+    alloc: Global,
+    scope: &Scope<'_>,
+    line: usize,
+    found: &AddressMatch<'_>,
+) -> Result<Result<Ipv4Address, ConfError>, ConfError>
+    ensures { Makes (spec.source_single scope.now line found.now) result }
+{
+    match &found.address {
+        Address::Host(host) => one_host(alloc, scope, line, host),
+        Address::Macro(used) => used_single(alloc, scope, false, used),
+        _ => Ok(Err(bad_address(line))),
+    }
+}
+
+/// What a packet's source is held against by the address it has to be.
+fn criterion_of(address: Result<Ipv4Address, ConfError>) -> Result<HostCriterion, ConfError>
+    ensures { result ≡ spec.criterion_of address }
+{
+    match address {
+        Ok(address) => Ok(HostCriterion {
+            is_negated: false,
+            hosts: HostSet::Network(whole(address)),
+        }),
+        Err(fault) => Err(fault),
+    }
+}
+
+/// The elements of the source of a rule on this line, of which each has to be one address; a table is none that may
+/// stand here. Those behind the one that is too many aren't looked at.
+pub fn single_sources(
+    alloc: Global,
+    scope: &Scope<'_>,
+    line: usize,
+    list: &[AddressMatch<'_>],
+) -> Result<Elements<HostCriterion>, ConfError>
+    ensures { Makes (spec.single_sources scope.now line list.now) result }
+{
+    let mut found = Elements::new(alloc);
+    for source in list {
+        if found.count > MOST_ELEMENTS {
+            return Ok(found);
+        }
+        let address = source_single(alloc, scope, line, source)?;
+        found.add_meaning(criterion_of(address))?;
+    }
+    Ok(found)
+}
