@@ -108,8 +108,12 @@ line_by (FilterStatement-F.Anchor anchor body) = anchor.line
 unfoldable pub line_of : FilterStatement → ℕ
 line_of x = line_by (out-FilterStatement x)
 
+-- how many rules there are; one more than there may be stands for all from there on
+abbrev pub used_in : Work → ℕ
+used_in work = min (length work.flat.rules + work.translations) 65537
+
 abbrev pub setting_of : Work → ℕ → Setting
-setting_of work line = record { block_policy = work.flat.options.block_policy; state_policy = work.flat.options.state_policy; used = length work.flat.rules + work.translations; line = line }
+setting_of work line = record { block_policy = work.flat.options.block_policy; state_policy = work.flat.options.state_policy; used = used_in work; line = line }
 
 abbrev pub filter_if : Work → Body → Option ConfError → Result Work ConfError
 filter_if work body (Some e) = Err e
@@ -138,7 +142,7 @@ translation_by work rule lists None = Err (too_many rule.line)
 translation_by work rule lists (Some count) = translated work count (with_choices work.scope work.translations rule (choices_or_fault lists) work.flat.translations)
 
 abbrev pub translation_of : Work → TranslationRule → L.Lists → Result Work ConfError
-translation_of work rule lists = translation_by work rule lists (counted (length work.flat.rules + work.translations) lists 0 1)
+translation_of work rule lists = translation_by work rule lists (counted (used_in work) lists 0 1)
 
 -- a rule's number is how many translation rules of all kinds stand before it
 unfoldable pub with_translation : TranslationRule → Work → Result Work ConfError

@@ -1,5 +1,5 @@
 -- Translation rules as flat rules.
-use Rattle.std.specs.Prelude.{ℕ, ◌++◌, Bool, List, [], Option, Some, None, Result, Ok, Err, if◌then◌else◌}
+use Rattle.std.specs.Prelude.{ℕ, ◌++◌, Bool, true, List, [], Option, Some, None, Result, Ok, Err, if◌then◌else◌}
 use Rattle.pfr_terms.specs.declared.error.ConfError.{ConfError}
 use Rattle.pfr_terms.specs.declared.error.ConfErrorKind.TheVariants.{BadNumber}
 use Rattle.pfr_terms.specs.declared.address.Ipv4Address.{Ipv4Address}

@@ -118,6 +118,14 @@ impl<'a> Work<'a> {
         }
     }
 
+    /// How many rules there are; one more than there may be stands for all from there on.
+    fn used(&self) -> usize
+        ensures { result ≡ spec.used_in self.now }
+    {
+        let rules = self.flat.rules.len();
+        rules.saturating_add(self.translations).min(MOST_RULES + 1)
+    }
+
     #[tactic(auto, unfolding(crate::specs::Rulesets::with_definition))]
     fn define(&mut self, alloc: Global, definition: &MacroDefinition<'a>) -> Result<(), ConfError>
         ensures made { Adds (spec.with_definition definition.now self.old) result self.new }
@@ -181,14 +189,13 @@ impl<'a> Work<'a> {
         alloc: Global,
         statement: &FilterStatement<'_>,
     ) -> Result<(), ConfError>
-        requires { self.old.translations ≤ 65536 }
         ensures made { Adds (spec.with_filter statement.now self.old) result self.new }
         ensures few { self.new.translations ≡ self.old.translations }
     {
         let setting = Setting {
             block_policy: self.flat.options.block_policy,
             state_policy: self.flat.options.state_policy,
-            used: self.flat.rules.len() + self.translations,
+            used: self.used(),
             line: line_of(statement),
         };
         let mut body = Body::new(alloc);
@@ -224,8 +231,7 @@ impl<'a> Work<'a> {
         ensures few { OnOk result (self.new.translations ≤ 65536) }
     {
         let lists = translation_lists(alloc, &self.scope, rule)?;
-        let used = self.flat.rules.len() + self.translations;
-        let Some(count) = counted(used, &lists, 0, 1) else {
+        let Some(count) = counted(self.used(), &lists, 0, 1) else {
             return Err(too_many(rule.line));
         };
         let choices = choices_or_fault(alloc, lists)?;

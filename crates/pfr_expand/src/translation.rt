@@ -1,5 +1,5 @@
 //! Translation rules as flat rules.
-ghost use Rattle.std.specs.Prelude.{◌≡◌, ◌≤◌, ◌+◌, length, OnOk, IfOk};
+ghost use Rattle.std.specs.Prelude.{◌≡◌, ◌≤◌, true, OnOk};
 ghost use Rattle.std.specs.Option.{option_map};
 ghost use Rattle.pfr_elements.specs.Single as single;
 ghost use Rattle.pfr_elements.specs.Values.{Makes};
