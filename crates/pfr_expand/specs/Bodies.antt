@@ -31,7 +31,7 @@ use Rattle.pfr_flat.specs.declared.lists.Lists as L
 use Rattle.pfr_expand.specs.declared.body.Setting.{Setting}
 use Rattle.pfr_expand.specs.declared.body.Body.{Body}
 use Rattle.pfr_flat.specs.Choices.{no_match, combinations}
-use Rattle.pfr_flat.specs.Counts.{counted, too_many}
+use Rattle.pfr_flat.specs.Counts.{counted}
 use Rattle.pfr_flat.specs.Lists.{lists_of, choices_or_fault}
 
 -- what a function that adds promises: the outcome, unless memory is refused
@@ -94,12 +94,12 @@ abbrev pub with_made : FlatRule → Result C.Choices ConfError → Body → Body
 with_made rule (Err e) out = record out { fault = first_fault out.fault e }
 with_made rule (Ok choices) out = made_if out.fault rule choices out
 
-abbrev pub rule_by : Setting → FilterRule → L.Lists → Body → Option ℕ → Result Body ConfError
-rule_by setting rule lists out None = Err (too_many setting.line)
-rule_by setting rule lists out (Some count) = Ok (with_made (flat_rule setting rule) (choices_or_fault lists) (record out { count = count }))
+abbrev pub rule_by : Setting → FilterRule → L.Lists → Body → Result ℕ ConfError → Result Body ConfError
+rule_by setting rule lists out (Err e) = Err e
+rule_by setting rule lists out (Ok count) = Ok (with_made (flat_rule setting rule) (choices_or_fault lists) (record out { count = count }))
 
 abbrev pub rule_of : Setting → FilterRule → L.Lists → Body → Result Body ConfError
-rule_of setting rule lists out = rule_by setting rule lists out (counted setting.used lists out.count 1)
+rule_of setting rule lists out = rule_by setting rule lists out (counted setting.used setting.line lists out.count 1)
 
 unfoldable pub with_rule : Scope → Setting → FilterRule → Body → Result Body ConfError
 with_rule scope setting rule out = rule_of setting rule (lists_of scope rule.criteria rule.options.icmp_types) out
@@ -137,12 +137,12 @@ with_copies anchor (Ok choices) inner out =
     let fault : Option ConfError = or_fault out.fault inner.fault in
     copied_if fault anchor choices inner (record out { fault = fault })
 
-abbrev pub anchor_by : AnchorRule → ℕ → L.Lists → Body → Body → Option ℕ → Result Body ConfError
-anchor_by anchor line lists inner out None = Err (too_many line)
-anchor_by anchor line lists inner out (Some count) = Ok (with_copies (flat_anchor anchor) (choices_or_fault lists) inner (record out { count = count }))
+abbrev pub anchor_by : AnchorRule → L.Lists → Body → Body → Result ℕ ConfError → Result Body ConfError
+anchor_by anchor lists inner out (Err e) = Err e
+anchor_by anchor lists inner out (Ok count) = Ok (with_copies (flat_anchor anchor) (choices_or_fault lists) inner (record out { count = count }))
 
 abbrev pub counted_anchor : Setting → AnchorRule → L.Lists → Body → Body → Result Body ConfError
-counted_anchor setting anchor lists inner out = anchor_by anchor setting.line lists inner out (counted setting.used lists out.count inner.count)
+counted_anchor setting anchor lists inner out = anchor_by anchor lists inner out (counted setting.used setting.line lists out.count inner.count)
 
 abbrev pub empty_body : Body
 empty_body = record { rules = []; anchors = []; fault = None; count = 0 }

@@ -137,12 +137,12 @@ abbrev pub translated : Work → ℕ → Result Translations ConfError → Resul
 translated work count (Ok translations) = Ok (record work { translations = work.translations + count; flat = record work.flat { translations = translations } })
 translated work count (Err e) = Err e
 
-abbrev pub translation_by : Work → TranslationRule → L.Lists → Option ℕ → Result Work ConfError
-translation_by work rule lists None = Err (too_many rule.line)
-translation_by work rule lists (Some count) = translated work count (with_choices work.scope work.translations rule (choices_or_fault lists) work.flat.translations)
+abbrev pub translation_by : Work → TranslationRule → L.Lists → Result ℕ ConfError → Result Work ConfError
+translation_by work rule lists (Err e) = Err e
+translation_by work rule lists (Ok count) = translated work count (with_choices work.scope work.translations rule (choices_or_fault lists) work.flat.translations)
 
 abbrev pub translation_of : Work → TranslationRule → L.Lists → Result Work ConfError
-translation_of work rule lists = translation_by work rule lists (counted (used_in work) lists 0 1)
+translation_of work rule lists = translation_by work rule lists (counted (used_in work) rule.line lists 0 1)
 
 -- a rule's number is how many translation rules of all kinds stand before it
 unfoldable pub with_translation : TranslationRule → Work → Result Work ConfError

@@ -14,7 +14,7 @@ use pfr_elements::element::first_fault;
 use pfr_elements::Scope;
 use pfr_flat::{
     Choices, FilterAction, FlagsCriterion, FlatAnchor, FlatRule, Lists, NO_MATCH, PacketMatch,
-    StateRule, choices_or_fault, combinations, counted, lists_of, slice_of, too_many,
+    StateRule, choices_or_fault, combinations, counted, lists_of, slice_of,
 };
 use std::alloc::{AllocError, Global};
 use std::mem::replace;
@@ -184,9 +184,7 @@ fn add_rule(
 {
     let types = slice_of(&rule.options.icmp_types);
     let lists = lists_of(alloc, scope, &rule.criteria, types)?;
-    let Some(count) = counted(setting.used, &lists, out.count, 1) else {
-        return Err(too_many(setting.line));
-    };
+    let count = counted(setting.used, setting.line, &lists, out.count, 1)?;
     let choices = choices_or_fault(alloc, lists)?;
     out.count = count;
     out.make(alloc, flat_rule(setting, rule), choices)?;
@@ -346,9 +344,7 @@ fn add_anchor(
     ensures counted { OnOk result (out.new.count ≤ 65536) }
     ensures placed { OnOk result (spec.ArePlaced out.new.rules out.new.anchors) }
 {
-    let Some(count) = counted(setting.used, &lists, out.count, inner.count) else {
-        return Err(too_many(setting.line));
-    };
+    let count = counted(setting.used, setting.line, &lists, out.count, inner.count)?;
     let choices = choices_or_fault(alloc, lists)?;
     out.count = count;
     make_copies(alloc, out, flat_anchor(anchor), choices, inner)?;

@@ -231,9 +231,7 @@ impl<'a> Work<'a> {
         ensures few { OnOk result (self.new.translations ≤ 65536) }
     {
         let lists = translation_lists(alloc, &self.scope, rule)?;
-        let Some(count) = counted(self.used(), &lists, 0, 1) else {
-            return Err(too_many(rule.line));
-        };
+        let count = counted(self.used(), rule.line, &lists, 0, 1)?;
         let choices = choices_or_fault(alloc, lists)?;
         let number = self.translations;
         self.flat

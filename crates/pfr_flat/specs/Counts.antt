@@ -1,5 +1,5 @@
 -- How many rules the lists of a statement make.
-use Rattle.std.specs.Prelude.{ℕ, ◌+◌, ◌*◌, ◌||◌, Bool, nat_lt, if◌then◌else◌, Option, Some, None}
+use Rattle.std.specs.Prelude.{ℕ, ◌+◌, ◌*◌, ◌||◌, Bool, nat_lt, if◌then◌else◌, Result, Ok, Err}
 use Rattle.pfr_terms.specs.declared.error.ConfError.{ConfError}
 use Rattle.pfr_terms.specs.declared.error.ConfErrorKind.TheVariants.{TooMany}
 use Rattle.pfr_flat.specs.declared.lists.Lists as L
@@ -12,8 +12,8 @@ too_many line = record { line = line; kind = TooMany }
 abbrev pub exceeds : ℕ → L.Lists → ℕ → Bool
 exceeds used lists count = has_long_list lists || nat_lt 65536 (used + count)
 
--- how many rules a statement has with those that the lists make of so many, unless they are too many
-unfoldable pub counted : ℕ → L.Lists → ℕ → ℕ → Option ℕ
-counted used lists before copies =
+-- how many rules the statement on a line has with those that the lists make of so many, unless they are too many
+unfoldable pub counted : ℕ → ℕ → L.Lists → ℕ → ℕ → Result ℕ ConfError
+counted used line lists before copies =
     let count : ℕ = before + product lists * copies in
-    if exceeds used lists count then None else Some count
+    if exceeds used lists count then Err (too_many line) else Ok count

@@ -1,5 +1,5 @@
 //! How many rules the lists of a statement make.
-ghost use Rattle.std.specs.Prelude.{◌≡◌, ◌≤◌, ◌+◌, IfSome};
+ghost use Rattle.std.specs.Prelude.{◌≡◌, ◌≤◌, ◌+◌, IfOk};
 ghost use Rattle.pfr_flat.specs.Counts as spec;
 
 use crate::lists::Lists;
@@ -26,18 +26,24 @@ fn exceeds(used: usize, lists: &Lists, count: usize) -> bool
     lists.has_long_list() || used > MOST_RULES || count > MOST_RULES - used
 }
 
-/// How many rules a statement has with those that the lists make of so many, unless they are too many with the rules
-/// that the ruleset has.
+/// How many rules the statement on a line has with those that the lists make of so many, unless they are too many with
+/// the rules that the ruleset has.
 #[tactic(auto, unfolding(crate::specs::Counts::counted), using(crate::proofs::Products::exceeds_capped, crate::proofs::Products::count_capped))]
-pub fn counted(used: usize, lists: &Lists, before: usize, copies: usize) -> Option<usize>
+pub fn counted(
+    used: usize,
+    line: usize,
+    lists: &Lists,
+    before: usize,
+    copies: usize,
+) -> Result<usize, ConfError>
     requires { (before ≤ 65536) × (copies ≤ 65536) }
-    ensures value { result ≡ spec.counted used lists.now before copies }
-    ensures within { IfSome result (λ count. used + count ≤ 65536) }
+    ensures value { result ≡ spec.counted used line lists.now before copies }
+    ensures within { IfOk result (λ count. used + count ≤ 65536) }
 {
     let count = before + lists.product() * copies;
     if exceeds(used, lists, count) {
-        None
+        Err(too_many(line))
     } else {
-        Some(count)
+        Ok(count)
     }
 }
