@@ -1,6 +1,6 @@
 -- One address, where pf.conf(5) would take a pool of several: the target of a translation rule, and the source of a
 -- binat rule.
-use Rattle.std.specs.Prelude.{ℕ, ◌&&◌, ◌||◌, Bool, true, false, nat_lt, if◌then◌else◌, List, [], ◌∷◌, Option, Some, None, Result, Ok, Err, codes}
+use Rattle.std.specs.Prelude.{ℕ, ◌&&◌, ◌||◌, Bool, true, false, nat_lt, if◌then◌else◌, List, [], ◌∷◌, Option, None, Result, Ok, Err, codes}
 use Rattle.pfr_words.specs.declared.sign.Sign.TheVariants as s
 use Rattle.pfr_words.specs.Words.{words}
 use Rattle.pfr_terms.specs.declared.error.ConfError.{ConfError}

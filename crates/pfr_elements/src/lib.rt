@@ -2,6 +2,7 @@
 //!
 //! A list stands in a statement as it is written. [`elements_of`] gives each of its elements a meaning:
 //! a word that is an interface form its address, a table's name its place, the use of a macro all elements of its value.
+//! Where one address has to stand, [`written_single`] and [`single_sources`] say which, and leave out more than one.
 #![tactic(auto)]
 
 pub mod element;

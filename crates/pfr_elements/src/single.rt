@@ -85,7 +85,7 @@ fn note_ahead(alloc: Global, reader: &mut Reader<'_, '_>, has_tables: bool) -> R
     Ok(())
 }
 
-/// The address that the addresses of a value come to; of several the fault is gathered already.
+/// The address that the addresses of a value come to. Where there is none, or several, a fault is gathered already.
 fn only_in(
     alloc: Global,
     reader: &mut Reader<'_, '_>,

@@ -4,13 +4,14 @@ use crate::hosts::{HostCriterion, HostSet};
 use crate::interface::{IfName, Interface};
 use crate::macros::Macros;
 use crate::scope::Scope;
+use crate::single::{single_sources, written_single};
 use crate::terms::InterfaceCriterion;
 use crate::value::{MOST_SPLICED, Value};
 use pfr_tables::Entry;
 use pfr_terms::lists::{Item, list};
 use pfr_terms::{
-    AddressMatch, Comparison, ConfError, IcmpMatch, InterfaceMatch, InterfaceName, Ipv4Address,
-    MacroUse, Network, PortMatch, Protocol, Reader, TableEntry, Written,
+    AddressMatch, Comparison, ConfError, Host, IcmpMatch, InterfaceMatch, InterfaceName,
+    Ipv4Address, MacroUse, Network, PortMatch, Protocol, Reader, TableEntry, Written,
 };
 use pfr_words::spelling::words;
 use pfr_words::{Bytes, Items};
@@ -131,6 +132,30 @@ fn fault_in(alloc: Global, scope: &Scope<'_>, text: &[u8]) -> Result<String, Fai
     let mut told = String::new(alloc);
     if let Some(fault) = &found.fault {
         write!(told, "{fault}")?;
+    }
+    Ok(told)
+}
+
+/// The address that stands for a target written on line 2 of a text, in a rule on line 1, or how its fault is told.
+fn target_in(
+    alloc: Global,
+    scope: &Scope<'_>,
+    has_tables: bool,
+    text: &str,
+) -> Result<String, Fail> {
+    let mut behind = String::new(alloc);
+    write!(behind, "\n{text}")?;
+    let found = words(alloc, behind.as_bytes())?;
+    let mut reader = Reader::new(found.as_slice());
+    reader.skip_line_ends();
+    let host = Written::<'_, Host<'_>>::read(alloc, &mut reader)?;
+    let mut told = String::new(alloc);
+    match written_single(alloc, scope, has_tables, 1, &host)? {
+        Ok(address) => {
+            let [a, b, c, d] = address.0.to_be_bytes();
+            write!(told, "{a}.{b}.{c}.{d}")?;
+        }
+        Err(fault) => write!(told, "{fault}")?,
     }
     Ok(told)
 }
@@ -298,6 +323,138 @@ fn forms_of_the_interface(rt: HostRuntime) -> Result<(), Fail> {
 }
 
 #[test]
+fn targets_are_one_address(rt: HostRuntime) -> Result<(), Fail> {
+    let alloc = rt.alloc();
+    let pool = "rules line 2: left out: pool";
+    let bad = "rules line 2: bad address";
+    let unknown = "rules line 2: unknown word";
+    let own = "192.0.2.1";
+    let table = [
+        ("10.0.0.1", "$x", true, "10.0.0.1"),
+        ("10.0.0.1/32", "$x", true, "10.0.0.1"),
+        ("10.0.0.1", "$x/32", true, "10.0.0.1"),
+        ("em0", "$x", true, own),
+        ("em0:0", "$x", true, own),
+        ("em0", "$x:0", true, own),
+        ("(em0)", "$x", false, own),
+        ("self", "$x", false, own),
+        ("em0", "($x)", true, own),
+        // more than one, or a list of one
+        ("{ 10.0.0.1 10.0.0.2 }", "$x", true, pool),
+        ("{ 10.0.0.1 }", "$x", false, pool),
+        ("10.0.0.0/31", "$x", true, pool),
+        ("10.0.0.1", "$x/8", true, pool),
+        ("em0:network", "$x", true, pool),
+        ("em0", "$x:network", false, pool),
+        ("em0:network", "($x)", true, pool),
+        ("!10.0.0.0/8", "$x", true, pool),
+        // a table is more than one, or none that may stand there
+        ("<a>", "$x", true, pool),
+        ("<a>", "$x", false, bad),
+        ("!<a>", "$x", true, pool),
+        ("<nowhere>", "$x", true, pool),
+        ("<nowhere>", "$x", false, "rules line 2: undefined table"),
+        // no address that may stand there
+        ("any", "$x", true, bad),
+        ("10.0.0.1 - 10.0.0.9", "$x", true, bad),
+        ("! 10.0.0.1", "$x", true, bad),
+        ("10.0.0.256", "$x", true, bad),
+        // of all faults of a value the lowest is told, and of equals the first
+        ("{ 10.0.0.256 10.0.0.1 }", "$x", true, pool),
+        ("{ 10/8 }", "$x", true, pool),
+        ("10/8", "$x", true, "rules line 2: left out: short address"),
+        ("em1", "$x", true, "rules line 2: left out: host name"),
+        ("10.0.0.0/33", "$x", true, "rules line 2: bad number"),
+        ("{ 10.0.0.1 } 10.0.0.2", "$x", true, unknown),
+        ("10.0.0.1 10.0.0.2", "$x", true, unknown),
+        ("{ }", "$x", true, unknown),
+        ("", "$x", true, unknown),
+        ("em0", "$y", true, "rules line 2: undefined macro"),
+    ];
+    for (value, used, has_tables, expected) in table {
+        let scope = scope_with(alloc, value.as_bytes())?;
+        let told = target_in(alloc, &scope, has_tables, used)?;
+        assert_eq!(rt; told.as_str(), expected, "at {value} by {used}");
+    }
+    // a name's fault stands on its line, and that of an address on the line of the rule
+    let table = [
+        ("10.0.0.1", "10.0.0.1"),
+        ("10.0.0.1/32", "10.0.0.1"),
+        ("self", own),
+        ("em0:0", own),
+        ("em0:network", pool),
+        ("(em0:network)", pool),
+        ("em1", "rules line 2: left out: host name"),
+        ("10.0.0.0/31", "rules line 1: left out: pool"),
+    ];
+    let scope = scope_on(alloc, b"em0")?;
+    for (text, expected) in table {
+        let told = target_in(alloc, &scope, true, text)?;
+        assert_eq!(rt; told.as_str(), expected, "at {text}");
+    }
+    Ok(())
+}
+
+#[test]
+fn sources_are_single_addresses(rt: HostRuntime) -> Result<(), Fail> {
+    let alloc = rt.alloc();
+    let mut scope = scope_with(alloc, b"10.0.0.1")?;
+    define(
+        alloc,
+        &mut scope.macros,
+        b"y",
+        &[Piece::Text(b"{ 10.0.0.1 }")],
+    )?;
+    define(alloc, &mut scope.macros, b"z", &[Piece::Text(b"<a>")])?;
+    let bad = "rules line 7: bad address";
+    let table = [
+        ("10.0.0.1", 1, 1, ""),
+        ("{ 10.0.0.1, em0 self\n10.0.0.4/32 $x }", 5, 5, ""),
+        ("{ <a> 10.0.0.1 }", 2, 1, bad),
+        ("{ 10.0.0.1 any }", 2, 1, bad),
+        ("10.0.0.1 - 10.0.0.9", 1, 0, bad),
+        (
+            "{ 10.0.0.0/24\nem0:network }",
+            2,
+            0,
+            "rules line 7: left out: pool",
+        ),
+        (
+            "{ self\nem0:network }",
+            2,
+            1,
+            "rules line 2: left out: pool",
+        ),
+        ("{ $x\n$y <a> }", 3, 1, "rules line 2: left out: pool"),
+        ("{ em0\n\n$z $x/8 }", 3, 1, "rules line 3: bad address"),
+    ];
+    for (text, count, len, expected) in table {
+        let found = words(alloc, text.as_bytes())?;
+        let mut reader = Reader::new(found.as_slice());
+        let written = list::<AddressMatch<'_>>(alloc, &mut reader)?;
+        let found = single_sources(alloc, &scope, 7, written.as_slice())?;
+        let mut told = String::new(alloc);
+        if let Some(fault) = &found.fault {
+            write!(told, "{fault}")?;
+        }
+        assert_eq!(rt; told.as_str(), expected, "at {text}");
+        assert_eq!(rt; found.count, count, "at {text}");
+        assert_eq!(rt; found.items.len(), len, "at {text}");
+    }
+    let found = words(alloc, b"{ $x em0 }")?;
+    let mut reader = Reader::new(found.as_slice());
+    let written = list::<AddressMatch<'_>>(alloc, &mut reader)?;
+    let found = single_sources(alloc, &scope, 7, written.as_slice())?;
+    let source = |octets| HostCriterion {
+        is_negated: false,
+        hosts: HostSet::Network(network(octets, 32)),
+    };
+    let expected = [source([10, 0, 0, 1]), source([192, 0, 2, 1])];
+    assert!(rt; found.items.as_slice() == expected.as_slice());
+    Ok(())
+}
+
+#[test]
 fn addresses_have_their_meaning(rt: HostRuntime) -> Result<(), ConfError> {
     let alloc = rt.alloc();
     let scope = scope_with(alloc, b"{ !<b> any }")?;
@@ -433,6 +590,10 @@ fn doubled_values_stay_short(rt: HostRuntime) -> Result<(), Fail> {
     define(alloc, &mut scope.macros, b"y", &pieces)?;
     let told = fault_in(alloc, &scope, b"$x")?;
     assert_eq!(rt; told.as_str(), "rules line 1: unknown word");
+    let told = target_in(alloc, &scope, true, "$x")?;
+    assert_eq!(rt; told.as_str(), "rules line 2: unknown word");
+    let told = target_in(alloc, &scope, true, "$y")?;
+    assert_eq!(rt; told.as_str(), "rules line 2: left out: pool");
     // what stands behind too many elements isn't looked at
     let found = elements_in::<AddressMatch<'_>>(alloc, &scope, b"{ $y <nowhere> }")?;
     assert!(rt; found.count > MOST_ELEMENTS);
