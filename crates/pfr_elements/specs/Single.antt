@@ -111,9 +111,9 @@ source_by scope line (a.Host host) = one_host scope line host
 source_by scope line (a.Macro found) = used_single false scope found
 source_by scope line other = Err (bad_address line)
 
--- an address of a rule's source, where a table is none that may stand there
+-- an address of a rule's source, where neither a table nor an address with a `!` may stand
 unfoldable pub source_single : Scope → ℕ → AddressMatch → Result Ipv4Address ConfError
-source_single scope line m = source_by scope line m.address
+source_single scope line m = if m.is_negated then Err (bad_address line) else source_by scope line m.address
 
 abbrev pub criterion_of : Result Ipv4Address ConfError → Result HostCriterion ConfError
 criterion_of (Ok address) = Ok (record { is_negated = false; hosts = set.Network (whole address) })

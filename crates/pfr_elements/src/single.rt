@@ -228,6 +228,9 @@ fn source_single(
 ) -> Result<Result<Ipv4Address, ConfError>, ConfError>
     ensures { Makes (spec.source_single scope.now line found.now) result }
 {
+    if found.is_negated {
+        return Ok(Err(bad_address(line)));
+    }
     match &found.address {
         Address::Host(host) => one_host(alloc, scope, line, host),
         Address::Macro(used) => used_single(alloc, scope, false, used),

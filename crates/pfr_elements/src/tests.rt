@@ -413,6 +413,7 @@ fn sources_are_single_addresses(rt: HostRuntime) -> Result<(), Fail> {
         ("{ <a> 10.0.0.1 }", 2, 1, bad),
         ("{ 10.0.0.1 any }", 2, 1, bad),
         ("10.0.0.1 - 10.0.0.9", 1, 0, bad),
+        ("! 10.0.0.1", 1, 0, bad),
         (
             "{ 10.0.0.0/24\nem0:network }",
             2,
