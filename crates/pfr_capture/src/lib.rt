@@ -16,8 +16,6 @@ pub mod order;
 mod pieces;
 pub mod reader;
 pub mod reader_source;
-#[cfg(test)]
-mod tests;
 pub mod transfer;
 pub mod writer_sink;
 

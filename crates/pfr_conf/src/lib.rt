@@ -17,8 +17,6 @@ pub mod settings;
 pub mod statement;
 pub mod table;
 pub mod targets;
-#[cfg(test)]
-mod tests;
 pub mod translation;
 
 pub use anchor::{AnchorRule, FilterStatement};

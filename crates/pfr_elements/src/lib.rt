@@ -13,8 +13,6 @@ pub mod macros;
 pub mod scope;
 pub mod single;
 pub mod terms;
-#[cfg(test)]
-mod tests;
 pub mod text;
 pub mod value;
 

@@ -10,8 +10,8 @@ use pfr_conf::{
     Action, AnchorRule, Binding, BlockPolicy, ConfError, ConfErrorKind, FilterRule,
     FilterStatement, FlagsMatch, Items, StateKeeping,
 };
-use pfr_elements::element::first_fault;
 use pfr_elements::Scope;
+use pfr_elements::element::first_fault;
 use pfr_flat::{
     Choices, FilterAction, FlagsCriterion, FlatAnchor, FlatRule, Lists, NO_MATCH, PacketMatch,
     StateRule, choices_or_fault, combinations, counted, lists_of, slice_of,

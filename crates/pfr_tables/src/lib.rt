@@ -7,7 +7,5 @@
 pub mod laws;
 pub mod network;
 pub mod table;
-#[cfg(test)]
-mod tests;
 
 pub use table::{AddressTable, Entry};

@@ -17,8 +17,6 @@ pub mod notation;
 pub mod port;
 pub mod protocol;
 pub mod reader;
-#[cfg(test)]
-mod tests;
 
 pub use address::{Address, AddressMatch, Host, Ipv4Address, Network, TableEntry};
 pub use error::{ConfError, ConfErrorKind, LeftOutName};

@@ -13,8 +13,6 @@ pub mod laws;
 pub mod names;
 pub mod sign;
 pub mod spelling;
-#[cfg(test)]
-mod tests;
 pub mod word;
 
 pub use bytes::Bytes;

@@ -1,13 +1,13 @@
 //! Texts whose words are written out by hand.
-use crate::braces::is_sign;
-use crate::bytes::Bytes;
-use crate::items::Items;
-use crate::names::{
+use pfr_words::braces::is_sign;
+use pfr_words::bytes::Bytes;
+use pfr_words::items::Items;
+use pfr_words::names::{
     entry_of, icmp_type_named, is_grammar_word, is_left_out, is_name, protocol_named, service_named,
 };
-use crate::sign::Sign;
-use crate::spelling::words;
-use crate::word::{Token, Word, WordFault};
+use pfr_words::sign::Sign;
+use pfr_words::spelling::words;
+use pfr_words::word::{Token, Word, WordFault};
 use std::alloc::Global;
 use std::process::Abort;
 use std::test::Fail;

@@ -1,12 +1,12 @@
 //! Captures written out byte by byte, through the reader, and devices that fail in mid-stream.
-use crate::capture::{CaptureError, Form, Resolution, Tail};
-use crate::device::{Fault, Source};
-use crate::memory::Mem;
-use crate::order::ByteOrder;
-use crate::reader::Capture;
-use crate::reader_source::ReaderSource;
-use crate::transfer::write_all;
-use crate::writer_sink::WriterSink;
+use pfr_capture::capture::{CaptureError, Form, Resolution, Tail};
+use pfr_capture::device::{Fault, Source};
+use pfr_capture::memory::Mem;
+use pfr_capture::order::ByteOrder;
+use pfr_capture::reader::Capture;
+use pfr_capture::reader_source::ReaderSource;
+use pfr_capture::transfer::write_all;
+use pfr_capture::writer_sink::WriterSink;
 use std::alloc::Global;
 use std::io;
 use std::io::{ErrorKind, Read, Write};

@@ -1,15 +1,15 @@
 //! Rulesets written out by hand, as in pf.conf(5).
-use crate::anchor::FilterStatement;
-use crate::filter::{Action, FilterRule};
-use crate::macros::Piece;
-use crate::options::SetOption;
-use crate::policy::{Binding, Direction};
-use crate::reading::read;
-use crate::rule_options::{StateKeeping, StateOptions};
-use crate::settings::{Timeout, TimeoutSetting};
-use crate::statement::{Statement, Statements};
-use crate::targets::{RedirectedPort, Target};
-use crate::translation::{TranslationStatement, translation};
+use pfr_conf::anchor::FilterStatement;
+use pfr_conf::filter::{Action, FilterRule};
+use pfr_conf::macros::Piece;
+use pfr_conf::options::SetOption;
+use pfr_conf::policy::{Binding, Direction};
+use pfr_conf::reading::read;
+use pfr_conf::rule_options::{StateKeeping, StateOptions};
+use pfr_conf::settings::{Timeout, TimeoutSetting};
+use pfr_conf::statement::{Statement, Statements};
+use pfr_conf::targets::{RedirectedPort, Target};
+use pfr_conf::translation::{TranslationStatement, translation};
 use pfr_terms::{ConfError, ConfErrorKind, Part, Reader};
 use pfr_words::Bytes;
 use pfr_words::spelling::words;

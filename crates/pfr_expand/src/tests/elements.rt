@@ -1,12 +1,12 @@
 //! Lists and macros written out by hand, as in pf.conf(5).
-use crate::element::{Element, Elements, MOST_ELEMENTS, elements_of};
-use crate::hosts::{HostCriterion, HostSet};
-use crate::interface::{IfName, Interface};
-use crate::macros::Macros;
-use crate::scope::Scope;
-use crate::single::{single_sources, written_single};
-use crate::terms::InterfaceCriterion;
-use crate::value::{MOST_SPLICED, Value};
+use pfr_elements::element::{Element, Elements, MOST_ELEMENTS, elements_of};
+use pfr_elements::hosts::{HostCriterion, HostSet};
+use pfr_elements::interface::{IfName, Interface};
+use pfr_elements::macros::Macros;
+use pfr_elements::scope::Scope;
+use pfr_elements::single::{single_sources, written_single};
+use pfr_elements::terms::InterfaceCriterion;
+use pfr_elements::value::{MOST_SPLICED, Value};
 use pfr_tables::Entry;
 use pfr_terms::lists::{Item, list};
 use pfr_terms::{

@@ -1,15 +1,15 @@
 //! Terms written out by hand, as in pf.conf(5).
-use crate::address::{Address, AddressMatch, Host, Ipv4Address, Network, TableEntry};
-use crate::error::{ConfError, ConfErrorKind, LeftOutName};
-use crate::flags::{FlagSet, FlagsMatch, flags_match};
-use crate::hosts::packet_criteria;
-use crate::interface::InterfaceMatch;
-use crate::lists::{Item, list};
-use crate::name::Written;
-use crate::notation::{dotted, number};
-use crate::port::{Comparison, PortMatch, RangeOperator};
-use crate::protocol::{IcmpMatch, Protocol};
-use crate::reader::Reader;
+use pfr_terms::address::{Address, AddressMatch, Host, Ipv4Address, Network, TableEntry};
+use pfr_terms::error::{ConfError, ConfErrorKind, LeftOutName};
+use pfr_terms::flags::{FlagSet, FlagsMatch, flags_match};
+use pfr_terms::hosts::packet_criteria;
+use pfr_terms::interface::InterfaceMatch;
+use pfr_terms::lists::{Item, list};
+use pfr_terms::name::Written;
+use pfr_terms::notation::{dotted, number};
+use pfr_terms::port::{Comparison, PortMatch, RangeOperator};
+use pfr_terms::protocol::{IcmpMatch, Protocol};
+use pfr_terms::reader::Reader;
 use pfr_words::Items;
 use pfr_words::spelling::words;
 use std::alloc::Global;

@@ -1,5 +1,5 @@
 //! Tables written out by hand.
-use crate::table::{AddressTable, Entry};
+use pfr_tables::table::{AddressTable, Entry};
 use pfr_terms::{Ipv4Address, Network};
 use std::alloc::{AllocError, Global};
 use std::process::Abort;
