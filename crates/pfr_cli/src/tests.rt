@@ -1,5 +1,3 @@
-//! Tests of the program, and of the crates of captures and headers, since a crate with tests is proved once more for
-//! them.
+//! Tests of the program, and of captures, since a crate with tests is proved once more for them.
 mod capture;
-mod headers;
 mod run;

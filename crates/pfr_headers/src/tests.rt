@@ -1,18 +1,18 @@
 //! Frames, networks and rewritten packets written out by hand.
 ghost use Rattle.std.specs.Prelude.{◌≤◌, ◌+◌, length};
 
-use pfr_headers::address::Ipv4Address;
-use pfr_headers::change::{Change, End, Endpoint};
-use pfr_headers::checksum::{mended, mended_udp, put_address, put_word};
-use pfr_headers::icmp::{IcmpHeader, IcmpMessage, IcmpType, Inner};
-use pfr_headers::network::Net;
-use pfr_headers::packet::{Packet, Protocol, View};
-use pfr_headers::port::Port;
-use pfr_headers::reading::view;
-use pfr_headers::rewriting::rewrite;
-use pfr_headers::tcp::{TcpFlags, TcpHeader};
-use pfr_headers::transport::Transport;
-use pfr_headers::udp::UdpHeader;
+use crate::address::Ipv4Address;
+use crate::change::{Change, End, Endpoint};
+use crate::checksum::{mended, mended_udp, put_address, put_word};
+use crate::icmp::{IcmpHeader, IcmpMessage, IcmpType, Inner};
+use crate::network::Net;
+use crate::packet::{Packet, Protocol, View};
+use crate::port::Port;
+use crate::reading::view;
+use crate::rewriting::rewrite;
+use crate::tcp::{TcpFlags, TcpHeader};
+use crate::transport::Transport;
+use crate::udp::UdpHeader;
 use std::process::Abort;
 
 /// A UDP packet from 10.0.0.5:1000 to 198.51.100.7:53, with its checksums.
