@@ -1,11 +1,12 @@
 -- Which combination stands at which place.
-use Rattle.std.proofs.Common.{◌≡◌, ◌∙◌, ◌+◌, ◌*◌, ℕ, zero, suc, List, [], ◌∷◌, ◌++◌, length, flat_map, Some, refl, subst, arith}
+use Rattle.std.proofs.Common.{◌≡◌, ◌∙◌, ◌<◌, ◌+◌, ◌*◌, ◌/◌, ◌%◌, ℕ, zero, suc, List, [], ◌∷◌, ◌++◌, length, flat_map, Some, refl, subst, arith}
 use Rattle.std.specs.List.{slice_get}
-use Rattle.std.proofs.lemmas.Option.{slice_get-map}
+use Rattle.std.proofs.lemmas.Option.{slice_get-map, slice_get_within}
+use Rattle.std.proofs.lemmas.Nat.{div_below, mod_below, div-add-mod'}
 use Rattle.pfr_flat.specs.declared.flat.PacketMatch.{PacketMatch}
 use Rattle.pfr_flat.specs.declared.choices.Choices as C
 use Rattle.pfr_flat.specs.Choices.{no_match, by_destination_port, by_destination, by_source_port, by_source, by_icmp, by_protocol, by_interface, combinations}
-use Rattle.pfr_flat.proofs.Order.{destination_port_count, destination_count, source_port_count, source_count, icmp_count, protocol_count}
+use Rattle.pfr_flat.proofs.Order.{combination_count, destination_port_count, destination_count, source_port_count, source_count, icmp_count, protocol_count}
 
 get-append_left : {A : Type 0} (xs ys : List A) (i : ℕ) (x : A) → slice_get xs i ≡ Some x → slice_get (xs ++ ys) i ≡ Some x
 get-append_left [] ys i x is = absurd cc
@@ -60,3 +61,59 @@ combination_at c m a b d e f g h in_interfaces in_protocols in_types in_sources 
     let s1 = at_each _ (λ x. by_protocol c (record no_match { interface = x })) (λ x. protocol_count c (record no_match { interface = x })) c.interfaces a _ m.interface m in_interfaces s2 in
     subst (λ (place : ℕ). slice_get (by_interface c no_match) place ≡ Some m)
     (regrouped_place a b d e f g h (length c.protocols) (length c.icmp_types) (length c.sources) (length c.source_ports) (length c.destinations) (length c.destination_ports)) s1
+
+-- ---- the digits of a place
+
+element : {A : Type 0} (xs : List A) (i : ℕ) → i < length xs → (x : A) × (slice_get xs i ≡ Some x)
+element [] i within = absurd (omega arith)
+element (x ∷ xs) zero within = (x, refl)
+element (x ∷ xs) (suc i) within = element xs i (omega arith)
+
+some_factor : (i p n : ℕ) → i < p * n → 0 < n
+some_factor i p zero within = absurd (omega arith)
+some_factor i p (suc n) within = omega arith
+
+-- a number below a product of this length is a place of the list and one of what goes round it
+digit : {A : Type 0} (xs : List A) (i p : ℕ) → i < p * length xs → (x : A) × (slice_get xs (i % length xs) ≡ Some x) × (i / length xs < p)
+digit xs i p within =
+    let some : 0 < length xs = some_factor i p (length xs) within in
+    let found = element xs (i % length xs) (mod_below i (length xs) some) in
+    (found.0, found.1, div_below i (length xs) p some within)
+
+pub choices_at : (c : C.Choices) (m : PacketMatch) (i : ℕ)
+    → slice_get (combinations c) i ≡ Some m
+    → (slice_get c.destination_ports (i % length c.destination_ports) ≡ Some m.destination_port)
+    × (slice_get c.destinations (i / length c.destination_ports % length c.destinations) ≡ Some m.destination)
+    × (slice_get c.source_ports (i / length c.destination_ports / length c.destinations % length c.source_ports) ≡ Some m.source_port)
+    × (slice_get c.sources (i / length c.destination_ports / length c.destinations / length c.source_ports % length c.sources) ≡ Some m.source)
+    × (slice_get c.icmp_types (i / length c.destination_ports / length c.destinations / length c.source_ports / length c.sources % length c.icmp_types) ≡ Some m.icmp)
+    × (slice_get c.protocols (i / length c.destination_ports / length c.destinations / length c.source_ports / length c.sources / length c.icmp_types % length c.protocols) ≡ Some m.protocol)
+    × (slice_get c.interfaces (i / length c.destination_ports / length c.destinations / length c.source_ports / length c.sources / length c.icmp_types / length c.protocols) ≡ Some m.interface)
+choices_at c m i is =
+    let within : i < length (combinations c) = slice_get_within (combinations c) i m is in
+    let below : i < length c.interfaces * length c.protocols * length c.icmp_types * length c.sources * length c.source_ports * length c.destinations * length c.destination_ports = subst (λ (n : ℕ). i < n) (combination_count c) within in
+    let port = digit c.destination_ports i (length c.interfaces * length c.protocols * length c.icmp_types * length c.sources * length c.source_ports * length c.destinations) below in
+    let to = digit c.destinations (i / length c.destination_ports) (length c.interfaces * length c.protocols * length c.icmp_types * length c.sources * length c.source_ports) port.2 in
+    let by = digit c.source_ports (i / length c.destination_ports / length c.destinations) (length c.interfaces * length c.protocols * length c.icmp_types * length c.sources) to.2 in
+    let source = digit c.sources (i / length c.destination_ports / length c.destinations / length c.source_ports) (length c.interfaces * length c.protocols * length c.icmp_types) by.2 in
+    let type = digit c.icmp_types (i / length c.destination_ports / length c.destinations / length c.source_ports / length c.sources) (length c.interfaces * length c.protocols) source.2 in
+    let protocol = digit c.protocols (i / length c.destination_ports / length c.destinations / length c.source_ports / length c.sources / length c.icmp_types) (length c.interfaces) type.2 in
+    let interface = element c.interfaces (i / length c.destination_ports / length c.destinations / length c.source_ports / length c.sources / length c.icmp_types / length c.protocols) protocol.2 in
+    let n : PacketMatch = record { interface = interface.0; protocol = protocol.0; icmp = type.0; source = source.0; source_port = by.0; destination = to.0; destination_port = port.0 } in
+    let there = combination_at c n _ _ _ _ _ _ _ interface.1 protocol.1 type.1 source.1 by.1 to.1 port.1 in
+    let i1 : ℕ = i / length c.destination_ports in
+    let i2 : ℕ = i1 / length c.destinations in
+    let i3 : ℕ = i2 / length c.source_ports in
+    let i4 : ℕ = i3 / length c.sources in
+    let i5 : ℕ = i4 / length c.icmp_types in
+    let here : slice_get (combinations c) i ≡ Some n = rw (div-add-mod' i5 (length c.protocols), div-add-mod' i4 (length c.icmp_types), div-add-mod' i3 (length c.sources), div-add-mod' i2 (length c.source_ports), div-add-mod' i1 (length c.destinations), div-add-mod' i (length c.destination_ports)) at there in
+    let same : n ≡ m = cc (is, here) in
+    subst (λ (m : PacketMatch).
+    (slice_get c.destination_ports (i % length c.destination_ports) ≡ Some m.destination_port)
+    × (slice_get c.destinations (i1 % length c.destinations) ≡ Some m.destination)
+    × (slice_get c.source_ports (i2 % length c.source_ports) ≡ Some m.source_port)
+    × (slice_get c.sources (i3 % length c.sources) ≡ Some m.source)
+    × (slice_get c.icmp_types (i4 % length c.icmp_types) ≡ Some m.icmp)
+    × (slice_get c.protocols (i5 % length c.protocols) ≡ Some m.protocol)
+    × (slice_get c.interfaces (i5 / length c.protocols) ≡ Some m.interface))
+    same (port.1, to.1, by.1, source.1, type.1, protocol.1, interface.1)

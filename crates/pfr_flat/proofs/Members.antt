@@ -48,8 +48,8 @@ one_or_none P decide (x ∷ xs) = elim (decide x) [
 ]
 
 -- the entry holds the address with no `!`, and none that holds it has a longer prefix
-abbrev pub Decides_it : List Entry → ℕ → Entry → Type 0
-Decides_it entries address e = (holds address e ≡ true) × (e.is_negated ≡ false) × All (λ f. holds address f ≡ true → bits_of f ≤ bits_of e) entries
+abbrev pub IsDeciding : List Entry → ℕ → Entry → Type 0
+IsDeciding entries address e = (holds address e ≡ true) × (e.is_negated ≡ false) × All (λ f. holds address f ≡ true → bits_of f ≤ bits_of e) entries
 
 no_longer : (address : ℕ) (e f : Entry) → Decided (holds address f ≡ true → bits_of f ≤ bits_of e)
 no_longer address e f = elim (decided_equal (holds address f) true) [
@@ -60,7 +60,7 @@ no_longer address e f = elim (decided_equal (holds address f) true) [
   | inr fails ↦ inl (λ it. absurd (fails it))
 ]
 
-deciding : (entries : List Entry) (address : ℕ) (e : Entry) → Decided (Decides_it entries address e)
+deciding : (entries : List Entry) (address : ℕ) (e : Entry) → Decided (IsDeciding entries address e)
 deciding entries address e = elim (decided_equal (holds address e) true) [
   | inl it ↦ elim (decided_equal e.is_negated false) [
     | inl plain ↦ elim (all_or_not (λ f. holds address f ≡ true → bits_of f ≤ bits_of e) (no_longer address e) entries) [
@@ -73,9 +73,9 @@ deciding entries address e = elim (decided_equal (holds address e) true) [
 ]
 
 member_or_not : (entries : List Entry) (address : ℕ) → Decided (IsMember entries address)
-member_or_not entries address = elim (one_or_none (Decides_it entries address) (deciding entries address) entries) [
+member_or_not entries address = elim (one_or_none (IsDeciding entries address) (deciding entries address) entries) [
   | inl one ↦ inl (one.0, one.1, one.2.0, one.2.1, one.2.2)
-  | inr none ↦ inr (λ h. All-contains (λ e. ¬ Decides_it entries address e) entries h.0 none h.1 (h.2, h.3, h.4))
+  | inr none ↦ inr (λ h. All-contains (λ e. ¬ IsDeciding entries address e) entries h.0 none h.1 (h.2, h.3, h.4))
 ]
 
 in_table_or_not : (table : Option (List Entry)) (address : ℕ) → Decided (IsInTable table address)

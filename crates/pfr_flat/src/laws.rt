@@ -1,5 +1,5 @@
 //! Laws of the definitions, each the contract of a function that does nothing.
-ghost use Rattle.std.specs.Prelude.{◌≡◌, ◌↔◌, ◌≤◌, ◌+◌, ◌*◌, ℕ, true, false, List, [], ◌∷◌, length, map, slice_get, Some, None, Ok, IsOkAnd};
+ghost use Rattle.std.specs.Prelude.{◌≡◌, ◌↔◌, ◌≤◌, ◌+◌, ◌*◌, ◌/◌, ◌%◌, ℕ, true, false, List, [], ◌∷◌, length, map, slice_get, Some, None, Ok, IsOkAnd};
 ghost use Rattle.std.specs.List.{All, Contains};
 ghost use Rattle.pfr_words.specs.Words.{words};
 ghost use Rattle.pfr_terms.specs.declared.address.Address.TheVariants.{Table};
@@ -38,6 +38,20 @@ pub fn choices_stand_at_their_digits()
         → slice_get (combinations c) ((((((interface * length c.protocols + protocol) * length c.icmp_types + icmp) * length c.sources + source) * length c.source_ports + source_port) * length c.destinations + destination) * length c.destination_ports + destination_port) ≡ Some m }
 {}
 
+/// The combination at a place has the choices that the digits of the place's number say, the innermost list's last:
+/// the remainder by the length of that list is its choice's place there, and the quotient's digits are the others.
+pub fn digits_of_a_place_are_its_choices()
+    ensures { (c : Choices) (m : PacketMatch) (place : ℕ)
+        → slice_get (combinations c) place ≡ Some m
+        → (slice_get c.destination_ports (place % length c.destination_ports) ≡ Some m.destination_port)
+        × (slice_get c.destinations (place / length c.destination_ports % length c.destinations) ≡ Some m.destination)
+        × (slice_get c.source_ports (place / length c.destination_ports / length c.destinations % length c.source_ports) ≡ Some m.source_port)
+        × (slice_get c.sources (place / length c.destination_ports / length c.destinations / length c.source_ports % length c.sources) ≡ Some m.source)
+        × (slice_get c.icmp_types (place / length c.destination_ports / length c.destinations / length c.source_ports / length c.sources % length c.icmp_types) ≡ Some m.icmp)
+        × (slice_get c.protocols (place / length c.destination_ports / length c.destinations / length c.source_ports / length c.sources / length c.icmp_types % length c.protocols) ≡ Some m.protocol)
+        × (slice_get c.interfaces (place / length c.destination_ports / length c.destinations / length c.source_ports / length c.sources / length c.icmp_types / length c.protocols) ≡ Some m.interface) }
+{}
+
 /// `!<NAME>` asks for just the addresses that `<NAME>` doesn't: where the table is defined both have a meaning, and
 /// whatever the tables hold, each address is held by one of the two and not by the other.
 pub fn negated_table_is_the_negation()
@@ -49,7 +63,8 @@ pub fn negated_table_is_the_negation()
         → (Holds tables negated address ↔ ¬ Holds tables plain address) × (Holds tables plain address ↔ ¬ Holds tables negated address))) }
 {}
 
-/// A list that is one use of a macro comes to the same as the elements of the macro's value written out.
+/// Where the value of a macro says the same things as the elements of a list, none of which uses a macro, a list of
+/// one use of that macro with no `!` comes to the same as that list.
 pub fn list_by_a_macro_is_the_list<T: Element>()
     ensures { (scope : Scope) (xs : List T) (flats : List T.Flat) (u : T) (found : MacroUse) (text : List ℕ) (i : Input)
         → All (λ x. T.use_in x ≡ None) xs
