@@ -1,2 +1,5 @@
+pub mod Digits
+pub mod MacroLists
+pub mod Members
 pub mod Order
 pub mod Products

@@ -1,5 +1,5 @@
 -- Products that are counted up to a limit.
-use Rattle.std.proofs.Common.{◌≡◌, ◌<◌, ◌≤◌, ℕ, ◌+◌, ◌*◌, min, nat_lt, true, false, ◌⊎◌, inl, inr, refl, arith}
+use Rattle.std.proofs.Common.{◌≡◌, ◌≤◌, ℕ, ◌+◌, ◌*◌, min, nat_lt, true, false, ◌⊎◌, inl, inr, refl, arith}
 use Rattle.std.proofs.lemmas.Bool.{cases_lt, ltb-false, lt-ltb}
 use Rattle.std.proofs.lemmas.Nat.{mul-le}
 

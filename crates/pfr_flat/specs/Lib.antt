@@ -1,4 +1,5 @@
 pub mod Choices
 pub mod Counts
 pub mod Lists
+pub mod Membership
 pub mod Translations

@@ -1,9 +1,79 @@
 //! Laws of the definitions, each the contract of a function that does nothing.
-ghost use Rattle.std.specs.Prelude.{◌≡◌, ◌*◌, length};
+ghost use Rattle.std.specs.Prelude.{◌≡◌, ◌↔◌, ◌≤◌, ◌+◌, ◌*◌, ◌/◌, ◌%◌, ℕ, true, false, List, [], ◌∷◌, length, map, slice_get, Some, None, Ok, IsOkAnd};
+ghost use Rattle.std.specs.List.{All, Contains};
+ghost use Rattle.pfr_words.specs.Words.{words};
+ghost use Rattle.pfr_terms.specs.declared.address.Address.TheVariants.{Table};
+ghost use Rattle.pfr_terms.specs.declared.name.MacroUse.{MacroUse};
+ghost use Rattle.pfr_terms.specs.declared.name.Name.{Name};
+ghost use Rattle.pfr_terms.specs.Input.{Input, of_value};
+ghost use Rattle.pfr_tables.specs.declared.table.Entry.{Entry};
+ghost use Rattle.pfr_elements.specs.declared.scope.Scope.{Scope};
+ghost use Rattle.pfr_elements.specs.declared.value.Value.TheVariants.{Text};
+ghost use Rattle.pfr_elements.specs.Elements.{elements_from, with_element, none_yet, most_elements, value_items, value_item};
+ghost use Rattle.pfr_elements.specs.Hosts.{host_criterion};
+ghost use Rattle.pfr_elements.specs.Values.{value_at};
 ghost use Rattle.pfr_flat.specs.declared.choices.Choices.{Choices};
+ghost use Rattle.pfr_flat.specs.declared.flat.PacketMatch.{PacketMatch};
 ghost use Rattle.pfr_flat.specs.Choices.{combinations};
+ghost use Rattle.pfr_flat.specs.Membership.{Holds};
+
+use pfr_elements::Element;
 
 /// There are as many combinations as the lengths of the lists multiply to.
 pub fn rules_are_as_many_as_combinations()
     ensures { (c : Choices) → length (combinations c) ≡ length c.interfaces * length c.protocols * length c.icmp_types * length c.sources * length c.source_ports * length c.destinations * length c.destination_ports }
+{}
+
+/// A match whose parts stand at these places of their lists stands at the place whose digits these are, the outermost
+/// list's first: a digit counts in steps of as many as the lists within it make.
+pub fn choices_stand_at_their_digits()
+    ensures { (c : Choices) (m : PacketMatch) (interface protocol icmp source source_port destination destination_port : ℕ)
+        → slice_get c.interfaces interface ≡ Some m.interface
+        → slice_get c.protocols protocol ≡ Some m.protocol
+        → slice_get c.icmp_types icmp ≡ Some m.icmp
+        → slice_get c.sources source ≡ Some m.source
+        → slice_get c.source_ports source_port ≡ Some m.source_port
+        → slice_get c.destinations destination ≡ Some m.destination
+        → slice_get c.destination_ports destination_port ≡ Some m.destination_port
+        → slice_get (combinations c) ((((((interface * length c.protocols + protocol) * length c.icmp_types + icmp) * length c.sources + source) * length c.source_ports + source_port) * length c.destinations + destination) * length c.destination_ports + destination_port) ≡ Some m }
+{}
+
+/// The combination at a place has the choices that the digits of the place's number say, the innermost list's last:
+/// the remainder by the length of that list is its choice's place there, and the quotient's digits are the others.
+pub fn digits_of_a_place_are_its_choices()
+    ensures { (c : Choices) (m : PacketMatch) (place : ℕ)
+        → slice_get (combinations c) place ≡ Some m
+        → (slice_get c.destination_ports (place % length c.destination_ports) ≡ Some m.destination_port)
+        × (slice_get c.destinations (place / length c.destination_ports % length c.destinations) ≡ Some m.destination)
+        × (slice_get c.source_ports (place / length c.destination_ports / length c.destinations % length c.source_ports) ≡ Some m.source_port)
+        × (slice_get c.sources (place / length c.destination_ports / length c.destinations / length c.source_ports % length c.sources) ≡ Some m.source)
+        × (slice_get c.icmp_types (place / length c.destination_ports / length c.destinations / length c.source_ports / length c.sources % length c.icmp_types) ≡ Some m.icmp)
+        × (slice_get c.protocols (place / length c.destination_ports / length c.destinations / length c.source_ports / length c.sources / length c.icmp_types % length c.protocols) ≡ Some m.protocol)
+        × (slice_get c.interfaces (place / length c.destination_ports / length c.destinations / length c.source_ports / length c.sources / length c.icmp_types / length c.protocols) ≡ Some m.interface) }
+{}
+
+/// `!<NAME>` asks for just the addresses that `<NAME>` doesn't: where the table is defined both have a meaning, and
+/// whatever the tables hold, each address is held by one of the two and not by the other.
+pub fn negated_table_is_the_negation()
+    ensures { (scope : Scope) (name : Name)
+        → Contains scope.tables name.text
+        → IsOkAnd (host_criterion scope (record { is_negated = true; address = Table name })) (λ negated.
+        IsOkAnd (host_criterion scope (record { is_negated = false; address = Table name })) (λ plain.
+        (tables : List (List Entry)) (address : ℕ)
+        → (Holds tables negated address ↔ ¬ Holds tables plain address) × (Holds tables plain address ↔ ¬ Holds tables negated address))) }
+{}
+
+/// Where the value of a macro says the same things as the elements of a list, none of which uses a macro, a list of
+/// one use of that macro with no `!` comes to the same as that list.
+pub fn list_by_a_macro_is_the_list<T: Element>()
+    ensures { (scope : Scope) (xs : List T) (flats : List T.Flat) (u : T) (found : MacroUse) (text : List ℕ) (i : Input)
+        → All (λ x. T.use_in x ≡ None) xs
+        → map (T.meaning scope) xs ≡ map Ok flats
+        → length xs ≤ most_elements
+        → T.use_in u ≡ Some found
+        → T.negated u ≡ false
+        → value_at scope.macros false found ≡ Ok (Text text)
+        → value_items (value_item T.meaning T.form scope) (of_value (words text)) ≡ Ok (flats, i)
+        → i.gathered ≡ None
+        → elements_from (with_element T.use_in T.negated T.meaning T.form T.turned scope) none_yet (u ∷ []) ≡ elements_from (with_element T.use_in T.negated T.meaning T.form T.turned scope) none_yet xs }
 {}

@@ -1,5 +1,4 @@
-use Rattle.std.proofs.Common.{◌≡◌, ◌++◌, map, flat_map, take}
-use Rattle.pfr_flat.specs.Choices as spec
+use Rattle.std.proofs.Common.{◌≡◌, ◌++◌, map, take}
 use Rattle.pfr_flat.proofs.choices.add_destination_ports.Given as goal
 
 abbrev pub invariant-loop-port : goal.invariant-loop-port

@@ -1,4 +1,4 @@
-use Rattle.std.proofs.Common.{◌≡◌, ◌++◌, map, flat_map, take}
+use Rattle.std.proofs.Common.{◌≡◌, ◌++◌, flat_map, take}
 use Rattle.pfr_flat.specs.Choices as spec
 use Rattle.pfr_flat.proofs.choices.add_icmp_types.Given as goal
 
