@@ -30,8 +30,19 @@ def below(used, table):
     return [name for name in table if name in needed]
 
 
-def build(folder, program, used):
-    """Makes a repository of a program and the crates that it uses, and answers the program that is built of them."""
+def change(crates, changes):
+    """Changes the copies of crates in a folder: each change is a file, a text that stands in it once, and what stands
+    there instead."""
+    for name, old, new in changes:
+        text = (crates / name).read_text()
+        if text.count(old) != 1:
+            raise SystemExit(f"{name} has {text.count(old)} places to change, and not one: {old}")
+        (crates / name).write_text(text.replace(old, new))
+
+
+def build(folder, program, used, changes=()):
+    """Makes a repository of a program and the crates that it uses, with some changes to their copies, and answers the
+    program that is built of them."""
     table = uses()
     names = below(used, table)
     lines = [f"{name}: {' '.join(table[name])}\n" for name in names]
@@ -40,6 +51,7 @@ def build(folder, program, used):
     for name in names:
         # what earlier checks of a crate have left spares proving it again
         shutil.copytree(ROOT / "crates" / name, folder / "crates" / name, ignore=shutil.ignore_patterns("must-fail"))
+    change(folder / "crates", changes)
     crate = folder / "crates" / program
     (crate / "src").mkdir(parents=True)
     # the gate lets no file end in .rt but those of the crates

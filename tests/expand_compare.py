@@ -7,9 +7,10 @@ The program takes any number of records on standard input: a byte, 1 where only 
 else 0; the interface's name with its length before it in one byte, its address in four and the bits of its network in
 one; and the text with its length before it in four, the greatest first. It answers each with the lines of the dump of
 expand_model.py, the line `F filter, T translation`, or `line L: KIND` for the first fault, and behind it a line `end`.
-The texts of the folder `expansions` have their answers written beside them, and so have hostile texts. What is made from the texts of the folders, macros of every word in every place and
-random rulesets are answered by the model. It exits with 1 where an answer is another one, and shows such texts. Rules of
-translation aren't handed to the program.
+The texts of the folder `expansions` have their answers written beside them, and so have hostile texts. What is made from
+the texts of the folders, macros of every word in every place and random rulesets are answered by the model. It exits with
+1 where an answer is another one, and shows such texts. Rules of translation are among all of these, so the program has to
+read them.
 """
 
 import random
@@ -73,7 +74,7 @@ def model_answer(text):
     if not isinstance(ruleset, expand_model.Ruleset):
         return [worded(ruleset)]
     rules, translations = ruleset.counts()
-    if rules > MOST_DUMPED:
+    if rules + translations > MOST_DUMPED:
         return [f"{rules} filter, {translations} translation"]
     return list(expand_model.dump(ruleset))
 
@@ -94,18 +95,14 @@ def differences(command, texts):
 
 
 def written():
-    """The texts of the folder with the answers beside them."""
-    cases = expand_rulesets.cases_of(expand_rulesets.EXPANSIONS)
-    defaults = cases[0].lines
-    for case in cases[1:]:
-        answer = case.answer or expand_rulesets.whole(case.lines, defaults)
-        text = (expand_rulesets.EXPANSIONS / case.name).read_bytes()
+    """The texts of the folders with the answers beside them."""
+    for case, text, answer in expand_rulesets.written():
         yield Text(case.name, text, case.interface, case.network, answer)
 
 
 def changed(texts):
-    """Texts that come from those of the folders by random changes, and those of the reader's folder as they are."""
-    read = read_rulesets.written(read_rulesets.RULESETS)
+    """Texts that come from those of the folders by random changes, and those of the reader's folders as they are."""
+    read = read_rulesets.written(read_rulesets.RULESETS) + read_rulesets.written(read_rulesets.TRANSLATION)
     given = {text.name: (text.interface, text.network) for text in texts}
     draw = random.Random(SEED)
     for ruleset in read:

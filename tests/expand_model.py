@@ -40,7 +40,7 @@ from expand_hosts import Hosts, Run
 from expand_options import Options
 from expand_rules import Rules
 from expand_values import Macros
-from ruleset_model import READS_TRANSLATION, tree_of, worded
+from ruleset_model import tree_of, worded
 from ruleset_tree import ANY, Macro, Network, Option, Range, Table
 from ruleset_words import Fault
 
@@ -73,12 +73,13 @@ class Ruleset:
         return len(self.rules.filter), self.rules.translation_count
 
 
-def expand(text, interface, address, bits, translation=READS_TRANSLATION):
-    """The Ruleset of the bytes of a text, or ('fault', its line, its kind). The address is a.b.c.d."""
+def expand(text, interface, address, bits):
+    """The Ruleset of the bytes of a text, or ('fault', its line, its kind). The address is a.b.c.d. Rules of translation
+    are read, though the reader of rulesets may still leave them out."""
     number = int.from_bytes(bytes(int(octet) for octet in address.split(".")), "big")
     ruleset = Ruleset(Run(interface, number, bits))
     try:
-        for statement in tree_of(text, translation):
+        for statement in tree_of(text, translation=True):
             ruleset.take(statement)
     except Fault as fault:
         return "fault", fault.line, fault.kind

@@ -3,9 +3,10 @@
 
     expand_rulesets.py
 
-In `expected`, a text's name, maybe with an interface and its address (else em0 and 192.0.2.1/24), stands before a
-colon. Behind it stand `line L: KIND` or `F filter, T translation`, or the lines of the dump follow, indented. Lines of
-options that are as under `every ruleset` aren't repeated. Rules of translation are in a folder of their own.
+The texts with rules of translation are in a folder of their own within it. In `expected`, a text's name, maybe with an
+interface and its address (else em0 and 192.0.2.1/24), stands before a colon. Behind it stand `line L: KIND` or
+`F filter, T translation`, or the lines of the dump follow, indented. Lines of options that are as under `every ruleset`
+aren't repeated.
 """
 
 import sys
@@ -15,9 +16,10 @@ from typing import NamedTuple
 sys.dont_write_bytecode = True
 
 import expand_model
-from ruleset_model import READS_TRANSLATION, worded
+from ruleset_model import worded
 
 EXPANSIONS = Path(__file__).resolve().parent / "expansions"
+FOLDERS = (EXPANSIONS, EXPANSIONS / "translation")
 EVERY = "every ruleset"
 
 
@@ -39,7 +41,7 @@ def option_of(line):
 
 
 def cases_of(folder):
-    """The cases of a folder, the first of which is what holds for every ruleset."""
+    """The cases of a folder, in the first folder behind what holds for every ruleset."""
     cases = []
     for line in (folder / "expected").read_text().splitlines():
         if line.startswith(" "):
@@ -60,11 +62,26 @@ def whole(lines, defaults):
     return [*options, *written.values(), *(line for line in lines if not option_of(line))]
 
 
-def seen_answer(case, folder, translation):
+def written():
+    """The cases of all folders, each with the bytes of its text and its answer, a line or the lines of the dump."""
+    defaults = []
+    for folder in FOLDERS:
+        cases = cases_of(folder)
+        found = {path.name for path in folder.glob("*.conf")}
+        named = {case.name for case in cases} - {EVERY}
+        if found != named:
+            sys.exit(f"files without an answer, or answers without a file: {sorted(found ^ named)}")
+        for case in cases:
+            if case.name == EVERY:
+                defaults = case.lines
+            else:
+                yield case, (folder / case.name).read_bytes(), case.answer or whole(case.lines, defaults)
+
+
+def seen_answer(case, text):
     """What the model says: a line, or the lines of the dump."""
-    text = (folder / case.name).read_bytes()
     address, _, bits = case.network.partition("/")
-    answer = expand_model.expand(text, case.interface, address, int(bits), translation)
+    answer = expand_model.expand(text, case.interface, address, int(bits))
     if not isinstance(answer, expand_model.Ruleset):
         return worded(answer)
     if case.answer is None:
@@ -73,35 +90,21 @@ def seen_answer(case, folder, translation):
     return f"{rules} filter, {translations} translation"
 
 
-def differences(folder, translation, defaults):
-    """The number of cases in a folder, and those answered otherwise: name, what was expected, what came."""
-    cases = [case for case in cases_of(folder) if case.name != EVERY]
-    found = {path.name for path in folder.glob("*.conf")}
-    named = {case.name for case in cases}
-    if found != named:
-        sys.exit(f"files without an answer, or answers without a file: {sorted(found ^ named)}")
-    wrong = []
-    for case in cases:
-        expected = whole(case.lines, defaults) if case.answer is None else case.answer
-        seen = seen_answer(case, folder, translation)
-        if seen != expected:
-            wrong.append((case.name, expected, seen))
-    return len(cases), wrong
-
-
 def shown(answer):
     return answer if isinstance(answer, str) else "\n    " + "\n    ".join(answer)
 
 
 def main():
-    defaults = cases_of(EXPANSIONS)[0].lines
-    count, wrong = differences(EXPANSIONS, READS_TRANSLATION, defaults)
-    more, more_wrong = differences(EXPANSIONS / "translation", True, defaults)
-    for name, expected, seen in wrong + more_wrong:
-        print(f"{name}: expected {shown(expected)}\n  got {shown(seen)}")
-    if wrong or more_wrong:
-        sys.exit(f"expansions: {count + more} texts, {len(wrong + more_wrong)} not as expected")
-    print(f"expansions: {count + more} texts, all as expected")
+    count, wrong = 0, 0
+    for case, text, expected in written():
+        count += 1
+        seen = seen_answer(case, text)
+        if seen != expected:
+            wrong += 1
+            print(f"{case.name}: expected {shown(expected)}\n  got {shown(seen)}")
+    if wrong:
+        sys.exit(f"expansions: {count} texts, {wrong} not as expected")
+    print(f"expansions: {count} texts, all as expected")
 
 
 if __name__ == "__main__":

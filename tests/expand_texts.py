@@ -27,9 +27,17 @@ TIMEOUTS = ("tcp.first", "tcp.opening", "tcp.established", "tcp.closing", "tcp.f
 LIMITS = ("states", "frags", "src-nodes", "table-entries", "tables")
 TABLES = ("t", "u", "bad_hosts", "v4")
 MACROS = ("a", "b", "c", "ext_if", "m1", "m2", "S")
-# what macros are made for: elements of lists, the name of an interface, the free word of an option
-KINDS = ("interface", "skipped", "protocol", "icmp", "host", "host", "port", "entry", "entry", "name", "name", "free_word")
-SINGLE_WORDS = ("name", "free_word")
+# what macros are made for: elements of lists, the one address of a translation, the name of an interface, the free word
+# of an option
+KINDS = ("interface", "skipped", "protocol", "icmp", "host", "host", "port", "moved_port", "entry", "entry", "single",
+         "single", "name", "name", "free_word")
+# those of which a value holds one
+ONE_ALONE = ("single", "name", "free_word")
+# forms of the interface that are one address, if its network isn't one
+SINGLE_FORMS = ("self", "{i}", "{i}:0", "({i})", "({i}:0)")
+# first ports of a map, from which ports of moved ranges mostly get no farther than the last
+FIRST_PORTS = (0, 80, 8080, 40000, 64536)
+MOVED_LENGTHS = (0, 1, 99, 535, 999)
 # what fits no place, or not every one
 JUNK = ('""', '"$a"', '"{"', '"}"', '"{ }"', '"!"', '"a;"', '"/8"', '"# b"', '"10.0.0.300"', '"10.0.0.0/33"', '"10.0"',
         '"65536"', '"90:80"', '"nosuch"', '"tag"', '"log"', '"10.0.0.9 - 10.0.0.1"', '"<nosuch>"', '"a_name_of_16_byt"',
@@ -41,7 +49,11 @@ PLACES = """
     pass from { 10.0.0.1, !@ }; pass from (@); pass from (@:0); pass from !(@:network); pass from @:0; pass from @/8;
     pass from @:network; pass to port @; pass to port { 1, @ }; pass to port @:90; pass icmp-type @;
     pass icmp-type { 3 code 1, @ }; table <u> { @ }; table <u> { !@ }; table <u> { 10.0.0.0/8 @/8 }; set skip on @;
-    set skip on { lo0 @:0 }; set debug @; y = @; y = @/8 "em0"; anchor on @ {}; anchor to @ {@@}
+    set skip on { lo0 @:0 }; set debug @; y = @; y = @/8 "em0"; anchor on @ {}; anchor to @ {@@}; nat from @ -> self;
+    nat -> @; nat -> @/32; nat -> @:0; nat -> (@); nat -> @:network; nat -> em0 port @; no nat from @; rdr -> @ port 5;
+    rdr to port @ -> self port 65535:*; rdr to port { 80 @ } -> self port 1:*; rdr to port @ -> @ port 64000:*;
+    binat from @ -> self; binat from @:0 to @ -> @; binat from (@) -> 10.0.0.1; binat from em0 port @ -> em0;
+    no binat from @
     """.split(";")
 VALUES = """
     1 2;10.0.0.1 - 10.0.0.9;10.0.0.9 - 10.0.0.1;10.0.0.1 - em0;10.0.0.1 - 10.0.0.9/8;10.0.0.1/8 - 10.0.0.9;! 10.0.0.1;
@@ -51,7 +63,10 @@ VALUES = """
     { !em0, lo0 };{ tcp, udp, 6 };{ 10.0.0.1, self };{ !10.0.0.1, 10.0.0.2/8 };{ 10.0.0.1 !10.0.0.1 };
     { <t> !<t> any };{ 10.0.0.1 - 10.0.0.9, em0 };{ 80:90, > 100, http };{ 3, 8 code 0, echorep };{ 10.0 10.0.0.300 };
     { nosuch 10.0 };{ 10.0 nosuch };{ 10.0.0.300 65536 };{ tag log };{ 65536, 90:80 };{ 256 300 };{ 1;1 };{;};tag 1;
-    em0 log; ;self em0;a_name_of_16_byt lo0;{ lo0 a_name_of_16_byt }
+    em0 log; ;self em0;a_name_of_16_byt lo0;{ lo0 a_name_of_16_byt };<nosuch>;<tag>;<t> 1;<t> tag;{ <nosuch> };
+    { <t> };! { 10.0.0.1 };! 10.0.0.0/8;! em0:network;(em0:network);! nosuch;! 10.0;! 10.0.0.300;! 10.0.0.1/33;
+    10.0.0.0/8 tag;! 10.0.0.1 - 10.0.0.9;10.0.0.1/32 - 10.0.0.9;10.0.0.1 - tag;{ 10.0.0.1 - 10.0.0.9 };{ ! 10.0.0.1 };
+    { any };{ 10.0.0.0/8 };{ em0 };80:100;{ 80:100, 1 };{ 80:100, > 5 };1:65535;65535
     """.strip().split(";")
 
 
@@ -143,6 +158,28 @@ class Writer:
             return "!" + network
         return "!" * (network[-4:] == "0/24" and int(network.split(".")[1]) % 3 == 0) + network
 
+    def moved_port(self):
+        """Ports that a map moves: any other sign is a fault there."""
+        if self.fault(6):
+            return self.port()
+        low = self.draw.randrange(64000)
+        return self.draw.choice((self.one_port(), f"= {self.one_port()}", f"{low}:{low + self.draw.choice(MOVED_LENGTHS)}"))
+
+    def no_single(self):
+        """What stands for no address or for several."""
+        network = self.draw.choice(NETWORKS)
+        return self.draw.choice((
+            "any", f"!{network}", network, f"{{ {network} }}", f"{network} - 10.9.9.9", f"<{self.draw.choice(TABLES)}>",
+            f"{self.run[0]}:network", f"({self.run[0]}:network)", "www.example.com", "em9", "(em9:0)"))
+
+    def single(self):
+        """One address, as a target and the source of a binat rule."""
+        if self.fault(8):
+            return self.no_single()
+        if self.chance(15) and "name" in self.macros.values():
+            return f"({self.use('name')}{self.either(30, ':0')})"
+        return self.draw.choice((*SINGLE_FORMS, "10.1.2.5/32", "10.1.2.3", "255.255.255.255")).replace("{i}", self.run[0])
+
     def name(self):
         return self.either(85, self.run[0], self.draw.choice(INTERFACES)) if self.faults else self.run[0]
 
@@ -192,7 +229,7 @@ class Writer:
             return self.draw.choice(JUNK)
         item = self.item(kind)
         way = self.draw.randrange(12)
-        if way < 5 or kind in SINGLE_WORDS:
+        if way < 5 or kind in ONE_ALONE:
             return f'"{self.either(15, " ")}{item}{self.either(15, "  ")}"'
         if way < 8:
             items = self.draw.choice((" ", ", ", ",")).join(self.item(kind) for _ in range(self.several()))
@@ -206,16 +243,16 @@ class Writer:
             return item
         return f'"{{ {item}," "{item} }}"'
 
-    def suffixed(self):
+    def suffixed(self, suffixes):
         """A definition by a suffix, where there is a macro that takes one."""
         if "name" not in self.macros.values():
             return '"10.0.0.1"'
-        return self.use("name") + self.draw.choice((":0", ":network"))
+        return self.use("name") + self.draw.choice(suffixes)
 
     def macro(self):
         name, kind = self.draw.choice(MACROS), self.draw.choice(KINDS)
-        if kind in ("host", "entry") and self.chance(15):
-            text = f"{name} = {self.suffixed()}"
+        if kind in ("host", "entry", "single") and self.chance(15):
+            text = f"{name} = {self.suffixed((':0',) if kind == 'single' else (':0', ':network'))}"
         else:
             text = f"{name} = {self.value(kind)}"
         self.macros[name] = kind
@@ -268,9 +305,13 @@ class Writer:
         port = self.either(40, f" port {self.list('port', 30)}")
         return f" {side}{host}{port}" if host or port else ""
 
-    def criteria(self):
+    def packets(self):
+        """What stands before the hosts of criteria."""
         text = self.either(30, f" on {self.list('interface')}") + self.either(20, " inet")
-        text += self.either(35, f" proto {self.list('protocol')}")
+        return text + self.either(35, f" proto {self.list('protocol')}")
+
+    def criteria(self):
+        text = self.packets()
         if self.chance(25):
             return text + self.either(60, " all")
         return text + self.either(60, self.part("from")) + self.either(60, self.part("to"))
@@ -304,15 +345,66 @@ class Writer:
     def filter(self, depth=0):
         return self.anchor(depth) if depth < 5 and self.chance(30) else self.rule()
 
+    # Translation
+
+    def passed(self):
+        return self.either(25, self.draw.choice((" pass", " pass log")))
+
+    def one_address(self):
+        return self.element("single")
+
+    def nat(self):
+        ports = self.draw.choice(("5", "0", "http", "1024:65535", "50001:50001", "ssh:http"))
+        if self.fault(8):
+            ports = self.draw.choice(("{ 1 2 }", "90:80", "65536", "5:*", self.use("port"), "nosuch", "> 5"))
+        return (f"nat{self.passed()}{self.criteria()} -> {self.one_address()}" + self.either(40, f" port {ports}")
+                + self.either(20, " static-port"))
+
+    def rdr(self):
+        if self.chance(35):
+            return self.map()
+        port = self.draw.choice(("5", "0", "http", "65535"))
+        if self.fault(8):
+            port = self.draw.choice(("{ 1 2 }", "80:90", "65536", "65536:*", "5:*", self.use("port"), "nosuch:*", "> 5"))
+        return f"rdr{self.passed()}{self.criteria()} -> {self.one_address()}" + self.either(50, f" port {port}")
+
+    def map(self):
+        """A rule that moves ports by one distance."""
+        first = self.draw.choice(FIRST_PORTS)
+        if self.fault(8):
+            first = self.draw.choice((64537, 65535, "www"))
+        head = f"rdr{self.passed()}{self.packets()}{self.either(40, self.part('from'))} to"
+        hosts = self.either(60, f" {self.list('host')}")
+        return f"{head}{hosts} port {self.list('moved_port')} -> {self.one_address()} port {first}:*"
+
+    def binat(self):
+        ports = self.either(30, f" port {self.list('port', 30)}")
+        return (f"binat{self.passed()}{self.packets()} from {self.one_address()}{ports}{self.either(60, self.part('to'))}"
+                f" -> {self.one_address()}")
+
+    def translation(self):
+        way = self.draw.randrange(12)
+        if way == 0:
+            return f"{self.draw.choice(('nat', 'rdr', 'binat'))}-anchor {self.draw.choice(('a', 'a/b', chr(34) * 2))}"
+        if way < 3:
+            return f"no {self.draw.choice(('nat', 'rdr', 'binat'))}{self.passed()}{self.criteria()}"
+        return self.draw.choice((self.nat, self.rdr, self.rdr, self.binat))()
+
+    # Texts
+
     def definition(self):
         return self.table() if self.chance(35) else self.macro()
 
     def text(self):
         lines = []
-        for write, most in ((self.option, 6), (self.filter, 9)):
+        for write, most in ((self.option, 6), (self.translation, 6), (self.filter, 9)):
             lines += [self.definition() for _ in range(self.draw.randrange(5))]
             for _ in range(self.draw.randrange(most)):
-                lines.append(self.definition() if self.chance(30) else write())
+                if self.fault(1):
+                    # it may be out of order
+                    lines.append(self.draw.choice((self.option, self.translation, self.filter))())
+                else:
+                    lines.append(self.definition() if self.chance(30) else write())
         return "".join(f"{line}\n" for line in lines).encode()
 
 
@@ -353,14 +445,16 @@ def doubled(times, item="1"):
     return f'm0 = "{item}"\n' + "".join(f"m{n} = $m{n - 1} $m{n - 1}\n" for n in range(1, times + 1))
 
 
-def counted(rules):
-    return f"{rules} filter, 0 translation"
+def counted(rules, translations=0):
+    return f"{rules} filter, {translations} translation"
 
 
 def hostile():
     """Texts that ask for much, with how many rules they make, or their fault."""
     many = f"pass from {{ {addresses(256)} }} to {{ {addresses(256)} }}\n"
     pair = nested("anchor proto { tcp, udp }", "pass\n")
+    translated = f"no nat from {{ {addresses(256)} }} to {{ {addresses(256)} }}\n"
+    ports = f'x = "{{ {" ".join(map(str, range(65536)))} }}"\n'
     hundred = "{ " + " ".join(str(number) for number in range(100)) + " }"
     forty = doubled(40)
     braced = forty + 'l = "{" $m40 "}"\n'
@@ -387,9 +481,8 @@ def hostile():
         ("a table of 65537 that are one", "# entries\ntable <t>\\\n{ " + "self " * 65537 + "}\n", "line 2: too many"),
         ("two tables of 65537", f"table <t> {{ {addresses(65536)} }}\ntable <u> {{ 10.0.0.1 }}\n", "line 2: too many"),
         ("a table of 65537 by macros", f'x = "{{ {addresses(65536)} }}"\ntable <t> {{ $x self }}\n', "line 2: too many"),
-        ("ports of a macro", f'x = "{{ {" ".join(map(str, range(65536)))} }}"\npass to port $x\n', counted(65536)),
-        ("ports of a macro and one", f'x = "{{ {" ".join(map(str, range(65536)))} }}"\npass to port {{ $x 1 }}\n',
-         "line 2: too many"),
+        ("ports of a macro", ports + "pass to port $x\n", counted(65536)),
+        ("ports of a macro and one", ports + "pass to port { $x 1 }\n", "line 2: too many"),
         ("undefined macros", "pass to port { " + "$x " * 65537 + "}\n", "line 1: too many"),
         ("as many undefined macros as may be", "pass to port { " + "$x\n" * 65536 + "}\n", "line 1: undefined macro"),
         ("forty doublings", forty, counted(0)),
@@ -411,6 +504,24 @@ def hostile():
         ("a list of seventeen doublings", doubled(17) + 'l = "{" $m17 "}"\npass to port $l\n', "line 20: too many"),
         ("forty doublings of nothing", doubled(40, ""), counted(0)),
         ("sixteen doublings of nothing round a port", doubled(16, "") + 'l = "80" $m16\npass to port $l\n', counted(1)),
+        ("256 by 256 that aren't translated", translated, counted(0, 65536)),
+        ("256 by 256 that aren't translated, and a rule", translated + "pass\n", "line 2: too many"),
+        ("256 by 256 that aren't translated, and a binat rule", translated + "binat from em0 -> em0\n",
+         "line 2: too many"),
+        ("256 by 256 that aren't translated, and an anchor of none", translated + "nat-anchor a\nanchor {\n}\n",
+         counted(0, 65536)),
+        ("half of both kinds", f"rdr to {{ {addresses(32768)} }} -> em0\nblock to {{ {addresses(32768)} }}\n",
+         counted(32768, 32768)),
+        ("half of both kinds and a rule", f"rdr to {{ {addresses(32768)} }} -> em0\nblock to {{ {addresses(32769)} }}\n",
+         "line 2: too many"),
+        ("a map of the ports of a macro", ports + "rdr to port $x -> em0 port 65535:*\n", counted(0, 65536)),
+        ("a map of the ports of a macro and one", ports + "rdr to port { $x 1 } -> em0 port 5:*\n", "line 2: too many"),
+        ("forty doublings as a target", doubled(40, "10.0.0.1") + "nat -> $m40\n", "line 42: unknown word"),
+        ("forty doublings as a source of binat", doubled(40, "10.0.0.1") + "binat from $m40 -> em0\n",
+         "line 42: unknown word"),
+        ("a list of forty doublings as a target", doubled(40, "10.0.0.1") + 'l = "{" $m40 "}"\nrdr -> $l\n',
+         "line 43: left out: pool"),
+        ("sixteen doublings of nothing round a target", doubled(16, "") + 'l = "em0" $m16\nnat -> $l\n', counted(0, 1)),
         ("forty doublings of what is no word", doubled(40, "$") + "pass to port $m40\n", "line 2: unknown word"),
     )
     return [Text(name, text.encode(), answer=answer) for name, text, answer in cases]

@@ -4,8 +4,8 @@ turn.
 
     expansions.py
 
-The program is a crate of its own on the expansion of rulesets, in a temporary folder. Where the crates under it were
-checked before, it takes two minutes.
+The program is a crate of its own on the expansion of rulesets, in a temporary folder, over a copy of the reader that
+reads translation rules. Where the crates under it were checked before, it takes TIME minutes.
 """
 
 import subprocess
@@ -16,6 +16,7 @@ from pathlib import Path
 sys.dont_write_bytecode = True
 
 import building
+import translation_read
 from expand_compare import record
 from expand_rulesets import EXPANSIONS
 from expand_texts import Text
@@ -28,13 +29,14 @@ SHORT_OF_MEMORY = (
     ("tables_entries_of_macros_laid_flat", "em0", "192.0.2.1/24"),
     ("options_skip_adds_up", "em0", "192.0.2.1/24"),
     ("anchors_nested_lists", "em0", "192.0.2.1/24"),
+    ("translation/example_gateway", "em0", "192.0.2.1/24"),
     ("tables_clash_with_a_value", "em0", "192.0.2.1/24"),
 )
 
 
 def build(folder):
     """The program, built in this folder."""
-    return building.build(folder, "expand_rulesets", ["pfr_conf", "pfr_expand"])
+    return building.build(folder, "expand_rulesets", ["pfr_conf", "pfr_expand"], translation_read.CHANGES)
 
 
 def refuse_memory(program):
