@@ -15,7 +15,7 @@ use Rattle.pfr_terms.specs.declared.address.Host.TheVariants as h
 use Rattle.pfr_terms.specs.declared.address.Address.{Address}
 use Rattle.pfr_terms.specs.declared.address.Address.TheVariants as a
 use Rattle.pfr_terms.specs.declared.address.AddressMatch.{AddressMatch}
-use Rattle.pfr_terms.specs.Input.{Parser, ◌>>=◌, pure, note, line_ahead, sees_sign, of_value, unknown_word, left_out_at}
+use Rattle.pfr_terms.specs.Input.{Parser, ◌>>=◌, pure, note, finish, line_ahead, sees_sign, of_value, unknown_word, left_out_at}
 use Rattle.pfr_terms.specs.Addresses as addresses
 use Rattle.pfr_elements.specs.declared.hosts.HostSet.{HostSet}
 use Rattle.pfr_elements.specs.declared.hosts.HostSet.TheVariants as set
@@ -28,6 +28,7 @@ use Rattle.pfr_elements.specs.Values.{value_at}
 use Rattle.pfr_elements.specs.Interfaces.{whole}
 use Rattle.pfr_elements.specs.Elements.{noted, value_item, value_items, one_read, none_yet, with_meaning, elements_from}
 use Rattle.pfr_elements.specs.Hosts.{host_meaning, host_criterion}
+use Rattle.pfr_elements.specs.Terms.{misplaced}
 
 -- ---- faults
 
@@ -44,47 +45,7 @@ abbrev pub table_fault : Bool → ℕ → ConfError
 table_fault true line = pool line
 table_fault false line = bad_address line
 
--- ---- the value of a macro
-
-abbrev pub without_sign : Bool → ℕ → Ipv4Address → Result Ipv4Address ConfError
-without_sign true line address = Err (bad_address line)
-without_sign false line address = Ok address
-
--- what an address of a rule comes to where one address has to stand
-abbrev pub one_in : Bool → Bool → ℕ → HostSet → Result Ipv4Address ConfError
-one_in has_tables is_negated line (set.Network network) = if nat_lt network.bits 32 then Err (pool line) else without_sign is_negated line network.address
-one_in has_tables is_negated line (set.Table place) = Err (table_fault has_tables line)
-one_in has_tables is_negated line set.Any = Err (bad_address line)
-one_in has_tables is_negated line (set.Range first last) = Err (bad_address line)
-
--- a list or a table ahead is more than one address
-unfoldable pub note_ahead : Bool → Parser (Unit {0})
-note_ahead has_tables = λ i. if sees_sign s.OpenBrace i || (has_tables && sees_sign s.Less i) then note (pool (line_ahead i)) i else pure tt i
-
--- what a value's addresses come to: one at fault is gathered already, and so are several
-abbrev pub only_in : Bool → List HostCriterion → Parser (Option Ipv4Address)
-only_in has_tables [] = pure None
-only_in has_tables (c ∷ []) = noted (one_in has_tables c.is_negated 0 c.hosts)
-only_in has_tables (c ∷ d ∷ more) = pure None
-
--- the value of a macro that stands for one address
-unfoldable pub value_single : Bool → Scope → Parser (Option Ipv4Address)
-value_single has_tables scope = do
-  _ ← note_ahead has_tables
-  found ← value_items (value_item host_criterion addresses.address_match scope)
-  only_in has_tables found
-
-abbrev pub single_in : Bool → Scope → ℕ → Result Value ConfError → Result Ipv4Address ConfError
-single_in has_tables scope line (Err e) = Err e
-single_in has_tables scope line (Ok (TooLong true)) = Err (pool line)
-single_in has_tables scope line (Ok (TooLong false)) = Err (unknown_word line)
-single_in has_tables scope line (Ok (Text text)) = one_read line (value_single has_tables scope (of_value (words text)))
-
--- the use of a macro that stands for one address
-unfoldable pub used_single : Bool → Scope → MacroUse → Result Ipv4Address ConfError
-used_single has_tables scope found = single_in has_tables scope found.line (value_at scope.macros false found)
-
--- ---- what is written in a rule
+-- ---- hosts
 
 -- the line of a host that is a name, else this line
 abbrev pub host_line : ℕ → Host → ℕ
@@ -98,6 +59,53 @@ one_network line (Ok network) = if nat_lt network.bits 32 then Err (pool line) e
 
 abbrev pub one_host : Scope → ℕ → Host → Result Ipv4Address ConfError
 one_host scope line host = one_network (host_line line host) (host_meaning scope host)
+
+-- ---- the value of a macro
+
+abbrev pub without_sign : Bool → ℕ → Result Ipv4Address ConfError → Result Ipv4Address ConfError
+without_sign true line (Ok address) = Err (bad_address line)
+without_sign false line (Ok address) = Ok address
+without_sign is_negated line (Err e) = Err e
+
+abbrev pub one_by : Bool → Scope → Bool → Address → Result Ipv4Address ConfError
+one_by has_tables scope is_negated (a.Host host) = without_sign is_negated 0 (one_host scope 0 host)
+one_by has_tables scope is_negated (a.Table name) = Err (table_fault has_tables 0)
+one_by has_tables scope is_negated (a.Macro found) = Err (misplaced found)
+one_by has_tables scope is_negated other = Err (bad_address 0)
+
+-- what an address in a value comes to where one address has to stand; its fault will stand where the value is used
+unfoldable pub one_meaning : Bool → Scope → AddressMatch → Result Ipv4Address ConfError
+one_meaning has_tables scope m = one_by has_tables scope m.is_negated m.address
+
+-- a list is more than one address, even if it has only one
+abbrev pub value_list : Scope → Parser (Option Ipv4Address)
+value_list scope = do
+  _ ← (λ i. note (pool (line_ahead i)) i)
+  _ ← value_items (value_item host_criterion addresses.address_match scope)
+  pure None
+
+abbrev pub value_host : Bool → Scope → Parser (Option Ipv4Address)
+value_host has_tables scope = do
+  m ← addresses.address_match
+  found ← noted (one_meaning has_tables scope m)
+  _ ← finish
+  pure found
+
+-- the value of a macro that stands for one address
+unfoldable pub value_single : Bool → Scope → Parser (Option Ipv4Address)
+value_single has_tables scope = λ i. if sees_sign s.OpenBrace i then value_list scope i else value_host has_tables scope i
+
+abbrev pub single_in : Bool → Scope → ℕ → Result Value ConfError → Result Ipv4Address ConfError
+single_in has_tables scope line (Err e) = Err e
+single_in has_tables scope line (Ok (TooLong true)) = Err (pool line)
+single_in has_tables scope line (Ok (TooLong false)) = Err (unknown_word line)
+single_in has_tables scope line (Ok (Text text)) = one_read line (value_single has_tables scope (of_value (words text)))
+
+-- the use of a macro that stands for one address
+unfoldable pub used_single : Bool → Scope → MacroUse → Result Ipv4Address ConfError
+used_single has_tables scope found = single_in has_tables scope found.line (value_at scope.macros false found)
+
+-- ---- what is written in a rule
 
 -- an address or the use of a macro for one, in a rule on this line
 unfoldable pub written_single : Bool → Scope → ℕ → Written Host → Result Ipv4Address ConfError

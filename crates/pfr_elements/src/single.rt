@@ -12,7 +12,9 @@ use crate::faults::{at_line, left_out, unknown_word};
 use crate::hosts::{HostCriterion, HostSet, host_meaning};
 use crate::interface::whole;
 use crate::scope::Scope;
+use crate::terms::misplaced;
 use crate::value::Value;
+use pfr_terms::lists::Item;
 use pfr_terms::{
     Address, AddressMatch, ConfError, ConfErrorKind, Host, Ipv4Address, MacroUse, Network, Reader,
     Written,
@@ -46,115 +48,6 @@ fn table_fault(alloc: Global, has_tables: bool, line: usize) -> Result<ConfError
         pool(alloc, line)
     } else {
         Ok(bad_address(line))
-    }
-}
-
-/// The address of what an address of a rule means, where one address has to stand.
-fn one_in(
-    alloc: Global,
-    has_tables: bool,
-    line: usize,
-    found: &HostCriterion,
-) -> Result<Result<Ipv4Address, ConfError>, ConfError>
-    ensures { Makes (spec.one_in has_tables found.now.is_negated line found.now.hosts) result }
-{
-    match found.hosts {
-        HostSet::Network(network) => {
-            if network.bits < 32 {
-                Ok(Err(pool(alloc, line)?))
-            } else if found.is_negated {
-                Ok(Err(bad_address(line)))
-            } else {
-                Ok(Ok(network.address))
-            }
-        }
-        HostSet::Table(_) => Ok(Err(table_fault(alloc, has_tables, line)?)),
-        _ => Ok(Err(bad_address(line))),
-    }
-}
-
-/// Gathers the fault of a list or a table that comes next. It is more than one address even if it has only one.
-#[tactic(auto, unfolding(crate::specs::Single::note_ahead))]
-fn note_ahead(alloc: Global, reader: &mut Reader<'_, '_>, has_tables: bool) -> Result<(), ConfError>
-    ensures { Reads (spec.note_ahead has_tables reader.old) result reader.new }
-{
-    if reader.sees_sign(Sign::OpenBrace) || (has_tables && reader.sees_sign(Sign::Less)) {
-        let fault = pool(alloc, reader.line_ahead())?;
-        reader.note(fault);
-    }
-    Ok(())
-}
-
-/// The address that the addresses of a value come to. Where there is none, or several, a fault is gathered already.
-fn only_in(
-    alloc: Global,
-    reader: &mut Reader<'_, '_>,
-    has_tables: bool,
-    found: &[HostCriterion],
-) -> Result<Option<Ipv4Address>, ConfError>
-    ensures { Reads (spec.only_in has_tables found.now reader.old) result reader.new }
-{
-    match found {
-        [only] => {
-            let address = one_in(alloc, has_tables, 0, only)?;
-            Ok(noted(reader, address))
-        }
-        _ => Ok(None),
-    }
-}
-
-/// The one address that is the value of a macro.
-#[tactic(auto, unfolding(crate::specs::Single::value_single))]
-fn value_single(
-    alloc: Global,
-    scope: &Scope<'_>,
-    reader: &mut Reader<'_, '_>,
-    has_tables: bool,
-) -> Result<Option<Ipv4Address>, ConfError>
-    ensures { Reads (spec.value_single has_tables scope.now reader.old) result reader.new }
-{
-    note_ahead(alloc, reader, has_tables)?;
-    let found = value_items::<AddressMatch<'_>>(alloc, scope, reader)?;
-    only_in(alloc, reader, has_tables, found.as_slice())
-}
-
-/// The address that the text of a macro's value stands for. All its faults stand on the line of the use.
-fn single_read(
-    alloc: Global,
-    scope: &Scope<'_>,
-    has_tables: bool,
-    line: usize,
-    text: &[u8],
-) -> Result<Result<Ipv4Address, ConfError>, ConfError>
-    ensures { Makes (elements.one_read line (spec.value_single has_tables scope.now (of_value (ws.words text.now)))) result }
-{
-    let value = words(alloc, text)?;
-    let mut reader = Reader::of_value(value.as_slice());
-    let found = match value_single(alloc, scope, &mut reader, has_tables) {
-        Ok(found) => found,
-        Err(fault) if is_memory(&fault) => return Err(fault),
-        Err(fault) => return Ok(Err(at_line(line, fault))),
-    };
-    Ok(one_gathered(line, found, reader.into_gathered()))
-}
-
-/// The address that the use of a macro stands for.
-#[tactic(auto, unfolding(crate::specs::Single::used_single))]
-fn used_single(
-    alloc: Global,
-    scope: &Scope<'_>,
-    has_tables: bool,
-    found: &MacroUse<'_>,
-) -> Result<Result<Ipv4Address, ConfError>, ConfError>
-    ensures { Makes (spec.used_single has_tables scope.now found.now) result }
-{
-    match scope.macros.value_at(alloc, found, false)? {
-        Err(fault) => Ok(Err(fault)),
-        Ok(Value::TooLong(true)) => Ok(Err(pool(alloc, found.line)?)),
-        Ok(Value::TooLong(false)) => Ok(Err(unknown_word(found.line))),
-        Ok(Value::Text(text)) => {
-            single_read(alloc, scope, has_tables, found.line, text.as_slice())
-        }
     }
 }
 
@@ -196,6 +89,113 @@ fn one_host(
     match host_meaning(alloc, scope, host)? {
         Ok(network) => one_network(alloc, host_line(line, host), network),
         Err(fault) => Ok(Err(fault)),
+    }
+}
+
+/// The address that an address in a value stands for. Its fault will stand where the value is used.
+#[tactic(auto, unfolding(crate::specs::Single::one_meaning))]
+fn one_meaning(
+    alloc: Global,
+    scope: &Scope<'_>,
+    has_tables: bool,
+    found: &AddressMatch<'_>,
+) -> Result<Result<Ipv4Address, ConfError>, ConfError>
+    ensures { Makes (spec.one_meaning has_tables scope.now found.now) result }
+{
+    match &found.address {
+        Address::Host(host) => match one_host(alloc, scope, 0, host)? {
+            Ok(_) if found.is_negated => Ok(Err(bad_address(0))),
+            address => Ok(address),
+        },
+        Address::Table(_) => Ok(Err(table_fault(alloc, has_tables, 0)?)),
+        Address::Macro(used) => Ok(Err(misplaced(used))),
+        _ => Ok(Err(bad_address(0))),
+    }
+}
+
+/// Reads a list. It is more than one address, even if it has only one.
+fn value_list(
+    alloc: Global,
+    scope: &Scope<'_>,
+    reader: &mut Reader<'_, '_>,
+) -> Result<Option<Ipv4Address>, ConfError>
+    ensures { Reads (spec.value_list scope.now reader.old) result reader.new }
+{
+    let fault = pool(alloc, reader.line_ahead())?;
+    reader.note(fault);
+    value_items::<AddressMatch<'_>>(alloc, scope, reader)?;
+    Ok(None)
+}
+
+fn value_host(
+    alloc: Global,
+    scope: &Scope<'_>,
+    reader: &mut Reader<'_, '_>,
+    has_tables: bool,
+) -> Result<Option<Ipv4Address>, ConfError>
+    ensures { Reads (spec.value_host has_tables scope.now reader.old) result reader.new }
+{
+    let written = AddressMatch::read(alloc, reader)?;
+    let address = one_meaning(alloc, scope, has_tables, &written)?;
+    let found = noted(reader, address);
+    reader.finish(alloc)?;
+    Ok(found)
+}
+
+/// The one address that is the value of a macro.
+#[tactic(auto, unfolding(crate::specs::Single::value_single))]
+fn value_single(
+    alloc: Global,
+    scope: &Scope<'_>,
+    reader: &mut Reader<'_, '_>,
+    has_tables: bool,
+) -> Result<Option<Ipv4Address>, ConfError>
+    ensures { Reads (spec.value_single has_tables scope.now reader.old) result reader.new }
+{
+    if reader.sees_sign(Sign::OpenBrace) {
+        value_list(alloc, scope, reader)
+    } else {
+        value_host(alloc, scope, reader, has_tables)
+    }
+}
+
+/// The address that the text of a macro's value stands for. All its faults stand on the line of the use.
+fn single_read(
+    alloc: Global,
+    scope: &Scope<'_>,
+    has_tables: bool,
+    line: usize,
+    text: &[u8],
+) -> Result<Result<Ipv4Address, ConfError>, ConfError>
+    ensures { Makes (elements.one_read line (spec.value_single has_tables scope.now (of_value (ws.words text.now)))) result }
+{
+    let value = words(alloc, text)?;
+    let mut reader = Reader::of_value(value.as_slice());
+    let found = match value_single(alloc, scope, &mut reader, has_tables) {
+        Ok(found) => found,
+        Err(fault) if is_memory(&fault) => return Err(fault),
+        Err(fault) => return Ok(Err(at_line(line, fault))),
+    };
+    Ok(one_gathered(line, found, reader.into_gathered()))
+}
+
+/// The address that the use of a macro stands for.
+#[tactic(auto, unfolding(crate::specs::Single::used_single))]
+fn used_single(
+    alloc: Global,
+    scope: &Scope<'_>,
+    has_tables: bool,
+    found: &MacroUse<'_>,
+) -> Result<Result<Ipv4Address, ConfError>, ConfError>
+    ensures { Makes (spec.used_single has_tables scope.now found.now) result }
+{
+    match scope.macros.value_at(alloc, found, false)? {
+        Err(fault) => Ok(Err(fault)),
+        Ok(Value::TooLong(true)) => Ok(Err(pool(alloc, found.line)?)),
+        Ok(Value::TooLong(false)) => Ok(Err(unknown_word(found.line))),
+        Ok(Value::Text(text)) => {
+            single_read(alloc, scope, has_tables, found.line, text.as_slice())
+        }
     }
 }
 
