@@ -33,9 +33,9 @@ KINDS = ("interface", "skipped", "protocol", "icmp", "host", "host", "port", "mo
          "single", "name", "name", "free_word")
 # those of which a value holds one
 ONE_ALONE = ("single", "name", "free_word")
-# forms of the interface that are one address, if its network isn't one
+# forms of the interface that are one address, whatever its network
 SINGLE_FORMS = ("self", "{i}", "{i}:0", "({i})", "({i}:0)")
-# first ports of a map, from which ports of moved ranges mostly get no farther than the last
+# first ports of a map; from the last of them the longest range just gets to the last port
 FIRST_PORTS = (0, 80, 8080, 40000, 64536)
 MOVED_LENGTHS = (0, 1, 99, 535, 999)
 # what fits no place, or not every one
@@ -350,14 +350,11 @@ class Writer:
     def passed(self):
         return self.either(25, self.draw.choice((" pass", " pass log")))
 
-    def one_address(self):
-        return self.element("single")
-
     def nat(self):
         ports = self.draw.choice(("5", "0", "http", "1024:65535", "50001:50001", "ssh:http"))
         if self.fault(8):
             ports = self.draw.choice(("{ 1 2 }", "90:80", "65536", "5:*", self.use("port"), "nosuch", "> 5"))
-        return (f"nat{self.passed()}{self.criteria()} -> {self.one_address()}" + self.either(40, f" port {ports}")
+        return (f"nat{self.passed()}{self.criteria()} -> {self.element('single')}" + self.either(40, f" port {ports}")
                 + self.either(20, " static-port"))
 
     def rdr(self):
@@ -366,7 +363,7 @@ class Writer:
         port = self.draw.choice(("5", "0", "http", "65535"))
         if self.fault(8):
             port = self.draw.choice(("{ 1 2 }", "80:90", "65536", "65536:*", "5:*", self.use("port"), "nosuch:*", "> 5"))
-        return f"rdr{self.passed()}{self.criteria()} -> {self.one_address()}" + self.either(50, f" port {port}")
+        return f"rdr{self.passed()}{self.criteria()} -> {self.element('single')}" + self.either(50, f" port {port}")
 
     def map(self):
         """A rule that moves ports by one distance."""
@@ -375,17 +372,17 @@ class Writer:
             first = self.draw.choice((64537, 65535, "www"))
         head = f"rdr{self.passed()}{self.packets()}{self.either(40, self.part('from'))} to"
         hosts = self.either(60, f" {self.list('host')}")
-        return f"{head}{hosts} port {self.list('moved_port')} -> {self.one_address()} port {first}:*"
+        return f"{head}{hosts} port {self.list('moved_port')} -> {self.element('single')} port {first}:*"
 
     def binat(self):
-        ports = self.either(30, f" port {self.list('port', 30)}")
-        return (f"binat{self.passed()}{self.packets()} from {self.one_address()}{ports}{self.either(60, self.part('to'))}"
-                f" -> {self.one_address()}")
+        source = self.element("single") + self.either(30, f" port {self.list('port', 30)}")
+        head = f"binat{self.passed()}{self.packets()} from {source}"
+        return f"{head}{self.either(60, self.part('to'))} -> {self.element('single')}"
 
     def translation(self):
         way = self.draw.randrange(12)
         if way == 0:
-            return f"{self.draw.choice(('nat', 'rdr', 'binat'))}-anchor {self.draw.choice(('a', 'a/b', chr(34) * 2))}"
+            return f"{self.draw.choice(('nat', 'rdr', 'binat'))}-anchor " + self.draw.choice(("a", "a/b", '"inner one"'))
         if way < 3:
             return f"no {self.draw.choice(('nat', 'rdr', 'binat'))}{self.passed()}{self.criteria()}"
         return self.draw.choice((self.nat, self.rdr, self.rdr, self.binat))()

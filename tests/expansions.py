@@ -5,7 +5,7 @@ turn.
     expansions.py
 
 The program is a crate of its own on the expansion of rulesets, in a temporary folder, over a copy of the reader that
-reads translation rules. Where the crates under it were checked before, it takes TIME minutes.
+reads translation rules. Where the crates under it were checked before, it takes five minutes.
 """
 
 import subprocess

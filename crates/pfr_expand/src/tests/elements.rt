@@ -359,68 +359,6 @@ fn targets_are_one_address(rt: HostRuntime) -> Result<(), Fail> {
     ];
     let scope = scope_on(alloc, b"em0")?;
     for (text, expected) in table {
-        assert!(rt;
-            is_network(alloc, &scope, text.as_bytes(), false, expected)?,
-            "at {text}"
-        );
-    }
-    let expected = "rules line 1: left out: host name";
-    for text in ["em1", "em", "em00", "em1:network", "em0:1", "em0:0:0"] {
-        let told = fault_in(alloc, &scope, text.as_bytes())?;
-        assert_eq!(rt; told.as_str(), expected, "at {text}");
-    }
-    // names have at most 15 bytes
-    let scope = scope_on(alloc, b"interface-fifte")?;
-    assert!(rt; is_network(alloc, &scope, b"interface-fifte", false, own)?);
-    assert!(rt; is_network(alloc, &scope, b"interface-fifte:0", false, own)?);
-    let told = fault_in(alloc, &scope, b"interface-fiftee")?;
-    assert_eq!(rt; told.as_str(), expected);
-    assert!(rt; IfName::new(b"interface-fiftee").bytes == *b"interface-fifte\0");
-    Ok(())
-}
-
-#[test]
-fn targets_are_one_address(rt: HostRuntime) -> Result<(), Fail> {
-    let alloc = rt.alloc();
-    let pool = "rules line 2: left out: pool";
-    let bad = "rules line 2: bad address";
-    let unknown = "rules line 2: unknown word";
-    let own = "192.0.2.1";
-    let table = [
-        ("10.0.0.1/32", "$x", true, "10.0.0.1"),
-        ("em0", "$x:0", true, own),
-        // more than one, or a list of one
-        ("{ 10.0.0.1 }", "$x", false, pool),
-        ("em0:network", "($x)", true, pool),
-        // a table is more than one, or none that may stand there, and isn't looked up
-        ("!<nowhere>", "$x", true, pool),
-        ("<nowhere>", "$x", false, bad),
-        // no address that may stand there
-        ("any", "$x", true, bad),
-        ("10.0.0.1 - 10.0.0.9", "$x", true, bad),
-        ("! 10.0.0.1", "$x", true, bad),
-        // of all faults of a value the lowest is told, and of equals the first
-        ("{ 10/8 }", "$x", true, pool),
-        ("10.0.0.1 10.0.0.2", "$x", true, unknown),
-    ];
-    for (value, used, has_tables, expected) in table {
-        let scope = scope_with(alloc, value.as_bytes())?;
-        let told = target_in(alloc, &scope, has_tables, used)?;
-        assert_eq!(rt; told.as_str(), expected, "at {value} by {used}");
-    }
-    // a name's fault stands on its line, and that of an address on the line of the rule
-    let table = [
-        ("10.0.0.1", "10.0.0.1"),
-        ("10.0.0.1/32", "10.0.0.1"),
-        ("self", own),
-        ("em0:0", own),
-        ("em0:network", pool),
-        ("(em0:network)", pool),
-        ("em1", "rules line 2: left out: host name"),
-        ("10.0.0.0/31", "rules line 1: left out: pool"),
-    ];
-    let scope = scope_on(alloc, b"em0")?;
-    for (text, expected) in table {
         let told = target_in(alloc, &scope, true, text)?;
         assert_eq!(rt; told.as_str(), expected, "at {text}");
     }
