@@ -1,6 +1,5 @@
 -- What addresses mean in a list: interface forms by the run's interface, tables by their places.
-use Rattle.std.specs.Prelude.{ℕ, suc, Bool, true, false, List, [], ◌∷◌, Option, Some, None, Result, Ok, Err, if◌then◌else◌, codes}
-use Rattle.std.specs.Str.{bytes_eq}
+use Rattle.std.specs.Prelude.{ℕ, Bool, true, false, List, [], ◌∷◌, Option, Some, None, Result, Ok, Err, codes}
 use Rattle.pfr_words.specs.Words.{words}
 use Rattle.pfr_terms.specs.declared.error.ConfError.{ConfError}
 use Rattle.pfr_terms.specs.declared.error.ConfErrorKind.TheVariants.{UndefinedTable}
@@ -26,6 +25,7 @@ use Rattle.pfr_elements.specs.declared.value.Value.{Value}
 use Rattle.pfr_elements.specs.declared.value.Value.TheVariants.{Text, TooLong}
 use Rattle.pfr_elements.specs.Values.{value_at}
 use Rattle.pfr_elements.specs.Interfaces.{whole, masked, form_of}
+use Rattle.pfr_elements.specs.Names.{last_place}
 use Rattle.pfr_elements.specs.Elements.{noted, one_read}
 use Rattle.pfr_elements.specs.Terms.{use_in, misplaced}
 
@@ -67,11 +67,7 @@ host_meaning scope (h.InterfaceMacro found) = used_form scope found
 
 -- ---- addresses of rules
 
--- the place of a table among those that are defined
-abbrev pub place_from : ℕ → List ℕ → List (List ℕ) → Option ℕ
-place_from place name [] = None
-place_from place name (t ∷ tables) = if bytes_eq t name then Some place else place_from (suc place) name tables
-
+-- a table by its place among those that are defined
 abbrev pub table_by : Name → Option ℕ → Result HostSet ConfError
 table_by name (Some place) = Ok (set.Table place)
 table_by name None = Err (record { line = name.line; kind = UndefinedTable })
@@ -84,7 +80,7 @@ unfoldable pub address_meaning : Scope → Address → Result HostSet ConfError
 address_meaning scope a.Any = Ok set.Any
 address_meaning scope (a.Host host) = network_set (host_meaning scope host)
 address_meaning scope (a.Range first last) = Ok (set.Range first last)
-address_meaning scope (a.Table name) = table_by name (place_from 0 name.text scope.tables)
+address_meaning scope (a.Table name) = table_by name (last_place name.text scope.tables)
 address_meaning scope (a.Macro found) = Err (misplaced found)
 
 abbrev pub with_sign : Bool → Result HostSet ConfError → Result HostCriterion ConfError

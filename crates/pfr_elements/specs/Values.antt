@@ -1,6 +1,6 @@
 -- The values of macros, as pf.conf(5) has them: text, whose words are read where the macro is used.
 use Rattle.std.specs.Prelude.{◌≡◌, ℕ, ◌+◌, ◌-◌, ◌==◌, ◌&&◌, ◌||◌, Bool, true, false, not, nat_le, if◌then◌else◌, List, [], ◌∷◌, ◌++◌, length, Option, Some, None, Result, Ok, Err}
-use Rattle.std.specs.Str.{bytes_eq}
+use Rattle.std.specs.List.{slice_get}
 use Rattle.pfr_words.specs.declared.sign.Sign.TheVariants as s
 use Rattle.pfr_words.specs.declared.word.Token.{Token}
 use Rattle.pfr_words.specs.declared.word.Token.TheVariants as t
@@ -13,8 +13,8 @@ use Rattle.pfr_terms.specs.Input.{unknown_word, plain_in}
 use Rattle.pfr_elements.specs.declared.value.Value.{Value}
 use Rattle.pfr_elements.specs.declared.value.Value.TheVariants.{Text, TooLong}
 use Rattle.pfr_elements.specs.declared.value.Draft.{Draft}
-use Rattle.pfr_elements.specs.declared.macros.Definition.{Definition}
 use Rattle.pfr_elements.specs.declared.macros.Macros.{Macros}
+use Rattle.pfr_elements.specs.Names.{last_place}
 
 -- what is made, unless memory is refused
 abbrev pub Makes : {A : Type 0} → A → Result A ConfError → Type 0
@@ -61,13 +61,13 @@ only_plain (w ∷ v ∷ ws) = None
 
 -- ---- definitions
 
--- the value that the last definition of this name gives
-abbrev pub latest_from : Option Value → List ℕ → List Definition → Option Value
-latest_from found name [] = found
-latest_from found name (d ∷ ds) = latest_from (if bytes_eq d.name name then Some d.value else found) name ds
+abbrev pub latest_at : List Value → Option ℕ → Option Value
+latest_at values None = None
+latest_at values (Some place) = slice_get values place
 
-abbrev pub latest : List ℕ → List Definition → Option Value
-latest name ds = latest_from None name ds
+-- the value that the last definition of this name gives
+abbrev pub latest : List ℕ → Macros → Option Value
+latest name macros = latest_at macros.values (last_place name macros.names)
 
 -- the first byte that is no blank
 abbrev pub first_byte : List ℕ → ℕ
@@ -112,13 +112,14 @@ unfoldable pub with_macro : Value → Draft → Draft
 with_macro value draft = with_macro_by draft.value draft.spliced value
 
 abbrev pub no_macros : Macros
-no_macros = record { definitions = []; spliced = 0 }
+no_macros = record { names = []; values = []; spliced = 0 }
 
 abbrev pub begun : Macros → Draft
 begun macros = record { value = Text []; spliced = macros.spliced }
 
 abbrev pub defined : List ℕ → Draft → Macros → Macros
-defined name draft macros = record { definitions = macros.definitions ++ record { name = name; value = draft.value } ∷ []; spliced = draft.spliced }
+defined name draft macros =
+    record { names = macros.names ++ name ∷ []; values = macros.values ++ draft.value ∷ []; spliced = draft.spliced }
 
 -- ---- uses
 
@@ -141,7 +142,7 @@ value_by found is_negated (Some (Text text)) = value_in found is_negated text
 
 -- what a use stands for, with its suffix
 unfoldable pub value_at : Macros → Bool → MacroUse → Result Value ConfError
-value_at macros is_negated found = value_by found is_negated (latest found.name macros.definitions)
+value_at macros is_negated found = value_by found is_negated (latest found.name macros)
 
 abbrev pub plain_word_in : ℕ → Option (List ℕ) → Result (Unit {0}) ConfError
 plain_word_in line None = Err (unknown_word line)

@@ -3,6 +3,7 @@ ghost use Rattle.std.specs.Prelude.{◌≡◌, ◌<◌, ◌≤◌, Ok};
 ghost use Rattle.pfr_terms.specs.Addresses as addresses;
 ghost use Rattle.pfr_elements.specs.Elements as elements;
 ghost use Rattle.pfr_elements.specs.Hosts as spec;
+ghost use Rattle.pfr_elements.specs.Names.{last_place};
 ghost use Rattle.pfr_elements.specs.Values.{Makes};
 ghost use Rattle.pfr_terms.specs.Input.{Reads, of_value};
 ghost use Rattle.pfr_words.specs.Words as ws;
@@ -19,7 +20,6 @@ use pfr_terms::{
     Address, AddressMatch, ConfError, ConfErrorKind, Host, Ipv4Address, MacroUse, Name, Network,
     Reader, TableEntry, Written,
 };
-use pfr_words::Bytes;
 use pfr_words::spelling::words;
 use std::alloc::Global;
 
@@ -126,24 +126,10 @@ pub fn host_meaning(
     }
 }
 
-/// The place of a table among those that are defined.
-pub fn place_of(name: &[u8], tables: &[Bytes<'_>]) -> Option<usize>
-    ensures { result ≡ spec.place_from 0 name.now tables.now }
-{
-    let mut place: usize = 0;
-    for table in tables {
-        if table.as_slice() == name {
-            return Some(place);
-        }
-        place += 1;
-    }
-    None
-}
-
 fn table_meaning(scope: &Scope<'_>, name: &Name<'_>) -> Result<HostSet, ConfError>
-    ensures { result ≡ spec.table_by name.now (spec.place_from 0 name.now.text scope.now.tables) }
+    ensures { result ≡ spec.table_by name.now (last_place name.now.text scope.now.tables) }
 {
-    match place_of(name.text.as_slice(), scope.tables.as_slice()) {
+    match scope.tables.last_place(name.text.as_slice()) {
         Some(place) => Ok(HostSet::Table(place)),
         None => Err(ConfError {
             line: name.line,

@@ -5,6 +5,7 @@ ghost use Rattle.pfr_elements.specs.Values as spec;
 ghost use Rattle.pfr_elements.specs.Values.{Makes};
 
 use crate::faults::unknown_word;
+use crate::names::Names;
 use crate::text::is_sound;
 use crate::value::{Draft, Value};
 use pfr_terms::{ConfError, ConfErrorKind, MacroUse};
@@ -12,31 +13,23 @@ use pfr_words::spelling::words;
 use pfr_words::{Bytes, Items, Token, Word};
 use std::alloc::{AllocError, Global};
 
-/// A macro and its value.
-#[derive(Drop)]
-pub struct Definition<'a> {
-    pub name: Bytes<'a>,
-    pub value: Value,
-}
-
 /// The macros that are defined so far, in the order of the text, and how many bytes of others' values they hold.
 #[derive(Drop)]
 pub struct Macros<'a> {
-    pub definitions: Items<Definition<'a>>,
+    pub names: Names<'a>,
+    /// The value that each definition gives, at the place of its name.
+    pub values: Items<Value>,
     pub spliced: usize,
 }
 
 /// The value that the last definition of this name gives.
-fn latest<'d>(definitions: &'d [Definition<'_>], name: &[u8]) -> Option<&'d Value>
-    ensures { option_copied result ≡ spec.latest name.now definitions.now }
+fn latest<'m>(macros: &'m Macros<'_>, name: &[u8]) -> Option<&'m Value>
+    ensures { option_copied result ≡ spec.latest name.now macros.now }
 {
-    let mut found = None;
-    for definition in definitions {
-        if definition.name.as_slice() == name {
-            found = Some(&definition.value);
-        }
+    match macros.names.last_place(name) {
+        Some(place) => macros.values.as_slice().get(place),
+        None => None,
     }
-    found
 }
 
 /// The word of a value of one plain word.
@@ -99,7 +92,8 @@ impl<'a> Macros<'a> {
         ensures { result ≡ spec.no_macros }
     {
         Macros {
-            definitions: Items::new(alloc),
+            names: Names::new(alloc),
+            values: Items::new(alloc),
             spliced: 0,
         }
     }
@@ -118,10 +112,8 @@ impl<'a> Macros<'a> {
     pub fn define(&mut self, name: Bytes<'a>, draft: Draft) -> Result<(), AllocError>
         ensures { OnOk result (self.new ≡ spec.defined name.entry draft self.old) }
     {
-        self.definitions.push(Definition {
-            name,
-            value: draft.value,
-        })?;
+        self.names.push(name)?;
+        self.values.push(draft.value)?;
         self.spliced = draft.spliced;
         Ok(())
     }
@@ -136,7 +128,7 @@ impl<'a> Macros<'a> {
     ) -> Result<Result<Value, ConfError>, ConfError>
         ensures { Makes (spec.value_at self.now is_negated found.now) result }
     {
-        match latest(self.definitions.as_slice(), found.name.as_slice()) {
+        match latest(self, found.name.as_slice()) {
             None => Ok(Err(ConfError {
                 line: found.line,
                 kind: ConfErrorKind::UndefinedMacro,

@@ -1,7 +1,7 @@
 //! What gives the words of a ruleset their meaning.
 use crate::interface::Interface;
 use crate::macros::Macros;
-use pfr_words::{Bytes, Items};
+use crate::names::Names;
 
 /// The run's interface, and the macros and tables that are defined so far.
 #[derive(Drop)]
@@ -9,5 +9,5 @@ pub struct Scope<'a> {
     pub interface: Interface,
     pub macros: Macros<'a>,
     /// The names of the tables; a table is known by its place among them.
-    pub tables: Items<Bytes<'a>>,
+    pub tables: Names<'a>,
 }
