@@ -23,7 +23,7 @@ use Rattle.pfr_elements.specs.declared.macros.Macros.{Macros}
 use Rattle.pfr_elements.specs.declared.value.Value.{Value}
 use Rattle.pfr_elements.specs.declared.value.Draft.{Draft}
 use Rattle.pfr_elements.specs.Values.{value_at, with_text, with_macro, begun, defined, no_macros}
-use Rattle.pfr_elements.specs.Hosts.{place_from}
+use Rattle.pfr_elements.specs.Names.{last_place}
 use Rattle.pfr_elements.specs.Elements.{most_elements}
 use Rattle.pfr_expand.specs.declared.body.Setting.{Setting}
 use Rattle.pfr_expand.specs.declared.body.Body.{Body}
@@ -88,7 +88,7 @@ counted_table work d filling =
 
 unfoldable pub with_table : TableDefinition → Work → Result Work ConfError
 with_table d work =
-    counted_table work d (filled work.scope (unfilled (clash_of d.name (is_some (place_from 0 d.name.text work.scope.tables)))) d.entries)
+    counted_table work d (filled work.scope (unfilled (clash_of d.name (is_some (last_place d.name.text work.scope.tables)))) d.entries)
 
 -- ---- options
 

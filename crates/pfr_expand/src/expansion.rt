@@ -2,7 +2,7 @@
 ghost use Rattle.std.specs.Prelude.{◌≡◌, ◌<◌, ◌≤◌, ◌+◌, ◌++◌, length, map, OnOk, IfOk};
 ghost use Rattle.std.specs.Option.{is_some};
 ghost use Rattle.pfr_terms.specs.Input.{Gives};
-ghost use Rattle.pfr_elements.specs.Hosts.{place_from};
+ghost use Rattle.pfr_elements.specs.Names.{last_place};
 ghost use Rattle.pfr_elements.specs.Values.{begun};
 ghost use Rattle.pfr_expand.specs.Bodies.{Adds, ArePlaced, moved};
 ghost use Rattle.pfr_expand.specs.Rulesets as spec;
@@ -17,9 +17,8 @@ use pfr_conf::{
     Bytes, ConfError, FilterStatement, Items, MacroDefinition, Name, Piece, SetOption, Statement,
     Statements, TableDefinition, TranslationRule, TranslationStatement,
 };
-use pfr_elements::hosts::place_of;
 use pfr_elements::value::Draft;
-use pfr_elements::{Elements, Interface, MOST_ELEMENTS, Macros, Scope};
+use pfr_elements::{Elements, Interface, MOST_ELEMENTS, Macros, Names, Scope};
 use pfr_flat::{FlatAnchor, FlatRule, MOST_RULES, choices_or_fault, counted, too_many};
 use std::alloc::{AllocError, Global};
 
@@ -110,7 +109,7 @@ impl<'a> Work<'a> {
             scope: Scope {
                 interface,
                 macros: Macros::new(alloc),
-                tables: Items::new(alloc),
+                tables: Names::new(alloc),
             },
             entries: 0,
             translations: 0,
@@ -139,9 +138,9 @@ impl<'a> Work<'a> {
 
     /// The fault of a table that is defined already.
     fn clash_of(&self, name: &Name<'_>) -> Option<ConfError>
-        ensures { result ≡ spec.clash_of name.now (is_some (place_from 0 name.now.text self.now.scope.tables)) }
+        ensures { result ≡ spec.clash_of name.now (is_some (last_place name.now.text self.now.scope.tables)) }
     {
-        match place_of(name.text.as_slice(), self.scope.tables.as_slice()) {
+        match self.scope.tables.last_place(name.text.as_slice()) {
             Some(_) => Some(clash(name.line)),
             None => None,
         }

@@ -1,5 +1,5 @@
 -- Which addresses tables hold, and the criteria of a table with and without a `!`.
-use Rattle.std.proofs.Common.{◌≡◌, ◌↔◌, ◌≤◌, ℕ, zero, suc, Bool, true, false, ◌⊎◌, inl, inr, List, [], ◌∷◌, Option, Some, None, Result, Ok, refl, arith}
+use Rattle.std.proofs.Common.{◌≡◌, ◌↔◌, ◌≤◌, ℕ, zero, suc, Bool, true, false, if◌then◌else◌, ◌⊎◌, inl, inr, List, [], ◌∷◌, Option, Some, None, Result, Ok, refl, arith}
 use Rattle.std.specs.List.{All, Contains, slice_get}
 use Rattle.std.specs.Result.{IsOkAnd}
 use Rattle.std.specs.Str.{bytes_eq}
@@ -13,7 +13,8 @@ use Rattle.pfr_tables.specs.Tables.{bits_of, holds, IsMember}
 use Rattle.pfr_elements.specs.declared.hosts.HostSet.TheVariants as set
 use Rattle.pfr_elements.specs.declared.hosts.HostCriterion.{HostCriterion}
 use Rattle.pfr_elements.specs.declared.scope.Scope.{Scope}
-use Rattle.pfr_elements.specs.Hosts.{place_from, address_meaning, host_criterion}
+use Rattle.pfr_elements.specs.Hosts.{address_meaning, host_criterion}
+use Rattle.pfr_elements.specs.Names.{last_from, last_place}
 use Rattle.pfr_flat.specs.Membership.{IsInTable, Holds}
 
 -- ---- each address is in a table or it isn't
@@ -84,10 +85,19 @@ in_table_or_not (Some entries) address = member_or_not entries address
 
 -- ---- the criteria of a table
 
-defined_place : (first : ℕ) (name : List ℕ) (tables : List (List ℕ)) → Contains tables name → (place : ℕ) × (place_from first name tables ≡ Some place)
+-- a place that is found is kept, or a later one is found
+later_place : (found first : ℕ) (name : List ℕ) (tables : List (List ℕ)) → (place : ℕ) × (last_from (Some found) first name tables ≡ Some place)
+later_place found first name [] = (found, refl)
+later_place found first name (t ∷ tables) = by_test (bytes_eq t name) (later_place first (suc first) name tables) (later_place found (suc first) name tables) where
+  by_test : (same : Bool) → (place : ℕ) × (last_from (Some first) (suc first) name tables ≡ Some place) → (place : ℕ) × (last_from (Some found) (suc first) name tables ≡ Some place)
+      → (place : ℕ) × (last_from (if same then Some first else Some found) (suc first) name tables ≡ Some place)
+  by_test true it old = it
+  by_test false it old = old
+
+defined_place : (first : ℕ) (name : List ℕ) (tables : List (List ℕ)) → Contains tables name → (place : ℕ) × (last_from None first name tables ≡ Some place)
 defined_place first name [] there = absurd (omega (arith, there.1))
 defined_place first name (t ∷ tables) there = elim (decided_equal (bytes_eq t name) true) [
-  | inl same ↦ (first, rw same refl)
+  | inl same ↦ (let found = later_place first (suc first) name tables in (found.0, rw same found.1))
   | inr other ↦
       (let differs : bytes_eq t name ≡ false = is_false (bytes_eq t name) other in
       let found = defined_place (suc first) name tables (behind t name tables (λ e. other ((bytes_eq-Decides t name).1 e)) there) in
@@ -101,7 +111,7 @@ defined_place first name (t ∷ tables) there = elim (decided_equal (bytes_eq t 
   behind t name tables fails (zero, within, is) = absurd (fails is)
   behind t name tables fails (suc k, within, is) = (k, omega (arith, within), is)
 
-criterion_at : (scope : Scope) (name : Name) (is_negated : Bool) (place : ℕ) → place_from 0 name.text scope.tables ≡ Some place → host_criterion scope (record { is_negated = is_negated; address = a.Table name }) ≡ Ok (record { is_negated = is_negated; hosts = set.Table place })
+criterion_at : (scope : Scope) (name : Name) (is_negated : Bool) (place : ℕ) → last_place name.text scope.tables ≡ Some place → host_criterion scope (record { is_negated = is_negated; address = a.Table name }) ≡ Ok (record { is_negated = is_negated; hosts = set.Table place })
 unfolding address_meaning
 criterion_at scope name is_negated place is = rw is refl
 

@@ -3,6 +3,7 @@ use pfr_elements::element::{Element, Elements, MOST_ELEMENTS, elements_of};
 use pfr_elements::hosts::{HostCriterion, HostSet};
 use pfr_elements::interface::{IfName, Interface};
 use pfr_elements::macros::Macros;
+use pfr_elements::names::Names;
 use pfr_elements::scope::Scope;
 use pfr_elements::single::{single_sources, written_single};
 use pfr_elements::terms::InterfaceCriterion;
@@ -21,7 +22,7 @@ use std::test::Fail;
 
 /// A run on this interface, 192.0.2.1/24, where the tables `<a>` and `<b>` are defined.
 fn scope_on<'a>(alloc: Global, interface: &[u8]) -> Result<Scope<'a>, AllocError> {
-    let mut tables = Items::new(alloc);
+    let mut tables = Names::new(alloc);
     tables.push(Bytes::new(b"a".as_slice()))?;
     tables.push(Bytes::new(b"b".as_slice()))?;
     Ok(Scope {
