@@ -5,7 +5,7 @@ use pfr_elements::interface::{IfName, Interface};
 use pfr_elements::macros::Macros;
 use pfr_elements::names::Names;
 use pfr_elements::scope::Scope;
-use pfr_elements::single::{single_sources, written_single};
+use pfr_elements::single::written_single;
 use pfr_elements::terms::InterfaceCriterion;
 use pfr_elements::value::{MOST_SPLICED, Value};
 use pfr_tables::Entry;
@@ -363,51 +363,6 @@ fn targets_are_one_address(rt: HostRuntime) -> Result<(), Fail> {
         let told = target_in(alloc, &scope, true, text)?;
         assert_eq!(rt; told.as_str(), expected, "at {text}");
     }
-    Ok(())
-}
-
-#[test]
-fn sources_are_single_addresses(rt: HostRuntime) -> Result<(), Fail> {
-    let alloc = rt.alloc();
-    let mut scope = scope_with(alloc, b"10.0.0.1")?;
-    define(
-        alloc,
-        &mut scope.macros,
-        b"y",
-        &[Piece::Text(b"{ 10.0.0.1 }")],
-    )?;
-    define(alloc, &mut scope.macros, b"z", &[Piece::Text(b"<a>")])?;
-    let bad = "rules line 7: bad address";
-    let table = [
-        ("{ 10.0.0.1, em0 self\n10.0.0.4/32 $x }", 5, 5, ""),
-        ("10.0.0.1 - 10.0.0.9", 1, 0, bad),
-        ("! 10.0.0.1", 1, 0, bad),
-        ("{ $x\n$y <a> }", 3, 1, "rules line 2: left out: pool"),
-        ("{ em0\n\n$z $x/8 }", 3, 1, "rules line 3: bad address"),
-    ];
-    for (text, count, len, expected) in table {
-        let found = words(alloc, text.as_bytes())?;
-        let mut reader = Reader::new(found.as_slice());
-        let written = list::<AddressMatch<'_>>(alloc, &mut reader)?;
-        let found = single_sources(alloc, &scope, 7, written.as_slice())?;
-        let mut told = String::new(alloc);
-        if let Some(fault) = &found.fault {
-            write!(told, "{fault}")?;
-        }
-        assert_eq!(rt; told.as_str(), expected, "at {text}");
-        assert_eq!(rt; found.count, count, "at {text}");
-        assert_eq!(rt; found.items.len(), len, "at {text}");
-    }
-    let found = words(alloc, b"{ $x em0 }")?;
-    let mut reader = Reader::new(found.as_slice());
-    let written = list::<AddressMatch<'_>>(alloc, &mut reader)?;
-    let found = single_sources(alloc, &scope, 7, written.as_slice())?;
-    let source = |octets| HostCriterion {
-        is_negated: false,
-        hosts: HostSet::Network(network(octets, 32)),
-    };
-    let expected = [source([10, 0, 0, 1]), source([192, 0, 2, 1])];
-    assert!(rt; found.items.as_slice() == expected.as_slice());
     Ok(())
 }
 
