@@ -1,7 +1,12 @@
-"""Builds the programs that stand beside the tests, `NAME.rattle`, each as a crate of its own over copies of the crates."""
+"""Builds the programs that stand beside the tests, `NAME.rattle`, each as a crate of its own over copies of the crates.
 
+Programs that are built in one folder share the copies, so that what one of them proved isn't proved again for the next.
+"""
+
+import contextlib
 import shutil
 import subprocess
+import tempfile
 from pathlib import Path
 
 HERE = Path(__file__).resolve().parent
@@ -40,17 +45,27 @@ def change(crates, changes):
         (crates / name).write_text(text.replace(old, new))
 
 
+def folder_of(words):
+    """The folder that is named on a command line, or a new one, to be used by `with`."""
+    if words:
+        folder = Path(words[0])
+        folder.mkdir(parents=True, exist_ok=True)
+        return contextlib.nullcontext(folder)
+    return tempfile.TemporaryDirectory()
+
+
 def build(folder, program, used, changes=()):
     """Makes a repository of a program and the crates that it uses, with some changes to their copies, and answers the
-    program that is built of them."""
+    program that is built of them. The changes stay for what is built in the folder later."""
     table = uses()
     names = below(used, table)
     lines = [f"{name}: {' '.join(table[name])}\n" for name in names]
     (folder / "crates.txt").write_text("".join(lines) + f"{program}: {' '.join(used)}\n")
     shutil.copy(ROOT / "HANDLES", folder)
     for name in names:
-        # what earlier checks of a crate have left spares proving it again
-        shutil.copytree(ROOT / "crates" / name, folder / "crates" / name, ignore=shutil.ignore_patterns("must-fail"))
+        if not (folder / "crates" / name).exists():
+            # what earlier checks of a crate have left spares proving it again
+            shutil.copytree(ROOT / "crates" / name, folder / "crates" / name, ignore=shutil.ignore_patterns("must-fail"))
     change(folder / "crates", changes)
     crate = folder / "crates" / program
     (crate / "src").mkdir(parents=True)

@@ -455,6 +455,11 @@ def hostile():
     hundred = "{ " + " ".join(str(number) for number in range(100)) + " }"
     forty = doubled(40)
     braced = forty + 'l = "{" $m40 "}"\n'
+    half = 2 ** 19
+    long = f'x = "{{{" 1" * (half // 2)} }}"\n'
+    blanks = f'x = "{" " * half}self"\n'
+    zeros = f'x = "{"0" * half}80"\n'
+    long_fault = f'x = "{{{" 10.0.0.300" * (half // 11)} }}"\n'
     cases = (
         ("256 by 256", many, counted(65536)),
         ("256 by 256 and one", many + "pass\n", "line 2: too many"),
@@ -519,6 +524,31 @@ def hostile():
         ("a list of forty doublings as a target", doubled(40, "10.0.0.1") + 'l = "{" $m40 "}"\nrdr -> $l\n',
          "line 43: left out: pool"),
         ("sixteen doublings of nothing round a target", doubled(16, "") + 'l = "em0" $m16\nnat -> $l\n', counted(0, 1)),
+        ("a long value round no rule, often", long + "anchor proto $x {}\n" * 24000, counted(0)),
+        ("a long value with a table round no rule, often",
+         f'table <t> {{ 10.0.0.1 }}\nx = "{{ <t>{" self" * (half // 5)} }}"\n' + "anchor from $x {}\n" * 24000,
+         counted(0)),
+        ("a long value of a table that is defined later", f'x = "{{ <t>{" self" * (half // 5)} }}"\n'
+         + "anchor to port 80 {}\n" * 9000 + "table <t> { 10.0.0.1 }\n" + "anchor from $x {}\n" * 9000
+         + "anchor from <u> {}\n", "line 18003: undefined table"),
+        ("a long value in a list, often", long + "pass proto { $x $x $x $x }\n" * 9000, "line 2: too many"),
+        ("blanks of a long value, often", blanks + "pass to $x\n" * 30000, counted(30000)),
+        ("blanks of a long value in brackets, often", blanks.replace("self", "em0") + "pass to ($x)\n" * 30000,
+         counted(30000)),
+        ("blanks of a long value as a target, often", blanks + "nat -> $x\n" * 30000, counted(0, 30000)),
+        ("blanks of a long value with a suffix, often", blanks.replace("self", "em0") + "pass to $x:0\n" * 30000,
+         counted(30000)),
+        ("blanks of a long value as a free word, often", blanks + "set debug $x\n" * 30000, counted(0)),
+        ("zeros of a long value, often", zeros + "pass to port $x\n" * 30000, counted(30000)),
+        ("a long word with a suffix", zeros + "pass to port $x:90\n", "line 2: unknown word"),
+        ("as long a word as may have a suffix", f'x = "{"0" * 253}80"\npass to port $x:90\n', counted(1)),
+        ("a longer word with a suffix", f'x = "{"0" * 254}80"\npass to port $x:90\n', "line 2: unknown word"),
+        ("faults of a long value, often", long_fault + "pass to { " + "$x " * 65000 + "}\n", "line 2: bad address"),
+        ("faults of a long value in brackets, often", long_fault + "pass to { " + "($x) " * 65000 + "}\n",
+         "line 2: unknown word"),
+        ("a long value in others, often", long + 'y = "{"' + " $x" * 100000 + ' "}"\n', counted(0)),
+        ("a long value in others that are used", long + "y = " + "$x " * 100000 + "\npass proto $y\n",
+         "line 3: too many"),
         ("forty doublings of what is no word", doubled(40, "$") + "pass to port $m40\n", "line 2: unknown word"),
     )
     return [Text(name, text.encode(), answer=answer) for name, text, answer in cases]

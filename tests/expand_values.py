@@ -11,6 +11,8 @@ from ruleset_words import (BAD_ADDRESS, BAD_NUMBER, PLAIN, QUOTED, SIGN, TEXT_EN
 UNDEFINED_MACRO, UNDEFINED_TABLE = "undefined macro", "undefined table"
 TOO_MANY, CLASH = "too many", "clash"
 
+# the longest word of a value that may have a suffix
+LONGEST_WORD = 255
 # kinds of fault from the lowest; each name that is left out has the one rank between the first and the second
 RANKS = (UNKNOWN, "", BAD_NUMBER, BAD_ADDRESS, UNDEFINED_MACRO, UNDEFINED_TABLE, TOO_MANY, CLASH)
 
@@ -70,7 +72,7 @@ class Macros:
         if value is None or ((use.suffix or use.negated) and len(value) != 1):
             raise Fault(use.line, UNKNOWN)
         if use.suffix:
-            if value[0].sort != PLAIN:
+            if value[0].sort != PLAIN or len(value[0].text) > LONGEST_WORD:
                 raise Fault(use.line, UNKNOWN)
             value = [value[0]._replace(text=value[0].text + use.suffix)]
         if use.negated:

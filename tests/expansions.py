@@ -2,10 +2,10 @@
 """Builds the program beside it, which expands rulesets, hands it to expand_compare.py, and refuses it each allocation in
 turn.
 
-    expansions.py
+    expansions.py [FOLDER]
 
-The program is a crate of its own on the expansion of rulesets, in a temporary folder, over a copy of the reader that
-reads translation rules. Where the crates under it were checked before, it takes five minutes.
+The program is a crate of its own on the expansion of rulesets, in the folder, or in a temporary one, over a copy of
+the reader that reads translation rules. Where the crates under it were checked before, it takes five minutes.
 """
 
 import subprocess
@@ -51,7 +51,7 @@ def refuse_memory(program):
 
 
 def main():
-    with tempfile.TemporaryDirectory() as name:
+    with building.folder_of(sys.argv[1:]) as name:
         program = build(Path(name))
         answers = subprocess.run([HERE / "expand_compare.py", program], check=False).returncode == 0
         sys.exit(not (answers and refuse_memory(program)))

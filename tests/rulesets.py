@@ -1,10 +1,10 @@
 #!/usr/bin/env python3
 """Builds the program beside it, which reads rulesets, hands it to read_rulesets.py, and refuses it each allocation in turn.
 
-    rulesets.py
+    rulesets.py [FOLDER]
 
-The program is a crate of its own on the reader of rulesets, in a temporary folder. Where the crates under it were checked
-before, it takes a minute.
+The program is a crate of its own on the reader of rulesets, in the folder, or in a temporary one. Where the crates under it
+were checked before, it takes a minute.
 """
 
 import subprocess
@@ -38,7 +38,7 @@ def refuse_memory(program):
 
 
 def main():
-    with tempfile.TemporaryDirectory() as name:
+    with building.folder_of(sys.argv[1:]) as name:
         program = build(Path(name))
         answers = subprocess.run([HERE / "read_rulesets.py", program], check=False).returncode == 0
         sys.exit(not (answers and refuse_memory(program)))

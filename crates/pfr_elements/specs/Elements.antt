@@ -1,17 +1,27 @@
 -- What the elements of a list come to: each means one thing, and the use of a macro all things of its value.
-use Rattle.std.specs.Prelude.{ℕ, ◌+◌, Bool, true, false, nat_lt, if◌then◌else◌, List, [], ◌∷◌, ◌++◌, length, map, Option, Some, None, Result, Ok, Err}
+use Rattle.std.specs.Prelude.{ℕ, ◌+◌, Bool, true, false, nat_lt, nat_le, if◌then◌else◌, List, [], ◌∷◌, ◌++◌, length, map, fold, max, min, Option, Some, None, Result, Ok, Err}
+use Rattle.std.specs.Option.{option_map}
 use Rattle.pfr_words.specs.declared.sign.Sign.TheVariants as s
 use Rattle.pfr_words.specs.Words.{words}
+use Rattle.pfr_words.specs.declared.word.Word.{Word}
 use Rattle.pfr_terms.specs.declared.error.ConfError.{ConfError}
+use Rattle.pfr_terms.specs.declared.error.ConfErrorKind.TheVariants.{UndefinedTable}
+use Rattle.pfr_terms.specs.Faults.{lower}
 use Rattle.pfr_terms.specs.declared.name.MacroUse.{MacroUse}
 use Rattle.pfr_terms.specs.Input.{Parser, Outcome, ◌>>=◌, pure, loop, note, finish, eat_sign, open_list, close_list, of_value, unknown_word}
-use Rattle.pfr_elements.specs.declared.value.Value.{Value}
-use Rattle.pfr_elements.specs.declared.value.Value.TheVariants.{Text, TooLong}
+use Rattle.pfr_elements.specs.declared.definition.ListMeaning.{ListMeaning}
+use Rattle.pfr_elements.specs.declared.definition.ListMeanings.{ListMeanings}
+use Rattle.pfr_elements.specs.declared.definition.Taken.{Taken}
+use Rattle.pfr_elements.specs.declared.definition.Taken.TheVariants as taken
 use Rattle.pfr_elements.specs.declared.scope.Scope.{Scope}
 use Rattle.pfr_elements.specs.declared.element.Elements as E
-use Rattle.pfr_elements.specs.Values.{value_at}
+use Rattle.pfr_elements.specs.Values.{taken_at}
 
 -- ---- one by one
+
+-- the most elements that a list may have
+abbrev pub most_elements : ℕ
+most_elements = 1048576
 
 abbrev pub none_yet : {A : Type 0} → E.Elements A
 none_yet = record { items = []; fault = None; count = 0 }
@@ -70,14 +80,28 @@ value_items item = do
 abbrev pub at_line : ℕ → ConfError → ConfError
 at_line line e = record { line = line; kind = e.kind }
 
-abbrev pub with_gathered : {A : Type 0} → (A → A) → ℕ → List A → Option ConfError → E.Elements A → E.Elements A
-with_gathered turned line values None found = record { items = found.items ++ map turned values; fault = found.fault; count = found.count + length values }
-with_gathered turned line values (Some e) found = with_fault (at_line line e) found
+-- what a value means as a list; `tables` says how many of the ruleset's tables have to be defined for a thing
+abbrev pub list_meaning : {A : Type 0} → (A → ℕ) → Outcome (List A) → ListMeaning A
+list_meaning tables (Ok p) = record { items = p.0; tables = fold (λ most x. max most (tables x)) 0 p.0; fault = p.1.gathered }
+list_meaning tables (Err e) = record { items = []; tables = 0; fault = Some e }
 
--- all faults of a value stand where it is used, and the lowest is told
-abbrev pub with_values : {A : Type 0} → (A → A) → ℕ → Outcome (List A) → E.Elements A → E.Elements A
-with_values turned line (Ok p) found = with_gathered turned line p.0 p.1.gathered found
-with_values turned line (Err e) found = with_fault (at_line line e) found
+abbrev pub undefined_table : ℕ → ConfError
+undefined_table line = record { line = line; kind = UndefinedTable }
+
+-- all faults of a value stand where it is used, and the lowest is told; a table that isn't defined there is one
+abbrev pub fault_at : {A : Type 0} → ℕ → ℕ → ListMeaning A → Option ConfError
+fault_at line defined meant =
+    if nat_le meant.tables defined then option_map (at_line line) meant.fault
+    else Some (lower (option_map (at_line line) meant.fault) (undefined_table line))
+
+abbrev pub with_list_by : {A : Type 0} → Option ConfError → Bool → (A → A) → List A → E.Elements A → E.Elements A
+with_list_by (Some e) keeps turned items found = with_fault e found
+with_list_by None keeps turned items found =
+    record { items = if keeps then found.items ++ map turned items else found.items; fault = found.fault; count = found.count + min (length items) (most_elements + 1) }
+
+-- the things of a value, which count for one more than a list may have where they are more; where nothing is made of the list they are only counted
+abbrev pub with_list : {A : Type 0} → ℕ → ℕ → Bool → (A → A) → ListMeaning A → E.Elements A → E.Elements A
+with_list line defined keeps turned meant found = with_list_by (fault_at line defined meant) keeps turned meant.items found
 
 -- ---- the value of a macro that is one thing
 
@@ -94,31 +118,37 @@ abbrev pub one_read : {A : Type 0} → ℕ → Outcome (Option A) → Result A C
 one_read line (Err e) = Err (at_line line e)
 one_read line (Ok p) = one_gathered line p.0 p.1.gathered
 
+-- the same, with its fault on this line
+abbrev pub fault_on : {A : Type 0} → ℕ → Result A ConfError → Result A ConfError
+fault_on line (Ok x) = Ok x
+fault_on line (Err e) = Err (at_line line e)
+
 -- ---- a list
-
--- the most elements that a list may have
-abbrev pub most_elements : ℕ
-most_elements = 1048576
-
-abbrev pub with_value : {A : Type 0} → Parser (Option A) → (A → A) → ℕ → Result Value ConfError → E.Elements A → E.Elements A
-with_value item turned line (Err e) found = with_fault e found
-with_value item turned line (Ok (TooLong true)) found = record found { count = found.count + (most_elements + 1) }
-with_value item turned line (Ok (TooLong false)) found = with_fault (unknown_word line) found
-with_value item turned line (Ok (Text text)) found = with_values turned line (value_items item (of_value (words text))) found
 
 abbrev pub turned_if : {A : Type 0} → Bool → (A → A) → A → A
 turned_if is_negated turned x = if is_negated then turned x else x
 
-abbrev pub with_use : {A : Type 0} → Parser (Option A) → (A → A) → Scope → Bool → MacroUse → E.Elements A → E.Elements A
-with_use item turned scope is_negated found = with_value item (turned_if is_negated turned) found.line (value_at scope.macros is_negated found)
+-- what a list's things are: how they are read, what they mean, and which tables they name
+abbrev pub listed : {A B : Type 0} → (Scope → A → Result B ConfError) → Parser A → (B → ℕ) → Scope → List Word → ListMeaning B
+listed meaning form tables scope ws = list_meaning tables (value_items (value_item meaning form scope) (of_value ws))
 
-abbrev pub with_written : {A B : Type 0} → (Scope → A → Result B ConfError) → Parser A → (B → B) → Scope → Bool → A → Option MacroUse → E.Elements B → E.Elements B
-with_written meaning form turned scope is_negated x None = with_meaning (meaning scope x)
-with_written meaning form turned scope is_negated x (Some found) = with_use (value_item meaning form scope) turned scope is_negated found
+abbrev pub with_taken : {A : Type 0} → (List Word → ListMeaning A) → (ListMeanings → ListMeaning A) → (A → A) → Bool → ℕ → ℕ → Result Taken ConfError → E.Elements A → E.Elements A
+with_taken read list_in turned keeps defined line (Err e) found = with_fault e found
+with_taken read list_in turned keeps defined line (Ok (taken.TooLong true)) found = record found { count = found.count + (most_elements + 1) }
+with_taken read list_in turned keeps defined line (Ok (taken.TooLong false)) found = with_fault (unknown_word line) found
+with_taken read list_in turned keeps defined line (Ok (taken.Word word)) found = with_list line defined keeps turned (read (words word)) found
+with_taken read list_in turned keeps defined line (Ok (taken.Whole text)) found = with_list line defined keeps turned (list_in text.meanings.lists) found
+
+abbrev pub with_use : {A : Type 0} → (List Word → ListMeaning A) → (ListMeanings → ListMeaning A) → (A → A) → Scope → Bool → Bool → MacroUse → E.Elements A → E.Elements A
+with_use read list_in turned scope keeps is_negated found = with_taken read list_in (turned_if is_negated turned) keeps scope.defined found.line (taken_at scope.macros is_negated found)
+
+abbrev pub with_written : {A B : Type 0} → (Scope → A → Result B ConfError) → Parser A → (B → ℕ) → (ListMeanings → ListMeaning B) → (B → B) → Scope → Bool → Bool → A → Option MacroUse → E.Elements B → E.Elements B
+with_written meaning form tables list_in turned scope keeps is_negated x None = with_meaning (meaning scope x)
+with_written meaning form tables list_in turned scope keeps is_negated x (Some found) = with_use (listed meaning form tables scope) list_in turned scope keeps is_negated found
 
 -- one more element of a list
-unfoldable pub with_element : {A B : Type 0} → (A → Option MacroUse) → (A → Bool) → (Scope → A → Result B ConfError) → Parser A → (B → B) → Scope → E.Elements B → A → E.Elements B
-with_element use_in negated meaning form turned scope found x = with_written meaning form turned scope (negated x) x (use_in x) found
+unfoldable pub with_element : {A B : Type 0} → (A → Option MacroUse) → (A → Bool) → (Scope → A → Result B ConfError) → Parser A → (B → ℕ) → (ListMeanings → ListMeaning B) → (B → B) → Scope → Bool → E.Elements B → A → E.Elements B
+with_element use_in negated meaning form tables list_in turned scope keeps found x = with_written meaning form tables list_in turned scope keeps (negated x) x (use_in x) found
 
 -- the elements of a list; those behind the one that is too many aren't looked at
 abbrev pub elements_from : {A B : Type 0} → (E.Elements B → A → E.Elements B) → E.Elements B → List A → E.Elements B

@@ -1,8 +1,8 @@
 -- What addresses mean in a list: interface forms by the run's interface, tables by their places.
-use Rattle.std.specs.Prelude.{ℕ, Bool, true, false, List, [], ◌∷◌, Option, Some, None, Result, Ok, Err, codes}
+use Rattle.std.specs.Prelude.{ℕ, ◌+◌, min, nat_lt, if◌then◌else◌, Bool, true, false, List, Option, Some, None, Result, Ok, Err, codes}
 use Rattle.pfr_words.specs.Words.{words}
+use Rattle.pfr_words.specs.declared.word.Word.{Word}
 use Rattle.pfr_terms.specs.declared.error.ConfError.{ConfError}
-use Rattle.pfr_terms.specs.declared.error.ConfErrorKind.TheVariants.{UndefinedTable}
 use Rattle.pfr_terms.specs.declared.name.Name.{Name}
 use Rattle.pfr_terms.specs.declared.name.MacroUse.{MacroUse}
 use Rattle.pfr_terms.specs.declared.name.Written.{Written}
@@ -21,12 +21,14 @@ use Rattle.pfr_elements.specs.declared.hosts.HostSet.{HostSet}
 use Rattle.pfr_elements.specs.declared.hosts.HostSet.TheVariants as set
 use Rattle.pfr_elements.specs.declared.hosts.HostCriterion.{HostCriterion}
 use Rattle.pfr_elements.specs.declared.scope.Scope.{Scope}
-use Rattle.pfr_elements.specs.declared.value.Value.{Value}
-use Rattle.pfr_elements.specs.declared.value.Value.TheVariants.{Text, TooLong}
-use Rattle.pfr_elements.specs.Values.{value_at}
+use Rattle.pfr_elements.specs.declared.definition.ListMeaning.{ListMeaning}
+use Rattle.pfr_elements.specs.declared.definition.ListMeanings.{ListMeanings}
+use Rattle.pfr_elements.specs.declared.definition.Taken.{Taken}
+use Rattle.pfr_elements.specs.declared.definition.Taken.TheVariants as taken
+use Rattle.pfr_elements.specs.Values.{taken_at}
 use Rattle.pfr_elements.specs.Interfaces.{whole, masked, form_of}
 use Rattle.pfr_elements.specs.Names.{last_place}
-use Rattle.pfr_elements.specs.Elements.{noted, one_read}
+use Rattle.pfr_elements.specs.Elements.{noted, one_read, fault_on, undefined_table}
 use Rattle.pfr_elements.specs.Terms.{use_in, misplaced}
 
 -- ---- interface forms
@@ -47,14 +49,19 @@ value_form interface = do
   _ ← finish
   pure found
 
-abbrev pub form_in : Interface → ℕ → Result Value ConfError → Result Network ConfError
+-- what the words of a value mean in round brackets on this line
+abbrev pub form_read : Interface → ℕ → List Word → Result Network ConfError
+form_read interface line ws = one_read line (value_form interface (of_value ws))
+
+abbrev pub form_in : Interface → ℕ → Result Taken ConfError → Result Network ConfError
 form_in interface line (Err e) = Err e
-form_in interface line (Ok (TooLong is_list)) = Err (unknown_word line)
-form_in interface line (Ok (Text text)) = one_read line (value_form interface (of_value (words text)))
+form_in interface line (Ok (taken.TooLong is_list)) = Err (unknown_word line)
+form_in interface line (Ok (taken.Word word)) = form_read interface line (words word)
+form_in interface line (Ok (taken.Whole text)) = fault_on line text.meanings.form
 
 -- the use of a macro in round brackets
 unfoldable pub used_form : Scope → MacroUse → Result Network ConfError
-used_form scope found = form_in scope.interface found.line (value_at scope.macros false found)
+used_form scope found = form_in scope.interface found.line (taken_at scope.macros false found)
 
 -- ---- hosts
 
@@ -67,10 +74,10 @@ host_meaning scope (h.InterfaceMacro found) = used_form scope found
 
 -- ---- addresses of rules
 
--- a table by its place among those that are defined
-abbrev pub table_by : Name → Option ℕ → Result HostSet ConfError
-table_by name (Some place) = Ok (set.Table place)
-table_by name None = Err (record { line = name.line; kind = UndefinedTable })
+-- a table by its place, where so many are defined
+abbrev pub table_by : Name → ℕ → Option ℕ → Result HostSet ConfError
+table_by name defined (Some place) = if nat_lt place defined then Ok (set.Table place) else Err (undefined_table name.line)
+table_by name defined None = Err (undefined_table name.line)
 
 abbrev pub network_set : Result Network ConfError → Result HostSet ConfError
 network_set (Ok network) = Ok (set.Network network)
@@ -80,7 +87,7 @@ unfoldable pub address_meaning : Scope → Address → Result HostSet ConfError
 address_meaning scope a.Any = Ok set.Any
 address_meaning scope (a.Host host) = network_set (host_meaning scope host)
 address_meaning scope (a.Range first last) = Ok (set.Range first last)
-address_meaning scope (a.Table name) = table_by name (last_place name.text scope.tables)
+address_meaning scope (a.Table name) = table_by name scope.defined (last_place name.text scope.tables)
 address_meaning scope (a.Macro found) = Err (misplaced found)
 
 abbrev pub with_sign : Bool → Result HostSet ConfError → Result HostCriterion ConfError
@@ -103,6 +110,17 @@ host_criterion scope m = with_sign m.is_negated (address_meaning scope m.address
 abbrev pub host_turned : HostCriterion → HostCriterion
 host_turned c = record c { is_negated = true }
 
+-- how many of the ruleset's tables have to be defined, as a number of 64 bits
+abbrev pub tables_up_to : HostSet → ℕ
+tables_up_to (set.Table place) = min (place + 1) 18446744073709551615
+tables_up_to other = 0
+
+abbrev pub host_tables : HostCriterion → ℕ
+host_tables c = tables_up_to c.hosts
+
+abbrev pub host_lists : ListMeanings → ListMeaning HostCriterion
+host_lists m = m.hosts
+
 -- ---- entries of tables
 
 abbrev pub entry_of : Bool → Result Network ConfError → Result Entry ConfError
@@ -124,3 +142,6 @@ entry_meaning scope e = entry_by scope e.is_negated e.host
 
 abbrev pub entry_turned : Entry → Entry
 entry_turned e = record e { is_negated = true }
+
+abbrev pub entry_lists : ListMeanings → ListMeaning Entry
+entry_lists m = m.entries

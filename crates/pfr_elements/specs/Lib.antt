@@ -1,6 +1,7 @@
 pub mod Elements
 pub mod Hosts
 pub mod Interfaces
+pub mod Meanings
 pub mod Names
 pub mod Single
 pub mod Terms

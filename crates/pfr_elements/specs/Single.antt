@@ -3,6 +3,7 @@
 use Rattle.std.specs.Prelude.{ℕ, ◌&&◌, ◌||◌, Bool, true, false, nat_lt, if◌then◌else◌, List, [], ◌∷◌, Option, None, Result, Ok, Err, codes}
 use Rattle.pfr_words.specs.declared.sign.Sign.TheVariants as s
 use Rattle.pfr_words.specs.Words.{words}
+use Rattle.pfr_words.specs.declared.word.Word.{Word}
 use Rattle.pfr_terms.specs.declared.error.ConfError.{ConfError}
 use Rattle.pfr_terms.specs.declared.error.ConfErrorKind.TheVariants.{BadAddress}
 use Rattle.pfr_terms.specs.declared.name.MacroUse.{MacroUse}
@@ -22,11 +23,12 @@ use Rattle.pfr_elements.specs.declared.hosts.HostSet.TheVariants as set
 use Rattle.pfr_elements.specs.declared.hosts.HostCriterion.{HostCriterion}
 use Rattle.pfr_elements.specs.declared.element.Elements as E
 use Rattle.pfr_elements.specs.declared.scope.Scope.{Scope}
-use Rattle.pfr_elements.specs.declared.value.Value.{Value}
-use Rattle.pfr_elements.specs.declared.value.Value.TheVariants.{Text, TooLong}
-use Rattle.pfr_elements.specs.Values.{value_at}
+use Rattle.pfr_elements.specs.declared.definition.Meanings.{Meanings}
+use Rattle.pfr_elements.specs.declared.definition.Taken.{Taken}
+use Rattle.pfr_elements.specs.declared.definition.Taken.TheVariants as taken
+use Rattle.pfr_elements.specs.Values.{taken_at}
 use Rattle.pfr_elements.specs.Interfaces.{whole}
-use Rattle.pfr_elements.specs.Elements.{noted, value_item, value_items, one_read, none_yet, with_meaning, elements_from}
+use Rattle.pfr_elements.specs.Elements.{noted, value_item, value_items, one_read, fault_on, none_yet, with_meaning, elements_from}
 use Rattle.pfr_elements.specs.Hosts.{host_meaning, host_criterion}
 use Rattle.pfr_elements.specs.Terms.{misplaced}
 
@@ -95,15 +97,25 @@ value_host has_tables scope = do
 unfoldable pub value_single : Bool → Scope → Parser (Option Ipv4Address)
 value_single has_tables scope = λ i. if sees_sign s.OpenBrace i then value_list scope i else value_host has_tables scope i
 
-abbrev pub single_in : Bool → Scope → ℕ → Result Value ConfError → Result Ipv4Address ConfError
+-- the one address that the words of a value mean on this line
+abbrev pub single_read : Bool → Scope → ℕ → List Word → Result Ipv4Address ConfError
+single_read has_tables scope line ws = one_read line (value_single has_tables scope (of_value ws))
+
+-- as a target a table stands for several addresses, as a source for none that may stand there
+abbrev pub single_of : Bool → Meanings → Result Ipv4Address ConfError
+single_of true m = m.target
+single_of false m = m.source
+
+abbrev pub single_in : Bool → Scope → ℕ → Result Taken ConfError → Result Ipv4Address ConfError
 single_in has_tables scope line (Err e) = Err e
-single_in has_tables scope line (Ok (TooLong true)) = Err (pool line)
-single_in has_tables scope line (Ok (TooLong false)) = Err (unknown_word line)
-single_in has_tables scope line (Ok (Text text)) = one_read line (value_single has_tables scope (of_value (words text)))
+single_in has_tables scope line (Ok (taken.TooLong true)) = Err (pool line)
+single_in has_tables scope line (Ok (taken.TooLong false)) = Err (unknown_word line)
+single_in has_tables scope line (Ok (taken.Word word)) = single_read has_tables scope line (words word)
+single_in has_tables scope line (Ok (taken.Whole text)) = fault_on line (single_of has_tables text.meanings)
 
 -- the use of a macro that stands for one address
 unfoldable pub used_single : Bool → Scope → MacroUse → Result Ipv4Address ConfError
-used_single has_tables scope found = single_in has_tables scope found.line (value_at scope.macros false found)
+used_single has_tables scope found = single_in has_tables scope found.line (taken_at scope.macros false found)
 
 -- ---- what is written in a rule
 

@@ -1,5 +1,5 @@
--- The values of macros, as pf.conf(5) has them: text, whose words are read where the macro is used.
-use Rattle.std.specs.Prelude.{◌≡◌, ℕ, ◌+◌, ◌-◌, ◌==◌, ◌&&◌, ◌||◌, Bool, true, false, not, nat_le, if◌then◌else◌, List, [], ◌∷◌, ◌++◌, length, Option, Some, None, Result, Ok, Err}
+-- The values of macros, as pf.conf(5) has them: text, whose words stand where the macro is used.
+use Rattle.std.specs.Prelude.{◌≡◌, ℕ, ◌+◌, ◌-◌, ◌==◌, ◌&&◌, ◌||◌, Bool, true, false, not, nat_lt, nat_le, if◌then◌else◌, List, [], ◌∷◌, ◌++◌, length, Option, Some, None, Result, Ok, Err}
 use Rattle.std.specs.List.{slice_get}
 use Rattle.pfr_words.specs.declared.sign.Sign.TheVariants as s
 use Rattle.pfr_words.specs.declared.word.Token.{Token}
@@ -13,6 +13,11 @@ use Rattle.pfr_terms.specs.Input.{unknown_word, plain_in}
 use Rattle.pfr_elements.specs.declared.value.Value.{Value}
 use Rattle.pfr_elements.specs.declared.value.Value.TheVariants.{Text, TooLong}
 use Rattle.pfr_elements.specs.declared.value.Draft.{Draft}
+use Rattle.pfr_elements.specs.declared.definition.Text as definition
+use Rattle.pfr_elements.specs.declared.definition.Definition.{Definition}
+use Rattle.pfr_elements.specs.declared.definition.Definition.TheVariants as d
+use Rattle.pfr_elements.specs.declared.definition.Taken.{Taken}
+use Rattle.pfr_elements.specs.declared.definition.Taken.TheVariants as taken
 use Rattle.pfr_elements.specs.declared.macros.Macros.{Macros}
 use Rattle.pfr_elements.specs.Names.{last_place}
 
@@ -61,13 +66,13 @@ only_plain (w ∷ v ∷ ws) = None
 
 -- ---- definitions
 
-abbrev pub latest_at : List Value → Option ℕ → Option Value
-latest_at values None = None
-latest_at values (Some place) = slice_get values place
+abbrev pub latest_at : List Definition → Option ℕ → Option Definition
+latest_at definitions None = None
+latest_at definitions (Some place) = slice_get definitions place
 
--- the value that the last definition of this name gives
-abbrev pub latest : List ℕ → Macros → Option Value
-latest name macros = latest_at macros.values (last_place name macros.names)
+-- what the last definition of this name says
+abbrev pub latest : List ℕ → Macros → Option Definition
+latest name macros = latest_at macros.definitions (last_place name macros.names)
 
 -- the first byte that is no blank
 abbrev pub first_byte : List ℕ → ℕ
@@ -111,48 +116,51 @@ with_macro_by (Text before) spliced value = with_macro_behind before spliced val
 unfoldable pub with_macro : Value → Draft → Draft
 with_macro value draft = with_macro_by draft.value draft.spliced value
 
+abbrev pub with_taken : Taken → Draft → Draft
+with_taken (taken.Whole text) draft = with_macro (Text text.bytes) draft
+with_taken (taken.Word word) draft = with_macro (Text word) draft
+with_taken (taken.TooLong is_list) draft = with_macro (TooLong is_list) draft
+
 abbrev pub no_macros : Macros
-no_macros = record { names = []; values = []; spliced = 0 }
+no_macros = record { names = []; definitions = []; spliced = 0 }
 
 abbrev pub begun : Macros → Draft
 begun macros = record { value = Text []; spliced = macros.spliced }
 
-abbrev pub defined : List ℕ → Draft → Macros → Macros
-defined name draft macros =
-    record { names = macros.names ++ name ∷ []; values = macros.values ++ draft.value ∷ []; spliced = draft.spliced }
-
 -- ---- uses
 
-abbrev pub with_suffix : MacroUse → Option (List ℕ) → Result Value ConfError
+-- the word of a value with the suffix of a use; so long a word is none that may have one
+abbrev pub with_suffix : MacroUse → Option (List ℕ) → Result Taken ConfError
 with_suffix found None = Err (unknown_word found.line)
-with_suffix found (Some word) = Ok (Text (word ++ found.suffix))
+with_suffix found (Some word) = if nat_lt 255 (length word) then Err (unknown_word found.line) else Ok (taken.Word (word ++ found.suffix))
 
 -- a suffix, or a `!` before the use, asks for a value of one word
-abbrev pub value_in : MacroUse → Bool → List ℕ → Result Value ConfError
-value_in found is_negated text =
-    if not (is_sound text) then Err (unknown_word found.line)
-    else if not (length found.suffix == 0) then with_suffix found (only_plain (words text))
-    else if is_negated && not (length (words text) == 1) then Err (unknown_word found.line)
-    else Ok (Text text)
+abbrev pub text_taken : MacroUse → Bool → definition.Text → Result Taken ConfError
+text_taken found is_negated text =
+    if not (length found.suffix == 0) then with_suffix found text.meanings.word
+    else if is_negated && not text.meanings.is_one_word then Err (unknown_word found.line)
+    else Ok (taken.Whole text)
 
-abbrev pub value_by : MacroUse → Bool → Option Value → Result Value ConfError
-value_by found is_negated None = Err (record { line = found.line; kind = UndefinedMacro })
-value_by found is_negated (Some (TooLong is_list)) = if is_negated || not (length found.suffix == 0) then Err (unknown_word found.line) else Ok (TooLong is_list)
-value_by found is_negated (Some (Text text)) = value_in found is_negated text
+abbrev pub taken_by : MacroUse → Bool → Option Definition → Result Taken ConfError
+taken_by found is_negated None = Err (record { line = found.line; kind = UndefinedMacro })
+taken_by found is_negated (Some d.Unsound) = Err (unknown_word found.line)
+taken_by found is_negated (Some (d.TooLong is_list)) = if is_negated || not (length found.suffix == 0) then Err (unknown_word found.line) else Ok (taken.TooLong is_list)
+taken_by found is_negated (Some (d.Text text)) = text_taken found is_negated text
 
 -- what a use stands for, with its suffix
-unfoldable pub value_at : Macros → Bool → MacroUse → Result Value ConfError
-value_at macros is_negated found = value_by found is_negated (latest found.name macros)
+unfoldable pub taken_at : Macros → Bool → MacroUse → Result Taken ConfError
+taken_at macros is_negated found = taken_by found is_negated (latest found.name macros)
 
 abbrev pub plain_word_in : ℕ → Option (List ℕ) → Result (Unit {0}) ConfError
 plain_word_in line None = Err (unknown_word line)
 plain_word_in line (Some word) = Ok tt
 
-abbrev pub plain_word_by : ℕ → Result Value ConfError → Result (Unit {0}) ConfError
+abbrev pub plain_word_by : ℕ → Result Taken ConfError → Result (Unit {0}) ConfError
 plain_word_by line (Err e) = Err e
-plain_word_by line (Ok (TooLong is_list)) = Err (unknown_word line)
-plain_word_by line (Ok (Text text)) = plain_word_in line (only_plain (words text))
+plain_word_by line (Ok (taken.TooLong is_list)) = Err (unknown_word line)
+plain_word_by line (Ok (taken.Word word)) = plain_word_in line (only_plain (words word))
+plain_word_by line (Ok (taken.Whole text)) = plain_word_in line text.meanings.word
 
 -- a use that has to stand for one plain word
 unfoldable pub plain_word_at : Macros → MacroUse → Result (Unit {0}) ConfError
-plain_word_at macros found = plain_word_by found.line (value_at macros false found)
+plain_word_at macros found = plain_word_by found.line (taken_at macros false found)

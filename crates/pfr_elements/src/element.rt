@@ -1,18 +1,23 @@
 //! The elements of lists.
-ghost use Rattle.std.specs.Prelude.{◌≡◌, ◌<◌, ◌≤◌, ◌++◌, ◌∷◌, [], List, map, length, Option, Result, Bool, Ok, OnOk, IfErr};
+ghost use Rattle.std.specs.Prelude.{◌≡◌, ◌<◌, ◌≤◌, ◌+◌, ◌++◌, ℕ, List, map, fold, max, length, Option, Result, Bool, Ok, OnOk, IfOk, IfErr};
 ghost use Rattle.pfr_terms.specs.declared.error.ConfError.{ConfError};
 ghost use Rattle.pfr_terms.specs.declared.name.MacroUse.{MacroUse};
 ghost use Rattle.pfr_terms.specs.declared.error.ConfErrorKind.TheVariants.{Memory};
-ghost use Rattle.pfr_terms.specs.Input.{Parser, Reads, of_value};
-ghost use Rattle.pfr_words.specs.Words as ws;
+ghost use Rattle.pfr_terms.specs.Input.{Parser, Reads};
 ghost use Rattle.std.specs.Bool.{Decides};
 ghost use Rattle.pfr_elements.specs.declared.scope.Scope.{Scope};
+ghost use Rattle.pfr_elements.specs.declared.definition.ListMeaning.{ListMeaning};
+ghost use Rattle.pfr_elements.specs.declared.definition.ListMeanings.{ListMeanings};
+ghost use Rattle.pfr_words.specs.declared.word.Word.{Word};
+ghost use Rattle.pfr_elements.specs.Elements.{listed};
+ghost use Rattle.pfr_elements.specs.Meanings.{list_meanings};
 ghost use Rattle.pfr_elements.specs.Elements as spec;
 ghost use Rattle.pfr_elements.specs.Values.{Makes};
 
-use crate::faults::{at_line, unknown_word};
+use crate::definition::{ListMeaning, ListMeanings, Taken};
+use crate::faults::{at_line, copied_at, undefined_table, unknown_word};
 use crate::scope::Scope;
-use crate::value::Value;
+use pfr_terms::error::lower;
 use pfr_terms::{ConfError, ConfErrorKind, MacroUse, Reader};
 use pfr_words::spelling::words;
 use pfr_words::{Items, Sign, Word};
@@ -51,6 +56,12 @@ pub trait Element: Sized {
     /// What a thing of a macro's value means behind a `!`.
     ghost turned: { Self.Flat → Self.Flat };
 
+    /// How many of the ruleset's tables have to be defined for it.
+    ghost tables: { Self.Flat → ℕ };
+
+    /// What a macro's value means as a list of this kind.
+    ghost list_in: { ListMeanings → ListMeaning Self.Flat };
+
     fn macro_use(&self) -> Option<MacroUse<'_>>
         ensures { result ≡ use_in self.now };
 
@@ -66,6 +77,13 @@ pub trait Element: Sized {
 
     fn turn(flat: Self::Flat) -> Self::Flat
         ensures { result ≡ turned flat };
+
+    fn tables(flat: Self::Flat) -> usize
+        ensures { result ≡ tables flat };
+
+    fn list_in(meanings: &ListMeanings) -> &ListMeaning<Self::Flat>
+        ensures value { result.now ≡ list_in meanings.now }
+        ensures read { (scope : Scope) (ws : List Word) → meanings.now ≡ list_meanings scope ws → result.now ≡ listed meaning form tables scope ws };
 
     /// Reads one in the value of a macro, and says what it means; of one at fault nothing.
     fn read_one(
@@ -229,34 +247,88 @@ fn put_values<T: Element>(
     Ok(())
 }
 
-/// The elements that the use of a macro stands for with this text as its value.
-fn add_text<T: Element>(
+/// How many of the ruleset's tables have to be defined for things of a list.
+fn tables_of<T: Element>(items: &[T::Flat]) -> usize
+    ensures { result ≡ fold (λ most x. max most (T.tables x)) 0 items.now }
+{
+    let mut most: usize = 0;
+    for flat in items {
+        most = most.max(T::tables(*flat));
+    }
+    most
+}
+
+/// What the words of a value mean as a list.
+pub(crate) fn list_meaning<T: Element>(
     alloc: Global,
     scope: &Scope<'_>,
-    found: &mut Elements<T::Flat>,
-    line: usize,
-    is_negated: bool,
-    text: &[u8],
-) -> Result<(), ConfError>
-    requires { found.old.count ≤ 1048576 }
-    ensures made { OnOk result (found.new ≡ spec.with_values (spec.turned_if is_negated T.turned) line (spec.value_items (spec.value_item T.meaning T.form scope.now) (of_value (ws.words text.now))) found.old) }
-    ensures refused { IfErr result (λ e. e.kind ≡ Memory) }
+    value: &[Word<'_>],
+) -> Result<ListMeaning<T::Flat>, ConfError>
+    ensures { Makes (spec.listed T.meaning T.form T.tables scope.now value.now) result }
 {
-    let value = words(alloc, text)?;
-    let mut reader = Reader::of_value(value.as_slice());
-    let values = match value_items::<T>(alloc, scope, &mut reader) {
-        Ok(values) => values,
-        Err(fault) if is_memory(&fault) => return Err(fault),
-        Err(fault) => {
-            found.add_fault(at_line(line, fault));
-            return Ok(());
-        }
+    let mut reader = Reader::of_value(value);
+    match value_items::<T>(alloc, scope, &mut reader) {
+        Ok(items) => Ok(ListMeaning {
+            tables: tables_of::<T>(items.as_slice()),
+            fault: reader.into_gathered(),
+            items,
+        }),
+        Err(fault) if is_memory(&fault) => Err(fault),
+        Err(fault) => Ok(ListMeaning {
+            items: Items::new(alloc),
+            tables: 0,
+            fault: Some(fault),
+        }),
+    }
+}
+
+/// The fault of a value that is used as a list on this line, where so many tables are defined.
+fn fault_at<T>(
+    alloc: Global,
+    line: usize,
+    defined: usize,
+    meant: &ListMeaning<T>,
+) -> Result<Option<ConfError>, AllocError>
+    ensures { IfOk result (λ found. found ≡ spec.fault_at line defined meant.now) }
+{
+    let fault = match &meant.fault {
+        Some(fault) => Some(copied_at(alloc, line, fault)?),
+        None => None,
     };
-    match reader.into_gathered() {
-        Some(fault) => found.add_fault(at_line(line, fault)),
+    if meant.tables <= defined {
+        Ok(fault)
+    } else {
+        Ok(Some(lower(fault, undefined_table(line))))
+    }
+}
+
+/// How a list is used: on which line, where so many tables are defined, whether behind a `!`, and whether something is
+/// made of its things.
+#[derive(Clone, Copy)]
+struct ListUse {
+    line: usize,
+    defined: usize,
+    is_negated: bool,
+    keeps: bool,
+}
+
+/// Puts the things of a value behind the other elements, or counts them where nothing is made of them.
+fn add_list<T: Element>(
+    alloc: Global,
+    found: &mut Elements<T::Flat>,
+    used: ListUse,
+    meant: &ListMeaning<T::Flat>,
+) -> Result<(), AllocError>
+    requires { found.old.count ≤ 1048576 }
+    ensures { OnOk result (found.new ≡ spec.with_list used.line used.defined used.keeps (spec.turned_if used.is_negated T.turned) meant.now found.old) }
+{
+    match fault_at(alloc, used.line, used.defined, meant)? {
+        Some(fault) => found.add_fault(fault),
         None => {
-            put_values::<T>(found, values.as_slice(), is_negated)?;
-            found.count += values.len();
+            found.count += meant.items.len().min(MOST_ELEMENTS + 1);
+            if used.keeps {
+                put_values::<T>(found, meant.items.as_slice(), used.is_negated)?;
+            }
         }
     }
     Ok(())
@@ -266,39 +338,57 @@ fn add_text<T: Element>(
 fn add_use<T: Element>(
     alloc: Global,
     scope: &Scope<'_>,
+    keeps: bool,
     found: &mut Elements<T::Flat>,
     is_negated: bool,
     used: &MacroUse<'_>,
 ) -> Result<(), ConfError>
     requires { found.old.count ≤ 1048576 }
-    ensures made { OnOk result (found.new ≡ spec.with_use (spec.value_item T.meaning T.form scope.now) T.turned scope.now is_negated used.now found.old) }
+    ensures made { OnOk result (found.new ≡ spec.with_use (spec.listed T.meaning T.form T.tables scope.now) T.list_in T.turned scope.now keeps is_negated used.now found.old) }
     ensures refused { IfErr result (λ e. e.kind ≡ Memory) }
 {
-    match scope.macros.value_at(alloc, used, is_negated)? {
+    let list_use = ListUse {
+        line: used.line,
+        defined: scope.defined,
+        is_negated,
+        keeps,
+    };
+    match scope.macros.taken_at(alloc, used, is_negated)? {
         Err(fault) => found.add_fault(fault),
-        Ok(Value::TooLong(true)) => found.count += MOST_ELEMENTS + 1,
-        Ok(Value::TooLong(false)) => found.add_fault(unknown_word(used.line)),
-        Ok(Value::Text(text)) => {
-            add_text::<T>(alloc, scope, found, used.line, is_negated, text.as_slice())?;
+        Ok(Taken::TooLong(true)) => found.count += MOST_ELEMENTS + 1,
+        Ok(Taken::TooLong(false)) => found.add_fault(unknown_word(used.line)),
+        Ok(Taken::Word(text)) => {
+            let value = words(alloc, text.as_slice())?;
+            let meant = list_meaning::<T>(alloc, scope, value.as_slice())?;
+            add_list::<T>(alloc, found, list_use, &meant)?;
+        }
+        Ok(Taken::Whole(text)) => {
+            add_list::<T>(
+                alloc,
+                found,
+                list_use,
+                T::list_in(&text.get().meanings.lists),
+            )?;
         }
     }
     Ok(())
 }
 
-/// One more element of a list.
+/// One more element of a list. Where nothing is made of the list, what macros stand for is only counted.
 #[tactic(auto, unfolding(crate::specs::Elements::with_element))]
 pub fn add_element<T: Element>(
     alloc: Global,
     scope: &Scope<'_>,
+    keeps: bool,
     found: &mut Elements<T::Flat>,
     element: &T,
 ) -> Result<(), ConfError>
     requires { found.old.count ≤ 1048576 }
-    ensures made { OnOk result (found.new ≡ spec.with_element T.use_in T.negated T.meaning T.form T.turned scope.now found.old element.now) }
+    ensures made { OnOk result (found.new ≡ spec.with_element T.use_in T.negated T.meaning T.form T.tables T.list_in T.turned scope.now keeps found.old element.now) }
     ensures refused { IfErr result (λ e. e.kind ≡ Memory) }
 {
     match element.macro_use() {
-        Some(used) => add_use::<T>(alloc, scope, found, element.is_negated(), &used),
+        Some(used) => add_use::<T>(alloc, scope, keeps, found, element.is_negated(), &used),
         None => {
             let meaning = element.resolve(alloc, scope)?;
             found.add_meaning(meaning)?;
@@ -307,20 +397,22 @@ pub fn add_element<T: Element>(
     }
 }
 
-/// The elements of a list. Those behind the one that is too many aren't looked at.
+/// The elements of a list. Those behind the one that is too many aren't looked at. Where nothing is made of the list,
+/// what macros stand for is only counted.
 pub fn elements_of<T: Element>(
     alloc: Global,
     scope: &Scope<'_>,
+    keeps: bool,
     list: &[T],
 ) -> Result<Elements<T::Flat>, ConfError>
-    ensures { Makes (spec.elements_from (spec.with_element T.use_in T.negated T.meaning T.form T.turned scope.now) spec.none_yet list.now) result }
+    ensures { Makes (spec.elements_from (spec.with_element T.use_in T.negated T.meaning T.form T.tables T.list_in T.turned scope.now keeps) spec.none_yet list.now) result }
 {
     let mut found = Elements::new(alloc);
     for element in list {
         if found.count > MOST_ELEMENTS {
             return Ok(found);
         }
-        add_element(alloc, scope, &mut found, element)?;
+        add_element(alloc, scope, keeps, &mut found, element)?;
     }
     Ok(found)
 }

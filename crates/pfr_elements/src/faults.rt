@@ -38,3 +38,63 @@ pub(crate) fn left_out(alloc: Global, line: usize, name: &[u8]) -> Result<ConfEr
         kind: ConfErrorKind::LeftOut(LeftOutName { name }),
     })
 }
+
+/// The fault of a table on this line that isn't defined.
+pub(crate) fn undefined_table(line: usize) -> ConfError
+    ensures { result ≡ spec.undefined_table line }
+{
+    ConfError {
+        line,
+        kind: ConfErrorKind::UndefinedTable,
+    }
+}
+
+fn copied_kind(alloc: Global, kind: &ConfErrorKind) -> Result<ConfErrorKind, AllocError>
+    ensures { IfOk result (λ made. made ≡ kind.now) }
+{
+    Ok(match kind {
+        ConfErrorKind::BadByte => ConfErrorKind::BadByte,
+        ConfErrorKind::Unterminated => ConfErrorKind::Unterminated,
+        ConfErrorKind::UnknownWord => ConfErrorKind::UnknownWord,
+        ConfErrorKind::LeftOut(left_out) => ConfErrorKind::LeftOut(LeftOutName {
+            name: Items::copied(alloc, left_out.name.as_slice())?,
+        }),
+        ConfErrorKind::BadNumber => ConfErrorKind::BadNumber,
+        ConfErrorKind::BadAddress => ConfErrorKind::BadAddress,
+        ConfErrorKind::OutOfOrder => ConfErrorKind::OutOfOrder,
+        ConfErrorKind::TooDeep => ConfErrorKind::TooDeep,
+        ConfErrorKind::Memory => ConfErrorKind::Memory,
+        ConfErrorKind::UndefinedMacro => ConfErrorKind::UndefinedMacro,
+        ConfErrorKind::UndefinedTable => ConfErrorKind::UndefinedTable,
+        ConfErrorKind::TooMany => ConfErrorKind::TooMany,
+        ConfErrorKind::Clash => ConfErrorKind::Clash,
+    })
+}
+
+/// A copy of a fault, on this line.
+pub(crate) fn copied_at(
+    alloc: Global,
+    line: usize,
+    fault: &ConfError,
+) -> Result<ConfError, AllocError>
+    ensures { IfOk result (λ made. made ≡ spec.at_line line fault.now) }
+{
+    Ok(ConfError {
+        line,
+        kind: copied_kind(alloc, &fault.kind)?,
+    })
+}
+
+/// What is meant, or a copy of its fault on this line.
+pub(crate) fn copied_on<T: Copy>(
+    alloc: Global,
+    line: usize,
+    meant: &Result<T, ConfError>,
+) -> Result<Result<T, ConfError>, AllocError>
+    ensures { IfOk result (λ made. made ≡ spec.fault_on line meant.now) }
+{
+    match meant {
+        Ok(meant) => Ok(Ok(*meant)),
+        Err(fault) => Ok(Err(copied_at(alloc, line, fault)?)),
+    }
+}

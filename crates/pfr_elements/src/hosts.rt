@@ -4,22 +4,27 @@ ghost use Rattle.pfr_terms.specs.Addresses as addresses;
 ghost use Rattle.pfr_elements.specs.Elements as elements;
 ghost use Rattle.pfr_elements.specs.Hosts as spec;
 ghost use Rattle.pfr_elements.specs.Names.{last_place};
+ghost use Rattle.pfr_elements.specs.Terms as terms;
+ghost use Rattle.std.specs.Prelude.{List};
+ghost use Rattle.pfr_words.specs.declared.word.Word.{Word};
+ghost use Rattle.pfr_elements.specs.declared.scope.Scope.{Scope};
+ghost use Rattle.pfr_elements.specs.Meanings.{list_meanings};
 ghost use Rattle.pfr_elements.specs.Values.{Makes};
-ghost use Rattle.pfr_terms.specs.Input.{Reads, of_value};
-ghost use Rattle.pfr_words.specs.Words as ws;
+ghost use Rattle.pfr_terms.specs.Input.{Reads};
 
+use crate::definition::{ListMeaning, ListMeanings, Taken};
 use crate::element::{Element, is_memory, noted, one_gathered};
-use crate::faults::{at_line, left_out, unknown_word};
+use crate::faults::{at_line, copied_on, left_out, undefined_table, unknown_word};
 use crate::interface::{Interface, masked, whole};
 use crate::scope::Scope;
 use crate::terms::{copied, misplaced, use_in};
-use crate::value::Value;
 use pfr_tables::Entry;
 use pfr_terms::lists::Item;
 use pfr_terms::{
-    Address, AddressMatch, ConfError, ConfErrorKind, Host, Ipv4Address, MacroUse, Name, Network,
-    Reader, TableEntry, Written,
+    Address, AddressMatch, ConfError, Host, Ipv4Address, MacroUse, Name, Network, Reader,
+    TableEntry, Written,
 };
+use pfr_words::Word;
 use pfr_words::spelling::words;
 use std::alloc::Global;
 
@@ -73,17 +78,16 @@ fn value_form(
     Ok(found)
 }
 
-/// What the text of a macro's value means in round brackets.
-fn form_read(
+/// What the words of a macro's value mean in round brackets.
+pub(crate) fn form_read(
     alloc: Global,
     interface: &Interface,
     line: usize,
-    text: &[u8],
+    value: &[Word<'_>],
 ) -> Result<Result<Network, ConfError>, ConfError>
-    ensures { Makes (elements.one_read line (spec.value_form interface.now (of_value (ws.words text.now)))) result }
+    ensures { Makes (spec.form_read interface.now line value.now) result }
 {
-    let value = words(alloc, text)?;
-    let mut reader = Reader::of_value(value.as_slice());
+    let mut reader = Reader::of_value(value);
     let found = match value_form(alloc, interface, &mut reader) {
         Ok(found) => found,
         Err(fault) if is_memory(&fault) => return Err(fault),
@@ -101,10 +105,14 @@ fn used_form(
 ) -> Result<Result<Network, ConfError>, ConfError>
     ensures { Makes (spec.used_form scope.now found.now) result }
 {
-    match scope.macros.value_at(alloc, found, false)? {
+    match scope.macros.taken_at(alloc, found, false)? {
         Err(fault) => Ok(Err(fault)),
-        Ok(Value::TooLong(_)) => Ok(Err(unknown_word(found.line))),
-        Ok(Value::Text(text)) => form_read(alloc, &scope.interface, found.line, text.as_slice()),
+        Ok(Taken::TooLong(_)) => Ok(Err(unknown_word(found.line))),
+        Ok(Taken::Word(text)) => {
+            let value = words(alloc, text.as_slice())?;
+            form_read(alloc, &scope.interface, found.line, value.as_slice())
+        }
+        Ok(Taken::Whole(text)) => Ok(copied_on(alloc, found.line, &text.get().meanings.form)?),
     }
 }
 
@@ -127,14 +135,11 @@ pub fn host_meaning(
 }
 
 fn table_meaning(scope: &Scope<'_>, name: &Name<'_>) -> Result<HostSet, ConfError>
-    ensures { result ≡ spec.table_by name.now (last_place name.now.text scope.now.tables) }
+    ensures { result ≡ spec.table_by name.now scope.now.defined (last_place name.now.text scope.now.tables) }
 {
     match scope.tables.last_place(name.text.as_slice()) {
-        Some(place) => Ok(HostSet::Table(place)),
-        None => Err(ConfError {
-            line: name.line,
-            kind: ConfErrorKind::UndefinedTable,
-        }),
+        Some(place) if place < scope.defined => Ok(HostSet::Table(place)),
+        _ => Err(undefined_table(name.line)),
     }
 }
 
@@ -191,6 +196,10 @@ impl<'a> Element for AddressMatch<'a> {
 
     ghost turned = { spec.host_turned };
 
+    ghost tables = { spec.host_tables };
+
+    ghost list_in = { spec.host_lists };
+
     fn macro_use(&self) -> Option<MacroUse<'_>> {
         match &self.address {
             Address::Macro(found) => Some(copied(found)),
@@ -217,6 +226,23 @@ impl<'a> Element for AddressMatch<'a> {
             is_negated: true,
             ..flat
         }
+    }
+
+    fn tables(flat: HostCriterion) -> usize
+        ensures { result ≡ spec.host_tables flat }
+    {
+        match flat.hosts {
+            HostSet::Table(place) => place.saturating_add(1),
+            _ => 0,
+        }
+    }
+
+    #[tactic(auto, unfolding(crate::specs::Meanings::list_meanings))]
+    fn list_in(meanings: &ListMeanings) -> &ListMeaning<HostCriterion>
+        ensures value { result.now ≡ spec.host_lists meanings.now }
+        ensures read { (scope : Scope) (ws : List Word) → meanings.now ≡ list_meanings scope ws → result.now ≡ elements.listed spec.host_criterion addresses.address_match spec.host_tables scope ws }
+    {
+        &meanings.hosts
     }
 
     fn read_one(
@@ -254,6 +280,7 @@ fn entry(
 impl<'a> Element for TableEntry<'a> {
     ghost use Rattle.pfr_terms.specs.Addresses as addresses;
     ghost use Rattle.pfr_elements.specs.Hosts as spec;
+    ghost use Rattle.pfr_elements.specs.Terms as terms;
 
     type Flat = Entry;
 
@@ -266,6 +293,10 @@ impl<'a> Element for TableEntry<'a> {
     ghost meaning = { spec.entry_meaning };
 
     ghost turned = { spec.entry_turned };
+
+    ghost tables = { terms.no_table };
+
+    ghost list_in = { spec.entry_lists };
 
     fn macro_use(&self) -> Option<MacroUse<'_>> {
         use_in(&self.host)
@@ -290,6 +321,20 @@ impl<'a> Element for TableEntry<'a> {
             is_negated: true,
             ..flat
         }
+    }
+
+    fn tables(_flat: Entry) -> usize
+        ensures { result ≡ terms.no_table _flat }
+    {
+        0
+    }
+
+    #[tactic(auto, unfolding(crate::specs::Meanings::list_meanings))]
+    fn list_in(meanings: &ListMeanings) -> &ListMeaning<Entry>
+        ensures value { result.now ≡ spec.entry_lists meanings.now }
+        ensures read { (scope : Scope) (ws : List Word) → meanings.now ≡ list_meanings scope ws → result.now ≡ elements.listed spec.entry_meaning addresses.table_entry terms.no_table scope ws }
+    {
+        &meanings.entries
     }
 
     fn read_one(

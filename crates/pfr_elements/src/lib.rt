@@ -5,11 +5,13 @@
 //! Where one address has to stand, [`written_single`] and [`single_sources`] say which, and leave out more than one.
 #![tactic(auto)]
 
+pub mod definition;
 pub mod element;
 mod faults;
 pub mod hosts;
 pub mod interface;
 pub mod macros;
+mod meanings;
 pub mod names;
 pub mod scope;
 pub mod single;

@@ -1,5 +1,5 @@
 //! Names, each known by its place.
-ghost use Rattle.std.specs.Prelude.{◌≡◌, [], ◌∷◌, ◌++◌, OnOk, OnErr};
+ghost use Rattle.std.specs.Prelude.{◌≡◌, [], ◌∷◌, ◌++◌, length, OnOk, OnErr};
 ghost use Rattle.pfr_elements.specs.Names as spec;
 
 use pfr_words::Bytes;
@@ -34,6 +34,13 @@ impl<'a> Names<'a> {
             names: Vec::new(alloc),
             places: BTreeMap::new(alloc),
         }
+    }
+
+    /// How many there are.
+    pub fn len(&self) -> usize
+        ensures { result ≡ length self.now }
+    {
+        self.names.len()
     }
 
     /// The place of the last one of a name.

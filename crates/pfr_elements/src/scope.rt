@@ -3,11 +3,14 @@ use crate::interface::Interface;
 use crate::macros::Macros;
 use crate::names::Names;
 
-/// The run's interface, and the macros and tables that are defined so far.
+/// The run's interface, the macros that are defined so far, and the tables.
 #[derive(Drop)]
 pub struct Scope<'a> {
     pub interface: Interface,
     pub macros: Macros<'a>,
-    /// The names of the tables; a table is known by its place among them.
+    /// The names of the ruleset's tables, each once, in the order of their definitions; a table is known by its place
+    /// among them.
     pub tables: Names<'a>,
+    /// How many of the tables are defined so far.
+    pub defined: usize,
 }

@@ -1,26 +1,24 @@
 //! One address, where pf.conf(5) would take a pool of several: the target of a translation rule, and the source of a
 //! binat rule.
 ghost use Rattle.std.specs.Prelude.{◌≡◌, ◌<◌, ◌≤◌, IfOk, Ok};
-ghost use Rattle.pfr_elements.specs.Elements as elements;
 ghost use Rattle.pfr_elements.specs.Single as spec;
 ghost use Rattle.pfr_elements.specs.Values.{Makes};
-ghost use Rattle.pfr_terms.specs.Input.{Reads, of_value};
-ghost use Rattle.pfr_words.specs.Words as ws;
+ghost use Rattle.pfr_terms.specs.Input.{Reads};
 
+use crate::definition::{Meanings, Taken};
 use crate::element::{Elements, MOST_ELEMENTS, is_memory, noted, one_gathered, value_items};
-use crate::faults::{at_line, left_out, unknown_word};
+use crate::faults::{at_line, copied_on, left_out, unknown_word};
 use crate::hosts::{HostCriterion, HostSet, host_meaning};
 use crate::interface::whole;
 use crate::scope::Scope;
 use crate::terms::misplaced;
-use crate::value::Value;
 use pfr_terms::lists::Item;
 use pfr_terms::{
     Address, AddressMatch, ConfError, ConfErrorKind, Host, Ipv4Address, MacroUse, Network, Reader,
     Written,
 };
-use pfr_words::Sign;
 use pfr_words::spelling::words;
+use pfr_words::{Sign, Word};
 use std::alloc::{AllocError, Global};
 
 /// The fault of more than one address, which is left out.
@@ -159,24 +157,34 @@ fn value_single(
     }
 }
 
-/// The address that the text of a macro's value stands for. All its faults stand on the line of the use.
-fn single_read(
+/// The address that the words of a macro's value stand for. All its faults stand on the line of the use.
+pub(crate) fn single_read(
     alloc: Global,
     scope: &Scope<'_>,
     has_tables: bool,
     line: usize,
-    text: &[u8],
+    value: &[Word<'_>],
 ) -> Result<Result<Ipv4Address, ConfError>, ConfError>
-    ensures { Makes (elements.one_read line (spec.value_single has_tables scope.now (of_value (ws.words text.now)))) result }
+    ensures { Makes (spec.single_read has_tables scope.now line value.now) result }
 {
-    let value = words(alloc, text)?;
-    let mut reader = Reader::of_value(value.as_slice());
+    let mut reader = Reader::of_value(value);
     let found = match value_single(alloc, scope, &mut reader, has_tables) {
         Ok(found) => found,
         Err(fault) if is_memory(&fault) => return Err(fault),
         Err(fault) => return Ok(Err(at_line(line, fault))),
     };
     Ok(one_gathered(line, found, reader.into_gathered()))
+}
+
+/// The address that a value means as a target, or as the source of a rule.
+fn single_of(meanings: &Meanings, has_tables: bool) -> &Result<Ipv4Address, ConfError>
+    ensures { result.now ≡ spec.single_of has_tables meanings.now }
+{
+    if has_tables {
+        &meanings.target
+    } else {
+        &meanings.source
+    }
 }
 
 /// The address that the use of a macro stands for.
@@ -189,12 +197,17 @@ fn used_single(
 ) -> Result<Result<Ipv4Address, ConfError>, ConfError>
     ensures { Makes (spec.used_single has_tables scope.now found.now) result }
 {
-    match scope.macros.value_at(alloc, found, false)? {
+    match scope.macros.taken_at(alloc, found, false)? {
         Err(fault) => Ok(Err(fault)),
-        Ok(Value::TooLong(true)) => Ok(Err(pool(alloc, found.line)?)),
-        Ok(Value::TooLong(false)) => Ok(Err(unknown_word(found.line))),
-        Ok(Value::Text(text)) => {
-            single_read(alloc, scope, has_tables, found.line, text.as_slice())
+        Ok(Taken::TooLong(true)) => Ok(Err(pool(alloc, found.line)?)),
+        Ok(Taken::TooLong(false)) => Ok(Err(unknown_word(found.line))),
+        Ok(Taken::Word(text)) => {
+            let value = words(alloc, text.as_slice())?;
+            single_read(alloc, scope, has_tables, found.line, value.as_slice())
+        }
+        Ok(Taken::Whole(text)) => {
+            let meant = single_of(&text.get().meanings, has_tables);
+            Ok(copied_on(alloc, found.line, meant)?)
         }
     }
 }

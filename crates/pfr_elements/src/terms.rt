@@ -6,7 +6,12 @@ ghost use Rattle.pfr_terms.specs.Ports as ports;
 ghost use Rattle.pfr_terms.specs.Terms as terms;
 ghost use Rattle.pfr_elements.specs.Elements as elements;
 ghost use Rattle.pfr_elements.specs.Terms as spec;
+ghost use Rattle.std.specs.Prelude.{List};
+ghost use Rattle.pfr_words.specs.declared.word.Word.{Word};
+ghost use Rattle.pfr_elements.specs.declared.scope.Scope.{Scope};
+ghost use Rattle.pfr_elements.specs.Meanings.{list_meanings};
 
+use crate::definition::{ListMeaning, ListMeanings};
 use crate::element::{Element, noted};
 use crate::faults::unknown_word;
 use crate::interface::IfName;
@@ -80,6 +85,10 @@ impl<'a> Element for Written<'a, Protocol> {
 
     ghost turned = { spec.same };
 
+    ghost tables = { spec.no_table };
+
+    ghost list_in = { spec.protocol_lists };
+
     fn macro_use(&self) -> Option<MacroUse<'_>> {
         use_in(self)
     }
@@ -100,6 +109,20 @@ impl<'a> Element for Written<'a, Protocol> {
         ensures { result ≡ spec.same flat }
     {
         flat
+    }
+
+    fn tables(_flat: Protocol) -> usize
+        ensures { result ≡ spec.no_table _flat }
+    {
+        0
+    }
+
+    #[tactic(auto, unfolding(crate::specs::Meanings::list_meanings))]
+    fn list_in(meanings: &ListMeanings) -> &ListMeaning<Protocol>
+        ensures value { result.now ≡ spec.protocol_lists meanings.now }
+        ensures read { (scope : Scope) (ws : List Word) → meanings.now ≡ list_meanings scope ws → result.now ≡ elements.listed spec.itself (lists.written terms.protocol) spec.no_table scope ws }
+    {
+        &meanings.protocols
     }
 
     fn read_one(
@@ -131,6 +154,10 @@ impl<'a> Element for Written<'a, IcmpMatch> {
 
     ghost turned = { spec.same };
 
+    ghost tables = { spec.no_table };
+
+    ghost list_in = { spec.icmp_lists };
+
     fn macro_use(&self) -> Option<MacroUse<'_>> {
         use_in(self)
     }
@@ -151,6 +178,20 @@ impl<'a> Element for Written<'a, IcmpMatch> {
         ensures { result ≡ spec.same flat }
     {
         flat
+    }
+
+    fn tables(_flat: IcmpMatch) -> usize
+        ensures { result ≡ spec.no_table _flat }
+    {
+        0
+    }
+
+    #[tactic(auto, unfolding(crate::specs::Meanings::list_meanings))]
+    fn list_in(meanings: &ListMeanings) -> &ListMeaning<IcmpMatch>
+        ensures value { result.now ≡ spec.icmp_lists meanings.now }
+        ensures read { (scope : Scope) (ws : List Word) → meanings.now ≡ list_meanings scope ws → result.now ≡ elements.listed spec.itself (lists.written terms.icmp_match) spec.no_table scope ws }
+    {
+        &meanings.icmp_types
     }
 
     fn read_one(
@@ -182,6 +223,10 @@ impl<'a> Element for Written<'a, PortMatch> {
 
     ghost turned = { spec.same };
 
+    ghost tables = { spec.no_table };
+
+    ghost list_in = { spec.port_lists };
+
     fn macro_use(&self) -> Option<MacroUse<'_>> {
         use_in(self)
     }
@@ -202,6 +247,20 @@ impl<'a> Element for Written<'a, PortMatch> {
         ensures { result ≡ spec.same flat }
     {
         flat
+    }
+
+    fn tables(_flat: PortMatch) -> usize
+        ensures { result ≡ spec.no_table _flat }
+    {
+        0
+    }
+
+    #[tactic(auto, unfolding(crate::specs::Meanings::list_meanings))]
+    fn list_in(meanings: &ListMeanings) -> &ListMeaning<PortMatch>
+        ensures value { result.now ≡ spec.port_lists meanings.now }
+        ensures read { (scope : Scope) (ws : List Word) → meanings.now ≡ list_meanings scope ws → result.now ≡ elements.listed spec.itself (lists.written ports.port_match) spec.no_table scope ws }
+    {
+        &meanings.ports
     }
 
     fn read_one(
@@ -242,6 +301,10 @@ impl<'a> Element for Written<'a, InterfaceName<'a>> {
 
     ghost turned = { spec.same };
 
+    ghost tables = { spec.no_table };
+
+    ghost list_in = { spec.skipped_lists };
+
     fn macro_use(&self) -> Option<MacroUse<'_>> {
         use_in(self)
     }
@@ -262,6 +325,20 @@ impl<'a> Element for Written<'a, InterfaceName<'a>> {
         ensures { result ≡ spec.same flat }
     {
         flat
+    }
+
+    fn tables(_flat: IfName) -> usize
+        ensures { result ≡ spec.no_table _flat }
+    {
+        0
+    }
+
+    #[tactic(auto, unfolding(crate::specs::Meanings::list_meanings))]
+    fn list_in(meanings: &ListMeanings) -> &ListMeaning<IfName>
+        ensures value { result.now ≡ spec.skipped_lists meanings.now }
+        ensures read { (scope : Scope) (ws : List Word) → meanings.now ≡ list_meanings scope ws → result.now ≡ elements.listed spec.skipped (lists.written terms.interface_name) spec.no_table scope ws }
+    {
+        &meanings.skipped
     }
 
     fn read_one(
@@ -304,6 +381,10 @@ impl<'a> Element for InterfaceMatch<'a> {
 
     ghost turned = { spec.interface_turned };
 
+    ghost tables = { spec.no_table };
+
+    ghost list_in = { spec.interface_lists };
+
     fn macro_use(&self) -> Option<MacroUse<'_>> {
         use_in(&self.interface)
     }
@@ -327,6 +408,20 @@ impl<'a> Element for InterfaceMatch<'a> {
             is_negated: true,
             ..flat
         }
+    }
+
+    fn tables(_flat: InterfaceCriterion) -> usize
+        ensures { result ≡ spec.no_table _flat }
+    {
+        0
+    }
+
+    #[tactic(auto, unfolding(crate::specs::Meanings::list_meanings))]
+    fn list_in(meanings: &ListMeanings) -> &ListMeaning<InterfaceCriterion>
+        ensures value { result.now ≡ spec.interface_lists meanings.now }
+        ensures read { (scope : Scope) (ws : List Word) → meanings.now ≡ list_meanings scope ws → result.now ≡ elements.listed spec.interface_meaning terms.interface_match spec.no_table scope ws }
+    {
+        &meanings.interfaces
     }
 
     fn read_one(

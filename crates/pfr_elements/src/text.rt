@@ -2,13 +2,10 @@
 ghost use Rattle.std.specs.Prelude.{◌≡◌, ◌<◌, ◌≤◌, ◌+◌, length};
 ghost use Rattle.std.specs.Option.{option_map};
 ghost use Rattle.pfr_elements.specs.Values as spec;
-ghost use Rattle.pfr_elements.specs.Values.{Makes};
+ghost use Rattle.pfr_words.specs.Words.{words};
 
-use pfr_terms::ConfError;
 use pfr_words::braces::is_sign;
-use pfr_words::spelling::words;
 use pfr_words::{Sign, Token, Word};
-use std::alloc::Global;
 
 fn has_comment(text: &[u8]) -> bool
     ensures { result ≡ spec.has_comment text.now }
@@ -61,14 +58,24 @@ fn are_sound(words: &[Word<'_>]) -> bool
     true
 }
 
-/// Whether a value has plain words and signs alone, in which each brace has its partner.
-#[tactic(auto, unfolding(crate::specs::Values::is_sound))]
-pub fn is_sound(alloc: Global, text: &[u8]) -> Result<bool, ConfError>
-    ensures { Makes (spec.is_sound text.now) result }
+/// The word of a value of one plain word.
+pub(crate) fn only_plain<'w>(words: &'w [Word<'_>]) -> Option<&'w [u8]>
+    ensures { option_map (λ w. w.now) result ≡ spec.only_plain words.now }
 {
-    if has_comment(text) {
-        return Ok(false);
+    match words {
+        [only] => match &only.token {
+            Token::Plain(word) => Some(word.as_slice()),
+            _ => None,
+        },
+        _ => None,
     }
-    let found = words(alloc, text)?;
-    Ok(are_sound(found.as_slice()))
+}
+
+/// Whether a value has plain words and signs alone, in which each brace has its partner. Its words are given, too.
+#[tactic(auto, unfolding(crate::specs::Values::is_sound))]
+pub(crate) fn is_sound(text: &[u8], found: &[Word<'_>]) -> bool
+    requires { found.now ≡ words text.now }
+    ensures { result ≡ spec.is_sound text.now }
+{
+    !has_comment(text) && are_sound(found)
 }

@@ -1,7 +1,9 @@
 //! The values of macros.
 ghost use Rattle.std.specs.Prelude.{◌≡◌, ◌<◌, ◌≤◌, ◌++◌, ◌∷◌, length, OnOk, Ok};
 ghost use Rattle.pfr_elements.specs.Values as spec;
+ghost use Rattle.pfr_elements.specs.declared.value.Value.TheVariants.{Text, TooLong};
 
+use crate::definition::Taken;
 use pfr_words::Items;
 use pfr_words::cutting::is_blank;
 use std::alloc::{AllocError, Global};
@@ -86,28 +88,43 @@ impl Draft {
         }
     }
 
-    /// Puts the value of a macro behind what is there.
+    /// Puts the text of a macro behind what is there.
     #[tactic(auto, unfolding(crate::specs::Values::with_macro))]
-    pub fn add_value(&mut self, value: &Value) -> Result<(), AllocError>
-        ensures { OnOk result (self.new ≡ spec.with_macro value.now self.old) }
+    fn add_macro(&mut self, text: &[u8]) -> Result<(), AllocError>
+        ensures { OnOk result (self.new ≡ spec.with_macro (Text text.now) self.old) }
     {
         let Value::Text(before) = &mut self.value else {
             return Ok(());
         };
-        match value {
-            Value::TooLong(is_list) => {
-                self.value = Value::TooLong(is_long_list(before.as_slice(), *is_list));
-                Ok(())
-            }
-            Value::Text(text) if fits(before.as_slice(), text.as_slice(), self.spliced) => {
-                self.spliced += text.len();
-                put_behind(before, text.as_slice())
-            }
-            Value::Text(text) => {
-                self.value = Value::TooLong(is_long_list(
-                    before.as_slice(),
-                    begins_list(text.as_slice()),
-                ));
+        if fits(before.as_slice(), text, self.spliced) {
+            self.spliced += text.len();
+            put_behind(before, text)
+        } else {
+            let is_list = is_long_list(before.as_slice(), begins_list(text));
+            self.value = Value::TooLong(is_list);
+            Ok(())
+        }
+    }
+
+    /// Puts a value that is too long behind what is there.
+    #[tactic(auto, unfolding(crate::specs::Values::with_macro))]
+    fn add_too_long(&mut self, is_list: bool)
+        ensures { self.new ≡ spec.with_macro (TooLong is_list) self.old }
+    {
+        if let Value::Text(before) = &self.value {
+            self.value = Value::TooLong(is_long_list(before.as_slice(), is_list));
+        }
+    }
+
+    /// Puts what the use of a macro stands for behind what is there.
+    pub fn add_taken(&mut self, taken: &Taken<'_>) -> Result<(), AllocError>
+        ensures { OnOk result (self.new ≡ spec.with_taken taken.now self.old) }
+    {
+        match taken {
+            Taken::Whole(text) => self.add_macro(text.get().bytes.as_slice()),
+            Taken::Word(word) => self.add_macro(word.as_slice()),
+            Taken::TooLong(is_list) => {
+                self.add_too_long(*is_list);
                 Ok(())
             }
         }

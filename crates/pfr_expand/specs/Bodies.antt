@@ -1,5 +1,5 @@
 -- Filter rules and anchors as flat rules, with the anchors round them.
-use Rattle.std.specs.Prelude.{◌≡◌, ◌≤◌, ◌<◌, ℕ, zero, suc, ◌+◌, ◌-◌, ◌*◌, ◌==◌, ◌||◌, Bool, true, false, nat_lt, if◌then◌else◌, List, [], ◌∷◌, ◌++◌, length, map, fold, Option, Some, None, Result, Ok, Err, ◌≢◌}
+use Rattle.std.specs.Prelude.{◌≡◌, ◌≤◌, ◌<◌, ℕ, zero, suc, ◌+◌, ◌-◌, ◌*◌, ◌==◌, ◌||◌, Bool, true, false, not, nat_lt, if◌then◌else◌, List, [], ◌∷◌, ◌++◌, length, map, fold, Option, Some, None, Result, Ok, Err, ◌≢◌}
 use Rattle.std.specs.List.{All}
 use Rattle.pfr_terms.specs.declared.error.ConfError.{ConfError}
 use Rattle.pfr_terms.specs.declared.error.ConfErrorKind.TheVariants.{TooDeep, Memory}
@@ -102,7 +102,7 @@ abbrev pub rule_of : Setting → FilterRule → L.Lists → Body → Result Body
 rule_of setting rule lists out = rule_by setting rule lists out (counted setting.used setting.line lists out.count 1)
 
 unfoldable pub with_rule : Scope → Setting → FilterRule → Body → Result Body ConfError
-with_rule scope setting rule out = rule_of setting rule (lists_of scope rule.criteria rule.options.icmp_types) out
+with_rule scope setting rule out = rule_of setting rule (lists_of scope true rule.criteria rule.options.icmp_types) out
 
 -- ---- anchors
 
@@ -160,9 +160,16 @@ abbrev pub body_from : Adding → Body → List FilterStatement → Result Body 
 body_from add out [] = Ok out
 body_from add out (x ∷ xs) = and_then (add x out) (λ more. body_from add more xs)
 
-abbrev pub with_anchor : Setting → AnchorRule → L.Lists → Result Body ConfError → Body → Result Body ConfError
-with_anchor setting anchor lists (Ok inner) out = counted_anchor setting anchor lists inner out
-with_anchor setting anchor lists (Err e) out = Err e
+abbrev pub has_rules : Body → Bool
+has_rules body = not (length body.rules == 0)
+
+-- where the body has no rule, nothing is made of the anchor's lists
+abbrev pub with_body : Scope → Setting → AnchorRule → Body → Body → Result Body ConfError
+with_body scope setting anchor inner out = counted_anchor setting anchor (lists_of scope (has_rules inner) anchor.criteria None) inner out
+
+abbrev pub with_anchor : Scope → Setting → AnchorRule → Result Body ConfError → Body → Result Body ConfError
+with_anchor scope setting anchor (Ok inner) out = with_body scope setting anchor inner out
+with_anchor scope setting anchor (Err e) out = Err e
 
 -- a rule, or an anchor by what its body comes to
 abbrev pub statement_by : (AnchorRule → List FilterStatement → Body → Result Body ConfError) → Scope → Setting → FilterStatement-F FilterStatement → Body → Result Body ConfError
@@ -172,7 +179,7 @@ statement_by anchored scope setting (FilterStatement-F.Anchor anchor body) out =
 -- a statement in which at most so many anchors stand in one another
 unfoldable pub statement : ℕ → Scope → Setting → Adding
 statement zero scope setting x out = statement_by (λ anchor body out. Err (record { line = anchor.line; kind = TooDeep })) scope setting (out-FilterStatement x) out
-statement (suc depth) scope setting x out = statement_by (λ anchor body out. with_anchor setting anchor (lists_of scope anchor.criteria None) (body_from (statement depth scope setting) empty_body body) out) scope setting (out-FilterStatement x) out
+statement (suc depth) scope setting x out = statement_by (λ anchor body out. with_anchor scope setting anchor (body_from (statement depth scope setting) empty_body body) out) scope setting (out-FilterStatement x) out
 
 -- ---- places
 

@@ -1,5 +1,5 @@
 -- Options, as pf.conf(5) has them. Of one that is set twice the last counts; interfaces that are skipped add up.
-use Rattle.std.specs.Prelude.{ℕ, ◌+◌, ◌||◌, Bool, nat_lt, if◌then◌else◌, List, [], ◌∷◌, ◌++◌, length, fold, Option, Some, None, Result, Ok, Err}
+use Rattle.std.specs.Prelude.{ℕ, ◌+◌, ◌||◌, Bool, true, nat_lt, if◌then◌else◌, List, [], ◌∷◌, ◌++◌, length, fold, Option, Some, None, Result, Ok, Err}
 use lib.ListN.{set}
 use Rattle.pfr_terms.specs.declared.error.ConfError.{ConfError}
 use Rattle.pfr_terms.specs.declared.interface.InterfaceName.{InterfaceName}
@@ -22,7 +22,7 @@ use Rattle.pfr_elements.specs.declared.element.Elements as E
 use Rattle.pfr_elements.specs.declared.interface.IfName.{IfName}
 use Rattle.pfr_elements.specs.declared.scope.Scope.{Scope}
 use Rattle.pfr_elements.specs.Elements.{elements_from, with_element, none_yet, most_elements}
-use Rattle.pfr_elements.specs.Terms.{use_in, never, same, skipped}
+use Rattle.pfr_elements.specs.Terms.{use_in, never, same, no_table, skipped, skipped_lists}
 use Rattle.pfr_elements.specs.Values.{plain_word_at}
 use Rattle.pfr_expand.specs.declared.timeouts.Timeouts.{Timeouts}
 use Rattle.pfr_expand.specs.declared.options.Options as O
@@ -102,7 +102,7 @@ without_effect scope options (w.Item name) = Ok options
 without_effect scope options (w.Macro found) = checked options (plain_word_at scope.macros found)
 
 unfoldable pub with_option : Scope → SetOption → O.Options → Result O.Options ConfError
-with_option scope (o.SkipOn list) options = with_skipped (first_line list) options (elements_from (with_element use_in never skipped (lists.written terms.interface_name) same scope) none_yet list)
+with_option scope (o.SkipOn list) options = with_skipped (first_line list) options (elements_from (with_element use_in never skipped (lists.written terms.interface_name) no_table skipped_lists same scope true) none_yet list)
 with_option scope (o.Timeouts settings) options = Ok (fold timeout_set options settings)
 with_option scope (o.Limits settings) options = Ok (fold limit_set options settings)
 with_option scope (o.BlockPolicy policy) options = Ok (record options { block_policy = policy })

@@ -1,6 +1,5 @@
 -- The flat ruleset of statements, or the first fault of theirs.
-use Rattle.std.specs.Prelude.{ℕ, ◌+◌, ◌||◌, Bool, true, false, nat_lt, if◌then◌else◌, List, [], ◌∷◌, ◌++◌, length, map, min, Option, Some, None, Result, Ok, Err}
-use Rattle.std.specs.Option.{is_some}
+use Rattle.std.specs.Prelude.{ℕ, ◌+◌, ◌||◌, Bool, true, false, nat_lt, if◌then◌else◌, List, [], ◌∷◌, ◌++◌, length, map, fold, min, Option, Some, None, Result, Ok, Err}
 use Rattle.pfr_terms.specs.declared.error.ConfError.{ConfError}
 use Rattle.pfr_terms.specs.declared.name.MacroUse.{MacroUse}
 use Rattle.pfr_terms.specs.declared.name.Name.{Name}
@@ -20,9 +19,10 @@ use Rattle.pfr_conf.specs.declared.statement.Statements as S
 use Rattle.pfr_elements.specs.declared.interface.Interface.{Interface}
 use Rattle.pfr_elements.specs.declared.scope.Scope.{Scope}
 use Rattle.pfr_elements.specs.declared.macros.Macros.{Macros}
-use Rattle.pfr_elements.specs.declared.value.Value.{Value}
+use Rattle.pfr_elements.specs.declared.definition.Taken.{Taken}
 use Rattle.pfr_elements.specs.declared.value.Draft.{Draft}
-use Rattle.pfr_elements.specs.Values.{value_at, with_text, with_macro, begun, defined, no_macros}
+use Rattle.pfr_elements.specs.Meanings.{with_macro}
+use Rattle.pfr_elements.specs.Values.{taken_at, with_text, with_taken, begun, no_macros}
 use Rattle.pfr_elements.specs.Names.{last_place}
 use Rattle.pfr_elements.specs.Elements.{most_elements}
 use Rattle.pfr_expand.specs.declared.body.Setting.{Setting}
@@ -42,15 +42,15 @@ use Rattle.pfr_expand.specs.Tables.{clash, filled, unfilled}
 
 -- ---- macros
 
-abbrev pub with_use : Draft → Result Value ConfError → Result Draft ConfError
-with_use draft (Ok value) = Ok (with_macro value draft)
+abbrev pub with_use : Draft → Result Taken ConfError → Result Draft ConfError
+with_use draft (Ok taken) = Ok (with_taken taken draft)
 with_use draft (Err e) = Err e
 
 -- one more piece of a macro's value
 abbrev pub with_piece : Macros → Draft → P.Piece → Result Draft ConfError
 with_piece macros draft (p.Quoted name) = Ok (with_text name.text draft)
 with_piece macros draft (p.Plain name) = Ok (with_text name.text draft)
-with_piece macros draft (p.Macro found) = with_use draft (value_at macros false found)
+with_piece macros draft (p.Macro found) = with_use draft (taken_at macros false found)
 
 abbrev pub and_pieces : Result Draft ConfError → (Draft → Result Draft ConfError) → Result Draft ConfError
 and_pieces (Ok draft) more = more draft
@@ -61,13 +61,21 @@ pieces_from macros draft [] = Ok draft
 pieces_from macros draft (x ∷ xs) = and_pieces (with_piece macros draft x) (λ d. pieces_from macros d xs)
 
 abbrev pub macro_by : Work → Name → Result Draft ConfError → Result Work ConfError
-macro_by work name (Ok draft) = Ok (record work { scope = record work.scope { macros = defined name.text draft work.scope.macros } })
+macro_by work name (Ok draft) = Ok (record work { scope = with_macro name.text draft work.scope })
 macro_by work name (Err e) = Err e
 
 unfoldable pub with_definition : MacroDefinition → Work → Result Work ConfError
 with_definition d work = macro_by work d.name (pieces_from work.scope.macros (begun work.scope.macros) d.pieces)
 
 -- ---- tables
+
+abbrev pub is_below : ℕ → Option ℕ → Bool
+is_below defined None = false
+is_below defined (Some place) = nat_lt place defined
+
+-- whether a table of this name is defined already
+abbrev pub is_defined : Scope → Name → Bool
+is_defined scope name = is_below scope.defined (last_place name.text scope.tables)
 
 abbrev pub clash_of : Name → Bool → Option ConfError
 clash_of name true = Some (clash name.line)
@@ -76,7 +84,7 @@ clash_of name false = None
 abbrev pub table_by : Work → TableDefinition → Filling → Option ConfError → Result Work ConfError
 table_by work d filling (Some e) = Err e
 table_by work d filling None = Ok (record work {
-  scope = record work.scope { tables = work.scope.tables ++ d.name.text ∷ [] };
+  scope = record work.scope { defined = length (work.flat.tables ++ filling.table ∷ []) };
   entries = work.entries + filling.found.count;
   flat = record work.flat { tables = work.flat.tables ++ filling.table ∷ [] };
 })
@@ -88,7 +96,7 @@ counted_table work d filling =
 
 unfoldable pub with_table : TableDefinition → Work → Result Work ConfError
 with_table d work =
-    counted_table work d (filled work.scope (unfilled (clash_of d.name (is_some (last_place d.name.text work.scope.tables)))) d.entries)
+    counted_table work d (filled work.scope (unfilled (clash_of d.name (is_defined work.scope d.name))) d.entries)
 
 -- ---- options
 
@@ -173,8 +181,20 @@ expanded_from work (x ∷ xs) = and_more (with_statement x work) (λ w. expanded
 abbrev pub empty_ruleset : R.Ruleset
 empty_ruleset = record { options = default_options; tables = []; rules = []; anchors = []; translations = no_translations }
 
-abbrev pub started : Interface → Work
-started interface = record { scope = record { interface = interface; macros = no_macros; tables = [] }; entries = 0; translations = 0; flat = empty_ruleset }
+abbrev pub with_name : List (List ℕ) → List ℕ → Option ℕ → List (List ℕ)
+with_name names name (Some place) = names
+with_name names name None = names ++ name ∷ []
+
+abbrev pub with_table_name : List (List ℕ) → Statement → List (List ℕ)
+with_table_name names (s.Table d) = with_name names d.name.text (last_place d.name.text names)
+with_table_name names other = names
+
+-- the names of the tables that statements define, each once
+abbrev pub table_names : List Statement → List (List ℕ)
+table_names statements = fold with_table_name [] statements
+
+abbrev pub started : Interface → List (List ℕ) → Work
+started interface names = record { scope = record { interface = interface; macros = no_macros; tables = names; defined = 0 }; entries = 0; translations = 0; flat = empty_ruleset }
 
 abbrev pub ruleset_in : Result Work ConfError → Result R.Ruleset ConfError
 ruleset_in (Ok work) = Ok work.flat
@@ -182,7 +202,7 @@ ruleset_in (Err e) = Err e
 
 -- what the statements mean for an interface
 unfoldable pub expanded : S.Statements → Interface → Result R.Ruleset ConfError
-expanded statements interface = ruleset_in (expanded_from (started interface) statements.statements)
+expanded statements interface = ruleset_in (expanded_from (started interface (table_names statements.statements)) statements.statements)
 
 -- how many filter rules and how many translation rules there are, up to the greatest number of 32 bits
 abbrev pub counts : R.Ruleset → ℕ × ℕ

@@ -37,8 +37,8 @@ no_translations = record { nats = []; rdrs = []; binats = [] }
 -- ---- what is asked of a packet
 
 abbrev pub lists_by : Scope → TranslationRule → Option Target → L.Lists
-lists_by scope rule (Some (t.Binat host)) = lists_with scope rule.criteria None (if_written (single_sources scope rule.line) (addresses_in rule.criteria.hosts.source))
-lists_by scope rule other = lists_of scope rule.criteria None
+lists_by scope rule (Some (t.Binat host)) = lists_with scope true rule.criteria None (if_written (single_sources scope rule.line) (addresses_in rule.criteria.hosts.source))
+lists_by scope rule other = lists_of scope true rule.criteria None
 
 -- the source of a binat rule with a target is one address
 unfoldable pub translation_lists : Scope → TranslationRule → L.Lists

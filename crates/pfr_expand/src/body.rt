@@ -13,8 +13,8 @@ use pfr_conf::{
 use pfr_elements::Scope;
 use pfr_elements::element::first_fault;
 use pfr_flat::{
-    Choices, FilterAction, FlagsCriterion, FlatAnchor, FlatRule, Lists, NO_MATCH, PacketMatch,
-    StateRule, choices_or_fault, combinations, counted, lists_of, slice_of,
+    Choices, FilterAction, FlagsCriterion, FlatAnchor, FlatRule, NO_MATCH, PacketMatch, StateRule,
+    choices_or_fault, combinations, counted, lists_of, slice_of,
 };
 use std::alloc::{AllocError, Global};
 use std::mem::replace;
@@ -183,7 +183,7 @@ fn add_rule(
     ensures placed { OnOk result (spec.ArePlaced out.new.rules out.new.anchors) }
 {
     let types = slice_of(&rule.options.icmp_types);
-    let lists = lists_of(alloc, scope, &rule.criteria, types)?;
+    let lists = lists_of(alloc, scope, true, &rule.criteria, types)?;
     let count = counted(setting.used, setting.line, &lists, out.count, 1)?;
     let choices = choices_or_fault(alloc, lists)?;
     out.count = count;
@@ -328,22 +328,29 @@ fn flat_anchor(anchor: &AnchorRule<'_>) -> FlatAnchor
     }
 }
 
-/// The rules of an anchor, by what its lists and its body come to.
+fn has_rules(body: &Body) -> bool
+    ensures { result ≡ spec.has_rules body.now }
+{
+    !body.rules.as_slice().is_empty()
+}
+
+/// The rules of an anchor, by what its body comes to. Where the body has no rule, nothing is made of the anchor's lists.
 fn add_anchor(
     alloc: Global,
+    scope: &Scope<'_>,
     setting: Setting,
     out: &mut Body,
     anchor: &AnchorRule<'_>,
-    lists: Lists,
     inner: Body,
 ) -> Result<(), ConfError>
     requires few { (out.old.count ≤ 65536) × (inner.count ≤ 65536) }
     requires inner { spec.ArePlaced inner.rules inner.anchors }
     requires placed { spec.ArePlaced out.old.rules out.old.anchors }
-    ensures made { Adds (spec.counted_anchor setting anchor.now lists inner out.old) result out.new }
+    ensures made { Adds (spec.with_body scope.now setting anchor.now inner out.old) result out.new }
     ensures counted { OnOk result (out.new.count ≤ 65536) }
     ensures placed { OnOk result (spec.ArePlaced out.new.rules out.new.anchors) }
 {
+    let lists = lists_of(alloc, scope, has_rules(&inner), &anchor.criteria, None)?;
     let count = counted(setting.used, setting.line, &lists, out.count, inner.count)?;
     let choices = choices_or_fault(alloc, lists)?;
     out.count = count;
@@ -397,9 +404,8 @@ pub(crate) fn add_statement(
                     kind: ConfErrorKind::TooDeep,
                 });
             }
-            let lists = lists_of(alloc, scope, &anchor.criteria, None)?;
             let inner = body_of(alloc, scope, setting, body.as_slice(), depth - 1)?;
-            add_anchor(alloc, setting, out, anchor, lists, inner)
+            add_anchor(alloc, scope, setting, out, anchor, inner)
         }
     }
 }

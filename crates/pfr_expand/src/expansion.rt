@@ -1,8 +1,6 @@
 //! From statements to the flat ruleset.
 ghost use Rattle.std.specs.Prelude.{◌≡◌, ◌<◌, ◌≤◌, ◌+◌, ◌++◌, length, map, OnOk, IfOk};
-ghost use Rattle.std.specs.Option.{is_some};
 ghost use Rattle.pfr_terms.specs.Input.{Gives};
-ghost use Rattle.pfr_elements.specs.Names.{last_place};
 ghost use Rattle.pfr_elements.specs.Values.{begun};
 ghost use Rattle.pfr_expand.specs.Bodies.{Adds, ArePlaced, moved};
 ghost use Rattle.pfr_expand.specs.Rulesets as spec;
@@ -46,8 +44,8 @@ fn add_piece(
         Piece::Quoted(name) => draft.add_text(name.text.as_slice())?,
         Piece::Plain(name) => draft.add_text(name.text.as_slice())?,
         Piece::Macro(found) => {
-            let value = macros.value_at(alloc, found, false)??;
-            draft.add_value(&value)?;
+            let taken = macros.taken_at(alloc, found, false)??;
+            draft.add_taken(&taken)?;
         }
     }
     Ok(())
@@ -102,14 +100,15 @@ impl Ruleset {
 }
 
 impl<'a> Work<'a> {
-    fn new(alloc: Global, interface: Interface) -> Work<'a>
-        ensures { result ≡ spec.started interface }
+    fn new(alloc: Global, interface: Interface, tables: Names<'a>) -> Work<'a>
+        ensures { result ≡ spec.started interface tables.entry }
     {
         Work {
             scope: Scope {
                 interface,
                 macros: Macros::new(alloc),
-                tables: Names::new(alloc),
+                tables,
+                defined: 0,
             },
             entries: 0,
             translations: 0,
@@ -132,17 +131,16 @@ impl<'a> Work<'a> {
     {
         let draft = draft_of(alloc, &self.scope.macros, definition.pieces.as_slice())?;
         let name = Bytes::new(definition.name.text.as_slice());
-        self.scope.macros.define(name, draft)?;
-        Ok(())
+        self.scope.define(alloc, name, draft)
     }
 
     /// The fault of a table that is defined already.
     fn clash_of(&self, name: &Name<'_>) -> Option<ConfError>
-        ensures { result ≡ spec.clash_of name.now (is_some (last_place name.now.text self.now.scope.tables)) }
+        ensures { result ≡ spec.clash_of name.now (spec.is_defined self.now.scope name.now) }
     {
         match self.scope.tables.last_place(name.text.as_slice()) {
-            Some(_) => Some(clash(name.line)),
-            None => None,
+            Some(place) if place < self.scope.defined => Some(clash(name.line)),
+            _ => None,
         }
     }
 
@@ -166,11 +164,9 @@ impl<'a> Work<'a> {
         if let Some(fault) = fault {
             return Err(fault);
         }
-        self.scope
-            .tables
-            .push(Bytes::new(definition.name.text.as_slice()))?;
         self.entries += count;
         self.flat.tables.push(table)?;
+        self.scope.defined = self.flat.tables.len();
         Ok(())
     }
 
@@ -272,15 +268,41 @@ impl<'a> Work<'a> {
     }
 }
 
+/// Adds the name of the table that a statement defines, unless it is there.
+fn add_table_name<'a>(names: &mut Names<'a>, statement: &Statement<'a>) -> Result<(), AllocError>
+    ensures { OnOk result (names.new ≡ spec.with_table_name names.old statement.now) }
+{
+    let Statement::Table(definition) = statement else {
+        return Ok(());
+    };
+    let name = definition.name.text.as_slice();
+    match names.last_place(name) {
+        Some(_) => Ok(()),
+        None => names.push(Bytes::new(name)),
+    }
+}
+
+/// The names of the tables that statements define, each once.
+fn table_names<'a>(alloc: Global, statements: &[Statement<'a>]) -> Result<Names<'a>, AllocError>
+    ensures { IfOk result (λ names. names ≡ spec.table_names statements.now) }
+{
+    let mut names = Names::new(alloc);
+    for statement in statements {
+        add_table_name(&mut names, statement)?;
+    }
+    Ok(names)
+}
+
 /// All statements, one after the other.
 fn work_of<'a>(
     alloc: Global,
     statements: &[Statement<'a>],
     interface: Interface,
 ) -> Result<Work<'a>, ConfError>
-    ensures { Gives (spec.expanded_from (spec.started interface) statements.now) result }
+    ensures { Gives (spec.expanded_from (spec.started interface (spec.table_names statements.now)) statements.now) result }
 {
-    let mut work = Work::new(alloc, interface);
+    let names = table_names(alloc, statements)?;
+    let mut work = Work::new(alloc, interface, names);
     for statement in statements {
         work.add(alloc, statement)?;
     }

@@ -116,7 +116,7 @@ impl Options {
     {
         match option {
             SetOption::SkipOn(list) => {
-                let found = elements_of(alloc, scope, list.as_slice())?;
+                let found = elements_of(alloc, scope, true, list.as_slice())?;
                 return skip(self, first_line(list.as_slice()), found);
             }
             SetOption::Timeouts(settings) => set_timeouts(self, settings.as_slice()),

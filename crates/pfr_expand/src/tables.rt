@@ -84,7 +84,7 @@ impl Filling {
         ensures refused { IfErr result (λ e. e.kind ≡ Memory) }
     {
         let before = self.found.items.len();
-        add_element(alloc, scope, &mut self.found, entry)?;
+        add_element(alloc, scope, true, &mut self.found, entry)?;
         let fault = replace(&mut self.found.fault, None);
         let entries = behind(self.found.items.as_slice(), before);
         self.found.fault = put_entries(&mut self.table, fault, entry.line, entries)?;

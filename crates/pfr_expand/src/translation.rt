@@ -63,9 +63,9 @@ pub(crate) fn translation_lists(
         Some(Target::Binat(_)) => {
             let written = addresses_in(&rule.criteria.hosts.source);
             let sources = source_of(alloc, scope, rule.line, written)?;
-            lists_with(alloc, scope, &rule.criteria, None, sources)
+            lists_with(alloc, scope, true, &rule.criteria, None, sources)
         }
-        _ => lists_of(alloc, scope, &rule.criteria, None),
+        _ => lists_of(alloc, scope, true, &rule.criteria, None),
     }
 }
 

@@ -1,10 +1,8 @@
 -- Which addresses tables hold, and the criteria of a table with and without a `!`.
-use Rattle.std.proofs.Common.{◌≡◌, ◌↔◌, ◌≤◌, ℕ, zero, suc, Bool, true, false, if◌then◌else◌, ◌⊎◌, inl, inr, List, [], ◌∷◌, Option, Some, None, Result, Ok, refl, arith}
+use Rattle.std.proofs.Common.{◌≡◌, ◌↔◌, ◌<◌, ◌≤◌, nat_lt, ℕ, Bool, true, false, ◌⊎◌, inl, inr, List, [], ◌∷◌, Option, Some, None, Result, Ok, refl, arith}
 use Rattle.std.specs.List.{All, Contains, slice_get}
 use Rattle.std.specs.Result.{IsOkAnd}
-use Rattle.std.specs.Str.{bytes_eq}
-use Rattle.std.proofs.lemmas.Bool.{cases_lt}
-use Rattle.std.proofs.lemmas.Slice.Eq.{bytes_eq-Decides}
+use Rattle.std.proofs.lemmas.Bool.{cases_lt, lt-ltb}
 use Rattle.std.proofs.lemmas.List.Elements.{All-nil, All-cons, All-head, All-tail, All-contains, Contains-append_left, Contains-append_right, Contains-push}
 use Rattle.pfr_terms.specs.declared.name.Name.{Name}
 use Rattle.pfr_terms.specs.declared.address.Address.TheVariants as a
@@ -14,7 +12,7 @@ use Rattle.pfr_elements.specs.declared.hosts.HostSet.TheVariants as set
 use Rattle.pfr_elements.specs.declared.hosts.HostCriterion.{HostCriterion}
 use Rattle.pfr_elements.specs.declared.scope.Scope.{Scope}
 use Rattle.pfr_elements.specs.Hosts.{address_meaning, host_criterion}
-use Rattle.pfr_elements.specs.Names.{last_from, last_place}
+use Rattle.pfr_elements.specs.Names.{last_place}
 use Rattle.pfr_flat.specs.Membership.{IsInTable, Holds}
 
 -- ---- each address is in a table or it isn't
@@ -85,35 +83,11 @@ in_table_or_not (Some entries) address = member_or_not entries address
 
 -- ---- the criteria of a table
 
--- a place that is found is kept, or a later one is found
-later_place : (found first : ℕ) (name : List ℕ) (tables : List (List ℕ)) → (place : ℕ) × (last_from (Some found) first name tables ≡ Some place)
-later_place found first name [] = (found, refl)
-later_place found first name (t ∷ tables) = by_test (bytes_eq t name) (later_place first (suc first) name tables) (later_place found (suc first) name tables) where
-  by_test : (same : Bool) → (place : ℕ) × (last_from (Some first) (suc first) name tables ≡ Some place) → (place : ℕ) × (last_from (Some found) (suc first) name tables ≡ Some place)
-      → (place : ℕ) × (last_from (if same then Some first else Some found) (suc first) name tables ≡ Some place)
-  by_test true it old = it
-  by_test false it old = old
-
-defined_place : (first : ℕ) (name : List ℕ) (tables : List (List ℕ)) → Contains tables name → (place : ℕ) × (last_from None first name tables ≡ Some place)
-defined_place first name [] there = absurd (omega (arith, there.1))
-defined_place first name (t ∷ tables) there = elim (decided_equal (bytes_eq t name) true) [
-  | inl same ↦ (let found = later_place first (suc first) name tables in (found.0, rw same found.1))
-  | inr other ↦
-      (let differs : bytes_eq t name ≡ false = is_false (bytes_eq t name) other in
-      let found = defined_place (suc first) name tables (behind t name tables (λ e. other ((bytes_eq-Decides t name).1 e)) there) in
-      (found.0, rw differs found.1))
-] where
-  is_false : (b : Bool) → ¬ (b ≡ true) → b ≡ false
-  is_false true fails = absurd (fails refl)
-  is_false false fails = refl
-
-  behind : (t name : List ℕ) (tables : List (List ℕ)) → ¬ (t ≡ name) → Contains (t ∷ tables) name → Contains tables name
-  behind t name tables fails (zero, within, is) = absurd (fails is)
-  behind t name tables fails (suc k, within, is) = (k, omega (arith, within), is)
-
-criterion_at : (scope : Scope) (name : Name) (is_negated : Bool) (place : ℕ) → last_place name.text scope.tables ≡ Some place → host_criterion scope (record { is_negated = is_negated; address = a.Table name }) ≡ Ok (record { is_negated = is_negated; hosts = set.Table place })
+criterion_at : (scope : Scope) (name : Name) (is_negated : Bool) (place : ℕ) → last_place name.text scope.tables ≡ Some place → place < scope.defined → host_criterion scope (record { is_negated = is_negated; address = a.Table name }) ≡ Ok (record { is_negated = is_negated; hosts = set.Table place })
 unfolding address_meaning
-criterion_at scope name is_negated place is = rw is refl
+criterion_at scope name is_negated place is known =
+    let defined : nat_lt place scope.defined ≡ true = lt-ltb place scope.defined known in
+    rw (is, defined) refl
 
 ok_and : {T E : Type 0} (P : T → Type 0) (r : Result T E) (x : T) → r ≡ Ok x → P x → IsOkAnd r P
 ok_and P r x is p = rw is p
@@ -126,7 +100,6 @@ opposite : (place : ℕ) → AreOpposite (record { is_negated = true; hosts = se
 opposite place tables address =
     ((λ h. h, λ h. h), (λ h fails. fails h, λ h. elim (in_table_or_not (slice_get tables place) address) [ inl it ↦ it | inr fails ↦ absurd (h fails) ]))
 
-pub negated_table : (scope : Scope) (name : Name) → Contains scope.tables name.text → IsOkAnd (host_criterion scope (record { is_negated = true; address = a.Table name })) (λ negated. IsOkAnd (host_criterion scope (record { is_negated = false; address = a.Table name })) (λ plain. AreOpposite negated plain))
-negated_table scope name there =
-    let found = defined_place 0 name.text scope.tables there in
-    ok_and _ _ _ (criterion_at scope name true found.0 found.1) (ok_and _ _ _ (criterion_at scope name false found.0 found.1) (opposite found.0))
+pub negated_table : (scope : Scope) (name : Name) (place : ℕ) → last_place name.text scope.tables ≡ Some place → place < scope.defined → IsOkAnd (host_criterion scope (record { is_negated = true; address = a.Table name })) (λ negated. IsOkAnd (host_criterion scope (record { is_negated = false; address = a.Table name })) (λ plain. AreOpposite negated plain))
+negated_table scope name place is known =
+    ok_and _ _ _ (criterion_at scope name true place is known) (ok_and _ _ _ (criterion_at scope name false place is known) (opposite place))

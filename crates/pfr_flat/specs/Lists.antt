@@ -18,8 +18,8 @@ use Rattle.pfr_elements.specs.declared.hosts.HostCriterion.{HostCriterion}
 use Rattle.pfr_elements.specs.declared.scope.Scope.{Scope}
 use Rattle.pfr_elements.specs.declared.terms.InterfaceCriterion.{InterfaceCriterion}
 use Rattle.pfr_elements.specs.Elements.{elements_from, with_element, none_yet, most_elements}
-use Rattle.pfr_elements.specs.Hosts.{host_use, host_negated, host_criterion, host_turned}
-use Rattle.pfr_elements.specs.Terms.{use_in, never, itself, same, interface_use, interface_negated, interface_meaning, interface_turned}
+use Rattle.pfr_elements.specs.Hosts.{host_use, host_negated, host_criterion, host_turned, host_tables, host_lists}
+use Rattle.pfr_elements.specs.Terms.{use_in, never, itself, same, no_table, protocol_lists, icmp_lists, port_lists, interface_use, interface_negated, interface_meaning, interface_turned, interface_lists}
 use Rattle.pfr_flat.specs.declared.lists.Lists as L
 use Rattle.pfr_flat.specs.declared.choices.Choices as C
 use Rattle.pfr_flat.specs.Choices.{anyone}
@@ -30,20 +30,20 @@ abbrev pub if_written : {A B : Type 0} → (List A → E.Elements B) → Option 
 if_written elements None = None
 if_written elements (Some list) = Some (elements list)
 
-abbrev pub interfaces : Scope → List InterfaceMatch → E.Elements InterfaceCriterion
-interfaces scope list = elements_from (with_element interface_use interface_negated interface_meaning terms.interface_match interface_turned scope) none_yet list
+abbrev pub interfaces : Scope → Bool → List InterfaceMatch → E.Elements InterfaceCriterion
+interfaces scope keeps list = elements_from (with_element interface_use interface_negated interface_meaning terms.interface_match no_table interface_lists interface_turned scope keeps) none_yet list
 
-abbrev pub protocols : Scope → List (Written Protocol) → E.Elements Protocol
-protocols scope list = elements_from (with_element use_in never itself (lists.written terms.protocol) same scope) none_yet list
+abbrev pub protocols : Scope → Bool → List (Written Protocol) → E.Elements Protocol
+protocols scope keeps list = elements_from (with_element use_in never itself (lists.written terms.protocol) no_table protocol_lists same scope keeps) none_yet list
 
-abbrev pub icmp_types : Scope → List (Written IcmpMatch) → E.Elements IcmpMatch
-icmp_types scope list = elements_from (with_element use_in never itself (lists.written terms.icmp_match) same scope) none_yet list
+abbrev pub icmp_types : Scope → Bool → List (Written IcmpMatch) → E.Elements IcmpMatch
+icmp_types scope keeps list = elements_from (with_element use_in never itself (lists.written terms.icmp_match) no_table icmp_lists same scope keeps) none_yet list
 
-abbrev pub port_list : Scope → List (Written PortMatch) → E.Elements PortMatch
-port_list scope list = elements_from (with_element use_in never itself (lists.written ports.port_match) same scope) none_yet list
+abbrev pub port_list : Scope → Bool → List (Written PortMatch) → E.Elements PortMatch
+port_list scope keeps list = elements_from (with_element use_in never itself (lists.written ports.port_match) no_table port_lists same scope keeps) none_yet list
 
-abbrev pub host_list : Scope → List AddressMatch → E.Elements HostCriterion
-host_list scope list = elements_from (with_element host_use host_negated host_criterion addresses.address_match host_turned scope) none_yet list
+abbrev pub host_list : Scope → Bool → List AddressMatch → E.Elements HostCriterion
+host_list scope keeps list = elements_from (with_element host_use host_negated host_criterion addresses.address_match host_tables host_lists host_turned scope keeps) none_yet list
 
 abbrev pub addresses_in : Option Part → Option (List AddressMatch)
 addresses_in None = None
@@ -53,20 +53,21 @@ abbrev pub ports_in : Option Part → Option (List (Written PortMatch))
 ports_in None = None
 ports_in (Some part) = part.ports
 
--- the lists of criteria, where the addresses of the source come to these
-unfoldable pub lists_with : Scope → Criteria → Option (List (Written IcmpMatch)) → Option (E.Elements HostCriterion) → L.Lists
-lists_with scope criteria types sources = record {
-  interfaces = if_written (interfaces scope) criteria.interfaces;
-  protocols = if_written (protocols scope) criteria.protocols;
+-- the lists of criteria, where the addresses of the source come to these; where nothing is made of them, what macros
+-- stand for is only counted
+unfoldable pub lists_with : Scope → Bool → Criteria → Option (List (Written IcmpMatch)) → Option (E.Elements HostCriterion) → L.Lists
+lists_with scope keeps criteria types sources = record {
+  interfaces = if_written (interfaces scope keeps) criteria.interfaces;
+  protocols = if_written (protocols scope keeps) criteria.protocols;
   sources = sources;
-  source_ports = if_written (port_list scope) (ports_in criteria.hosts.source);
-  destinations = if_written (host_list scope) (addresses_in criteria.hosts.destination);
-  destination_ports = if_written (port_list scope) (ports_in criteria.hosts.destination);
-  icmp_types = if_written (icmp_types scope) types;
+  source_ports = if_written (port_list scope keeps) (ports_in criteria.hosts.source);
+  destinations = if_written (host_list scope keeps) (addresses_in criteria.hosts.destination);
+  destination_ports = if_written (port_list scope keeps) (ports_in criteria.hosts.destination);
+  icmp_types = if_written (icmp_types scope keeps) types;
 }
 
-abbrev pub lists_of : Scope → Criteria → Option (List (Written IcmpMatch)) → L.Lists
-lists_of scope criteria types = lists_with scope criteria types (if_written (host_list scope) (addresses_in criteria.hosts.source))
+abbrev pub lists_of : Scope → Bool → Criteria → Option (List (Written IcmpMatch)) → L.Lists
+lists_of scope keeps criteria types = lists_with scope keeps criteria types (if_written (host_list scope keeps) (addresses_in criteria.hosts.source))
 
 -- ---- how many rules they make
 

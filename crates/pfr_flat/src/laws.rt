@@ -1,6 +1,6 @@
 //! Laws of the definitions, each the contract of a function that does nothing.
-ghost use Rattle.std.specs.Prelude.{◌≡◌, ◌↔◌, ◌≤◌, ◌+◌, ◌*◌, ◌/◌, ◌%◌, ℕ, true, false, List, [], ◌∷◌, length, map, slice_get, Some, None, Ok, IsOkAnd};
-ghost use Rattle.std.specs.List.{All, Contains};
+ghost use Rattle.std.specs.Prelude.{◌≡◌, ◌↔◌, ◌<◌, ◌≤◌, ◌+◌, ◌*◌, ◌/◌, ◌%◌, ℕ, true, false, List, [], ◌∷◌, length, map, slice_get, Some, None, Ok, IsOkAnd};
+ghost use Rattle.std.specs.List.{All};
 ghost use Rattle.pfr_words.specs.Words.{words};
 ghost use Rattle.pfr_terms.specs.declared.address.Address.TheVariants.{Table};
 ghost use Rattle.pfr_terms.specs.declared.name.MacroUse.{MacroUse};
@@ -8,16 +8,21 @@ ghost use Rattle.pfr_terms.specs.declared.name.Name.{Name};
 ghost use Rattle.pfr_terms.specs.Input.{Input, of_value};
 ghost use Rattle.pfr_tables.specs.declared.table.Entry.{Entry};
 ghost use Rattle.pfr_elements.specs.declared.scope.Scope.{Scope};
-ghost use Rattle.pfr_elements.specs.declared.value.Value.TheVariants.{Text};
+ghost use Rattle.pfr_elements.specs.declared.definition.ListMeanings.{ListMeanings};
+ghost use Rattle.pfr_elements.specs.declared.definition.Text.{Text};
+ghost use Rattle.pfr_elements.specs.declared.definition.Taken.TheVariants.{Whole};
 ghost use Rattle.pfr_elements.specs.Elements.{elements_from, with_element, none_yet, most_elements, value_items, value_item};
 ghost use Rattle.pfr_elements.specs.Hosts.{host_criterion};
-ghost use Rattle.pfr_elements.specs.Values.{value_at};
+ghost use Rattle.pfr_elements.specs.Meanings.{list_meanings};
+ghost use Rattle.pfr_elements.specs.Names.{last_place};
+ghost use Rattle.pfr_elements.specs.Values.{taken_at};
 ghost use Rattle.pfr_flat.specs.declared.choices.Choices.{Choices};
 ghost use Rattle.pfr_flat.specs.declared.flat.PacketMatch.{PacketMatch};
 ghost use Rattle.pfr_flat.specs.Choices.{combinations};
 ghost use Rattle.pfr_flat.specs.Membership.{Holds};
 
 use pfr_elements::Element;
+use pfr_elements::definition::ListMeanings;
 
 /// There are as many combinations as the lengths of the lists multiply to.
 pub fn rules_are_as_many_as_combinations()
@@ -55,25 +60,32 @@ pub fn digits_of_a_place_are_its_choices()
 /// `!<NAME>` asks for just the addresses that `<NAME>` doesn't: where the table is defined both have a meaning, and
 /// whatever the tables hold, each address is held by one of the two and not by the other.
 pub fn negated_table_is_the_negation()
-    ensures { (scope : Scope) (name : Name)
-        → Contains scope.tables name.text
+    ensures { (scope : Scope) (name : Name) (place : ℕ)
+        → last_place name.text scope.tables ≡ Some place
+        → place < scope.defined
         → IsOkAnd (host_criterion scope (record { is_negated = true; address = Table name })) (λ negated.
         IsOkAnd (host_criterion scope (record { is_negated = false; address = Table name })) (λ plain.
         (tables : List (List Entry)) (address : ℕ)
         → (Holds tables negated address ↔ ¬ Holds tables plain address) × (Holds tables plain address ↔ ¬ Holds tables negated address))) }
 {}
 
-/// Where the value of a macro says the same things as the elements of a list, none of which uses a macro, a list of
-/// one use of that macro with no `!` comes to the same as that list.
-pub fn list_by_a_macro_is_the_list<T: Element>()
-    ensures { (scope : Scope) (xs : List T) (flats : List T.Flat) (u : T) (found : MacroUse) (text : List ℕ) (i : Input)
+/// Where a macro was defined by a text whose words say the same things as the elements of a list, none of which uses a
+/// macro, and where the tables are defined that the text names, a list of one use of that macro with no `!` comes to the
+/// same as that list.
+pub fn list_by_a_macro_is_the_list<T: Element>(meanings: &ListMeanings)
+    ensures { (scope made : Scope) (xs : List T) (flats : List T.Flat) (u : T) (found : MacroUse) (text : Text) (i : Input)
         → All (λ x. T.use_in x ≡ None) xs
         → map (T.meaning scope) xs ≡ map Ok flats
         → length xs ≤ most_elements
         → T.use_in u ≡ Some found
         → T.negated u ≡ false
-        → value_at scope.macros false found ≡ Ok (Text text)
-        → value_items (value_item T.meaning T.form scope) (of_value (words text)) ≡ Ok (flats, i)
+        → taken_at scope.macros false found ≡ Ok (Whole text)
+        → text.meanings.lists ≡ meanings.now
+        → meanings.now ≡ list_meanings made (words text.bytes)
+        → value_items (value_item T.meaning T.form made) (of_value (words text.bytes)) ≡ Ok (flats, i)
         → i.gathered ≡ None
-        → elements_from (with_element T.use_in T.negated T.meaning T.form T.turned scope) none_yet (u ∷ []) ≡ elements_from (with_element T.use_in T.negated T.meaning T.form T.turned scope) none_yet xs }
-{}
+        → (T.list_in meanings.now).tables ≤ scope.defined
+        → elements_from (with_element T.use_in T.negated T.meaning T.form T.tables T.list_in T.turned scope true) none_yet (u ∷ []) ≡ elements_from (with_element T.use_in T.negated T.meaning T.form T.tables T.list_in T.turned scope true) none_yet xs }
+{
+    let _meant = T::list_in(meanings);
+}

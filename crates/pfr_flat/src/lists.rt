@@ -33,12 +33,13 @@ pub struct Lists {
 fn if_written<T: Element>(
     alloc: Global,
     scope: &Scope<'_>,
+    keeps: bool,
     list: Option<&[T]>,
 ) -> Result<Option<Elements<T::Flat>>, ConfError>
-    ensures { Makes (spec.if_written (elements_from (with_element T.use_in T.negated T.meaning T.form T.turned scope.now) none_yet) (option_map (λ l. l.now) list.entry)) result }
+    ensures { Makes (spec.if_written (elements_from (with_element T.use_in T.negated T.meaning T.form T.tables T.list_in T.turned scope.now keeps) none_yet) (option_map (λ l. l.now) list.entry)) result }
 {
     match list {
-        Some(list) => Ok(Some(elements_of(alloc, scope, list)?)),
+        Some(list) => Ok(Some(elements_of(alloc, scope, keeps, list)?)),
         None => Ok(None),
     }
 }
@@ -75,87 +76,96 @@ fn ports_in<'p, 'a>(part: &'p Option<Part<'a>>) -> Option<&'p [Written<'a, PortM
 fn interface_list<'a>(
     alloc: Global,
     scope: &Scope<'_>,
+    keeps: bool,
     list: Option<&[InterfaceMatch<'a>]>,
 ) -> Result<Option<Elements<InterfaceCriterion>>, ConfError>
-    ensures { Makes (spec.if_written (spec.interfaces scope.now) (option_map (λ l. l.now) list.entry)) result }
+    ensures { Makes (spec.if_written (spec.interfaces scope.now keeps) (option_map (λ l. l.now) list.entry)) result }
 {
-    if_written::<InterfaceMatch<'a>>(alloc, scope, list)
+    if_written::<InterfaceMatch<'a>>(alloc, scope, keeps, list)
 }
 
 fn protocol_list<'a>(
     alloc: Global,
     scope: &Scope<'_>,
+    keeps: bool,
     list: Option<&[Written<'a, Protocol>]>,
 ) -> Result<Option<Elements<Protocol>>, ConfError>
-    ensures { Makes (spec.if_written (spec.protocols scope.now) (option_map (λ l. l.now) list.entry)) result }
+    ensures { Makes (spec.if_written (spec.protocols scope.now keeps) (option_map (λ l. l.now) list.entry)) result }
 {
-    if_written::<Written<'a, Protocol>>(alloc, scope, list)
+    if_written::<Written<'a, Protocol>>(alloc, scope, keeps, list)
 }
 
 fn icmp_list<'a>(
     alloc: Global,
     scope: &Scope<'_>,
+    keeps: bool,
     list: Option<&[Written<'a, IcmpMatch>]>,
 ) -> Result<Option<Elements<IcmpMatch>>, ConfError>
-    ensures { Makes (spec.if_written (spec.icmp_types scope.now) (option_map (λ l. l.now) list.entry)) result }
+    ensures { Makes (spec.if_written (spec.icmp_types scope.now keeps) (option_map (λ l. l.now) list.entry)) result }
 {
-    if_written::<Written<'a, IcmpMatch>>(alloc, scope, list)
+    if_written::<Written<'a, IcmpMatch>>(alloc, scope, keeps, list)
 }
 
 fn port_list<'a>(
     alloc: Global,
     scope: &Scope<'_>,
+    keeps: bool,
     list: Option<&[Written<'a, PortMatch>]>,
 ) -> Result<Option<Elements<PortMatch>>, ConfError>
-    ensures { Makes (spec.if_written (spec.port_list scope.now) (option_map (λ l. l.now) list.entry)) result }
+    ensures { Makes (spec.if_written (spec.port_list scope.now keeps) (option_map (λ l. l.now) list.entry)) result }
 {
-    if_written::<Written<'a, PortMatch>>(alloc, scope, list)
+    if_written::<Written<'a, PortMatch>>(alloc, scope, keeps, list)
 }
 
 fn host_list<'a>(
     alloc: Global,
     scope: &Scope<'_>,
+    keeps: bool,
     list: Option<&[AddressMatch<'a>]>,
 ) -> Result<Option<Elements<HostCriterion>>, ConfError>
-    ensures { Makes (spec.if_written (spec.host_list scope.now) (option_map (λ l. l.now) list.entry)) result }
+    ensures { Makes (spec.if_written (spec.host_list scope.now keeps) (option_map (λ l. l.now) list.entry)) result }
 {
-    if_written::<AddressMatch<'a>>(alloc, scope, list)
+    if_written::<AddressMatch<'a>>(alloc, scope, keeps, list)
 }
 
-/// What the lists of criteria come to, and those of ICMP types, where the addresses of the source come to these.
+/// What the lists of criteria come to, and those of ICMP types, where the addresses of the source come to these. Where
+/// nothing is made of them (`keeps` is false), what macros stand for is only counted.
 #[tactic(auto, unfolding(crate::specs::Lists::lists_with))]
 pub fn lists_with<'a>(
     alloc: Global,
     scope: &Scope<'_>,
+    keeps: bool,
     criteria: &Criteria<'a>,
     types: Option<&[Written<'a, IcmpMatch>]>,
     sources: Option<Elements<HostCriterion>>,
 ) -> Result<Lists, ConfError>
-    ensures { Makes (spec.lists_with scope.now criteria.now (option_map (λ l. l.now) types.entry) sources) result }
+    ensures { Makes (spec.lists_with scope.now keeps criteria.now (option_map (λ l. l.now) types.entry) sources) result }
 {
     let destination = &criteria.hosts.destination;
     Ok(Lists {
-        interfaces: interface_list(alloc, scope, slice_of(&criteria.interfaces))?,
-        protocols: protocol_list(alloc, scope, slice_of(&criteria.protocols))?,
+        interfaces: interface_list(alloc, scope, keeps, slice_of(&criteria.interfaces))?,
+        protocols: protocol_list(alloc, scope, keeps, slice_of(&criteria.protocols))?,
         sources,
-        source_ports: port_list(alloc, scope, ports_in(&criteria.hosts.source))?,
-        destinations: host_list(alloc, scope, addresses_in(destination))?,
-        destination_ports: port_list(alloc, scope, ports_in(destination))?,
-        icmp_types: icmp_list(alloc, scope, types)?,
+        source_ports: port_list(alloc, scope, keeps, ports_in(&criteria.hosts.source))?,
+        destinations: host_list(alloc, scope, keeps, addresses_in(destination))?,
+        destination_ports: port_list(alloc, scope, keeps, ports_in(destination))?,
+        icmp_types: icmp_list(alloc, scope, keeps, types)?,
     })
 }
 
-/// What the lists of criteria come to, and those of ICMP types.
+/// What the lists of criteria come to, and those of ICMP types. Where nothing is made of them (`keeps` is false), what
+/// macros stand for is only counted.
 pub fn lists_of<'a>(
     alloc: Global,
     scope: &Scope<'_>,
+    keeps: bool,
     criteria: &Criteria<'a>,
     types: Option<&[Written<'a, IcmpMatch>]>,
 ) -> Result<Lists, ConfError>
-    ensures { Makes (spec.lists_of scope.now criteria.now (option_map (λ l. l.now) types.entry)) result }
+    ensures { Makes (spec.lists_of scope.now keeps criteria.now (option_map (λ l. l.now) types.entry)) result }
 {
-    let sources = host_list(alloc, scope, addresses_in(&criteria.hosts.source))?;
-    lists_with(alloc, scope, criteria, types, sources)
+    let sources = host_list(alloc, scope, keeps, addresses_in(&criteria.hosts.source))?;
+    lists_with(alloc, scope, keeps, criteria, types, sources)
 }
 
 fn count_of<T>(list: &Option<Elements<T>>) -> usize

@@ -7,7 +7,7 @@ use pfr_elements::names::Names;
 use pfr_elements::scope::Scope;
 use pfr_elements::single::written_single;
 use pfr_elements::terms::InterfaceCriterion;
-use pfr_elements::value::{MOST_SPLICED, Value};
+use pfr_elements::value::MOST_SPLICED;
 use pfr_tables::Entry;
 use pfr_terms::lists::{Item, list};
 use pfr_terms::{
@@ -20,11 +20,12 @@ use std::alloc::{AllocError, Global};
 use std::process::Abort;
 use std::test::Fail;
 
-/// A run on this interface, 192.0.2.1/24, where the tables `<a>` and `<b>` are defined.
+/// A run on this interface, 192.0.2.1/24, where the tables `<a>` and `<b>` are defined, and `<later>` isn't yet.
 fn scope_on<'a>(alloc: Global, interface: &[u8]) -> Result<Scope<'a>, AllocError> {
     let mut tables = Names::new(alloc);
     tables.push(Bytes::new(b"a".as_slice()))?;
     tables.push(Bytes::new(b"b".as_slice()))?;
+    tables.push(Bytes::new(b"later".as_slice()))?;
     Ok(Scope {
         interface: Interface {
             name: IfName::new(interface),
@@ -33,13 +34,14 @@ fn scope_on<'a>(alloc: Global, interface: &[u8]) -> Result<Scope<'a>, AllocError
         },
         macros: Macros::new(alloc),
         tables,
+        defined: 2,
     })
 }
 
 /// The same run with one macro, `x`.
 fn scope_with<'a>(alloc: Global, value: &[u8]) -> Result<Scope<'a>, ConfError> {
     let mut scope = scope_on(alloc, b"em0")?;
-    define(alloc, &mut scope.macros, b"x", &[Piece::Text(value)])?;
+    define(alloc, &mut scope, b"x", &[Piece::Text(value)])?;
     Ok(scope)
 }
 
@@ -50,38 +52,32 @@ enum Piece<'a> {
     Use(&'a [u8]),
 }
 
-/// What the use of a macro on line 1 stands for.
-fn value_of(
-    alloc: Global,
-    macros: &Macros<'_>,
-    name: &[u8],
-) -> Result<Result<Value, ConfError>, ConfError> {
-    let found = MacroUse {
+/// The use of a macro on line 1.
+fn use_of(name: &[u8]) -> MacroUse<'_> {
+    MacroUse {
         line: 1,
         name: Bytes::new(name),
         suffix: Bytes::new(b"".as_slice()),
-    };
-    macros.value_at(alloc, &found, false)
+    }
 }
 
 fn define<'a>(
     alloc: Global,
-    macros: &mut Macros<'a>,
+    scope: &mut Scope<'a>,
     name: &'a [u8],
     pieces: &[Piece<'_>],
 ) -> Result<(), ConfError> {
-    let mut draft = macros.begin(alloc);
+    let mut draft = scope.macros.begin(alloc);
     for piece in pieces {
         match piece {
             Piece::Text(text) => draft.add_text(text)?,
             Piece::Use(used) => {
-                let value = value_of(alloc, macros, used)??;
-                draft.add_value(&value)?;
+                let taken = scope.macros.taken_at(alloc, &use_of(used), false)??;
+                draft.add_taken(&taken)?;
             }
         }
     }
-    macros.define(Bytes::new(name), draft)?;
-    Ok(())
+    scope.define(alloc, Bytes::new(name), draft)
 }
 
 /// What the list comes to that is written so.
@@ -93,7 +89,7 @@ fn elements_in<'s, T: Element + Item<'s>>(
     let found = words(alloc, text)?;
     let mut reader = Reader::new(found.as_slice());
     let written = list::<T>(alloc, &mut reader)?;
-    elements_of(alloc, scope, written.as_slice())
+    elements_of(alloc, scope, true, written.as_slice())
 }
 
 /// Whether the list has just these ports.
@@ -176,11 +172,10 @@ fn macros_are_replaced(rt: HostRuntime) -> Result<(), ConfError> {
     assert!(rt; are_ports(alloc, &scope, b"$x", &[80, 443])?);
     assert!(rt; are_ports(alloc, &scope, b"{ 22 $x, 25 }", &[22, 80, 443, 25])?);
     // from its place on the later definition counts
-    let macros = &mut scope.macros;
-    define(alloc, macros, b"y", &[Piece::Use(b"x")])?;
-    define(alloc, macros, b"x", &[Piece::Text(b"80")])?;
+    define(alloc, &mut scope, b"y", &[Piece::Use(b"x")])?;
+    define(alloc, &mut scope, b"x", &[Piece::Text(b"80")])?;
     let pieces = [Piece::Text(b"{"), Piece::Use(b"x"), Piece::Text(b", 443 }")];
-    define(alloc, macros, b"z", &pieces)?;
+    define(alloc, &mut scope, b"z", &pieces)?;
     assert!(rt; are_ports(alloc, &scope, b"$x", &[80])?);
     assert!(rt; are_ports(alloc, &scope, b"$y", &[80, 443])?);
     assert!(rt; are_ports(alloc, &scope, b"$z", &[80, 443])?);
@@ -446,10 +441,9 @@ fn terms_have_their_meaning(rt: HostRuntime) -> Result<(), ConfError> {
 fn elements_are_counted(rt: HostRuntime) -> Result<(), ConfError> {
     let alloc = rt.alloc();
     let mut scope = scope_with(alloc, b"{ 10.0.0.1 10.0.0.2 10.0.0.3 }")?;
-    let macros = &mut scope.macros;
     define(
         alloc,
-        macros,
+        &mut scope,
         b"bad",
         &[Piece::Text(b"{ 10.0.0.256 10.0.0.1 }")],
     )?;
@@ -469,6 +463,39 @@ fn elements_are_counted(rt: HostRuntime) -> Result<(), ConfError> {
 }
 
 #[test]
+fn a_table_is_defined_where_it_is_used(rt: HostRuntime) -> Result<(), Fail> {
+    let alloc = rt.alloc();
+    let mut scope = scope_with(alloc, b"{ <a> <later> }")?;
+    let undefined = "rules line 1: undefined table";
+    for text in ["$x", "<later>", "{ <a> $x }"] {
+        let told = fault_in(alloc, &scope, text.as_bytes())?;
+        assert_eq!(rt; told.as_str(), undefined, "at {text}");
+    }
+    scope.defined = 3;
+    let found = elements_in::<AddressMatch<'_>>(alloc, &scope, b"{ <later> $x }")?;
+    let places = [2, 0, 2];
+    let expected = places.map(|place| HostCriterion {
+        is_negated: false,
+        hosts: HostSet::Table(place),
+    });
+    assert!(rt; found.items.as_slice() == expected.as_slice());
+    Ok(())
+}
+
+#[test]
+fn what_nothing_is_made_of_is_counted(rt: HostRuntime) -> Result<(), ConfError> {
+    let alloc = rt.alloc();
+    let scope = scope_with(alloc, b"{ 80, 443 }")?;
+    let found = words(alloc, b"{ 22 $x $x }")?;
+    let mut reader = Reader::new(found.as_slice());
+    let written = list::<Written<'_, PortMatch>>(alloc, &mut reader)?;
+    let counted = elements_of(alloc, &scope, false, written.as_slice())?;
+    assert_eq!(rt; counted.count, 5);
+    assert!(rt; counted.items.len() == 1 && counted.fault.is_none());
+    Ok(())
+}
+
+#[test]
 fn plain_words_are_told_apart(rt: HostRuntime) -> Result<(), ConfError> {
     let alloc = rt.alloc();
     for (value, expected) in [
@@ -478,12 +505,7 @@ fn plain_words_are_told_apart(rt: HostRuntime) -> Result<(), ConfError> {
         ("<", false),
     ] {
         let scope = scope_with(alloc, value.as_bytes())?;
-        let found = MacroUse {
-            line: 1,
-            name: Bytes::new(b"x".as_slice()),
-            suffix: Bytes::new(b"".as_slice()),
-        };
-        let told = scope.macros.is_plain_word(alloc, &found)?;
+        let told = scope.macros.is_plain_word(alloc, &use_of(b"x"))?;
         assert_eq!(rt; told.is_ok(), expected, "at {value}");
     }
     Ok(())
@@ -494,12 +516,12 @@ fn doubled_values_stay_short(rt: HostRuntime) -> Result<(), Fail> {
     let alloc = rt.alloc();
     let mut scope = scope_with(alloc, b"1")?;
     for _ in 0..40 {
-        let macros = &mut scope.macros;
-        define(alloc, macros, b"x", &[Piece::Use(b"x"), Piece::Use(b"x")])?;
-        assert!(rt; macros.spliced <= MOST_SPLICED);
+        let pieces = [Piece::Use(b"x"), Piece::Use(b"x")];
+        define(alloc, &mut scope, b"x", &pieces)?;
+        assert!(rt; scope.macros.spliced <= MOST_SPLICED);
     }
     let pieces = [Piece::Text(b"{"), Piece::Use(b"x"), Piece::Text(b"}")];
-    define(alloc, &mut scope.macros, b"y", &pieces)?;
+    define(alloc, &mut scope, b"y", &pieces)?;
     let told = fault_in(alloc, &scope, b"$x")?;
     assert_eq!(rt; told.as_str(), "rules line 1: unknown word");
     let told = target_in(alloc, &scope, true, "$x")?;

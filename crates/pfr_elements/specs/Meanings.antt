@@ -1,0 +1,69 @@
+-- What a value means wherever it may be used, and what a macro is defined as.
+use Rattle.std.specs.Prelude.{ℕ, ◌==◌, true, false, if◌then◌else◌, List, [], ◌∷◌, ◌++◌, length, Option, Some, None}
+use Rattle.pfr_words.specs.declared.word.Word.{Word}
+use Rattle.pfr_words.specs.Words.{words}
+use Rattle.pfr_terms.specs.Lists as lists
+use Rattle.pfr_terms.specs.Terms as terms
+use Rattle.pfr_terms.specs.Ports as ports
+use Rattle.pfr_terms.specs.Addresses as addresses
+use Rattle.pfr_elements.specs.declared.definition.ListMeanings.{ListMeanings}
+use Rattle.pfr_elements.specs.declared.definition.Meanings.{Meanings}
+use Rattle.pfr_elements.specs.declared.definition.Definition.{Definition}
+use Rattle.pfr_elements.specs.declared.definition.Definition.TheVariants as d
+use Rattle.pfr_elements.specs.declared.macros.Macros.{Macros}
+use Rattle.pfr_elements.specs.declared.scope.Scope.{Scope}
+use Rattle.pfr_elements.specs.declared.value.Draft.{Draft}
+use Rattle.pfr_elements.specs.declared.value.Value.{Value}
+use Rattle.pfr_elements.specs.declared.value.Value.TheVariants.{Text, TooLong}
+use Rattle.pfr_elements.specs.Elements.{listed}
+use Rattle.pfr_elements.specs.Hosts.{form_read, host_criterion, host_tables, entry_meaning}
+use Rattle.pfr_elements.specs.Single.{single_read}
+use Rattle.pfr_elements.specs.Terms.{itself, skipped, interface_meaning, no_table}
+use Rattle.pfr_elements.specs.Values.{is_sound, only_plain}
+
+unfoldable pub list_meanings : Scope → List Word → ListMeanings
+list_meanings scope ws = record {
+  interfaces = listed interface_meaning terms.interface_match no_table scope ws;
+  skipped = listed skipped (lists.written terms.interface_name) no_table scope ws;
+  protocols = listed itself (lists.written terms.protocol) no_table scope ws;
+  icmp_types = listed itself (lists.written terms.icmp_match) no_table scope ws;
+  hosts = listed host_criterion addresses.address_match host_tables scope ws;
+  entries = listed entry_meaning addresses.table_entry no_table scope ws;
+  ports = listed itself (lists.written ports.port_match) no_table scope ws;
+}
+
+-- what words mean wherever they may stand; the lines of their faults will be those of uses
+unfoldable pub meanings_of : Scope → List Word → Meanings
+meanings_of scope ws = record {
+  is_one_word = length ws == 1;
+  word = only_plain ws;
+  lists = list_meanings scope ws;
+  form = form_read scope.interface 0 ws;
+  target = single_read true scope 0 ws;
+  source = single_read false scope 0 ws;
+}
+
+-- what a text means, if a use may stand for its words
+abbrev pub text_meanings : Scope → List ℕ → Option Meanings
+text_meanings scope text = if is_sound text then Some (meanings_of scope (words text)) else None
+
+abbrev pub text_definition : List ℕ → Option Meanings → Definition
+text_definition text None = d.Unsound
+text_definition text (Some meanings) = d.Text (record { bytes = text; meanings = meanings })
+
+abbrev pub definition_by : Scope → Value → Definition
+definition_by scope (TooLong is_list) = d.TooLong is_list
+definition_by scope (Text text) = text_definition text (text_meanings scope text)
+
+-- what a value means where all tables of the ruleset are defined
+unfoldable pub definition_of : Scope → Value → Definition
+definition_of scope value = definition_by (record scope { defined = length scope.tables }) value
+
+abbrev pub with_definition : List ℕ → Definition → ℕ → Macros → Macros
+with_definition name definition spliced macros =
+    record { names = macros.names ++ name ∷ []; definitions = macros.definitions ++ definition ∷ []; spliced = spliced }
+
+-- with one macro more, in the place of an earlier one of this name
+abbrev pub with_macro : List ℕ → Draft → Scope → Scope
+with_macro name draft scope =
+    record scope { macros = with_definition name (definition_of scope draft.value) draft.spliced scope.macros }
