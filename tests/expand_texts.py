@@ -524,13 +524,13 @@ def hostile():
         ("a list of forty doublings as a target", doubled(40, "10.0.0.1") + 'l = "{" $m40 "}"\nrdr -> $l\n',
          "line 43: left out: pool"),
         ("sixteen doublings of nothing round a target", doubled(16, "") + 'l = "em0" $m16\nnat -> $l\n', counted(0, 1)),
-        ("a long value round no rule, often", long + "anchor proto $x {}\n" * 24000, counted(0)),
+        ("a long value round no rule, often", long + "anchor proto $x\n" * 24000, counted(0)),
         ("a long value with a table round no rule, often",
-         f'table <t> {{ 10.0.0.1 }}\nx = "{{ <t>{" self" * (half // 5)} }}"\n' + "anchor from $x {}\n" * 24000,
+         f'table <t> {{ 10.0.0.1 }}\nx = "{{ <t>{" self" * (half // 5)} }}"\n' + "anchor from $x\n" * 24000,
          counted(0)),
         ("a long value of a table that is defined later", f'x = "{{ <t>{" self" * (half // 5)} }}"\n'
-         + "anchor to port 80 {}\n" * 9000 + "table <t> { 10.0.0.1 }\n" + "anchor from $x {}\n" * 9000
-         + "anchor from <u> {}\n", "line 18003: undefined table"),
+         + "anchor to port 80\n" * 9000 + "table <t> { 10.0.0.1 }\n" + "anchor from $x\n" * 9000
+         + "anchor from <u>\n", "line 18003: undefined table"),
         ("a long value in a list, often", long + "pass proto { $x $x $x $x }\n" * 9000, "line 2: too many"),
         ("blanks of a long value, often", blanks + "pass to $x\n" * 30000, counted(30000)),
         ("blanks of a long value in brackets, often", blanks.replace("self", "em0") + "pass to ($x)\n" * 30000,
