@@ -1,6 +1,5 @@
 -- Filter rules and anchors as flat rules, with the anchors round them.
 use Rattle.std.specs.Prelude.{◌≡◌, ◌≤◌, ◌<◌, ℕ, zero, suc, ◌+◌, ◌-◌, ◌*◌, ◌==◌, ◌||◌, Bool, true, false, not, nat_lt, if◌then◌else◌, List, [], ◌∷◌, ◌++◌, length, map, fold, Option, Some, None, Result, Ok, Err, ◌≢◌}
-use Rattle.std.specs.List.{All}
 use Rattle.pfr_terms.specs.declared.error.ConfError.{ConfError}
 use Rattle.pfr_terms.specs.declared.error.ConfErrorKind.TheVariants.{TooDeep, Memory}
 use Rattle.pfr_terms.specs.declared.flags.FlagsMatch.{FlagsMatch}
@@ -33,6 +32,7 @@ use Rattle.pfr_expand.specs.declared.body.Body.{Body}
 use Rattle.pfr_flat.specs.Choices.{no_match, combinations}
 use Rattle.pfr_flat.specs.Counts.{counted}
 use Rattle.pfr_flat.specs.Lists.{lists_of, choices_or_fault}
+use Rattle.pfr_flat.specs.Places.{moved}
 
 -- what a function that adds promises: the outcome, unless memory is refused
 abbrev pub Adds : {A : Type 0} → Result A ConfError → Result (Unit {0}) ConfError → A → Type 0
@@ -109,10 +109,6 @@ with_rule scope setting rule out = rule_of setting rule (lists_of scope true rul
 abbrev pub flat_anchor : AnchorRule → FlatAnchor
 flat_anchor anchor = record { direction = anchor.direction; is_quick = anchor.is_quick; packet = no_match; first = 0; last = 0 }
 
--- an anchor so many rules further on
-abbrev pub moved : ℕ → FlatAnchor → FlatAnchor
-moved places anchor = record anchor { first = places + anchor.first; last = places + anchor.last }
-
 -- an anchor with a copy of its body, behind what is there
 abbrev pub with_copy : FlatAnchor → Body → Body → PacketMatch → Body
 with_copy anchor inner out m =
@@ -180,15 +176,3 @@ statement_by anchored scope setting (FilterStatement-F.Anchor anchor body) out =
 unfoldable pub statement : ℕ → Scope → Setting → Adding
 statement zero scope setting x out = statement_by (λ anchor body out. Err (record { line = anchor.line; kind = TooDeep })) scope setting (out-FilterStatement x) out
 statement (suc depth) scope setting x out = statement_by (λ anchor body out. with_anchor scope setting anchor (body_from (statement depth scope setting) empty_body body) out) scope setting (out-FilterStatement x) out
-
--- ---- places
-
--- each anchor's places are places of the rules
-abbrev pub IsPlaced : ℕ → FlatAnchor → Type 0
-IsPlaced size anchor = (anchor.first ≤ anchor.last) × (anchor.last < size)
-
-unfoldable pub AreWithin : ℕ → List FlatAnchor → Type 0
-AreWithin size anchors = All (IsPlaced size) anchors
-
-abbrev pub ArePlaced : List FlatRule → List FlatAnchor → Type 0
-ArePlaced rules anchors = AreWithin (length rules) anchors

@@ -34,7 +34,8 @@ use Rattle.pfr_expand.specs.declared.expansion.Work.{Work}
 use Rattle.pfr_flat.specs.declared.lists.Lists as L
 use Rattle.pfr_flat.specs.Counts.{counted, too_many}
 use Rattle.pfr_flat.specs.Lists.{choices_or_fault}
-use Rattle.pfr_expand.specs.Bodies.{moved, empty_body, statement as filter_statement}
+use Rattle.pfr_flat.specs.Places.{joined}
+use Rattle.pfr_expand.specs.Bodies.{empty_body, statement as filter_statement}
 use Rattle.pfr_expand.specs.Options.{default_options, with_option}
 use Rattle.pfr_expand.specs.declared.translation.Translations.{Translations}
 use Rattle.pfr_expand.specs.Translations.{no_translations, translation_lists, with_choices}
@@ -118,19 +119,14 @@ line_of x = line_by (out-FilterStatement x)
 
 -- how many rules there are; one more than there may be stands for all from there on
 abbrev pub used_in : Work → ℕ
-used_in work = min (length work.flat.rules + work.translations) 65537
+used_in work = min (length work.flat.filter.rules + work.translations) 65537
 
 abbrev pub setting_of : Work → ℕ → Setting
 setting_of work line = record { block_policy = work.flat.options.block_policy; state_policy = work.flat.options.state_policy; used = used_in work; line = line }
 
 abbrev pub filter_if : Work → Body → Option ConfError → Result Work ConfError
 filter_if work body (Some e) = Err e
-filter_if work body None = Ok (record work {
-  flat = record work.flat {
-    rules = work.flat.rules ++ body.rules;
-    anchors = work.flat.anchors ++ map (moved (length work.flat.rules)) body.anchors;
-  };
-})
+filter_if work body None = Ok (record work { flat = record work.flat { filter = joined work.flat.filter body.rules body.anchors } })
 
 abbrev pub filter_by : Work → Result Body ConfError → Result Work ConfError
 filter_by work (Ok body) = filter_if work body body.fault
@@ -178,8 +174,8 @@ abbrev pub expanded_from : Work → List Statement → Result Work ConfError
 expanded_from work [] = Ok work
 expanded_from work (x ∷ xs) = and_more (with_statement x work) (λ w. expanded_from w xs)
 
-abbrev pub empty_ruleset : R.Ruleset
-empty_ruleset = record { options = default_options; tables = []; rules = []; anchors = []; translations = no_translations }
+abbrev pub empty_ruleset : Interface → R.Ruleset
+empty_ruleset interface = record { interface = interface; options = default_options; tables = []; filter = record { rules = []; anchors = [] }; translations = no_translations }
 
 abbrev pub with_name : List (List ℕ) → List ℕ → Option ℕ → List (List ℕ)
 with_name names name (Some place) = names
@@ -194,7 +190,7 @@ abbrev pub table_names : List Statement → List (List ℕ)
 table_names statements = fold with_table_name [] statements
 
 abbrev pub started : Interface → List (List ℕ) → Work
-started interface names = record { scope = record { interface = interface; macros = no_macros; tables = names; defined = 0 }; entries = 0; translations = 0; flat = empty_ruleset }
+started interface names = record { scope = record { interface = interface; macros = no_macros; tables = names; defined = 0 }; entries = 0; translations = 0; flat = empty_ruleset interface }
 
 abbrev pub ruleset_in : Result Work ConfError → Result R.Ruleset ConfError
 ruleset_in (Ok work) = Ok work.flat
@@ -206,4 +202,4 @@ expanded statements interface = ruleset_in (expanded_from (started interface (ta
 
 -- how many filter rules and how many translation rules there are, up to the greatest number of 32 bits
 abbrev pub counts : R.Ruleset → ℕ × ℕ
-counts r = (min (length r.rules) 4294967295, min (length r.translations.nats + length r.translations.rdrs + length r.translations.binats) 4294967295)
+counts r = (min (length r.filter.rules) 4294967295, min (length r.translations.nats + length r.translations.rdrs + length r.translations.binats) 4294967295)

@@ -4,6 +4,7 @@ ghost use Rattle.std.specs.List.{All};
 ghost use Rattle.pfr_terms.specs.Input.{Gives};
 ghost use Rattle.pfr_elements.specs.Elements as faults;
 ghost use Rattle.pfr_expand.specs.Bodies as spec;
+ghost use Rattle.pfr_flat.specs.Places as places;
 ghost use Rattle.pfr_expand.specs.Bodies.{Adds};
 
 use pfr_conf::{
@@ -14,7 +15,7 @@ use pfr_elements::Scope;
 use pfr_elements::element::first_fault;
 use pfr_flat::{
     Choices, FilterAction, FlagsCriterion, FlatAnchor, FlatRule, NO_MATCH, PacketMatch, StateRule,
-    choices_or_fault, combinations, counted, lists_of, slice_of,
+    choices_or_fault, combinations, counted, lists_of, put_anchors, slice_of,
 };
 use std::alloc::{AllocError, Global};
 use std::mem::replace;
@@ -124,7 +125,7 @@ impl Body {
     #[tactic(auto, using(crate::proofs::Places::none_are_placed))]
     pub fn new(alloc: Global) -> Body
         ensures made { result ≡ spec.empty_body }
-        ensures placed { spec.ArePlaced result.rules result.anchors }
+        ensures placed { places.ArePlaced result.rules result.anchors }
     {
         Body {
             rules: Items::new(alloc),
@@ -148,9 +149,9 @@ impl Body {
         rule: FlatRule,
         choices: Result<Choices, ConfError>,
     ) -> Result<(), AllocError>
-        requires { spec.ArePlaced self.old.rules self.old.anchors }
+        requires { places.ArePlaced self.old.rules self.old.anchors }
         ensures made { OnOk result (self.new ≡ spec.with_made rule choices self.old) }
-        ensures placed { OnOk result (spec.ArePlaced self.new.rules self.new.anchors) }
+        ensures placed { OnOk result (places.ArePlaced self.new.rules self.new.anchors) }
     {
         let choices = match choices {
             Ok(choices) => choices,
@@ -177,10 +178,10 @@ fn add_rule(
     rule: &FilterRule<'_>,
 ) -> Result<(), ConfError>
     requires few { out.old.count ≤ 65536 }
-    requires placed { spec.ArePlaced out.old.rules out.old.anchors }
+    requires placed { places.ArePlaced out.old.rules out.old.anchors }
     ensures made { Adds (spec.with_rule scope.now setting rule.now out.old) result out.new }
     ensures counted { OnOk result (out.new.count ≤ 65536) }
-    ensures placed { OnOk result (spec.ArePlaced out.new.rules out.new.anchors) }
+    ensures placed { OnOk result (places.ArePlaced out.new.rules out.new.anchors) }
 {
     let types = slice_of(&rule.options.icmp_types);
     let lists = lists_of(alloc, scope, true, &rule.criteria, types)?;
@@ -200,28 +201,6 @@ fn or_fault(first: Option<ConfError>, second: Option<ConfError>) -> Option<ConfE
     }
 }
 
-/// Puts anchors round some of so many rules behind the others, so many places further on.
-#[tactic(auto, unfolding(crate::specs::Bodies::AreWithin))]
-pub(crate) fn put_anchors(
-    out: &mut Items<FlatAnchor>,
-    place: usize,
-    size: usize,
-    anchors: &[FlatAnchor],
-) -> Result<(), AllocError>
-    requires fits { place + size ≤ 18446744073709551615 }
-    requires within { spec.AreWithin size anchors.now }
-    ensures { OnOk result (out.new ≡ out.old ++ map (spec.moved place) anchors.now) }
-{
-    for anchor in anchors {
-        out.push(FlatAnchor {
-            first: place + anchor.first,
-            last: place + anchor.last,
-            ..*anchor
-        })?;
-    }
-    Ok(())
-}
-
 /// Puts an anchor with a copy of its body behind what is there.
 fn put_copy(
     out: &mut Body,
@@ -230,7 +209,7 @@ fn put_copy(
     packet: PacketMatch,
 ) -> Result<(), AllocError>
     requires some { 0 < length inner.now.rules }
-    requires placed { spec.ArePlaced inner.now.rules inner.now.anchors }
+    requires placed { places.ArePlaced inner.now.rules inner.now.anchors }
     ensures { OnOk result (out.new ≡ spec.with_copy anchor inner.now out.old packet) }
 {
     let place = out.rules.len();
@@ -257,10 +236,10 @@ fn add_copy(
     packet: PacketMatch,
 ) -> Result<(), AllocError>
     requires some { 0 < length inner.now.rules }
-    requires inner { spec.ArePlaced inner.now.rules inner.now.anchors }
-    requires placed { spec.ArePlaced out.old.rules out.old.anchors }
+    requires inner { places.ArePlaced inner.now.rules inner.now.anchors }
+    requires placed { places.ArePlaced out.old.rules out.old.anchors }
     ensures made { OnOk result (out.new ≡ spec.with_copy anchor inner.now out.old packet) }
-    ensures placed { OnOk result (spec.ArePlaced out.new.rules out.new.anchors) }
+    ensures placed { OnOk result (places.ArePlaced out.new.rules out.new.anchors) }
 {
     put_copy(out, anchor, inner, packet)?;
     Ok(())
@@ -274,11 +253,11 @@ fn put_copies(
     matches: &[PacketMatch],
 ) -> Result<(), AllocError>
     requires some { 0 < length inner.now.rules }
-    requires inner { spec.ArePlaced inner.now.rules inner.now.anchors }
-    requires placed { spec.ArePlaced out.old.rules out.old.anchors }
+    requires inner { places.ArePlaced inner.now.rules inner.now.anchors }
+    requires placed { places.ArePlaced out.old.rules out.old.anchors }
     ensures made { OnOk result (out.new ≡ fold (spec.with_copy anchor inner.now) out.old matches.now) }
     ensures count { OnOk result (out.new.count ≡ out.old.count) }
-    ensures placed { OnOk result (spec.ArePlaced out.new.rules out.new.anchors) }
+    ensures placed { OnOk result (places.ArePlaced out.new.rules out.new.anchors) }
 {
     for packet in matches {
         add_copy(out, anchor, inner, *packet)?;
@@ -294,11 +273,11 @@ fn make_copies(
     choices: Result<Choices, ConfError>,
     mut inner: Body,
 ) -> Result<(), AllocError>
-    requires inner { spec.ArePlaced inner.rules inner.anchors }
-    requires placed { spec.ArePlaced out.old.rules out.old.anchors }
+    requires inner { places.ArePlaced inner.rules inner.anchors }
+    requires placed { places.ArePlaced out.old.rules out.old.anchors }
     ensures made { OnOk result (out.new ≡ spec.with_copies anchor choices inner out.old) }
     ensures count { OnOk result (out.new.count ≡ out.old.count) }
-    ensures placed { OnOk result (spec.ArePlaced out.new.rules out.new.anchors) }
+    ensures placed { OnOk result (places.ArePlaced out.new.rules out.new.anchors) }
 {
     let choices = match choices {
         Ok(choices) => choices,
@@ -344,11 +323,11 @@ fn add_anchor(
     inner: Body,
 ) -> Result<(), ConfError>
     requires few { (out.old.count ≤ 65536) × (inner.count ≤ 65536) }
-    requires inner { spec.ArePlaced inner.rules inner.anchors }
-    requires placed { spec.ArePlaced out.old.rules out.old.anchors }
+    requires inner { places.ArePlaced inner.rules inner.anchors }
+    requires placed { places.ArePlaced out.old.rules out.old.anchors }
     ensures made { Adds (spec.with_body scope.now setting anchor.now inner out.old) result out.new }
     ensures counted { OnOk result (out.new.count ≤ 65536) }
-    ensures placed { OnOk result (spec.ArePlaced out.new.rules out.new.anchors) }
+    ensures placed { OnOk result (places.ArePlaced out.new.rules out.new.anchors) }
 {
     let lists = lists_of(alloc, scope, has_rules(&inner), &anchor.criteria, None)?;
     let count = counted(setting.used, setting.line, &lists, out.count, inner.count)?;
@@ -369,7 +348,7 @@ fn body_of(
 ) -> Result<Body, ConfError>
     ensures made { Gives (spec.body_from (spec.statement depth scope.now setting) spec.empty_body statements.now) result }
     ensures counted { IfOk result (λ body. body.count ≤ 65536) }
-    ensures placed { IfOk result (λ body. spec.ArePlaced body.rules body.anchors) }
+    ensures placed { IfOk result (λ body. places.ArePlaced body.rules body.anchors) }
 {
     let mut out = Body::new(alloc);
     for statement in statements {
@@ -390,10 +369,10 @@ pub(crate) fn add_statement(
     depth: usize,
 ) -> Result<(), ConfError>
     requires few { out.old.count ≤ 65536 }
-    requires placed { spec.ArePlaced out.old.rules out.old.anchors }
+    requires placed { places.ArePlaced out.old.rules out.old.anchors }
     ensures made { Adds (spec.statement depth scope.now setting statement.now out.old) result out.new }
     ensures counted { OnOk result (out.new.count ≤ 65536) }
-    ensures placed { OnOk result (spec.ArePlaced out.new.rules out.new.anchors) }
+    ensures placed { OnOk result (places.ArePlaced out.new.rules out.new.anchors) }
 {
     match statement {
         FilterStatement::Rule(rule) => add_rule(alloc, scope, setting, out, rule),

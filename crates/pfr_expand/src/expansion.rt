@@ -1,11 +1,12 @@
 //! From statements to the flat ruleset.
-ghost use Rattle.std.specs.Prelude.{◌≡◌, ◌<◌, ◌≤◌, ◌+◌, ◌++◌, length, map, OnOk, IfOk};
+ghost use Rattle.std.specs.Prelude.{◌≡◌, ◌<◌, ◌≤◌, ◌+◌, length, OnOk, IfOk};
 ghost use Rattle.pfr_terms.specs.Input.{Gives};
 ghost use Rattle.pfr_elements.specs.Values.{begun};
-ghost use Rattle.pfr_expand.specs.Bodies.{Adds, ArePlaced, moved};
+ghost use Rattle.pfr_expand.specs.Bodies.{Adds};
+ghost use Rattle.pfr_flat.specs.Places.{ArePlaced, joined};
 ghost use Rattle.pfr_expand.specs.Rulesets as spec;
 
-use crate::body::{Body, Setting, add_statement, put_anchors};
+use crate::body::{Body, Setting, add_statement};
 use crate::options::Options;
 use crate::ruleset::Ruleset;
 use crate::tables::{Filling, clash, fill};
@@ -17,8 +18,11 @@ use pfr_conf::{
 };
 use pfr_elements::value::Draft;
 use pfr_elements::{Elements, Interface, MOST_ELEMENTS, Macros, Names, Scope};
-use pfr_flat::{FlatAnchor, FlatRule, MOST_RULES, choices_or_fault, counted, too_many};
+use pfr_flat::{
+    FilterRules, FlatAnchor, FlatRule, MOST_RULES, choices_or_fault, counted, too_many,
+};
 use std::alloc::{AllocError, Global};
+use std::mem::replace;
 
 /// How far an expansion has come: what gives words their meaning, how many entries all tables have together, and the
 /// ruleset so far.
@@ -75,27 +79,31 @@ fn line_of(statement: &FilterStatement<'_>) -> usize
 
 impl Ruleset {
     /// A ruleset that says nothing.
-    pub(crate) fn new(alloc: Global) -> Ruleset
-        ensures { result ≡ spec.empty_ruleset }
+    pub(crate) fn new(alloc: Global, interface: Interface) -> Ruleset
+        ensures { result ≡ spec.empty_ruleset interface }
     {
         Ruleset {
+            interface,
             options: Options::new(alloc),
             tables: Items::new(alloc),
-            rules: Items::new(alloc),
-            anchors: Items::new(alloc),
+            filter: FilterRules::new(alloc),
             translations: Translations::new(alloc),
         }
     }
 
     /// Puts rules and the anchors round them behind the others.
-    fn add_rules(&mut self, rules: &[FlatRule], anchors: &[FlatAnchor]) -> Result<(), AllocError>
+    fn add_rules(
+        &mut self,
+        alloc: Global,
+        rules: &[FlatRule],
+        anchors: &[FlatAnchor],
+    ) -> Result<(), AllocError>
         requires { ArePlaced rules.now anchors.now }
-        ensures { OnOk result (self.new ≡ record self.old { rules = self.old.rules ++ rules.now; anchors = self.old.anchors ++ map (moved (length self.old.rules)) anchors.now }) }
+        ensures { OnOk result (self.new ≡ record self.old { filter = joined self.old.filter rules.now anchors.now }) }
     {
-        let place = self.rules.len();
-        self.rules.extend_from_slice(rules)?;
-        let _end = self.rules.len();
-        put_anchors(&mut self.anchors, place, rules.len(), anchors)
+        let before = replace(&mut self.filter, FilterRules::new(alloc));
+        self.filter = before.joined(rules, anchors)?;
+        Ok(())
     }
 }
 
@@ -112,7 +120,7 @@ impl<'a> Work<'a> {
             },
             entries: 0,
             translations: 0,
-            flat: Ruleset::new(alloc),
+            flat: Ruleset::new(alloc, interface),
         }
     }
 
@@ -120,7 +128,7 @@ impl<'a> Work<'a> {
     fn used(&self) -> usize
         ensures { result ≡ spec.used_in self.now }
     {
-        let rules = self.flat.rules.len();
+        let rules = self.flat.filter.rules().len();
         rules.saturating_add(self.translations).min(MOST_RULES + 1)
     }
 
@@ -211,7 +219,8 @@ impl<'a> Work<'a> {
         if let Some(fault) = fault {
             return Err(fault);
         }
-        self.flat.add_rules(rules.as_slice(), anchors.as_slice())?;
+        self.flat
+            .add_rules(alloc, rules.as_slice(), anchors.as_slice())?;
         Ok(())
     }
 

@@ -5,20 +5,21 @@ ghost use Rattle.pfr_expand.specs.Rulesets as spec;
 use crate::options::Options;
 use crate::translation::Translations;
 use pfr_conf::Items;
-use pfr_flat::{FlatAnchor, FlatRule};
+use pfr_elements::Interface;
+use pfr_flat::FilterRules;
 use pfr_tables::AddressTable;
 use std::alloc::Global;
 
 /// What a ruleset means for one interface.
 #[derive(Drop)]
 pub struct Ruleset {
+    /// The interface on which packets are.
+    pub interface: Interface,
     pub options: Options,
     /// The tables in the order in which they are defined.
     pub tables: Items<AddressTable>,
-    /// The filter rules; the number of one is its place.
-    pub rules: Items<FlatRule>,
-    /// The anchors round them, one that begins first before one that begins later, an outer one before those in it.
-    pub anchors: Items<FlatAnchor>,
+    /// The filter rules, of which each has its place as its number, and the anchors round them.
+    pub filter: FilterRules,
     pub translations: Translations,
 }
 
@@ -34,7 +35,7 @@ impl Ruleset {
             .len()
             .saturating_add(self.translations.rdrs.len())
             .saturating_add(self.translations.binats.len());
-        (counted(self.rules.len()), counted(translations))
+        (counted(self.filter.rules().len()), counted(translations))
     }
 }
 

@@ -1,4 +1,5 @@
 pub mod Digits
+pub mod Joining
 pub mod MacroLists
 pub mod Members
 pub mod Order

@@ -1,4 +1,5 @@
-//! What the lists of one statement make: flat rules, of which each asks for one thing of a kind.
+//! Flat rules, of which each asks for one thing of a kind, with the anchors round them; and what the lists of one
+//! statement make.
 //!
 //! [`lists_of`] gives the lists of a statement's criteria their elements, [`counted`] says how many rules they make
 //! before any is made, and [`combinations`] makes a match of each choice from all of them.
@@ -6,6 +7,7 @@
 
 pub mod choices;
 pub mod counts;
+pub mod filter_rules;
 pub mod flat;
 pub mod laws;
 pub mod lists;
@@ -13,6 +15,7 @@ pub mod translations;
 
 pub use choices::{Choices, combinations};
 pub use counts::{MOST_RULES, counted, too_many};
+pub use filter_rules::{FilterRules, RuleLists, put_anchors};
 pub use flat::{
     FilterAction, FlagsCriterion, FlatAnchor, FlatRule, FlatTranslation, NO_MATCH, NatAddress,
     PacketMatch, PortChange, PortRange, RdrAddress, StateRule,

@@ -58,7 +58,7 @@ fn fault(alloc: Global, text: &[u8]) -> Option<(usize, u8)> {
 
 /// The last of the rules.
 fn last_rule(ruleset: &Ruleset) -> Option<FlatRule> {
-    match ruleset.rules.as_slice() {
+    match ruleset.filter.rules() {
         [.., last] => Some(*last),
         [] => None,
     }
@@ -121,8 +121,8 @@ fn the_last_list_changes_first(rt: HostRuntime) -> Result<(), ConfError> {
         asked(17, eight, 80),
         asked(17, eight, 443),
     ];
-    assert!(rt; ask(found.rules.as_slice(), &expected));
-    assert_eq!(rt; found.anchors.len(), 0);
+    assert!(rt; ask(found.filter.rules(), &expected));
+    assert_eq!(rt; found.filter.anchors().len(), 0);
     Ok(())
 }
 
@@ -131,7 +131,7 @@ fn a_list_in_a_macro(rt: HostRuntime) -> Result<(), ConfError> {
     let text = b"p = \"{ 80, 443 }\"\npass in proto tcp to port $p\n";
     let found = ruleset(rt.alloc(), text)?;
     let expected = [asked(6, HostSet::Any, 80), asked(6, HostSet::Any, 443)];
-    assert!(rt; ask(found.rules.as_slice(), &expected));
+    assert!(rt; ask(found.filter.rules(), &expected));
     Ok(())
 }
 
@@ -180,7 +180,7 @@ fn members_of_a_table(rt: HostRuntime) -> Result<(), ConfError> {
 
 /// Whether the anchors stand round the rules of just these places.
 fn stand_at(ruleset: &Ruleset, expected: &[(usize, usize)]) -> bool {
-    let anchors = ruleset.anchors.as_slice();
+    let anchors = ruleset.filter.anchors();
     if anchors.len() != expected.len() {
         return false;
     }
@@ -197,7 +197,7 @@ fn places_of_anchors(rt: HostRuntime) -> Result<(), ConfError> {
     let alloc = rt.alloc();
     let text = b"block all\nanchor \"a\" {\npass quick all\n}\nblock quick all\n";
     let single = ruleset(alloc, text)?;
-    assert_eq!(rt; single.rules.len(), 3);
+    assert_eq!(rt; single.filter.rules().len(), 3);
     assert!(rt; stand_at(&single, &[(1, 1)]));
     let text = b"block all\n\
         anchor proto { tcp, udp } {\n\
@@ -210,7 +210,7 @@ fn places_of_anchors(rt: HostRuntime) -> Result<(), ConfError> {
         anchor {\n\
         }\n";
     let nested = ruleset(alloc, text)?;
-    assert_eq!(rt; nested.rules.len(), 11);
+    assert_eq!(rt; nested.filter.rules().len(), 11);
     let expected = [(1, 5), (2, 3), (4, 5), (6, 10), (7, 8), (9, 10)];
     assert!(rt; stand_at(&nested, &expected));
     Ok(())
@@ -343,7 +343,10 @@ fn with_many(alloc: Global, before: &[u8], behind: &[u8]) -> Result<Vec<u8>, All
 fn so_many_rules_and_no_more(rt: HostRuntime) -> Result<(), ConfError> {
     let alloc = rt.alloc();
     let most = with_many(alloc, b"", b"\n")?;
-    assert_eq!(rt; ruleset(alloc, most.as_slice())?.rules.len(), 65536);
+    assert_eq!(rt;
+        ruleset(alloc, most.as_slice())?.filter.rules().len(),
+        65536
+    );
     let kind = ConfErrorKind::TooMany.number();
     let cases = [
         (b"".as_slice(), b"\nblock all\n".as_slice(), 2),
