@@ -1,5 +1,6 @@
 //! TCP headers.
-ghost use Rattle.std.specs.Prelude.{⊤, [], ◌∷◌, codes};
+ghost use Rattle.std.specs.Prelude.{⊤, ◌≡◌, ◌==◌, [], ◌∷◌, codes};
+ghost use Rattle.std.specs.Int.RustNames.{bit_and};
 
 use crate::port::Port;
 use bitflags::{Flag, Flags, bitflag_items};
@@ -40,6 +41,16 @@ impl Flags for TcpFlags {
 
     fn from_bits_retain(bits: u8) -> TcpFlags {
         TcpFlags(bits)
+    }
+}
+
+impl TcpFlags {
+    /// Whether just these flags are set of those of a mask, both given by their bits.
+    #[inline]
+    pub fn are(self, set: u8, mask: u8) -> bool
+        ensures { result ≡ (bit_and self.0 mask == set) }
+    {
+        self.0 & mask == set
     }
 }
 

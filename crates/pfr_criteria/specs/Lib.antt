@@ -1,0 +1,3 @@
+pub mod Hosts
+pub mod Packets
+pub mod Transports

@@ -1,0 +1,82 @@
+-- What is asked of a packet's transport header: ports, TCP flags and ICMP types (pf.conf(5), "Parameters").
+use Rattle.std.specs.Prelude.{ℕ, ◌==◌, ◌&&◌, ◌||◌, Bool, true, false, not, nat_lt, nat_le, Option, Some, None}
+use Rattle.std.specs.Int.RustNames.{bit_and}
+use Rattle.pfr_headers.specs.declared.transport.Transport.{Transport}
+use Rattle.pfr_headers.specs.declared.transport.Transport.TheVariants as t
+use Rattle.pfr_headers.specs.declared.tcp.TcpFlags.{TcpFlags}
+use Rattle.pfr_headers.specs.declared.icmp.IcmpHeader.{IcmpHeader}
+use Rattle.pfr_terms.specs.declared.port.PortMatch.{PortMatch}
+use Rattle.pfr_terms.specs.declared.port.PortMatch.TheVariants as port
+use Rattle.pfr_terms.specs.declared.port.Comparison.{Comparison}
+use Rattle.pfr_terms.specs.declared.port.Comparison.TheVariants as c
+use Rattle.pfr_terms.specs.declared.port.RangeOperator.{RangeOperator}
+use Rattle.pfr_terms.specs.declared.port.RangeOperator.TheVariants as r
+use Rattle.pfr_terms.specs.declared.protocol.IcmpMatch.{IcmpMatch}
+use Rattle.pfr_flat.specs.declared.flat.FlagsCriterion.{FlagsCriterion}
+use Rattle.pfr_flat.specs.declared.flat.FlagsCriterion.TheVariants as asked
+
+-- ---- ports
+
+abbrev pub compares : Comparison → ℕ → ℕ → Bool
+compares c.Equal port written = port == written
+compares c.NotEqual port written = not (port == written)
+compares c.Less port written = nat_lt port written
+compares c.LessOrEqual port written = nat_le port written
+compares c.Greater port written = nat_lt written port
+compares c.GreaterOrEqual port written = nat_le written port
+
+-- `x:y` takes in both ports, `x >< y` neither, and `x <> y` all that are below the first or above the second
+abbrev pub ranges : RangeOperator → ℕ → ℕ → ℕ → Bool
+ranges r.Inclusive low high port = nat_le low port && nat_le port high
+ranges r.Between low high port = nat_lt low port && nat_lt port high
+ranges r.Outside low high port = nat_lt port low || nat_lt high port
+
+unfoldable pub port_holds : PortMatch → ℕ → Bool
+port_holds (port.Compare comparison written) number = compares comparison number written
+port_holds (port.Range operator low high) number = ranges operator low high number
+
+-- the ports of TCP and UDP packets; a part of a packet has none
+abbrev pub source_port : Transport → Option ℕ
+source_port (t.Tcp header) = Some header.source.0
+source_port (t.Udp header) = Some header.source.0
+source_port other = None
+
+abbrev pub destination_port : Transport → Option ℕ
+destination_port (t.Tcp header) = Some header.destination.0
+destination_port (t.Udp header) = Some header.destination.0
+destination_port other = None
+
+-- a port that is asked for holds of no packet without one
+abbrev pub port_asked : Option PortMatch → Option ℕ → Bool
+port_asked None port = true
+port_asked (Some criterion) None = false
+port_asked (Some criterion) (Some port) = port_holds criterion port
+
+-- ---- flags
+
+abbrev pub are : TcpFlags → ℕ → ℕ → Bool
+are flags set mask = bit_and flags.0 mask == set
+
+-- flags that are written are asked of TCP packets alone, and hold of no part of a packet; the default `S/SA` (2 of 18) isn't
+-- asked of one
+unfoldable pub flags_hold : FlagsCriterion → Transport → Bool
+flags_hold asked.Any transport = true
+flags_hold (asked.Written set mask) (t.Tcp header) = are header.flags set.0 mask.0
+flags_hold (asked.Written set mask) t.Fragment = false
+flags_hold (asked.Written set mask) other = true
+flags_hold asked.Default (t.Tcp header) = are header.flags 2 18
+flags_hold asked.Default other = true
+
+-- ---- ICMP types
+
+abbrev pub code_holds : Option ℕ → ℕ → Bool
+code_holds None code = true
+code_holds (Some written) code = written == code
+
+abbrev pub icmp_is : IcmpMatch → Transport → Bool
+icmp_is criterion (t.Icmp header) = criterion.kind == header.kind.0 && code_holds criterion.code header.code
+icmp_is criterion other = false
+
+unfoldable pub icmp_holds : Option IcmpMatch → Transport → Bool
+icmp_holds None transport = true
+icmp_holds (Some criterion) transport = icmp_is criterion transport

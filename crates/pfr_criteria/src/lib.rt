@@ -1,0 +1,13 @@
+//! Whether a packet is what a flat rule or an anchor asks for (pf.conf(5), "Parameters").
+//!
+//! [`rule_holds`] and [`anchor_holds`] hold all that is written against one packet, on one interface and by the entries of
+//! the ruleset's tables. Nothing here takes memory. A part of a packet that was sent in several has neither ports nor
+//! flags nor an ICMP type that could be asked of it.
+#![tactic(auto)]
+
+pub mod hosts;
+pub mod packets;
+pub mod transports;
+
+pub use hosts::host_holds;
+pub use packets::{anchor_holds, match_holds, rule_holds};
