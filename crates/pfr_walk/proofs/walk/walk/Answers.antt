@@ -1,0 +1,155 @@
+use Rattle.std.proofs.Common.{◌≡◌, ◌≤◌, ◌∙◌, ◌+◌, ap, sym, subst, refl, inl, inr, Some, None, length, arith}
+use Rattle.std.specs.Option.{option_copied}
+use Rattle.std.specs.List.{slice_get}
+use Rattle.std.proofs.lemmas.Option.{slice_get-get_or}
+use Rattle.pfr_flat.specs.Places.{ArePlaced}
+use Rattle.pfr_walk.specs.Filter.{anchored, ruled, hits, begun}
+use Rattle.pfr_walk.proofs.Stops.{stop_is}
+use Rattle.pfr_walk.proofs.Walking.{so_past, so_next, visited_rule, jump, ended_at, ended_all, ended_decides, ended_visits, begun_some, begun_none, placed_at, nested_of}
+use Rattle.pfr_walk.proofs.walk.walk.Goals as goal
+
+pub loop-place-preserved-then-anchor-place : goal.loop-place-preserved-then-anchor-place
+loop-place-preserved-then-anchor-place c =
+    let is : begun (slice_get c.anchors-anchors.result.now c.loop-place.next) c.loop-place.place ≡ Some c.in-Some.anchor.now = sym c.begun.ensures ∙ ap option_copied c.in-Some.is in
+    let found = begun_some _ _ _ is in
+    let at : slice_get c.args.flat.now.filter.anchors c.loop-place.next ≡ Some c.in-Some.anchor.now = rw (← c.anchors-anchors.ensures.value) found.0 in
+    so_past (anchored c.args.flat.now c.args.packet.now c.args.direction) (ruled c.args.flat.now c.args.packet.now c.args.direction) c.args.flat.now.filter c.loop-place.place c.loop-place.next c.loop-place.decided c.loop-place.visits c.in-Some.anchor.now c.loop-place.invariant at (inl c.if-anchor-place.true)
+
+pub loop-place-preserved-then-anchor_is : goal.loop-place-preserved-then-anchor_is
+loop-place-preserved-then-anchor_is c =
+    let is : begun (slice_get c.anchors-anchors.result.now c.loop-place.next) c.loop-place.place ≡ Some c.in-Some.anchor.now = sym c.begun.ensures ∙ ap option_copied c.in-Some.is in
+    let found = begun_some _ _ _ is in
+    let at : slice_get c.args.flat.now.filter.anchors c.loop-place.next ≡ Some c.in-Some.anchor.now = rw (← c.anchors-anchors.ensures.value) found.0 in
+    so_past (anchored c.args.flat.now c.args.packet.now c.args.direction) (ruled c.args.flat.now c.args.packet.now c.args.direction) c.args.flat.now.filter c.loop-place.place c.loop-place.next c.loop-place.decided c.loop-place.visits c.in-Some.anchor.now c.loop-place.invariant at (inr (sym c.anchor_is.ensures ∙ c.if-anchor_is.true))
+
+pub ends_at-requires : goal.ends_at-requires
+ends_at-requires c =
+    let is : begun (slice_get c.anchors-anchors.result.now c.loop-place.next) c.loop-place.place ≡ Some c.in-Some.anchor.now = sym c.begun.ensures ∙ ap option_copied c.in-Some.is in
+    let found = begun_some _ _ _ is in
+    let at : slice_get c.args.flat.now.filter.anchors c.loop-place.next ≡ Some c.in-Some.anchor.now = rw (← c.anchors-anchors.ensures.value) found.0 in
+    let placed : ArePlaced c.args.flat.now.filter.rules c.args.flat.now.filter.anchors = subst (λ anchors. ArePlaced c.args.flat.now.filter.rules anchors) c.anchors-anchors.ensures.value c.anchors-anchors.ensures.placed in
+    let within = placed_at c.args.flat.now.filter.rules c.args.flat.now.filter.anchors c.loop-place.next c.in-Some.anchor.now placed at in
+    let size = c.openings-openings.ensures.size in
+    omega (arith, size, within.1)
+
+pub behind-place-requires : goal.behind-place-requires
+behind-place-requires c =
+    let is : begun (slice_get c.anchors-anchors.result.now c.loop-place.next) c.loop-place.place ≡ Some c.in-Some.anchor.now = sym c.begun.ensures ∙ ap option_copied c.in-Some.is in
+    let found = begun_some _ _ _ is in
+    let at : slice_get c.args.flat.now.filter.anchors c.loop-place.next ≡ Some c.in-Some.anchor.now = rw (← c.anchors-anchors.ensures.value) found.0 in
+    let placed : ArePlaced c.args.flat.now.filter.rules c.args.flat.now.filter.anchors = subst (λ anchors. ArePlaced c.args.flat.now.filter.rules anchors) c.anchors-anchors.ensures.value c.anchors-anchors.ensures.placed in
+    let within = placed_at c.args.flat.now.filter.rules c.args.flat.now.filter.anchors c.loop-place.next c.in-Some.anchor.now placed at in
+    let size = c.openings-openings.ensures.size in
+    omega (arith, size, within.1)
+
+pub returns-then-ends_at-clause-decided : goal.returns-then-ends_at-clause-decided
+returns-then-ends_at-clause-decided c =
+    let is : begun (slice_get c.anchors-anchors.result.now c.loop-place.next) c.loop-place.place ≡ Some c.in-Some.anchor.now = sym c.begun.ensures ∙ ap option_copied c.in-Some.is in
+    let found = begun_some _ _ _ is in
+    let at : slice_get c.args.flat.now.filter.anchors c.loop-place.next ≡ Some c.in-Some.anchor.now = rw (← c.anchors-anchors.ensures.value) found.0 in
+    let placed : ArePlaced c.args.flat.now.filter.rules c.args.flat.now.filter.anchors = subst (λ anchors. ArePlaced c.args.flat.now.filter.rules anchors) c.anchors-anchors.ensures.value c.anchors-anchors.ensures.placed in
+    let within = placed_at c.args.flat.now.filter.rules c.args.flat.now.filter.anchors c.loop-place.next c.in-Some.anchor.now placed at in
+    let v = jump (anchored c.args.flat.now c.args.packet.now c.args.direction) (ruled c.args.flat.now c.args.packet.now c.args.direction) c.args.flat.now.filter c.loop-place.place c.loop-place.next c.loop-place.decided c.loop-place.visits c.in-Some.anchor.now c.loop-place.invariant (nested_of c.args.flat.now.filter.rules c.args.flat.now.filter.anchors placed) at found.1 c.if-anchor-place.false (sym c.anchor_is.ensures ∙ c.if-anchor_is.false) within.1 in
+    let stop = stop_is (hits (anchored c.args.flat.now c.args.packet.now c.args.direction) (ruled c.args.flat.now c.args.packet.now c.args.direction) c.args.flat.now.filter) c.args.flat.now.filter c.openings-openings.result.now c.in-Some.anchor.now.last c.loop-place.decided c.openings-openings.ensures within.1 c.ends_at.ensures.small v.decides in
+    let e = ended_at (anchored c.args.flat.now c.args.packet.now c.args.direction) (ruled c.args.flat.now c.args.packet.now c.args.direction) c.args.flat.now.filter c.in-Some.anchor.now.last (c.loop-place.next + 1) c.loop-place.decided c.loop-place.visits v (sym stop ∙ sym c.ends_at.ensures.value ∙ c.if-ends_at.true) in
+    ended_decides c.args.flat.now c.args.packet.now c.args.direction c.loop-place.decided c.loop-place.visits e
+
+pub returns-then-ends_at-clause-visits : goal.returns-then-ends_at-clause-visits
+returns-then-ends_at-clause-visits c =
+    let is : begun (slice_get c.anchors-anchors.result.now c.loop-place.next) c.loop-place.place ≡ Some c.in-Some.anchor.now = sym c.begun.ensures ∙ ap option_copied c.in-Some.is in
+    let found = begun_some _ _ _ is in
+    let at : slice_get c.args.flat.now.filter.anchors c.loop-place.next ≡ Some c.in-Some.anchor.now = rw (← c.anchors-anchors.ensures.value) found.0 in
+    let placed : ArePlaced c.args.flat.now.filter.rules c.args.flat.now.filter.anchors = subst (λ anchors. ArePlaced c.args.flat.now.filter.rules anchors) c.anchors-anchors.ensures.value c.anchors-anchors.ensures.placed in
+    let within = placed_at c.args.flat.now.filter.rules c.args.flat.now.filter.anchors c.loop-place.next c.in-Some.anchor.now placed at in
+    let v = jump (anchored c.args.flat.now c.args.packet.now c.args.direction) (ruled c.args.flat.now c.args.packet.now c.args.direction) c.args.flat.now.filter c.loop-place.place c.loop-place.next c.loop-place.decided c.loop-place.visits c.in-Some.anchor.now c.loop-place.invariant (nested_of c.args.flat.now.filter.rules c.args.flat.now.filter.anchors placed) at found.1 c.if-anchor-place.false (sym c.anchor_is.ensures ∙ c.if-anchor_is.false) within.1 in
+    let stop = stop_is (hits (anchored c.args.flat.now c.args.packet.now c.args.direction) (ruled c.args.flat.now c.args.packet.now c.args.direction) c.args.flat.now.filter) c.args.flat.now.filter c.openings-openings.result.now c.in-Some.anchor.now.last c.loop-place.decided c.openings-openings.ensures within.1 c.ends_at.ensures.small v.decides in
+    let e = ended_at (anchored c.args.flat.now c.args.packet.now c.args.direction) (ruled c.args.flat.now c.args.packet.now c.args.direction) c.args.flat.now.filter c.in-Some.anchor.now.last (c.loop-place.next + 1) c.loop-place.decided c.loop-place.visits v (sym stop ∙ sym c.ends_at.ensures.value ∙ c.if-ends_at.true) in
+    ended_visits c.args.flat.now c.args.packet.now c.args.direction c.loop-place.decided c.loop-place.visits e
+
+pub returns-then-ends_at-clause-within : goal.returns-then-ends_at-clause-within
+returns-then-ends_at-clause-within c =
+    let is : begun (slice_get c.anchors-anchors.result.now c.loop-place.next) c.loop-place.place ≡ Some c.in-Some.anchor.now = sym c.begun.ensures ∙ ap option_copied c.in-Some.is in
+    let found = begun_some _ _ _ is in
+    let at : slice_get c.args.flat.now.filter.anchors c.loop-place.next ≡ Some c.in-Some.anchor.now = rw (← c.anchors-anchors.ensures.value) found.0 in
+    let placed : ArePlaced c.args.flat.now.filter.rules c.args.flat.now.filter.anchors = subst (λ anchors. ArePlaced c.args.flat.now.filter.rules anchors) c.anchors-anchors.ensures.value c.anchors-anchors.ensures.placed in
+    let within = placed_at c.args.flat.now.filter.rules c.args.flat.now.filter.anchors c.loop-place.next c.in-Some.anchor.now placed at in
+    let v = jump (anchored c.args.flat.now c.args.packet.now c.args.direction) (ruled c.args.flat.now c.args.packet.now c.args.direction) c.args.flat.now.filter c.loop-place.place c.loop-place.next c.loop-place.decided c.loop-place.visits c.in-Some.anchor.now c.loop-place.invariant (nested_of c.args.flat.now.filter.rules c.args.flat.now.filter.anchors placed) at found.1 c.if-anchor-place.false (sym c.anchor_is.ensures ∙ c.if-anchor_is.false) within.1 in
+    let stop = stop_is (hits (anchored c.args.flat.now c.args.packet.now c.args.direction) (ruled c.args.flat.now c.args.packet.now c.args.direction) c.args.flat.now.filter) c.args.flat.now.filter c.openings-openings.result.now c.in-Some.anchor.now.last c.loop-place.decided c.openings-openings.ensures within.1 c.ends_at.ensures.small v.decides in
+    let e = ended_at (anchored c.args.flat.now c.args.packet.now c.args.direction) (ruled c.args.flat.now c.args.packet.now c.args.direction) c.args.flat.now.filter c.in-Some.anchor.now.last (c.loop-place.next + 1) c.loop-place.decided c.loop-place.visits v (sym stop ∙ sym c.ends_at.ensures.value ∙ c.if-ends_at.true) in
+    e.within
+
+pub loop-place-preserved-in-Some : goal.loop-place-preserved-in-Some
+loop-place-preserved-in-Some c =
+    let is : begun (slice_get c.anchors-anchors.result.now c.loop-place.next) c.loop-place.place ≡ Some c.in-Some.anchor.now = sym c.begun.ensures ∙ ap option_copied c.in-Some.is in
+    let found = begun_some _ _ _ is in
+    let at : slice_get c.args.flat.now.filter.anchors c.loop-place.next ≡ Some c.in-Some.anchor.now = rw (← c.anchors-anchors.ensures.value) found.0 in
+    let placed : ArePlaced c.args.flat.now.filter.rules c.args.flat.now.filter.anchors = subst (λ anchors. ArePlaced c.args.flat.now.filter.rules anchors) c.anchors-anchors.ensures.value c.anchors-anchors.ensures.placed in
+    let within = placed_at c.args.flat.now.filter.rules c.args.flat.now.filter.anchors c.loop-place.next c.in-Some.anchor.now placed at in
+    let v = jump (anchored c.args.flat.now c.args.packet.now c.args.direction) (ruled c.args.flat.now c.args.packet.now c.args.direction) c.args.flat.now.filter c.loop-place.place c.loop-place.next c.loop-place.decided c.loop-place.visits c.in-Some.anchor.now c.loop-place.invariant (nested_of c.args.flat.now.filter.rules c.args.flat.now.filter.anchors placed) at found.1 c.if-anchor-place.false (sym c.anchor_is.ensures ∙ c.if-anchor_is.false) within.1 in
+    let stop = stop_is (hits (anchored c.args.flat.now c.args.packet.now c.args.direction) (ruled c.args.flat.now c.args.packet.now c.args.direction) c.args.flat.now.filter) c.args.flat.now.filter c.openings-openings.result.now c.in-Some.anchor.now.last c.loop-place.decided c.openings-openings.ensures within.1 c.ends_at.ensures.small v.decides in
+    rw c.behind-place.ensures (so_next (anchored c.args.flat.now c.args.packet.now c.args.direction) (ruled c.args.flat.now c.args.packet.now c.args.direction) c.args.flat.now.filter c.in-Some.anchor.now.last (c.loop-place.next + 1) c.loop-place.decided c.loop-place.visits v (sym stop ∙ sym c.ends_at.ensures.value ∙ c.if-ends_at.false))
+
+pub returns-then-ends_at-2-clause-decided : goal.returns-then-ends_at-2-clause-decided
+returns-then-ends_at-2-clause-decided c =
+    let is : begun (slice_get c.anchors-anchors.result.now c.loop-place.next) c.loop-place.place ≡ None = sym c.begun.ensures ∙ ap option_copied c.in_default.is in
+    let ahead = begun_none (slice_get c.anchors-anchors.result.now c.loop-place.next) c.loop-place.place is in
+    let placed : ArePlaced c.args.flat.now.filter.rules c.args.flat.now.filter.anchors = subst (λ anchors. ArePlaced c.args.flat.now.filter.rules anchors) c.anchors-anchors.ensures.value c.anchors-anchors.ensures.placed in
+    let next : slice_get c.args.flat.now.filter.anchors c.loop-place.next ≡ slice_get c.anchors-anchors.result.now c.loop-place.next = rw c.anchors-anchors.ensures.value refl in
+    let rule = slice_get-get_or c.rules-rules.result.now c.loop-place.place _ c.loop-place-test.true in
+    let v = visited_rule (anchored c.args.flat.now c.args.packet.now c.args.direction) (ruled c.args.flat.now c.args.packet.now c.args.direction) c.args.flat.now.filter c.loop-place.place c.loop-place.next c.loop-place.decided c.with_hit-decided.result c.loop-place.visits c.push.new.self _ _ c.rule_is-is_hit.result c.loop-place.invariant placed next ahead (rw (← c.rules-rules.ensures) rule) c.rule_is-is_hit.ensures c.with_hit-decided.ensures c.in_ok-push.ensures.pushed in
+    let stop = stop_is (hits (anchored c.args.flat.now c.args.packet.now c.args.direction) (ruled c.args.flat.now c.args.packet.now c.args.direction) c.args.flat.now.filter) c.args.flat.now.filter c.openings-openings.result.now c.loop-place.place c.with_hit-decided.result c.openings-openings.ensures v.within c.ends_at-in-loop-place.ensures.small v.decides in
+    let e = ended_at (anchored c.args.flat.now c.args.packet.now c.args.direction) (ruled c.args.flat.now c.args.packet.now c.args.direction) c.args.flat.now.filter c.loop-place.place c.loop-place.next c.with_hit-decided.result c.push.new.self v (sym stop ∙ sym c.ends_at-in-loop-place.ensures.value ∙ c.if-ends_at-2.true) in
+    ended_decides c.args.flat.now c.args.packet.now c.args.direction c.with_hit-decided.result c.push.new.self e
+
+pub returns-then-ends_at-2-clause-visits : goal.returns-then-ends_at-2-clause-visits
+returns-then-ends_at-2-clause-visits c =
+    let is : begun (slice_get c.anchors-anchors.result.now c.loop-place.next) c.loop-place.place ≡ None = sym c.begun.ensures ∙ ap option_copied c.in_default.is in
+    let ahead = begun_none (slice_get c.anchors-anchors.result.now c.loop-place.next) c.loop-place.place is in
+    let placed : ArePlaced c.args.flat.now.filter.rules c.args.flat.now.filter.anchors = subst (λ anchors. ArePlaced c.args.flat.now.filter.rules anchors) c.anchors-anchors.ensures.value c.anchors-anchors.ensures.placed in
+    let next : slice_get c.args.flat.now.filter.anchors c.loop-place.next ≡ slice_get c.anchors-anchors.result.now c.loop-place.next = rw c.anchors-anchors.ensures.value refl in
+    let rule = slice_get-get_or c.rules-rules.result.now c.loop-place.place _ c.loop-place-test.true in
+    let v = visited_rule (anchored c.args.flat.now c.args.packet.now c.args.direction) (ruled c.args.flat.now c.args.packet.now c.args.direction) c.args.flat.now.filter c.loop-place.place c.loop-place.next c.loop-place.decided c.with_hit-decided.result c.loop-place.visits c.push.new.self _ _ c.rule_is-is_hit.result c.loop-place.invariant placed next ahead (rw (← c.rules-rules.ensures) rule) c.rule_is-is_hit.ensures c.with_hit-decided.ensures c.in_ok-push.ensures.pushed in
+    let stop = stop_is (hits (anchored c.args.flat.now c.args.packet.now c.args.direction) (ruled c.args.flat.now c.args.packet.now c.args.direction) c.args.flat.now.filter) c.args.flat.now.filter c.openings-openings.result.now c.loop-place.place c.with_hit-decided.result c.openings-openings.ensures v.within c.ends_at-in-loop-place.ensures.small v.decides in
+    let e = ended_at (anchored c.args.flat.now c.args.packet.now c.args.direction) (ruled c.args.flat.now c.args.packet.now c.args.direction) c.args.flat.now.filter c.loop-place.place c.loop-place.next c.with_hit-decided.result c.push.new.self v (sym stop ∙ sym c.ends_at-in-loop-place.ensures.value ∙ c.if-ends_at-2.true) in
+    ended_visits c.args.flat.now c.args.packet.now c.args.direction c.with_hit-decided.result c.push.new.self e
+
+pub returns-then-ends_at-2-clause-within : goal.returns-then-ends_at-2-clause-within
+returns-then-ends_at-2-clause-within c =
+    let is : begun (slice_get c.anchors-anchors.result.now c.loop-place.next) c.loop-place.place ≡ None = sym c.begun.ensures ∙ ap option_copied c.in_default.is in
+    let ahead = begun_none (slice_get c.anchors-anchors.result.now c.loop-place.next) c.loop-place.place is in
+    let placed : ArePlaced c.args.flat.now.filter.rules c.args.flat.now.filter.anchors = subst (λ anchors. ArePlaced c.args.flat.now.filter.rules anchors) c.anchors-anchors.ensures.value c.anchors-anchors.ensures.placed in
+    let next : slice_get c.args.flat.now.filter.anchors c.loop-place.next ≡ slice_get c.anchors-anchors.result.now c.loop-place.next = rw c.anchors-anchors.ensures.value refl in
+    let rule = slice_get-get_or c.rules-rules.result.now c.loop-place.place _ c.loop-place-test.true in
+    let v = visited_rule (anchored c.args.flat.now c.args.packet.now c.args.direction) (ruled c.args.flat.now c.args.packet.now c.args.direction) c.args.flat.now.filter c.loop-place.place c.loop-place.next c.loop-place.decided c.with_hit-decided.result c.loop-place.visits c.push.new.self _ _ c.rule_is-is_hit.result c.loop-place.invariant placed next ahead (rw (← c.rules-rules.ensures) rule) c.rule_is-is_hit.ensures c.with_hit-decided.ensures c.in_ok-push.ensures.pushed in
+    let stop = stop_is (hits (anchored c.args.flat.now c.args.packet.now c.args.direction) (ruled c.args.flat.now c.args.packet.now c.args.direction) c.args.flat.now.filter) c.args.flat.now.filter c.openings-openings.result.now c.loop-place.place c.with_hit-decided.result c.openings-openings.ensures v.within c.ends_at-in-loop-place.ensures.small v.decides in
+    let e = ended_at (anchored c.args.flat.now c.args.packet.now c.args.direction) (ruled c.args.flat.now c.args.packet.now c.args.direction) c.args.flat.now.filter c.loop-place.place c.loop-place.next c.with_hit-decided.result c.push.new.self v (sym stop ∙ sym c.ends_at-in-loop-place.ensures.value ∙ c.if-ends_at-2.true) in
+    e.within
+
+pub loop-place-preserved : goal.loop-place-preserved
+loop-place-preserved c =
+    let is : begun (slice_get c.anchors-anchors.result.now c.loop-place.next) c.loop-place.place ≡ None = sym c.begun.ensures ∙ ap option_copied c.in_default.is in
+    let ahead = begun_none (slice_get c.anchors-anchors.result.now c.loop-place.next) c.loop-place.place is in
+    let placed : ArePlaced c.args.flat.now.filter.rules c.args.flat.now.filter.anchors = subst (λ anchors. ArePlaced c.args.flat.now.filter.rules anchors) c.anchors-anchors.ensures.value c.anchors-anchors.ensures.placed in
+    let next : slice_get c.args.flat.now.filter.anchors c.loop-place.next ≡ slice_get c.anchors-anchors.result.now c.loop-place.next = rw c.anchors-anchors.ensures.value refl in
+    let rule = slice_get-get_or c.rules-rules.result.now c.loop-place.place _ c.loop-place-test.true in
+    let v = visited_rule (anchored c.args.flat.now c.args.packet.now c.args.direction) (ruled c.args.flat.now c.args.packet.now c.args.direction) c.args.flat.now.filter c.loop-place.place c.loop-place.next c.loop-place.decided c.with_hit-decided.result c.loop-place.visits c.push.new.self _ _ c.rule_is-is_hit.result c.loop-place.invariant placed next ahead (rw (← c.rules-rules.ensures) rule) c.rule_is-is_hit.ensures c.with_hit-decided.ensures c.in_ok-push.ensures.pushed in
+    let stop = stop_is (hits (anchored c.args.flat.now c.args.packet.now c.args.direction) (ruled c.args.flat.now c.args.packet.now c.args.direction) c.args.flat.now.filter) c.args.flat.now.filter c.openings-openings.result.now c.loop-place.place c.with_hit-decided.result c.openings-openings.ensures v.within c.ends_at-in-loop-place.ensures.small v.decides in
+    rw c.behind-place-in-loop-place.ensures (so_next (anchored c.args.flat.now c.args.packet.now c.args.direction) (ruled c.args.flat.now c.args.packet.now c.args.direction) c.args.flat.now.filter c.loop-place.place c.loop-place.next c.with_hit-decided.result c.push.new.self v (sym stop ∙ sym c.ends_at-in-loop-place.ensures.value ∙ c.if-ends_at-2.false))
+
+pub returns-clause-decided : goal.returns-clause-decided
+returns-clause-decided c =
+    let all : length c.args.flat.now.filter.rules ≤ c.loop-place.place = rw (← c.rules-rules.ensures) c.loop-place-test.false in
+    let e = ended_all (anchored c.args.flat.now c.args.packet.now c.args.direction) (ruled c.args.flat.now c.args.packet.now c.args.direction) c.args.flat.now.filter c.loop-place.place c.loop-place.next c.loop-place.decided c.loop-place.visits c.loop-place.invariant all in
+    ended_decides c.args.flat.now c.args.packet.now c.args.direction c.loop-place.decided c.loop-place.visits e
+
+pub returns-clause-visits : goal.returns-clause-visits
+returns-clause-visits c =
+    let all : length c.args.flat.now.filter.rules ≤ c.loop-place.place = rw (← c.rules-rules.ensures) c.loop-place-test.false in
+    let e = ended_all (anchored c.args.flat.now c.args.packet.now c.args.direction) (ruled c.args.flat.now c.args.packet.now c.args.direction) c.args.flat.now.filter c.loop-place.place c.loop-place.next c.loop-place.decided c.loop-place.visits c.loop-place.invariant all in
+    ended_visits c.args.flat.now c.args.packet.now c.args.direction c.loop-place.decided c.loop-place.visits e
+
+pub returns-clause-within : goal.returns-clause-within
+returns-clause-within c =
+    let all : length c.args.flat.now.filter.rules ≤ c.loop-place.place = rw (← c.rules-rules.ensures) c.loop-place-test.false in
+    let e = ended_all (anchored c.args.flat.now c.args.packet.now c.args.direction) (ruled c.args.flat.now c.args.packet.now c.args.direction) c.args.flat.now.filter c.loop-place.place c.loop-place.next c.loop-place.decided c.loop-place.visits c.loop-place.invariant all in
+    e.within

@@ -1,0 +1,10 @@
+use Rattle.std.proofs.Common.{◌+◌, ◌-◌, length}
+use Rattle.pfr_walk.specs.Filter.{anchored, ruled}
+use Rattle.pfr_walk.proofs.Walking.{So}
+use Rattle.pfr_walk.proofs.walk.walk.Given as goal
+
+abbrev pub invariant-loop-place : goal.invariant-loop-place
+invariant-loop-place l = So (anchored l.flat l.packet l.direction) (ruled l.flat l.packet l.direction) l.flat.filter l.place l.next l.decided l.visits
+
+abbrev pub decreases-loop-place : goal.decreases-loop-place
+decreases-loop-place l = (length l.rules - l.place) + (length l.anchors - l.next)

@@ -1,0 +1,125 @@
+-- Which rule decides, and which rules are visited on the way (pf.conf(5), "Packet filtering", "Anchors").
+--
+-- All is said by the places of rules in a flat list. A rule hits if all that it writes holds of the packet, and all that the
+-- anchors round it write. A stop is the place of a quick rule that hits, or the place of the last rule of a quick anchor in
+-- which a rule hits. Reached are the rules up to the first stop, all of them where there is none.
+use Rattle.std.specs.Prelude.{ℕ, zero, suc, ◌+◌, ◌==◌, ◌&&◌, ◌||◌, Bool, true, false, not, nat_le, if◌then◌else◌, List, [], ◌∷◌, length, Option, Some, None}
+use Rattle.std.specs.List.{slice_get, list_any, list_all, filter}
+use Rattle.pfr_headers.specs.declared.packet.Packet.{Packet}
+use Rattle.pfr_headers.specs.declared.packet.Direction.{Direction}
+use Rattle.pfr_flat.specs.declared.flat.FilterAction.{FilterAction}
+use Rattle.pfr_flat.specs.declared.flat.FilterAction.TheVariants as action
+use Rattle.pfr_flat.specs.declared.flat.FlatRule.{FlatRule}
+use Rattle.pfr_flat.specs.declared.flat.FlatAnchor.{FlatAnchor}
+use Rattle.pfr_flat.specs.declared.filter_rules.RuleLists.{RuleLists}
+use Rattle.pfr_expand.specs.declared.ruleset.Ruleset.{Ruleset}
+use Rattle.pfr_criteria.specs.Packets.{rule_holds, anchor_holds}
+use Rattle.pfr_walk.specs.declared.decision.Decision.{Decision}
+use Rattle.pfr_walk.specs.declared.decision.RuleNumber.{RuleNumber}
+use Rattle.pfr_walk.specs.Numbers.{numbers_below}
+
+-- ---- places
+
+-- the last place below a bound at which a test holds
+abbrev pub last_below : (ℕ → Bool) → ℕ → Option ℕ
+last_below p zero = None
+last_below p (suc n) = if p n then Some n else last_below p n
+
+abbrev pub or_place : Option ℕ → Option ℕ → Option ℕ
+or_place (Some place) later = Some place
+or_place None later = later
+
+-- the first one
+abbrev pub first_below : (ℕ → Bool) → ℕ → Option ℕ
+first_below p zero = None
+first_below p (suc n) = or_place (first_below p n) (if p n then Some n else None)
+
+abbrev pub some_below : (ℕ → Bool) → ℕ → Bool
+some_below p zero = false
+some_below p (suc n) = some_below p n || p n
+
+-- ---- hits
+
+-- whether an anchor stands round the rule at a place
+abbrev pub is_round : FlatAnchor → ℕ → Bool
+is_round anchor place = nat_le anchor.first place && nat_le place anchor.last
+
+-- all anchors round a place hold
+abbrev pub is_inside : (FlatAnchor → Bool) → List FlatAnchor → ℕ → Bool
+is_inside anchored anchors place = list_all (λ a. not (is_round a place) || anchored a) anchors
+
+abbrev pub passes : (FlatRule → Bool) → Option FlatRule → Bool
+passes test None = false
+passes test (Some rule) = test rule
+
+-- the rule at a place holds, and all anchors round it
+abbrev pub hits : (FlatAnchor → Bool) → (FlatRule → Bool) → RuleLists → ℕ → Bool
+hits anchored ruled lists place = is_inside anchored lists.anchors place && passes ruled (slice_get lists.rules place)
+
+-- ---- stops
+
+abbrev pub is_quick : FlatRule → Bool
+is_quick rule = rule.is_quick
+
+-- whether a test holds at one of an anchor's places
+abbrev pub some_in : (ℕ → Bool) → FlatAnchor → Bool
+some_in p anchor = some_below (λ place. nat_le anchor.first place && p place) (anchor.last + 1)
+
+-- a quick anchor ends at this place, and a rule in it hits
+abbrev pub ends : (ℕ → Bool) → ℕ → FlatAnchor → Bool
+ends hit place anchor = anchor.is_quick && (anchor.last == place && some_in hit anchor)
+
+abbrev pub is_stop : (ℕ → Bool) → RuleLists → ℕ → Bool
+is_stop hit lists place = (passes is_quick (slice_get lists.rules place) && hit place) || list_any (ends hit place) lists.anchors
+
+-- an anchor that begins at a place or before it
+abbrev pub begun : Option FlatAnchor → ℕ → Option FlatAnchor
+begun None place = None
+begun (Some anchor) place = if nat_le anchor.first place then Some anchor else None
+
+-- whether a walk ends at a place, by its opening and the last hit
+abbrev pub stops_by : ℕ → Option ℕ → Bool
+stops_by opening None = false
+stops_by opening (Some place) = nat_le opening place
+
+-- how many rules are reached
+abbrev pub up_to : Option ℕ → ℕ → ℕ
+up_to None all = all
+up_to (Some stop) all = stop + 1
+
+abbrev pub reach_by : (ℕ → Bool) → RuleLists → ℕ
+reach_by hit lists = up_to (first_below (is_stop hit lists) (length lists.rules)) (length lists.rules)
+
+-- ---- a packet
+
+abbrev pub anchored : Ruleset → Packet → Direction → FlatAnchor → Bool
+anchored flat packet direction anchor = anchor_holds anchor flat.interface.name flat.tables packet direction
+
+abbrev pub ruled : Ruleset → Packet → Direction → FlatRule → Bool
+ruled flat packet direction rule = rule_holds rule flat.interface.name flat.tables packet direction
+
+abbrev pub hit : Ruleset → Packet → Direction → ℕ → Bool
+hit flat packet direction = hits (anchored flat packet direction) (ruled flat packet direction) flat.filter
+
+unfoldable pub reach : Ruleset → Packet → Direction → ℕ
+reach flat packet direction = reach_by (hit flat packet direction) flat.filter
+
+-- the place of the rule that decides: the last that hits of those that are reached
+unfoldable pub deciding : Ruleset → Packet → Direction → Option ℕ
+deciding flat packet direction = last_below (hit flat packet direction) (reach flat packet direction)
+
+-- what it decides; a packet that no rule hits passes
+abbrev pub action_of : Option FlatRule → FilterAction
+action_of None = action.Pass
+action_of (Some rule) = rule.action
+
+abbrev pub decision_by : List FlatRule → Option ℕ → Decision
+decision_by rules None = record { rule = None; action = action.Pass }
+decision_by rules (Some place) = record { rule = Some (record { 0 = place }); action = action_of (slice_get rules place) }
+
+abbrev pub decision_of : Ruleset → Packet → Direction → Decision
+decision_of flat packet direction = decision_by flat.filter.rules (deciding flat packet direction)
+
+-- the numbers of the rules that are visited: of those that are reached all whose anchors hold
+unfoldable pub visited : Ruleset → Packet → Direction → List ℕ
+visited flat packet direction = filter (is_inside (anchored flat packet direction) flat.filter.anchors) (numbers_below (reach flat packet direction))

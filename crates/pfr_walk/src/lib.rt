@@ -1,0 +1,14 @@
+//! Which rule of a ruleset decides on a packet.
+//!
+//! [`filter`] answers what pf.conf(5) says under "Packet filtering" and "Anchors": the last rule that hits decides, unless a
+//! `quick` rule or anchor ends the walk before. Its contract says so by the places of rules in a flat list, and says which
+//! rules were visited on the way.
+#![tactic(auto)]
+
+pub mod decision;
+pub mod visits;
+mod walk;
+
+pub use decision::{Decision, RuleNumber};
+pub use visits::Visits;
+pub use walk::filter;

@@ -1,0 +1,70 @@
+//! The rules that a walk visits.
+ghost use Rattle.std.specs.Prelude.{◌≡◌, ◌≤◌, [], ◌∷◌, ◌++◌, OnOk, OnErr};
+ghost use Rattle.pfr_walk.specs.Numbers.{follows};
+
+use std::alloc::{AllocError, Global};
+use std::marker::Model;
+
+/// Numbers that follow one another.
+#[derive(Clone, Copy, Debug)]
+struct Run {
+    first: usize,
+    count: usize,
+}
+
+/// The numbers of the rules that a walk visits, in rising order. Contracts see the list. Where no rule is passed over the
+/// numbers are one run, and take no memory.
+#[derive(Drop)]
+pub struct Visits {
+    before: Vec<Run>,
+    last: Run,
+}
+
+impl Model for Visits {
+    ghost use Rattle.std.specs.Prelude.{List, ℕ, ◌++◌};
+    ghost use Rattle.std.specs.List.{flat_map};
+    ghost use Rattle.pfr_walk.specs.Numbers.{numbers_from};
+
+    ghost Value = { List ℕ };
+
+    ghost view = { λ v. flat_map (λ run. numbers_from run.first run.count) v.before.items ++ numbers_from v.last.first v.last.count };
+}
+
+impl Run {
+    /// Whether a number follows the last one, and may still be counted.
+    fn is_followed_by(&self, number: usize) -> bool
+        ensures { result ≡ follows self.now.first self.now.count number }
+    {
+        self.count < usize::MAX && self.first <= number && number - self.first == self.count
+    }
+}
+
+impl Visits {
+    pub fn new(alloc: Global) -> Visits
+        ensures { result ≡ [] }
+    {
+        Visits {
+            before: Vec::new(alloc),
+            last: Run { first: 0, count: 0 },
+        }
+    }
+
+    /// Puts a number behind the others. Where memory is refused they are as before.
+    pub fn push(&mut self, number: usize) -> Result<(), AllocError>
+        ensures pushed { OnOk result (self.new ≡ self.old ++ number ∷ []) }
+        ensures kept { OnErr result (self.new ≡ self.old) }
+    {
+        if self.last.is_followed_by(number) {
+            self.last.count += 1;
+            return Ok(());
+        }
+        if self.last.count > 0 {
+            self.before.push(self.last)?;
+        }
+        self.last = Run {
+            first: number,
+            count: 1,
+        };
+        Ok(())
+    }
+}
