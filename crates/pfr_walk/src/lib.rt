@@ -6,6 +6,8 @@
 #![tactic(auto)]
 
 pub mod decision;
+#[cfg(test)]
+mod tests;
 pub mod visits;
 mod walk;
 

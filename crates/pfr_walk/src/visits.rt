@@ -1,7 +1,8 @@
 //! The rules that a walk visits.
-ghost use Rattle.std.specs.Prelude.{◌≡◌, ◌≤◌, [], ◌∷◌, ◌++◌, OnOk, OnErr};
-ghost use Rattle.pfr_walk.specs.Numbers.{follows};
+ghost use Rattle.std.specs.Prelude.{◌≡◌, ◌<◌, ◌≤◌, ◌+◌, [], ◌∷◌, ◌++◌, OnOk, OnErr, IfOk};
+ghost use Rattle.pfr_walk.specs.Numbers.{follows, numbers_from};
 
+use pfr_words::Items;
 use std::alloc::{AllocError, Global};
 use std::marker::Model;
 
@@ -10,6 +11,7 @@ use std::marker::Model;
 struct Run {
     first: usize,
     count: usize,
+    ghost fits: { first + count ≤ 18446744073709551616 },
 }
 
 /// The numbers of the rules that a walk visits, in rising order. Contracts see the list. Where no rule is passed over the
@@ -31,6 +33,29 @@ impl Model for Visits {
 }
 
 impl Run {
+    /// The same with one number more.
+    fn longer(self) -> Run
+        requires few { self.count < 18446744073709551615 }
+        requires fits { self.first + self.count < 18446744073709551616 }
+        ensures first { result.first ≡ self.first }
+        ensures count { result.count ≡ self.count + 1 }
+    {
+        Run {
+            first: self.first,
+            count: self.count + 1,
+        }
+    }
+
+    /// Puts the numbers behind others.
+    fn put(self, numbers: &mut Items<usize>) -> Result<(), AllocError>
+        ensures { OnOk result (numbers.new ≡ numbers.old ++ numbers_from self.first self.count) }
+    {
+        for index in 0..self.count {
+            numbers.push(self.first + index)?;
+        }
+        Ok(())
+    }
+
     /// Whether a number follows the last one, and may still be counted.
     fn is_followed_by(&self, number: usize) -> bool
         ensures { result ≡ follows self.now.first self.now.count number }
@@ -55,7 +80,7 @@ impl Visits {
         ensures kept { OnErr result (self.new ≡ self.old) }
     {
         if self.last.is_followed_by(number) {
-            self.last.count += 1;
+            self.last = self.last.longer();
             return Ok(());
         }
         if self.last.count > 0 {
@@ -66,5 +91,18 @@ impl Visits {
             count: 1,
         };
         Ok(())
+    }
+
+    /// A copy of the numbers.
+    pub fn numbers(&self, alloc: Global) -> Result<Items<usize>, AllocError>
+        ensures { IfOk result (λ numbers. numbers ≡ self.now) }
+    {
+        let mut numbers = Items::new(alloc);
+        let before = self.before.as_slice();
+        for run in before {
+            run.put(&mut numbers)?;
+        }
+        self.last.put(&mut numbers)?;
+        Ok(numbers)
     }
 }
