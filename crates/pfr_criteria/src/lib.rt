@@ -7,6 +7,8 @@
 
 pub mod hosts;
 pub mod packets;
+#[cfg(test)]
+mod tests;
 pub mod transports;
 
 pub use hosts::host_holds;
