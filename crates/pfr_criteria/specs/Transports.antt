@@ -39,12 +39,12 @@ port_holds (port.Range operator low high) number = ranges operator low high numb
 abbrev pub source_port : Transport → Option ℕ
 source_port (t.Tcp header) = Some header.source.0
 source_port (t.Udp header) = Some header.source.0
-source_port other = None
+source_port rest = None
 
 abbrev pub destination_port : Transport → Option ℕ
 destination_port (t.Tcp header) = Some header.destination.0
 destination_port (t.Udp header) = Some header.destination.0
-destination_port other = None
+destination_port rest = None
 
 -- a port that is asked for holds of no packet without one
 abbrev pub port_asked : Option PortMatch → Option ℕ → Bool
@@ -63,9 +63,9 @@ unfoldable pub flags_hold : FlagsCriterion → Transport → Bool
 flags_hold asked.Any transport = true
 flags_hold (asked.Written set mask) (t.Tcp header) = are header.flags set.0 mask.0
 flags_hold (asked.Written set mask) t.Fragment = false
-flags_hold (asked.Written set mask) other = true
+flags_hold (asked.Written set mask) rest = true
 flags_hold asked.Default (t.Tcp header) = are header.flags 2 18
-flags_hold asked.Default other = true
+flags_hold asked.Default rest = true
 
 -- ---- ICMP types
 
@@ -75,7 +75,7 @@ code_holds (Some written) code = written == code
 
 abbrev pub icmp_is : IcmpMatch → Transport → Bool
 icmp_is criterion (t.Icmp header) = criterion.kind == header.kind.0 && code_holds criterion.code header.code
-icmp_is criterion other = false
+icmp_is criterion rest = false
 
 unfoldable pub icmp_holds : Option IcmpMatch → Transport → Bool
 icmp_holds None transport = true
