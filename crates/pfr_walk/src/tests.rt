@@ -78,6 +78,8 @@ fn anchors_end_a_walk_or_are_passed_over(rt: HostRuntime) -> Result<(), Fail> {
     // one that doesn't hold is passed over
     let other = "anchor proto tcp {\npass quick\n}\nblock all\n";
     assert!(rt; decides(alloc, other, Some(1), block, &[1])?);
+    let between = "pass in\nanchor proto tcp {\npass\n}\nblock in\n";
+    assert!(rt; decides(alloc, between, Some(2), block, &[0, 2])?);
     // anchors in anchors
     let inner = "anchor {\nanchor quick {\npass in\n}\nblock in\n}\nblock in\n";
     assert!(rt; decides(alloc, inner, Some(0), pass, &[0])?);
