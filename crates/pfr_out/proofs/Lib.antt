@@ -1,3 +1,2 @@
-pub mod PartLemmas
 pub mod PlainLemmas
 pub mod WritingLemmas

@@ -11,19 +11,18 @@ use Rattle.pfr_capture.specs.Records.{RecordBytes, clock_after, seconds_of, text
 use Rattle.pfr_capture.specs.Reading.{Reading, Gave, HasGiven, OpenFails, ReadsOn, EndsCapture, NextFails, Refuses, RefusesHeader, StopsEarly}
 use Rattle.pfr_capture.proofs.CaptureLemmas.{IsFront, given_first}
 use Rattle.pfr_headers.specs.declared.network.Net.{Net}
-use Rattle.pfr_rules.specs.declared.rule.Rule.{Rule}
+use Rattle.pfr_expand.specs.declared.ruleset.Ruleset.{Ruleset}
 use Rattle.pfr_out.specs.declared.plain.RecordError.{RecordError}
 use Rattle.pfr_out.specs.declared.plain.RecordError.TheVariants as failed
 use Rattle.pfr_out.specs.declared.report.Report.{Report}
 use Rattle.pfr_out.specs.declared.report.Stop.{Stop}
 use Rattle.pfr_out.specs.declared.report.Stop.TheVariants as stop
-use Rattle.pfr_out.specs.RulesetText.{rules_of}
-use Rattle.pfr_out.specs.Plain.{Begun, Grew, Holds, OfEvery, Outputs, Replayed, StopOf, Stopped, line_of, lines_from, lines_of, outputs, packet_of, packets_of, stop_for}
+use Rattle.pfr_out.specs.Plain.{Begun, Grew, Holds, OfEvery, Outputs, Replayed, StopOf, Stopped, line_of, lines_from, lines_of, outputs, packet_of, packets_of, rules_of, stop_for}
 use Rattle.pfr_out.specs.Writing.{RecordFails, WroteRecord, stop_in_record}
 use Rattle.pfr_out.proofs.WritingLemmas.{begins_behind, begins_longer, nothing_begins, part_begins, whole_begins}
 
 -- the lines of records and of those behind them
-pub lines_from-append : (rules : List Rule) (inside : List Net) (form : Form) (number clock : ℕ) (xs ys : List RecordBytes) → lines_from rules inside form number clock (xs ++ ys) ≡ lines_from rules inside form number clock xs ++ lines_from rules inside form (number + length xs) (clock_after form.order clock xs) ys
+pub lines_from-append : (rules : Ruleset) (inside : List Net) (form : Form) (number clock : ℕ) (xs ys : List RecordBytes) → lines_from rules inside form number clock (xs ++ ys) ≡ lines_from rules inside form number clock xs ++ lines_from rules inside form (number + length xs) (clock_after form.order clock xs) ys
 lines_from-append rules inside form number clock [] ys = rw (add-zero number) refl
 lines_from-append rules inside form number clock (x ∷ xs) ys =
     let now = max clock (seconds_of form.order x.header) in
@@ -36,7 +35,7 @@ front_and_rest : (given records : List RecordBytes) → IsFront given records �
 front_and_rest given records f = sym (ap (λ (t : List RecordBytes). t ++ drop (length given) records) f.front ∙ take-append-drop (length given) records)
 
 -- the lines of a list are a beginning of those of a longer one
-pub lines_of-front : (rules : List Rule) (inside : List Net) (form : Form) (given records : List RecordBytes) → IsFront given records → (more : List ℕ) × (lines_of rules inside form records ≡ lines_of rules inside form given ++ more)
+pub lines_of-front : (rules : Ruleset) (inside : List Net) (form : Form) (given records : List RecordBytes) → IsFront given records → (more : List ℕ) × (lines_of rules inside form records ≡ lines_of rules inside form given ++ more)
 unfolding lines_of
 lines_of-front rules inside form given records f = (
   lines_from rules inside form (1 + length given) (clock_after form.order 0 given) (drop (length given) records),
@@ -44,16 +43,16 @@ lines_of-front rules inside form given records f = (
 )
 
 -- and so are its packets
-pub packets_of-append : (rules : List Rule) (inside : List Net) (form : Form) (xs ys : List RecordBytes) → packets_of rules inside form (xs ++ ys) ≡ packets_of rules inside form xs ++ packets_of rules inside form ys
+pub packets_of-append : (rules : Ruleset) (inside : List Net) (form : Form) (xs ys : List RecordBytes) → packets_of rules inside form (xs ++ ys) ≡ packets_of rules inside form xs ++ packets_of rules inside form ys
 unfolding packets_of
 packets_of-append rules inside form xs ys = flat_map-append (packet_of rules inside form.link) xs ys
 
-pub packets_of-front : (rules : List Rule) (inside : List Net) (form : Form) (given records : List RecordBytes) → IsFront given records → packets_of rules inside form records ≡ packets_of rules inside form given ++ packets_of rules inside form (drop (length given) records)
+pub packets_of-front : (rules : Ruleset) (inside : List Net) (form : Form) (given records : List RecordBytes) → IsFront given records → packets_of rules inside form records ≡ packets_of rules inside form given ++ packets_of rules inside form (drop (length given) records)
 packets_of-front rules inside form given records f =
     ap (λ (t : List RecordBytes). packets_of rules inside form t) (front_and_rest given records f) ∙ packets_of-append rules inside form given (drop (length given) records)
 
 -- the lines of one record more
-pub lines_of-push : (rules : List Rule) (inside : List Net) (form : Form) (xs : List RecordBytes) (r : RecordBytes) (number clock : ℕ) → number ≡ length xs + 1 → clock ≡ max (clock_after form.order 0 xs) (seconds_of form.order r.header) → lines_of rules inside form (xs ++ r ∷ []) ≡ lines_of rules inside form xs ++ line_of rules inside form.link number clock r.bytes
+pub lines_of-push : (rules : Ruleset) (inside : List Net) (form : Form) (xs : List RecordBytes) (r : RecordBytes) (number clock : ℕ) → number ≡ length xs + 1 → clock ≡ max (clock_after form.order 0 xs) (seconds_of form.order r.header) → lines_of rules inside form (xs ++ r ∷ []) ≡ lines_of rules inside form xs ++ line_of rules inside form.link number clock r.bytes
 unfolding lines_of
 lines_of-push rules inside form xs r number clock n c =
     let count : 1 + length xs ≡ number = omega arith in
@@ -61,17 +60,17 @@ lines_of-push rules inside form xs r number clock n c =
     ∙ ap (λ (t : List ℕ). lines_from rules inside form 1 0 xs ++ t) (append-nil (line_of rules inside form.link (1 + length xs) (max (clock_after form.order 0 xs) (seconds_of form.order r.header)) r.bytes) ∙ (rw (count, c) refl))
 
 -- and its packets
-pub packets_of-push : (rules : List Rule) (inside : List Net) (form : Form) (xs : List RecordBytes) (r : RecordBytes) → packets_of rules inside form (xs ++ r ∷ []) ≡ packets_of rules inside form xs ++ packet_of rules inside form.link r
+pub packets_of-push : (rules : Ruleset) (inside : List Net) (form : Form) (xs : List RecordBytes) (r : RecordBytes) → packets_of rules inside form (xs ++ r ∷ []) ≡ packets_of rules inside form xs ++ packet_of rules inside form.link r
 unfolding packets_of
 packets_of-push rules inside form xs r =
     flat_map-append (packet_of rules inside form.link) xs (r ∷ [])
     ∙ ap (λ (t : List ℕ). flat_map (packet_of rules inside form.link) xs ++ t) (append-nil (packet_of rules inside form.link r))
 
-pub packets_of-nil : (rules : List Rule) (inside : List Net) (form : Form) → packets_of rules inside form [] ≡ []
+pub packets_of-nil : (rules : Ruleset) (inside : List Net) (form : Form) → packets_of rules inside form [] ≡ []
 unfolding packets_of
 packets_of-nil rules inside form = refl
 
-pub lines_of-nil : (rules : List Rule) (inside : List Net) (form : Form) → lines_of rules inside form [] ≡ []
+pub lines_of-nil : (rules : Ruleset) (inside : List Net) (form : Form) → lines_of rules inside form [] ≡ []
 unfolding lines_of
 lines_of-nil rules inside form = refl
 
@@ -109,7 +108,7 @@ of_every capture text left read given P is h p = record {
 }
 
 -- each output grew by a beginning of what the records given say
-begun_by : (rules : List Rule) (inside : List Net) (capture : Reading) (text left read : List ℕ) (old new : Outputs) (given : List RecordBytes) → text ≡ read ++ left → HasGiven capture read given → GrewByBeginning old.verdicts new.verdicts (lines_of rules inside capture.form given) → GrewByBeginning old.packets new.packets (capture.header ++ packets_of rules inside capture.form given) → OfEvery text left (Begun rules inside old new)
+begun_by : (rules : Ruleset) (inside : List Net) (capture : Reading) (text left read : List ℕ) (old new : Outputs) (given : List RecordBytes) → text ≡ read ++ left → HasGiven capture read given → GrewByBeginning old.verdicts new.verdicts (lines_of rules inside capture.form given) → GrewByBeginning old.packets new.packets (capture.header ++ packets_of rules inside capture.form given) → OfEvery text left (Begun rules inside old new)
 begun_by rules inside capture text left read old new given is h lines packets =
     of_every capture text left read given (Begun rules inside old new) is h (λ records first.
     let more = lines_of-front rules inside capture.form given records first in
@@ -122,20 +121,20 @@ begun_by rules inside capture text left read old new given is h lines packets =
     })
 
 -- a run that has come so far: the reader has given records, and the outputs grew by what those written say
-pub record SoFar (rules : List Rule) (inside : List Net) (capture : Reading) (text left : List ℕ) (old new : Outputs) (records written : List RecordBytes) : Type 0 where
+pub record SoFar (rules : Ruleset) (inside : List Net) (capture : Reading) (text left : List ℕ) (old new : Outputs) (records written : List RecordBytes) : Type 0 where
   pub read : List ℕ
   pub text_is : text ≡ read ++ left
   pub given : HasGiven capture read records
   pub grew : Grew rules inside capture.header capture.form old new written
 
 -- a run at the head of its loop
-pub record AtHead (rules : List Rule) (inside : List Net) (capture : Reading) (text left : List ℕ) (old new : Outputs) (clock : ℕ) : Type 0 where
+pub record AtHead (rules : Ruleset) (inside : List Net) (capture : Reading) (text left : List ℕ) (old new : Outputs) (clock : ℕ) : Type 0 where
   pub records : List RecordBytes
   pub so_far : SoFar rules inside capture text left old new records records
   pub clock_is : clock ≡ clock_after capture.form.order 0 records
 
 -- the reader read on
-pub after_next : (rules : List Rule) (inside : List Net) (capture capture' : Reading) (text left left' : List ℕ) (old new : Outputs) (records written given : List RecordBytes) → SoFar rules inside capture text left old new records written → ReadsOn capture capture' left left' given → (capture'.form ≡ capture.form) × (capture'.header ≡ capture.header) → SoFar rules inside capture' text left' old new (records ++ given) written
+pub after_next : (rules : Ruleset) (inside : List Net) (capture capture' : Reading) (text left left' : List ℕ) (old new : Outputs) (records written given : List RecordBytes) → SoFar rules inside capture text left old new records written → ReadsOn capture capture' left left' given → (capture'.form ≡ capture.form) × (capture'.header ≡ capture.header) → SoFar rules inside capture' text left' old new (records ++ given) written
 after_next rules inside capture capture' text left left' old new records written given s on same = record {
   read = s.read ++ on.came;
   text_is = s.text_is ∙ (rw on.gave (sym (append_assoc s.read on.came left')));
@@ -144,7 +143,7 @@ after_next rules inside capture capture' text left left' old new records written
 }
 
 -- nothing was given yet, and the header was written
-pub at_start : (rules : List Rule) (inside : List Net) (capture : Reading) (read left verdicts packets packets' : List ℕ) → HasGiven capture read [] → packets' ≡ packets ++ capture.header → AtHead rules inside capture (read ++ left) left (outputs verdicts packets) (outputs verdicts packets') 0
+pub at_start : (rules : Ruleset) (inside : List Net) (capture : Reading) (read left verdicts packets packets' : List ℕ) → HasGiven capture read [] → packets' ≡ packets ++ capture.header → AtHead rules inside capture (read ++ left) left (outputs verdicts packets) (outputs verdicts packets') 0
 at_start rules inside capture read left verdicts packets packets' h header = record {
   records = [];
   so_far = record {
@@ -160,25 +159,25 @@ at_start rules inside capture read left verdicts packets packets' h header = rec
 }
 
 -- the header was not written whole
-pub begun_header : (rules : List Rule) (inside : List Net) (capture : Reading) (read left verdicts packets packets' : List ℕ) → HasGiven capture read [] → GrewByPart packets packets' capture.header → OfEvery (read ++ left) left (Begun rules inside (outputs verdicts packets) (outputs verdicts packets'))
+pub begun_header : (rules : Ruleset) (inside : List Net) (capture : Reading) (read left verdicts packets packets' : List ℕ) → HasGiven capture read [] → GrewByPart packets packets' capture.header → OfEvery (read ++ left) left (Begun rules inside (outputs verdicts packets) (outputs verdicts packets'))
 begun_header rules inside capture read left verdicts packets packets' h p =
     begun_by rules inside capture (read ++ left) left read (outputs verdicts packets) (outputs verdicts packets') [] refl h
     (nothing_begins verdicts (lines_of rules inside capture.form []))
     (begins_longer packets packets' capture.header (packets_of rules inside capture.form []) (capture.header ++ packets_of rules inside capture.form []) refl (part_begins packets packets' capture.header p))
 
-pub stopped_header : (rules : List Rule) (inside : List Net) (capture : Reading) (read left verdicts packets packets' : List ℕ) → HasGiven capture read [] → GrewByPart packets packets' capture.header → Stopped rules inside (read ++ left) left (outputs verdicts packets) (outputs verdicts packets') (stop_in_record failed.Packets 0)
+pub stopped_header : (rules : Ruleset) (inside : List Net) (capture : Reading) (read left verdicts packets packets' : List ℕ) → HasGiven capture read [] → GrewByPart packets packets' capture.header → Stopped rules inside (read ++ left) left (outputs verdicts packets) (outputs verdicts packets') (stop_in_record failed.Packets 0)
 stopped_header rules inside capture read left verdicts packets packets' h p =
     of_every capture (read ++ left) left read [] _ refl h (λ records first. inl (record { none = refl; verdicts = refl; part = p }))
 
 -- each output holds a beginning of what every capture says that begins with what was read
-pub begun_so_far : (rules : List Rule) (inside : List Net) (capture : Reading) (text left : List ℕ) (old new : Outputs) (records : List RecordBytes) → SoFar rules inside capture text left old new (records ++ []) records → OfEvery text left (Begun rules inside old new)
+pub begun_so_far : (rules : Ruleset) (inside : List Net) (capture : Reading) (text left : List ℕ) (old new : Outputs) (records : List RecordBytes) → SoFar rules inside capture text left old new (records ++ []) records → OfEvery text left (Begun rules inside old new)
 begun_so_far rules inside capture text left old new records s =
     begun_by rules inside capture text left s.read old new records s.text_is (rw (← append-nil records) s.given)
     (whole_begins old.verdicts new.verdicts (lines_of rules inside capture.form records) s.grew.verdicts)
     (whole_begins old.packets new.packets (capture.header ++ packets_of rules inside capture.form records) s.grew.packets)
 
 -- and holds just what those committed say
-pub holds_so_far : (rules : List Rule) (inside : List Net) (capture : Reading) (text left : List ℕ) (old new : Outputs) (records written : List RecordBytes) (committed : ℕ) → SoFar rules inside capture text left old new records written → IsFront written records → length written ≡ committed → OfEvery text left (Holds rules inside old new committed)
+pub holds_so_far : (rules : Ruleset) (inside : List Net) (capture : Reading) (text left : List ℕ) (old new : Outputs) (records written : List RecordBytes) (committed : ℕ) → SoFar rules inside capture text left old new records written → IsFront written records → length written ≡ committed → OfEvery text left (Holds rules inside old new committed)
 holds_so_far rules inside capture text left old new records written committed s f count =
     of_every capture text left s.read records (Holds rules inside old new committed) s.text_is s.given (λ all given.
     let first = front_of_front written records all f given in
@@ -186,7 +185,7 @@ holds_so_far rules inside capture text left old new records written committed s 
     record { within = omega arith; grew = rw (← count, ← first.front) s.grew })
 
 -- the capture ended, and the outputs hold what all its records say
-pub replayed : (rules : List Rule) (inside : List Net) (capture : Reading) (text left : List ℕ) (old new : Outputs) (records : List RecordBytes) (report : Report) → SoFar rules inside capture text left old new records records → EndsCapture capture left (Ok report.tail) → capture.count ≡ report.committed → Replayed rules inside text old new report
+pub replayed : (rules : Ruleset) (inside : List Net) (capture : Reading) (text left : List ℕ) (old new : Outputs) (records : List RecordBytes) (report : Report) → SoFar rules inside capture text left old new records records → EndsCapture capture left (Ok report.tail) → capture.count ≡ report.committed → Replayed rules inside text old new report
 replayed rules inside capture text left old new records report s ends count = record {
   form = capture.form;
   records = records;
@@ -199,7 +198,7 @@ pub front_of_nil : (a : List RecordBytes) → IsFront a (a ++ [])
 front_of_nil a = rw (append-nil a) (front_of_same a)
 
 -- the reader refused to go on
-pub stopped_reading : (rules : List Rule) (inside : List Net) (capture capture' : Reading) (text left left' : List ℕ) (old new : Outputs) (records : List RecordBytes) (committed before after : ℕ) (e : CaptureError) → SoFar rules inside capture text left old new records records → SoFar rules inside capture' text left' old new (records ++ []) records → capture.count ≡ committed → NextFails e before after → Refuses capture left e → Stopped rules inside text left' old new (stop_for e committed)
+pub stopped_reading : (rules : Ruleset) (inside : List Net) (capture capture' : Reading) (text left left' : List ℕ) (old new : Outputs) (records : List RecordBytes) (committed before after : ℕ) (e : CaptureError) → SoFar rules inside capture text left old new records records → SoFar rules inside capture' text left' old new (records ++ []) records → capture.count ≡ committed → NextFails e before after → Refuses capture left e → Stopped rules inside text left' old new (stop_for e committed)
 stopped_reading rules inside capture capture' text left left' old new records committed before after Read s s' count fails refuses =
     inl (holds_so_far rules inside capture' text left' old new (records ++ []) records committed s' (front_of_nil records) (s.given.counted ∙ count))
 stopped_reading rules inside capture capture' text left left' old new records committed before after Memory s s' count fails refuses =
@@ -216,14 +215,14 @@ clock_after-push form clock [] r = refl
 clock_after-push form clock (x ∷ xs) r = clock_after-push form (max clock (seconds_of form.order x.header)) xs r
 
 -- the next record was read, and its line and what it adds to the packets are to be written
-pub record Ready (rules : List Rule) (inside : List Net) (capture : Reading) (text left : List ℕ) (old mid : Outputs) (written : List RecordBytes) (r : RecordBytes) (line packet : List ℕ) (committed clock : ℕ) : Type 0 where
+pub record Ready (rules : Ruleset) (inside : List Net) (capture : Reading) (text left : List ℕ) (old mid : Outputs) (written : List RecordBytes) (r : RecordBytes) (line packet : List ℕ) (committed clock : ℕ) : Type 0 where
   pub so_far : SoFar rules inside capture text left old mid (written ++ r ∷ []) written
   pub next_line : lines_of rules inside capture.form (written ++ r ∷ []) ≡ lines_of rules inside capture.form written ++ line
   pub next_packet : packets_of rules inside capture.form (written ++ r ∷ []) ≡ packets_of rules inside capture.form written ++ packet
   pub counted : length written ≡ committed
   pub clock_is : clock ≡ clock_after capture.form.order 0 (written ++ r ∷ [])
 
-pub ready : (rules : List Rule) (inside : List Net) (capture capture' : Reading) (text left left' : List ℕ) (old mid : Outputs) (written : List RecordBytes) (r : RecordBytes) (link committed clock clock' : ℕ) → SoFar rules inside capture text left old mid written written → clock ≡ clock_after capture.form.order 0 written → ReadsOn capture capture' left left' (r ∷ []) → (capture'.form ≡ capture.form) × (capture'.header ≡ capture.header) → capture.count ≡ committed → link ≡ capture.form.link → clock' ≡ max clock (seconds_of capture.form.order r.header) → Ready rules inside capture' text left' old mid written r (line_of rules inside link (committed + 1) clock' r.bytes) (packet_of rules inside link r) committed clock'
+pub ready : (rules : Ruleset) (inside : List Net) (capture capture' : Reading) (text left left' : List ℕ) (old mid : Outputs) (written : List RecordBytes) (r : RecordBytes) (link committed clock clock' : ℕ) → SoFar rules inside capture text left old mid written written → clock ≡ clock_after capture.form.order 0 written → ReadsOn capture capture' left left' (r ∷ []) → (capture'.form ≡ capture.form) × (capture'.header ≡ capture.header) → capture.count ≡ committed → link ≡ capture.form.link → clock' ≡ max clock (seconds_of capture.form.order r.header) → Ready rules inside capture' text left' old mid written r (line_of rules inside link (committed + 1) clock' r.bytes) (packet_of rules inside link r) committed clock'
 ready rules inside capture capture' text left left' old mid written r link committed clock clock' s now on same count linked later =
     let counted : length written ≡ committed = s.given.counted ∙ count in
     let clock_is : clock' ≡ max (clock_after capture'.form.order 0 written) (seconds_of capture'.form.order r.header) = rw (same.0, ← now) later in
@@ -242,7 +241,7 @@ behind_packets a b c d e is =
     ap (λ (t : List ℕ). t ++ e) is ∙ append_assoc b (c ++ d) e ∙ ap (λ (t : List ℕ). b ++ t) (append_assoc c d e)
 
 -- both were written
-pub record_written : (rules : List Rule) (inside : List Net) (capture : Reading) (text left : List ℕ) (old mid new : Outputs) (written : List RecordBytes) (r : RecordBytes) (line packet : List ℕ) (committed clock : ℕ) → Ready rules inside capture text left old mid written r line packet committed clock → WroteRecord mid new line packet → AtHead rules inside capture text left old new clock
+pub record_written : (rules : Ruleset) (inside : List Net) (capture : Reading) (text left : List ℕ) (old mid new : Outputs) (written : List RecordBytes) (r : RecordBytes) (line packet : List ℕ) (committed clock : ℕ) → Ready rules inside capture text left old mid written r line packet committed clock → WroteRecord mid new line packet → AtHead rules inside capture text left old new clock
 record_written rules inside capture text left old mid new written r line packet committed clock y w = record {
   records = written ++ r ∷ [];
   so_far = record {
@@ -258,7 +257,7 @@ record_written rules inside capture text left old mid new written r line packet 
 }
 
 -- the outputs at a record that was not written whole, against what the records before it and it say
-begun_line : (rules : List Rule) (inside : List Net) (capture : Reading) (text left : List ℕ) (old mid new : Outputs) (written : List RecordBytes) (r : RecordBytes) (line packet : List ℕ) (committed clock : ℕ) → Ready rules inside capture text left old mid written r line packet committed clock → GrewByBeginning mid.verdicts new.verdicts line → GrewByBeginning mid.packets new.packets packet → OfEvery text left (Begun rules inside old new)
+begun_line : (rules : Ruleset) (inside : List Net) (capture : Reading) (text left : List ℕ) (old mid new : Outputs) (written : List RecordBytes) (r : RecordBytes) (line packet : List ℕ) (committed clock : ℕ) → Ready rules inside capture text left old mid written r line packet committed clock → GrewByBeginning mid.verdicts new.verdicts line → GrewByBeginning mid.packets new.packets packet → OfEvery text left (Begun rules inside old new)
 begun_line rules inside capture text left old mid new written r line packet committed clock y lines packets =
     let given = written ++ r ∷ [] in
     let before : mid.packets ≡ old.packets ++ (capture.header ++ packets_of rules inside capture.form written) = y.so_far.grew.packets in
@@ -270,7 +269,7 @@ begun_line rules inside capture text left old mid new written r line packet comm
     (rw y.next_line (begins_behind old.verdicts mid.verdicts new.verdicts (lines_of rules inside capture.form written) line y.so_far.grew.verdicts lines))
     (rw whole grew)
 
-pub begun_record : (rules : List Rule) (inside : List Net) (capture : Reading) (text left : List ℕ) (old mid new : Outputs) (written : List RecordBytes) (r : RecordBytes) (line packet : List ℕ) (committed clock : ℕ) (e : RecordError) → Ready rules inside capture text left old mid written r line packet committed clock → RecordFails mid new line packet e → OfEvery text left (Begun rules inside old new)
+pub begun_record : (rules : Ruleset) (inside : List Net) (capture : Reading) (text left : List ℕ) (old mid new : Outputs) (written : List RecordBytes) (r : RecordBytes) (line packet : List ℕ) (committed clock : ℕ) (e : RecordError) → Ready rules inside capture text left old mid written r line packet committed clock → RecordFails mid new line packet e → OfEvery text left (Begun rules inside old new)
 begun_record rules inside capture text left old mid new written r line packet committed clock failed.Verdicts y fails =
     begun_line rules inside capture text left old mid new written r line packet committed clock y
     (part_begins mid.verdicts new.verdicts line fails.0) (rw fails.1 (nothing_begins mid.packets packet))
@@ -298,7 +297,7 @@ taken written r committed records count given =
       through = rw (← long) (sym given.front);
     }
 
-pub stopped_record : (rules : List Rule) (inside : List Net) (capture : Reading) (text left : List ℕ) (old mid new : Outputs) (written : List RecordBytes) (r : RecordBytes) (line packet : List ℕ) (committed clock : ℕ) (e : RecordError) → Ready rules inside capture text left old mid written r line packet committed clock → RecordFails mid new line packet e → Stopped rules inside text left old new (stop_in_record e committed)
+pub stopped_record : (rules : Ruleset) (inside : List Net) (capture : Reading) (text left : List ℕ) (old mid new : Outputs) (written : List RecordBytes) (r : RecordBytes) (line packet : List ℕ) (committed clock : ℕ) (e : RecordError) → Ready rules inside capture text left old mid written r line packet committed clock → RecordFails mid new line packet e → Stopped rules inside text left old new (stop_in_record e committed)
 stopped_record rules inside capture text left old mid new written r line packet committed clock failed.Verdicts y fails =
     of_every capture text left y.so_far.read (written ++ r ∷ []) _ y.so_far.text_is y.so_far.given (λ records given.
     let t = taken written r committed records y.counted given in
@@ -326,7 +325,7 @@ stopped_record rules inside capture text left old mid new written r line packet 
     inl (rw fails (holds_so_far rules inside capture text left old mid (written ++ r ∷ []) written committed y.so_far (front_of_push written r) y.counted))
 
 -- nothing was written
-pub nothing_begun : (rules : List Rule) (inside : List Net) (text left : List ℕ) (old : Outputs) → Gave text left → OfEvery text left (Begun rules inside old old)
+pub nothing_begun : (rules : Ruleset) (inside : List Net) (text left : List ℕ) (old : Outputs) → Gave text left → OfEvery text left (Begun rules inside old old)
 nothing_begun rules inside text left old g = record {
   read = g.came;
   is = g.gave;
@@ -340,7 +339,7 @@ pub nothing_read : (text : List ℕ) → Gave text text
 nothing_read text = record { came = []; gave = refl }
 
 -- the capture was not opened
-pub refused_opening : (rules : List Rule) (inside : List Net) (text left : List ℕ) (old : Outputs) (e : CaptureError) (before after : ℕ) → RefusesHeader text e → StopsEarly text left e → OpenFails e before after → Stopped rules inside text left old old (stop_for e 0)
+pub refused_opening : (rules : Ruleset) (inside : List Net) (text left : List ℕ) (old : Outputs) (e : CaptureError) (before after : ℕ) → RefusesHeader text e → StopsEarly text left e → OpenFails e before after → Stopped rules inside text left old old (stop_for e 0)
 refused_opening rules inside text left old Read before after refuses early fails = inr (record { none = refl; early = early; same = refl })
 refused_opening rules inside text left old Memory before after refuses early fails = inr (record { none = refl; early = early; same = refl })
 refused_opening rules inside text left old (RecordTooLong asked) before after refuses early fails = absurd fails
@@ -350,7 +349,7 @@ refused_opening rules inside text left old BadVersion before after refuses early
 refused_opening rules inside text left old (LinkType link) before after refuses early fails = (refuses, refl, refl)
 
 -- a stop under the text's rules
-pub under_rules : (text : List ℕ) (rules : List Rule) (inside : List Net) (before left : List ℕ) (old new : Outputs) (s : Stop) → rules_of text ≡ Ok rules → Stopped rules inside before left old new s → StopOf text inside before left old new s
+pub under_rules : (text : List ℕ) (rules : Ruleset) (inside : List Net) (before left : List ℕ) (old new : Outputs) (s : Stop) → rules_of text ≡ Ok rules → Stopped rules inside before left old new s → StopOf text inside before left old new s
 under_rules text rules inside before left old new (stop.Ruleset fault) are stopped = absurd stopped
 under_rules text rules inside before left old new (stop.Capture e committed) are stopped = record { rules = rules; are = are; hold = stopped }
 under_rules text rules inside before left old new (stop.Read committed) are stopped = record { rules = rules; are = are; hold = stopped }

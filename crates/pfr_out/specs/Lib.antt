@@ -1,5 +1,4 @@
 pub mod Lines
-pub mod Parts
 pub mod Plain
-pub mod RulesetText
+pub mod Rulesets
 pub mod Writing

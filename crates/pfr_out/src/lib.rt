@@ -7,14 +7,13 @@
 //! as committed.
 #![tactic(auto)]
 
-pub mod fault;
-mod parts;
 mod plain;
 pub mod report;
-mod ruleset_text;
+pub mod ruleset;
 pub mod verdict;
 
-pub use fault::{ConfError, ConfErrorKind};
+pub use pfr_conf::{ConfError, ConfErrorKind};
 pub use plain::replay_plain;
 pub use report::{Output, Report, Stop};
+pub use ruleset::ruleset_of;
 pub use verdict::{Judgement, Reason, Verdict, VerdictLine};

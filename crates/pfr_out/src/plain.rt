@@ -4,17 +4,16 @@ ghost use Rattle.std.specs.String.{string_bytes};
 ghost use Rattle.pfr_capture.specs.Device.{GrewByPart, Rose};
 ghost use Rattle.pfr_capture.specs.Reading.{HasGiven, bytes_of};
 ghost use Rattle.pfr_capture.specs.Records.{text_of};
-ghost use Rattle.pfr_out.specs.Plain.{Begun, OfEvery, Replayed, StopFails, StopOf, Stopped, UnderRules, counts, judged, line_of, outputs, packet_of, stop_for};
-ghost use Rattle.pfr_out.specs.RulesetText.{rules_of};
+ghost use Rattle.pfr_out.specs.Plain.{Begun, OfEvery, Replayed, StopFails, StopOf, Stopped, UnderRules, counts, judged, line_of, outputs, packet_of, rules_of, stop_for};
 ghost use Rattle.pfr_out.specs.Writing.{RecordCounts, RecordFails, WroteRecord, stop_in_record};
-ghost use Rattle.pfr_rules.specs.declared.rule.Rule.{Rule};
+ghost use Rattle.pfr_expand.specs.declared.ruleset.Ruleset.{Ruleset};
 
 use crate::report::{Output, Report, Stop};
-use crate::ruleset_text::read_rules;
+use crate::ruleset::{plain_interface, ruleset_of};
 use crate::verdict::{Judgement, Verdict, VerdictLine};
 use pfr_capture::{Capture, CaptureError, Fault, Record, Sink, Source, write_all};
+use pfr_expand::Ruleset;
 use pfr_headers::{Net, view};
-use pfr_rules::Ruleset;
 use std::alloc::{AllocError, Global};
 use std::fmt::Write;
 
@@ -173,11 +172,12 @@ fn replay_capture<R: Source, S: Sink, T: Sink>(
     }
 }
 
-/// Replays a capture through a ruleset of pass and block rules. A line for each packet goes to the verdicts,
+/// Replays a capture through a ruleset for the interface em0 with the address 192.0.2.1/24. States aren't kept, and
+/// `set skip on` isn't asked: each packet is judged by itself. A line for each packet goes to the verdicts,
 /// one line a write. The capture's header goes to the packets, and then each packet that is not blocked, as
 /// it was captured, after its line.
 ///
-/// The text's rules are read first, and a fault of theirs leaves the source unread. A packet whose source
+/// The text is read first, and a fault of it leaves the source unread. A packet whose source
 /// lies in an inside network goes out. Ok comes where the capture was read to its end; the sinks then have
 /// grown by just what all its packets say. At every stop each has grown by a beginning of that, and they hold
 /// whole just what the packets say that the stop reports as committed; beyond these, a failed write leaves a
@@ -199,13 +199,13 @@ pub fn replay_plain<R: Source, S: Sink, T: Sink>(
     ensures no_failure { OnOk result (counts (R.failures source.new) (S.failures verdicts.new) (T.failures packets.new) ≡ counts (R.failures source.old) (S.failures verdicts.old) (T.failures packets.old)) }
 
     // However it ends, for every capture that begins with the bytes read.
-    ensures begun { IsTrue (R.told source.old) → IsTrue (S.told verdicts.old) → IsTrue (T.told packets.old) → (rules : List Rule) → rules_of text.now ≡ Ok rules → OfEvery (R.unread source.old) (R.unread source.new) (Begun rules inside.now (outputs (S.written verdicts.old) (T.written packets.old)) (outputs (S.written verdicts.new) (T.written packets.new))) }
+    ensures begun { IsTrue (R.told source.old) → IsTrue (S.told verdicts.old) → IsTrue (T.told packets.old) → (rules : Ruleset) → rules_of text.now ≡ Ok rules → OfEvery (R.unread source.old) (R.unread source.new) (Begun rules inside.now (outputs (S.written verdicts.old) (T.written packets.old)) (outputs (S.written verdicts.new) (T.written packets.new))) }
 
     // A stop.
     ensures stopped { IfErr result (λ stop. IsTrue (R.told source.old) → IsTrue (S.told verdicts.old) → IsTrue (T.told packets.old) → StopOf text.now inside.now (R.unread source.old) (R.unread source.new) (outputs (S.written verdicts.old) (T.written packets.old)) (outputs (S.written verdicts.new) (T.written packets.new)) stop) }
     ensures failure { IfErr result (λ stop. StopFails stop (counts (R.failures source.old) (S.failures verdicts.old) (T.failures packets.old)) (counts (R.failures source.new) (S.failures verdicts.new) (T.failures packets.new))) }
 {
-    let rules = match read_rules(alloc, text) {
+    let rules = match ruleset_of(alloc, text, &plain_interface()) {
         Ok(rules) => rules,
         Err(fault) => return Err(Stop::Ruleset(fault)),
     };

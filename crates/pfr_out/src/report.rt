@@ -1,6 +1,6 @@
 //! How a run ends.
-use crate::fault::ConfError;
 use pfr_capture::{CaptureError, Tail};
+use pfr_conf::ConfError;
 use thiserror::Error;
 
 /// A run that went to the end of its capture.
@@ -21,7 +21,7 @@ pub enum Output {
 
 /// Why a run ended before that. The number is that of the packets committed: of those of which the sinks hold
 /// all that is to be written.
-#[derive(Clone, Copy, Debug, PartialEq, Eq, Error)]
+#[derive(Debug, Drop, Error)]
 pub enum Stop {
     #[error("{0}")]
     Ruleset(ConfError),

@@ -1,9 +1,10 @@
 //! What becomes of a packet, and the line that says so.
 ghost use Rattle.std.specs.Prelude.{◌≡◌, IfOk, Some};
-ghost use Rattle.pfr_out.specs.Lines.{direction_text, is_written, judgement_of, line_text, reason_text, rule_text, verdict_text};
+ghost use Rattle.pfr_out.specs.Lines.{allows_options, direction_text, is_written, judgement_of, line_text, reason_text, rule_text, verdict_of, verdict_text};
 
+use pfr_expand::{FilterAction, FlatRule, Ruleset};
 use pfr_headers::{Direction, Net, View};
-use pfr_rules::{Action, RuleNumber, Ruleset, filter};
+use pfr_rules::{RuleNumber, filter};
 use std::alloc::{AllocError, Global};
 use std::fmt;
 
@@ -12,6 +13,8 @@ use std::fmt;
 pub enum Verdict {
     Pass,
     Block,
+    /// The packet is blocked, and an answer would be sent.
+    Return,
     /// The packet is no IPv4 packet, and passes unseen.
     Skip,
 }
@@ -23,8 +26,32 @@ impl Verdict {
     {
         match self {
             Verdict::Pass | Verdict::Skip => true,
-            Verdict::Block => false,
+            Verdict::Block | Verdict::Return => false,
         }
+    }
+}
+
+/// What a rule's action makes of a packet.
+fn verdict_of(action: FilterAction) -> Verdict
+    ensures { result ≡ verdict_of action }
+{
+    match action {
+        FilterAction::Pass => Verdict::Pass,
+        FilterAction::Drop => Verdict::Block,
+        FilterAction::Return => Verdict::Return,
+    }
+}
+
+/// Whether the rule of this number lets packets with IP options pass.
+fn allows_options(rules: &[FlatRule], rule: Option<RuleNumber>) -> bool
+    ensures { result ≡ allows_options rules.now rule }
+{
+    match rule {
+        None => false,
+        Some(RuleNumber(place)) => match rules.get(place) {
+            None => false,
+            Some(rule) => rule.allow_opts,
+        },
     }
 }
 
@@ -57,11 +84,11 @@ impl Judgement {
     #[tactic(auto, unfolding(crate::specs::Lines::judgement_of))]
     pub fn of(
         alloc: Global,
-        rules: &Ruleset,
+        flat: &Ruleset,
         inside: &[Net],
         view: &View,
     ) -> Result<Judgement, AllocError>
-        ensures { IfOk result (λ judgement. judgement ≡ judgement_of rules.now inside.now view.now) }
+        ensures { IfOk result (λ judgement. judgement ≡ judgement_of flat.now inside.now view.now) }
     {
         let packet = match view {
             View::Ipv4(packet) => packet,
@@ -83,8 +110,9 @@ impl Judgement {
             }
         };
         let direction = Direction::of(packet, inside);
-        let (decision, _visits) = filter(alloc, rules, packet, direction)?;
-        if packet.has_options() && decision.action == Action::Pass {
+        let (decision, _visits) = filter(alloc, flat, packet, direction)?;
+        let lacks_leave = packet.has_options() && !allows_options(flat.filter.rules(), decision.rule);
+        if lacks_leave && decision.action == FilterAction::Pass {
             return Ok(Judgement {
                 direction: Some(direction),
                 verdict: Verdict::Block,
@@ -94,10 +122,7 @@ impl Judgement {
         }
         Ok(Judgement {
             direction: Some(direction),
-            verdict: match decision.action {
-                Action::Pass => Verdict::Pass,
-                Action::Block => Verdict::Block,
-            },
+            verdict: verdict_of(decision.action),
             reason: match decision.rule {
                 Some(_) => Reason::Rule,
                 None => Reason::Default,
@@ -114,6 +139,7 @@ impl fmt::Display for Verdict {
         match self {
             Verdict::Pass => write!(f, "pass"),
             Verdict::Block => write!(f, "block"),
+            Verdict::Return => write!(f, "return"),
             Verdict::Skip => write!(f, "skip"),
         }
     }

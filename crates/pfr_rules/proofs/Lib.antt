@@ -1,1 +1,3 @@
-pub mod PlaceLemmas
+pub mod Places
+pub mod Stops
+pub mod Walking

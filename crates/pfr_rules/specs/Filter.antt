@@ -1,84 +1,125 @@
--- Which rule decides, and which rules are visited on the way (pf.conf(5), "Packet filtering"): the last
--- matching rule decides, but a matching rule with `quick` ends the walk.
+-- Which rule decides, and which rules are visited on the way (pf.conf(5), "Packet filtering", "Anchors").
 --
--- All is said by the places of rules in a flat list. The first stop is the place of the first rule that
--- matches and is quick. Reached are the rules at or before it, all of them where there is no stop.
-use Rattle.std.specs.Prelude.{◌≡◌, ℕ, ◌+◌, ◌-◌, ◌<◌, ◌≤◌, Bool, true, false, ◌&&◌, List, [], ◌∷◌, ◌++◌, length, take, slice_get, Option, Some, None}
-use Rattle.std.specs.List.{HoldsAt, AllWithin}
-use Rattle.pfr_headers.specs.declared.packet.Direction.{Direction}
+-- All is said by the places of rules in a flat list. A rule hits if all that it writes holds of the packet, and all that the
+-- anchors round it write. A stop is the place of a quick rule that hits, or the place of the last rule of a quick anchor in
+-- which a rule hits. Reached are the rules up to the first stop, all of them where there is none.
+use Rattle.std.specs.Prelude.{ℕ, zero, suc, ◌+◌, ◌==◌, ◌&&◌, ◌||◌, Bool, true, false, not, nat_le, if◌then◌else◌, List, [], ◌∷◌, length, Option, Some, None}
+use Rattle.std.specs.List.{slice_get, list_any, list_all, filter}
 use Rattle.pfr_headers.specs.declared.packet.Packet.{Packet}
-use Rattle.pfr_rules.specs.declared.rule.Action.{Action}
-use Rattle.pfr_rules.specs.declared.rule.Action.TheVariants.{Pass, Block}
-use Rattle.pfr_rules.specs.declared.rule.Rule.{Rule}
-use Rattle.pfr_rules.specs.declared.rule.RuleNumber.{RuleNumber}
+use Rattle.pfr_headers.specs.declared.packet.Direction.{Direction}
+use Rattle.pfr_flat.specs.declared.flat.FilterAction.{FilterAction}
+use Rattle.pfr_flat.specs.declared.flat.FilterAction.TheVariants as action
+use Rattle.pfr_flat.specs.declared.flat.FlatRule.{FlatRule}
+use Rattle.pfr_flat.specs.declared.flat.FlatAnchor.{FlatAnchor}
+use Rattle.pfr_flat.specs.declared.filter_rules.RuleLists.{RuleLists}
+use Rattle.pfr_expand.specs.declared.ruleset.Ruleset.{Ruleset}
+use Rattle.pfr_criteria.specs.Packets.{rule_holds, anchor_holds}
 use Rattle.pfr_rules.specs.declared.decision.Decision.{Decision}
+use Rattle.pfr_rules.specs.declared.decision.RuleNumber.{RuleNumber}
 use Rattle.pfr_rules.specs.Numbers.{numbers_below}
-use Rattle.pfr_rules.specs.Rules.{matches}
 
--- a rule ends the walk
-abbrev pub stops : Rule → Packet → Direction → Bool
-stops rule packet direction = rule.quick && matches rule packet direction
+-- ---- places
 
--- the first place in a list at which a test holds
-abbrev pub sooner : Bool → Option ℕ → Option ℕ
-sooner true later = Some 0
-sooner false (Some place) = Some (place + 1)
-sooner false None = None
+-- the last place below a bound at which a test holds
+abbrev pub last_below : (ℕ → Bool) → ℕ → Option ℕ
+last_below p zero = None
+last_below p (suc n) = if p n then Some n else last_below p n
 
-abbrev pub first_place : {X : Type 0} → (X → Bool) → List X → Option ℕ
-first_place p [] = None
-first_place p (x ∷ xs) = sooner (p x) (first_place p xs)
+abbrev pub or_place : Option ℕ → Option ℕ → Option ℕ
+or_place (Some place) later = Some place
+or_place None later = later
 
-abbrev pub first_stop : List Rule → Packet → Direction → Option ℕ
-first_stop rules packet direction = first_place (λ rule. stops rule packet direction) rules
+-- the first one
+abbrev pub first_below : (ℕ → Bool) → ℕ → Option ℕ
+first_below p zero = None
+first_below p (suc n) = or_place (first_below p n) (if p n then Some n else None)
+
+abbrev pub some_below : (ℕ → Bool) → ℕ → Bool
+some_below p zero = false
+some_below p (suc n) = some_below p n || p n
+
+-- ---- hits
+
+-- whether an anchor stands round the rule at a place
+abbrev pub is_round : FlatAnchor → ℕ → Bool
+is_round anchor place = nat_le anchor.first place && nat_le place anchor.last
+
+-- all anchors round a place hold
+abbrev pub is_inside : (FlatAnchor → Bool) → List FlatAnchor → ℕ → Bool
+is_inside anchored anchors place = list_all (λ a. not (is_round a place) || anchored a) anchors
+
+abbrev pub passes : (FlatRule → Bool) → Option FlatRule → Bool
+passes test None = false
+passes test (Some rule) = test rule
+
+-- the rule at a place holds, and all anchors round it
+abbrev pub hits : (FlatAnchor → Bool) → (FlatRule → Bool) → RuleLists → ℕ → Bool
+hits anchored ruled lists place = is_inside anchored lists.anchors place && passes ruled (slice_get lists.rules place)
+
+-- ---- stops
+
+abbrev pub is_quick : FlatRule → Bool
+is_quick rule = rule.is_quick
+
+-- whether a test holds at one of an anchor's places
+abbrev pub some_in : (ℕ → Bool) → FlatAnchor → Bool
+some_in p anchor = some_below (λ place. nat_le anchor.first place && p place) (anchor.last + 1)
+
+-- a quick anchor ends at this place, and a rule in it hits
+abbrev pub ends : (ℕ → Bool) → ℕ → FlatAnchor → Bool
+ends hit place anchor = anchor.is_quick && (anchor.last == place && some_in hit anchor)
+
+abbrev pub is_stop : (ℕ → Bool) → RuleLists → ℕ → Bool
+is_stop hit lists place = (passes is_quick (slice_get lists.rules place) && hit place) || list_any (ends hit place) lists.anchors
+
+-- an anchor that begins at a place or before it
+abbrev pub begun : Option FlatAnchor → ℕ → Option FlatAnchor
+begun None place = None
+begun (Some anchor) place = if nat_le anchor.first place then Some anchor else None
+
+-- whether a walk ends at a place, by its opening and the last hit
+abbrev pub stops_by : ℕ → Option ℕ → Bool
+stops_by opening None = false
+stops_by opening (Some place) = nat_le opening place
 
 -- how many rules are reached
 abbrev pub up_to : Option ℕ → ℕ → ℕ
 up_to None all = all
 up_to (Some stop) all = stop + 1
 
-abbrev pub reach : List Rule → Packet → Direction → ℕ
-reach rules packet direction = up_to (first_stop rules packet direction) (length rules)
+abbrev pub reach_by : (ℕ → Bool) → RuleLists → ℕ
+reach_by hit lists = up_to (first_below (is_stop hit lists) (length lists.rules)) (length lists.rules)
 
--- the last place in a list at which a test holds
-abbrev pub later : Option ℕ → Bool → Option ℕ
-later (Some place) here = Some (place + 1)
-later None true = Some 0
-later None false = None
+-- ---- a packet
 
-abbrev pub last_place : {X : Type 0} → (X → Bool) → List X → Option ℕ
-last_place p [] = None
-last_place p (x ∷ xs) = later (last_place p xs) (p x)
+abbrev pub anchored : Ruleset → Packet → Direction → FlatAnchor → Bool
+anchored flat packet direction anchor = anchor_holds anchor flat.interface.name flat.tables packet direction
 
--- the place of the rule that decides: of the rules that are reached, the last that matches
-unfoldable pub deciding : List Rule → Packet → Direction → Option ℕ
-deciding rules packet direction = last_place (λ rule. matches rule packet direction) (take (reach rules packet direction) rules)
+abbrev pub ruled : Ruleset → Packet → Direction → FlatRule → Bool
+ruled flat packet direction rule = rule_holds rule flat.interface.name flat.tables packet direction
 
--- what it decides: its action, and a packet that no rule matches passes
-abbrev pub action_of : Option Rule → Action
+abbrev pub hit : Ruleset → Packet → Direction → ℕ → Bool
+hit flat packet direction = hits (anchored flat packet direction) (ruled flat packet direction) flat.filter
+
+unfoldable pub reach : Ruleset → Packet → Direction → ℕ
+reach flat packet direction = reach_by (hit flat packet direction) flat.filter
+
+-- the place of the rule that decides: the last that hits of those that are reached
+unfoldable pub deciding : Ruleset → Packet → Direction → Option ℕ
+deciding flat packet direction = last_below (hit flat packet direction) (reach flat packet direction)
+
+-- what it decides; a packet that no rule hits passes
+abbrev pub action_of : Option FlatRule → FilterAction
+action_of None = action.Pass
 action_of (Some rule) = rule.action
-action_of None = Pass
 
-abbrev pub decision_by : List Rule → Option ℕ → Decision
-decision_by rules None = record { rule = None; action = Pass }
+abbrev pub decision_by : List FlatRule → Option ℕ → Decision
+decision_by rules None = record { rule = None; action = action.Pass }
 decision_by rules (Some place) = record { rule = Some (record { 0 = place }); action = action_of (slice_get rules place) }
 
-abbrev pub decision_of : List Rule → Packet → Direction → Decision
-decision_of rules packet direction = decision_by rules (deciding rules packet direction)
+abbrev pub decision_of : Ruleset → Packet → Direction → Decision
+decision_of flat packet direction = decision_by flat.filter.rules (deciding flat packet direction)
 
--- the numbers of the rules that are visited
-unfoldable pub visited : List Rule → Packet → Direction → List ℕ
-visited rules packet direction = numbers_below (reach rules packet direction)
-
--- the same said of places: `reached` is just past the first stop
-pub record IsReach (rules : List Rule) (packet : Packet) (direction : Direction) (reached : ℕ) : Type 0 where
-  -- no rule before the last that is reached ends the walk
-  pub none_before : AllWithin (λ rule. stops rule packet direction ≡ false) rules 0 (reached - 1)
-  pub within : reached ≤ length rules
-  -- where not all are reached, that last one ends it
-  pub stop : reached < length rules → (0 < reached) × HoldsAt (λ rule. stops rule packet direction ≡ true) rules (reached - 1)
-
--- the rule at this place is the last one reached that matches, or none reached matches
-abbrev pub Decides : List Rule → Packet → Direction → ℕ → Option ℕ → Type 0
-Decides rules packet direction reached None = AllWithin (λ rule. matches rule packet direction ≡ false) rules 0 reached
-Decides rules packet direction reached (Some place) = (place < reached) × HoldsAt (λ rule. matches rule packet direction ≡ true) rules place × AllWithin (λ rule. matches rule packet direction ≡ false) rules (place + 1) reached
+-- the numbers of the rules that are visited: of those that are reached all whose anchors hold
+unfoldable pub visited : Ruleset → Packet → Direction → List ℕ
+visited flat packet direction = filter (is_inside (anchored flat packet direction) flat.filter.anchors) (numbers_below (reach flat packet direction))

@@ -1,3 +1,2 @@
 pub mod Filter
 pub mod Numbers
-pub mod Rules

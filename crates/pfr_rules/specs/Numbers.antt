@@ -1,7 +1,16 @@
--- Rule numbers in order.
-use Rattle.std.specs.Prelude.{ℕ, zero, suc, List, [], ◌∷◌, ◌++◌}
+-- Numbers in order.
+use Rattle.std.specs.Prelude.{ℕ, zero, suc, ◌+◌, ◌-◌, ◌==◌, ◌&&◌, nat_lt, nat_le, Bool, List, [], ◌∷◌, ◌++◌}
 
--- the numbers below a bound, in order
+-- so many numbers from a first one on
+abbrev pub numbers_from : ℕ → ℕ → List ℕ
+numbers_from first zero = []
+numbers_from first (suc n) = numbers_from first n ++ (first + n) ∷ []
+
+-- the numbers below a bound
 abbrev pub numbers_below : ℕ → List ℕ
 numbers_below zero = []
 numbers_below (suc n) = numbers_below n ++ n ∷ []
+
+-- a number follows so many others, and is one that may still be counted
+abbrev pub follows : ℕ → ℕ → ℕ → Bool
+follows first count number = nat_lt count 18446744073709551615 && (nat_le first number && number - first == count)

@@ -1,18 +1,16 @@
-//! Rulesets, and which rule of one decides on a packet.
+//! Which rule of a ruleset decides on a packet.
 //!
-//! [`filter`] answers what pf.conf(5) says under "Packet filtering": the last matching rule decides, unless
-//! a matching rule with `quick` ends the walk before. Its contract says so by the places of rules in a flat
-//! list, and says which rules were visited on the way.
+//! [`filter`] answers what pf.conf(5) says under "Packet filtering" and "Anchors": the last rule that hits decides, unless a
+//! `quick` rule or anchor ends the walk before. Its contract says so by the places of rules in a flat list, and says which
+//! rules were visited on the way.
 #![tactic(auto)]
 
 pub mod decision;
-pub mod rule;
-pub mod ruleset;
 #[cfg(test)]
 mod tests;
+pub mod visits;
 mod walk;
 
-pub use decision::{Decision, Visits};
-pub use rule::{Action, Rule, RuleNumber};
-pub use ruleset::Ruleset;
+pub use decision::{Decision, RuleNumber};
+pub use visits::Visits;
 pub use walk::filter;

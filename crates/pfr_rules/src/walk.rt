@@ -1,58 +1,27 @@
 //! The walk over the rules.
-ghost use Rattle.std.specs.Prelude.{◌≡◌, ◌<◌, length, IfOk, IfSome};
-ghost use Rattle.std.specs.Option.{ForSome};
-ghost use Rattle.pfr_rules.specs.Filter.{Decides, IsReach, decision_by, decision_of, visited};
-ghost use Rattle.pfr_rules.specs.Rules.{matches};
+ghost use Rattle.std.specs.Prelude.{◌≡◌, ◌<◌, ◌+◌, if◌then◌else◌, length, Some, IfOk};
+ghost use Rattle.std.specs.List.{slice_get, slice_index_or};
+ghost use Rattle.std.specs.Option.{ForSome, option_copied};
+ghost use Rattle.pfr_rules.specs.Filter as spec;
 
-use crate::decision::{Decision, Visits};
-use crate::rule::{Action, Rule, RuleNumber};
-use crate::ruleset::Ruleset;
+use crate::decision::{Decision, RuleNumber};
+use crate::visits::Visits;
+use pfr_criteria::{anchor_holds, rule_holds};
+use pfr_expand::Ruleset;
+use pfr_flat::{FilterAction, FlatAnchor, FlatRule};
 use pfr_headers::{Direction, Packet};
 use std::alloc::{AllocError, Global};
 
-impl Rule {
-    /// Whether all that the rule writes holds of the packet.
-    #[inline]
-    #[tactic(auto, unfolding(crate::specs::Rules::matches))]
-    pub fn matches(&self, packet: &Packet, direction: Direction) -> bool
-        ensures { result ≡ matches self.now packet.now direction }
-    {
-        self.direction.is_none_or(|d| d == direction)
-            && self.source.is_none_or(|net| net.holds(packet.source))
-            && self
-                .destination
-                .is_none_or(|net| net.holds(packet.destination))
-    }
-}
-
-/// Which rule decides on a packet, and which rules are visited: the last matching rule, of those up to the
-/// first that matches and is quick. Where none matches the packet passes. Memory is not refused yet: the
-/// visited rules are one run of numbers.
-pub fn filter(
-    _alloc: Global,
-    rules: &Ruleset,
-    packet: &Packet,
-    direction: Direction,
-) -> Result<(Decision, Visits), AllocError>
-    ensures decision { IfOk result (λ answer. answer.0 ≡ decision_of rules.now packet.now direction) }
-    ensures visits { IfOk result (λ answer. answer.1 ≡ visited rules.now packet.now direction) }
-{
-    let rules = rules.rules();
-    let (decided, reached) = walk(rules, packet, direction);
-    let decision = decision_by(rules, decided);
-    Ok((decision, Visits::below(reached)))
-}
-
 /// What the rule at a place decides.
 #[inline]
-fn decision_by(rules: &[Rule], decided: Option<usize>) -> Decision
+fn decision_by(rules: &[FlatRule], decided: Option<usize>) -> Decision
     requires { ForSome decided (λ place. place < length rules.now) }
-    ensures { result ≡ decision_by rules.now decided }
+    ensures { result ≡ spec.decision_by rules.now decided }
 {
     match decided {
         None => Decision {
             rule: None,
-            action: Action::Pass,
+            action: FilterAction::Pass,
         },
         Some(place) => Decision {
             rule: Some(RuleNumber(place)),
@@ -61,20 +30,142 @@ fn decision_by(rules: &[Rule], decided: Option<usize>) -> Decision
     }
 }
 
-/// The place of the rule that decides, and how many rules are reached.
-fn walk(rules: &[Rule], packet: &Packet, direction: Direction) -> (Option<usize>, usize)
-    ensures reach { IsReach rules.now packet.now direction result.1 }
-    ensures decides { Decides rules.now packet.now direction result.1 result.0 }
-    ensures within { IfSome result.0 (λ place. place < length rules.now) }
+/// Whether a walk ends at a place, by the least place from which on a hit ends it there, and the last hit.
+#[inline]
+fn stops(opening: usize, decided: Option<usize>) -> bool
+    ensures { result ≡ spec.stops_by opening decided }
 {
-    let mut decided = None;
-    for (place, rule) in rules.iter().enumerate() {
-        if rule.matches(packet, direction) {
-            decided = Some(place);
-            if rule.quick {
-                return (decided, place + 1);
-            }
-        }
+    match decided {
+        None => false,
+        Some(hit) => opening <= hit,
     }
-    (decided, rules.len())
+}
+
+fn rule_is(flat: &Ruleset, rule: &FlatRule, packet: &Packet, direction: Direction) -> bool
+    ensures { result ≡ spec.ruled flat.now packet.now direction rule.now }
+{
+    rule_holds(
+        rule,
+        &flat.interface.name,
+        flat.tables.as_slice(),
+        packet,
+        direction,
+    )
+}
+
+fn anchor_is(flat: &Ruleset, anchor: &FlatAnchor, packet: &Packet, direction: Direction) -> bool
+    ensures { result ≡ spec.anchored flat.now packet.now direction anchor.now }
+{
+    anchor_holds(
+        anchor,
+        &flat.interface.name,
+        flat.tables.as_slice(),
+        packet,
+        direction,
+    )
+}
+
+/// Whether a walk ends at a place, by the openings and the last hit.
+#[inline]
+fn ends_at(openings: &[usize], place: usize, decided: Option<usize>) -> bool
+    requires { place < length openings.now }
+    ensures value { result ≡ spec.stops_by (slice_index_or openings.now place 0) decided }
+    ensures small { place < 18446744073709551615 }
+{
+    stops(openings[place], decided)
+}
+
+/// The place behind another one.
+#[inline]
+fn behind(openings: &[usize], place: usize) -> usize
+    requires { place < length openings.now }
+    ensures { result ≡ place + 1 }
+{
+    let _last = openings.len();
+    place + 1
+}
+
+/// The next anchor, if it begins at a place or before it.
+#[inline]
+fn begun(anchors: &[FlatAnchor], next: usize, place: usize) -> Option<&FlatAnchor>
+    ensures { option_copied result ≡ spec.begun (slice_get anchors.now next) place }
+{
+    match anchors.get(next) {
+        Some(anchor) if anchor.first <= place => Some(anchor),
+        _ => None,
+    }
+}
+
+/// The last hit, which is at this place if its rule hits.
+#[inline]
+fn with_hit(decided: Option<usize>, is_hit: bool, place: usize) -> Option<usize>
+    ensures { result ≡ (if is_hit then Some place else decided) }
+{
+    if is_hit { Some(place) } else { decided }
+}
+
+/// How a walk ended: the place of the rule that decides, and the rules that were visited.
+#[derive(Drop)]
+struct Walked {
+    decided: Option<usize>,
+    visits: Visits,
+}
+
+/// Walks over the rules. An anchor that doesn't hold is passed over with all that stands in it.
+fn walk(
+    alloc: Global,
+    flat: &Ruleset,
+    packet: &Packet,
+    direction: Direction,
+) -> Result<Walked, AllocError>
+    ensures decided { IfOk result (λ walked. walked.decided ≡ spec.deciding flat.now packet.now direction) }
+    ensures visits { IfOk result (λ walked. walked.visits ≡ spec.visited flat.now packet.now direction) }
+    ensures within { IfOk result (λ walked. ForSome walked.decided (λ place. place < length flat.now.filter.rules)) }
+{
+    let rules = flat.filter.rules();
+    let anchors = flat.filter.anchors();
+    let openings = flat.filter.openings();
+    let mut visits = Visits::new(alloc);
+    let mut decided = None;
+    let mut place: usize = 0;
+    let mut next: usize = 0;
+    while place < rules.len() {
+        if let Some(anchor) = begun(anchors, next, place) {
+            next += 1;
+            if anchor.last < place {
+                continue;
+            }
+            if anchor_is(flat, anchor, packet, direction) {
+                continue;
+            }
+            if ends_at(openings, anchor.last, decided) {
+                return Ok(Walked { decided, visits });
+            }
+            place = behind(openings, anchor.last);
+            continue;
+        }
+        visits.push(place)?;
+        let is_hit = rule_is(flat, &rules[place], packet, direction);
+        decided = with_hit(decided, is_hit, place);
+        if ends_at(openings, place, decided) {
+            return Ok(Walked { decided, visits });
+        }
+        place = behind(openings, place);
+    }
+    Ok(Walked { decided, visits })
+}
+
+/// Which rule decides on a packet, and which rules are visited: the last that hits, of those up to the first stop. Where none
+/// hits the packet passes.
+pub fn filter(
+    alloc: Global,
+    flat: &Ruleset,
+    packet: &Packet,
+    direction: Direction,
+) -> Result<(Decision, Visits), AllocError>
+    ensures decision { IfOk result (λ answer. answer.0 ≡ spec.decision_of flat.now packet.now direction) }
+    ensures visits { IfOk result (λ answer. answer.1 ≡ spec.visited flat.now packet.now direction) }
+{
+    let Walked { decided, visits } = walk(alloc, flat, packet, direction)?;
+    Ok((decision_by(flat.filter.rules(), decided), visits))
 }

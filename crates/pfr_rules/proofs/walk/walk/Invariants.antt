@@ -1,10 +1,10 @@
-use Rattle.std.proofs.Common.{◌≡◌, false}
-use Rattle.std.specs.List.{AllWithin}
-use Rattle.pfr_rules.specs.Filter.{Decides, stops}
+use Rattle.std.proofs.Common.{◌+◌, ◌-◌, length}
+use Rattle.pfr_rules.specs.Filter.{anchored, ruled}
+use Rattle.pfr_rules.proofs.Walking.{So}
 use Rattle.pfr_rules.proofs.walk.walk.Given as goal
 
 abbrev pub invariant-loop-place : goal.invariant-loop-place
-invariant-loop-place l = record {
-  none : AllWithin (λ rule. stops rule l.packet l.direction ≡ false) l.rules 0 l.place;
-  decides : Decides l.rules l.packet l.direction l.place l.decided;
-}
+invariant-loop-place l = So (anchored l.flat l.packet l.direction) (ruled l.flat l.packet l.direction) l.flat.filter l.place l.next l.decided l.visits
+
+abbrev pub decreases-loop-place : goal.decreases-loop-place
+decreases-loop-place l = (length l.rules - l.place) + (length l.anchors - l.next)

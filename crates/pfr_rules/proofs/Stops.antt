@@ -7,8 +7,8 @@ use Rattle.pfr_flat.specs.declared.flat.FlatRule.{FlatRule}
 use Rattle.pfr_flat.specs.declared.flat.FlatAnchor.{FlatAnchor}
 use Rattle.pfr_flat.specs.declared.filter_rules.RuleLists.{RuleLists}
 use Rattle.pfr_flat.specs.Places.{HasOpenings, opening_at, with_opening, opening_of}
-use Rattle.pfr_walk.specs.Filter.{last_below, is_stop, ends, some_in, passes, is_quick, stops_by}
-use Rattle.pfr_walk.proofs.Places.{or_left, or_right, last_within, none_after, none_at_all, some_at, some_found}
+use Rattle.pfr_rules.specs.Filter.{last_below, is_stop, ends, some_in, passes, is_quick, stops_by}
+use Rattle.pfr_rules.proofs.Places.{or_left, or_right, last_within, none_after, none_at_all, some_at, some_found}
 
 -- ---- tests
 

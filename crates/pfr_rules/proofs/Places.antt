@@ -1,7 +1,7 @@
 -- The first and the last place at which a test holds.
 use Rattle.std.proofs.Common.{◌≡◌, ◌<◌, ◌≤◌, ◌||◌, ℕ, zero, suc, Bool, true, false, if◌then◌else◌, inl, inr, Option, Some, None, refl, arith}
 use Rattle.std.proofs.lemmas.Bool.{cases_lt}
-use Rattle.pfr_walk.specs.Filter.{last_below, first_below, some_below, or_place}
+use Rattle.pfr_rules.specs.Filter.{last_below, first_below, some_below, or_place}
 
 within_one : (p : ℕ → Bool) (n d : ℕ) (b : Bool) → p n ≡ b → (if b then Some n else last_below p n) ≡ Some d → (last_below p n ≡ Some d → (d < n) × (p d ≡ true)) → (d < suc n) × (p d ≡ true)
 within_one p n d true here is rest = (let e : n ≡ d = cc in (omega (arith, e), rw (← e) here))

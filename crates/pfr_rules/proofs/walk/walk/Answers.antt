@@ -3,10 +3,10 @@ use Rattle.std.specs.Option.{option_copied}
 use Rattle.std.specs.List.{slice_get}
 use Rattle.std.proofs.lemmas.Option.{slice_get-get_or}
 use Rattle.pfr_flat.specs.Places.{ArePlaced}
-use Rattle.pfr_walk.specs.Filter.{anchored, ruled, hits, begun}
-use Rattle.pfr_walk.proofs.Stops.{stop_is}
-use Rattle.pfr_walk.proofs.Walking.{so_past, so_next, visited_rule, jump, ended_at, ended_all, ended_decides, ended_visits, begun_some, begun_none, placed_at, nested_of}
-use Rattle.pfr_walk.proofs.walk.walk.Goals as goal
+use Rattle.pfr_rules.specs.Filter.{anchored, ruled, hits, begun}
+use Rattle.pfr_rules.proofs.Stops.{stop_is}
+use Rattle.pfr_rules.proofs.Walking.{so_past, so_next, visited_rule, jump, ended_at, ended_all, ended_decides, ended_visits, begun_some, begun_none, placed_at, nested_of}
+use Rattle.pfr_rules.proofs.walk.walk.Goals as goal
 
 pub loop-place-preserved-then-anchor-place : goal.loop-place-preserved-then-anchor-place
 loop-place-preserved-then-anchor-place c =

@@ -13,10 +13,10 @@ use Rattle.pfr_expand.specs.declared.ruleset.Ruleset.{Ruleset}
 use Rattle.pfr_headers.specs.declared.packet.Packet.{Packet}
 use Rattle.pfr_headers.specs.declared.packet.Direction.{Direction}
 use Rattle.pfr_flat.specs.Places.{IsPlaced, Follows, AreNested, AreWithin, ArePlaced, HasOpenings}
-use Rattle.pfr_walk.specs.Filter.{last_below, first_below, some_below, some_in, ends, is_inside, is_round, hits, is_quick, passes, is_stop, reach_by, stops_by, begun, up_to, anchored as anchored_of, ruled as ruled_of, reach, deciding, visited as visited_of}
-use Rattle.pfr_walk.specs.Numbers.{numbers_below}
-use Rattle.pfr_walk.proofs.Places.{last_within, none_after, none_at_all, last_skips, first_none, none_first, first_found, some_found}
-use Rattle.pfr_walk.proofs.Stops.{stop_is}
+use Rattle.pfr_rules.specs.Filter.{last_below, first_below, some_below, some_in, ends, is_inside, is_round, hits, is_quick, passes, is_stop, reach_by, stops_by, begun, up_to, anchored as anchored_of, ruled as ruled_of, reach, deciding, visited as visited_of}
+use Rattle.pfr_rules.specs.Numbers.{numbers_below}
+use Rattle.pfr_rules.proofs.Places.{last_within, none_after, none_at_all, last_skips, first_none, none_first, first_found, some_found}
+use Rattle.pfr_rules.proofs.Stops.{stop_is}
 
 -- an anchor isn't begun, or all behind it
 abbrev pub IsAhead : ℕ → FlatAnchor → Type 0

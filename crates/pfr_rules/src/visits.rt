@@ -1,6 +1,6 @@
 //! The rules that a walk visits.
 ghost use Rattle.std.specs.Prelude.{◌≡◌, ◌<◌, ◌≤◌, ◌+◌, [], ◌∷◌, ◌++◌, OnOk, OnErr, IfOk};
-ghost use Rattle.pfr_walk.specs.Numbers.{follows, numbers_from};
+ghost use Rattle.pfr_rules.specs.Numbers.{follows, numbers_from};
 
 use pfr_words::Items;
 use std::alloc::{AllocError, Global};
@@ -25,7 +25,7 @@ pub struct Visits {
 impl Model for Visits {
     ghost use Rattle.std.specs.Prelude.{List, ℕ, ◌++◌};
     ghost use Rattle.std.specs.List.{flat_map};
-    ghost use Rattle.pfr_walk.specs.Numbers.{numbers_from};
+    ghost use Rattle.pfr_rules.specs.Numbers.{numbers_from};
 
     ghost Value = { List ℕ };
 

@@ -1,7 +1,7 @@
 use Rattle.std.proofs.Common.{◌≡◌, take}
 use Rattle.std.specs.List.{flat_map}
-use Rattle.pfr_walk.specs.Numbers.{numbers_from}
-use Rattle.pfr_walk.proofs.visits.Visits.numbers.Given as goal
+use Rattle.pfr_rules.specs.Numbers.{numbers_from}
+use Rattle.pfr_rules.proofs.visits.Visits.numbers.Given as goal
 
 abbrev pub invariant-loop-run : goal.invariant-loop-run
 invariant-loop-run l = l.numbers ≡ flat_map (λ run. numbers_from run.first run.count) (take l.run-index l.before)

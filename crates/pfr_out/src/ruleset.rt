@@ -1,0 +1,43 @@
+//! Rulesets from their texts.
+ghost use Rattle.std.specs.Prelude.{◌≡◌};
+ghost use Rattle.pfr_terms.specs.Input.{Gives};
+ghost use Rattle.pfr_out.specs.Rulesets as spec;
+
+use pfr_conf::{ConfError, ConfErrorKind, Ipv4Address, read};
+use pfr_expand::{IfName, Interface, Ruleset, expand};
+use std::alloc::Global;
+
+/// The longest ruleset text, in bytes: one MiB.
+pub const LONGEST_TEXT: usize = 1048576;
+
+/// The interface of a run that names none: em0 with the address 192.0.2.1/24 (RFC 5737).
+#[tactic(auto, unfolding(crate::specs::Rulesets::plain_interface))]
+pub fn plain_interface() -> Interface
+    ensures { result ≡ spec.plain_interface }
+{
+    Interface {
+        name: IfName::new(b"em0"),
+        address: Ipv4Address(0xc000_0201),
+        bits: 24,
+    }
+}
+
+/// What a ruleset text means for an interface, or the first fault of the text. One that is longer than
+/// [`LONGEST_TEXT`] has too many words in its first line, and isn't read.
+#[tactic(auto, unfolding(crate::specs::Rulesets::ruleset_of))]
+pub fn ruleset_of(
+    alloc: Global,
+    text: &[u8],
+    interface: &Interface,
+) -> Result<Ruleset, ConfError>
+    ensures { Gives (spec.ruleset_of text.now interface.now) result }
+{
+    if text.len() > LONGEST_TEXT {
+        return Err(ConfError {
+            line: 1,
+            kind: ConfErrorKind::TooMany,
+        });
+    }
+    let statements = read(alloc, text)?;
+    expand(alloc, &statements, interface)
+}

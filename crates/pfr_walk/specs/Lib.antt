@@ -1,2 +1,0 @@
-pub mod Filter
-pub mod Numbers
