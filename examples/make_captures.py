@@ -14,7 +14,7 @@ sys.dont_write_bytecode = True
 
 from packets import (ACK, ETHER_ARP, ETHER_IPV4, ETHER_IPV6, FIN, LINKTYPE_ETHERNET, LINKTYPE_RAW, PSH, RST, SYN,
                      TIME_EXCEEDED, UNREACHABLE, capture_header, checksum, echo, ethernet, fragments, group_report,
-                     icmp_error, record, tcp, udp)
+                     icmp_error, ipv4, record, tcp, udp)
 
 OPENING = 1767261600  # 2026-01-01 10:00:00 UTC
 
@@ -27,6 +27,22 @@ MONITOR, ATTACKER, STRANGER = "203.0.113.9", "203.0.113.66", "203.0.113.53"
 NOTEBOOK, CAMERA, ROUTER = "192.168.1.20", "192.168.20.7", "192.168.1.1"
 TIME, MAKER, HOP = "198.51.100.123", "203.0.113.80", "203.0.113.1"
 CAMERA_LAN = 20
+
+# the gateway and the house behind it; the same address is the web server's in its story
+GATEWAY, UPLINK, NAMES, NAMES_TOO = "192.0.2.1", "192.0.2.254", "192.0.2.53", "192.0.2.54"
+TABLET, NAS, GUEST = "198.51.100.66", "198.51.100.70", "198.51.100.90"
+OFFICE, MODEM, SITE, CLOCK = "198.51.100.5", "192.168.100.1", "203.0.113.7", "203.0.113.123"
+FILMS, MAIL, BLOCKED, SCANNER = "203.0.113.40", "203.0.113.80", "203.0.113.70", "203.0.113.200"
+
+# the web server's people
+ADMIN, RETIRED_ADMIN, EXPORTS = "198.51.100.4", "198.51.100.13", "198.51.100.9"
+VISITOR, REFORMED = "203.0.113.7", "203.0.113.100"
+
+URG = 0x20
+REDIRECT = 5
+ESP = 50
+# the IP option 'record route', with room for three addresses
+RECORD_ROUTE = bytes([7, 15, 4]) + bytes(12) + b"\0"
 
 # maximum segment size 1460, no operation, window scale 7
 SYN_OPTIONS = bytes([2, 4, 5, 180, 1, 3, 3, 7])
@@ -79,6 +95,12 @@ class HomeStory(Story):
         frame = ethernet(kind, data, tags, source, destination)
         # a cable carries no frame of fewer bytes
         super().add_bytes(second, frame.ljust(self.least, b"\0"), captured)
+
+
+class ServerStory(HomeStory):
+    """The same at the plug of the web server."""
+
+    stations = {GATEWAY: bytes.fromhex("020000000050")}
 
 
 def dns_query(identification, name):
@@ -191,13 +213,163 @@ def home():
     story.add(65, tcp, CAMERA, 50000, MAKER, 8883, SYN, 7000, options=SYN_OPTIONS)
     large_look_up(story, 120)
     trace(story, 180)
-    # the option 'record route', with room for three addresses
-    story.add(300, echo, WEB, NOTEBOOK, True, 3, 1, b"abcdefgh", ip_options=bytes([7, 15, 4]) + bytes(12) + b"\0")
+    story.add(300, echo, WEB, NOTEBOOK, True, 3, 1, b"abcdefgh", ip_options=RECORD_ROUTE)
     story.add(310, group_report, NOTEBOOK, "239.255.255.250")
     story.add_frame(400, ETHER_IPV6, icmp6_solicitation(), story.stations[NOTEBOOK],
                     bytes.fromhex("333300000002"))
     story.add(600, tcp, ATTACKER, 51000, NOTEBOOK, 22, SYN, 9000, window=1024)
     story.add(600, tcp, ATTACKER, 51000, NOTEBOOK, 23, SYN, 9000, window=1024, captured=46)
+    return story.capture()
+
+
+def open_connection(story, second, there, here, far):
+    """The three packets that open a TCP connection: the first end asks."""
+    source, port, destination, other_port = there
+    story.add(second, tcp, *there, SYN, here, options=SYN_OPTIONS)
+    story.add(second, tcp, destination, other_port, source, port, SYN | ACK, far, here + 1, options=SYN_OPTIONS)
+    story.add(second, tcp, *there, ACK, here + 1, far + 1, window=502)
+
+
+def knock(story, second, there, *flags):
+    """Single TCP packets with these flags, as a scanner sends them, each from a port of its own."""
+    source, port, destination, other_port = there
+    for step, each in enumerate(flags):
+        story.add(second, tcp, source, port + step, destination, other_port, each, 9000 + step, window=1024)
+
+
+def add_fragments(story, second, whole, size):
+    """Records a packet in two fragments."""
+    for fragment in fragments(whole, size):
+        story.add_bytes(second, fragment)
+
+
+def house_goes_out(story):
+    """Names, a web page, the time and pings: what a house asks for, and what comes back."""
+    look_up(story, 0, TABLET, 40001, NAMES, "www.example.com", SITE)
+    look_up(story, 1, GATEWAY, 40002, NAMES_TOO, "time.example.com", CLOCK)
+    there, back = (TABLET, 49152, SITE, 443), (SITE, 443, TABLET, 49152)
+    open_connection(story, 2, there, 1000, 5000)
+    story.add(2, tcp, *there, PSH | ACK, 1001, 5001, window=502, payload=b"h" * 200)
+    story.add(3, tcp, *back, PSH | ACK, 5001, 1201, window=509, payload=b"p" * 400)
+    story.add(9, tcp, *there, FIN | ACK, 1201, 5401, window=501)
+    story.add(10, udp, TABLET, 123, CLOCK, 123, b"\x23" + bytes(47))
+    story.add(10, udp, CLOCK, 123, TABLET, 123, b"\x24" + bytes(47))
+    story.add(20, echo, TABLET, SITE, True, 7, 1, b"abcdefgh")
+    story.add(20, echo, SITE, TABLET, False, 7, 1, b"abcdefgh")
+    story.add(21, echo, SITE, GATEWAY, True, 8, 1, b"abcdefgh")
+
+
+def errors_come_in(story):
+    """Errors about packets of the house, some of which it needs."""
+    large = tcp(TABLET, 49152, SITE, 443, PSH | ACK, 1001, 5001, payload=b"h" * 1460, identification=99)
+    probe = udp(TABLET, 45000, SITE, 33434, b"trace", identification=98, lifetime=1)
+    story.add(30, icmp_error, UPLINK, UNREACHABLE, 4, large)
+    story.add(30, icmp_error, SITE, UNREACHABLE, 3, probe)
+    story.add(31, icmp_error, UPLINK, TIME_EXCEEDED, 0, probe)
+    story.add(32, icmp_error, UPLINK, REDIRECT, 1, large)
+
+
+def tables_are_asked(story):
+    """Addresses that tables hold, and those that stand in them with a not."""
+    story.add(40, udp, "10.1.2.3", 53, TABLET, 40001, bytes(12))
+    story.add(41, tcp, TABLET, 49200, MODEM, 80, SYN, 1000, options=SYN_OPTIONS)
+    story.add(42, tcp, TABLET, 49201, "192.168.1.1", 80, SYN, 1000, options=SYN_OPTIONS)
+    story.add(43, tcp, BLOCKED, 51000, NAS, 22, SYN, 9000, window=1024)
+    story.add(44, tcp, TABLET, 49202, BLOCKED, 443, SYN, 1000, options=SYN_OPTIONS)
+    story.add(45, tcp, TABLET, 49203, MAIL, 993, SYN, 1000, options=SYN_OPTIONS)
+    story.add(46, tcp, MAIL, 51001, NAS, 443, SYN, 9000, options=SYN_OPTIONS)
+
+
+def gateway():
+    """Five minutes between a home's gateway and its provider."""
+    story = Story()
+    house_goes_out(story)
+    errors_come_in(story)
+    tables_are_asked(story)
+    knock(story, 60, (SCANNER, 52000, NAS, 443), SYN, SYN | FIN, FIN, 0, FIN | URG | PSH, ACK)
+    story.add(61, tcp, SCANNER, 52006, NAS, 23, SYN, 9006, window=1024)
+    look_up(story, 90, GUEST, 40090, NAMES, "films.example.com", FILMS)
+    story.add(91, tcp, GUEST, 49300, FILMS, 443, SYN, 1000, options=SYN_OPTIONS)
+    story.add(92, tcp, TABLET, 49301, FILMS, 443, SYN, 1000, options=SYN_OPTIONS)
+    story.add(93, tcp, GUEST, 49302, SITE, 587, SYN, 1000, options=SYN_OPTIONS)
+    story.add(94, udp, GUEST, 49303, SITE, 443, bytes(40))
+    story.add(120, ipv4, NAS, OFFICE, ESP, struct.pack(">II", 7, 1) + b"e" * 64)
+    tunnel = ipv4(OFFICE, NAS, ESP, struct.pack(">II", 8, 1) + b"e" * 1480, identification=len(story.records) + 1)
+    add_fragments(story, 120, tunnel, 1400)
+    answer = udp(NAMES, 53, TABLET, 40001, bytes(1600), identification=len(story.records) + 1)
+    add_fragments(story, 130, answer, 1480)
+    story.add(180, group_report, GATEWAY, "239.255.0.7")
+    story.add(181, group_report, TABLET, "239.255.0.7")
+    story.add(200, echo, SITE, TABLET, False, 7, 2, b"abcdefgh", ip_options=RECORD_ROUTE)
+    story.add(300, udp, SITE, 443, TABLET, 49204, bytes(40), captured=24)
+    return story.capture()
+
+
+def visit(story, second):
+    """A visitor's whole connection with the web server."""
+    there, back = (VISITOR, 50500, GATEWAY, 443), (GATEWAY, 443, VISITOR, 50500)
+    open_connection(story, second, there, 1000, 5000)
+    story.add(second, tcp, *there, PSH | ACK, 1001, 5001, window=502, payload=b"h" * 200)
+    story.add(second, tcp, *back, PSH | ACK, 5001, 1201, window=509, payload=b"p" * 900)
+    story.add(second + 5, tcp, *back, FIN | ACK, 5901, 1201, window=509)
+    story.add(second + 5, tcp, *there, RST, 1201, window=0)
+
+
+def manage(story, second):
+    """Those who manage the server, and one who did."""
+    open_connection(story, second, (ADMIN, 50600, GATEWAY, 22), 1000, 5000)
+    story.add(second + 1, tcp, RETIRED_ADMIN, 50601, GATEWAY, 22, SYN, 1000, options=SYN_OPTIONS)
+    story.add(second + 2, tcp, EXPORTS, 50602, GATEWAY, 9100, SYN, 1000, options=SYN_OPTIONS)
+    story.add(second + 3, tcp, ADMIN, 50603, GATEWAY, 9100, SYN, 1000, options=SYN_OPTIONS)
+    story.add(second + 4, tcp, ADMIN, 50604, GATEWAY, 443, SYN, 1000, options=SYN_OPTIONS)
+
+
+def scan(story, second):
+    """A scanner tries flags at one port, then other ports, then UDP."""
+    flags = SYN, SYN | FIN, SYN | RST, FIN | URG | PSH, 0, FIN, ACK
+    knock(story, second, (SCANNER, 52000, GATEWAY, 443), *flags)
+    for step, port in enumerate((22, 23, 3306, 3389)):
+        knock(story, second + 1, (SCANNER, 52100 + step, GATEWAY, port), SYN)
+    story.add(second + 2, udp, SCANNER, 52200, GATEWAY, 161, SNMP_GET)
+    story.add(second + 2, udp, SCANNER, 52201, GATEWAY, 443, bytes(40))
+    knock(story, second + 3, (BLOCKED, 52300, GATEWAY, 443), SYN)
+    knock(story, second + 3, (REFORMED, 52301, GATEWAY, 443), SYN)
+
+
+def ping_the_server(story, second):
+    """Pings, whole, with an IP option and in fragments, and errors both ways."""
+    story.add(second, echo, VISITOR, GATEWAY, True, 7, 1, b"abcdefgh")
+    story.add(second, echo, GATEWAY, VISITOR, False, 7, 1, b"abcdefgh")
+    story.add(second + 1, echo, VISITOR, GATEWAY, True, 7, 2, b"abcdefgh", ip_options=RECORD_ROUTE)
+    large = echo(VISITOR, GATEWAY, True, 7, 3, b"a" * 2000, identification=len(story.records) + 1)
+    add_fragments(story, second + 2, large, 1480)
+    page = tcp(GATEWAY, 443, VISITOR, 50500, ACK, 5001, 1201, payload=b"p" * 1460, identification=99)
+    story.add(second + 3, icmp_error, UPLINK, UNREACHABLE, 4, page)
+    story.add(second + 3, icmp_error, UPLINK, REDIRECT, 1, page)
+    lost = udp(SCANNER, 52201, GATEWAY, 443, bytes(40), identification=98)
+    story.add(second + 4, icmp_error, GATEWAY, UNREACHABLE, 3, lost)
+
+
+def server():
+    """A few minutes at the plug of a web server."""
+    story = ServerStory()
+    server_station, router = story.stations[GATEWAY], story.router
+    story.add_frame(0, ETHER_ARP, arp(1, router, UPLINK, bytes(6), GATEWAY), router, b"\xff" * 6)
+    story.add_frame(0, ETHER_ARP, arp(2, server_station, GATEWAY, router, UPLINK), server_station, router)
+    visit(story, 1)
+    manage(story, 30)
+    scan(story, 60)
+    ping_the_server(story, 90)
+    look_up(story, 120, GATEWAY, 40001, NAMES, "updates.example.com", CUSTOMER)
+    there, back = (GATEWAY, 49152, CUSTOMER, 443), (CUSTOMER, 443, GATEWAY, 49152)
+    story.add(121, tcp, *there, SYN, 1000, options=SYN_OPTIONS)
+    story.add(121, tcp, *back, SYN | ACK, 5000, 1001, options=SYN_OPTIONS)
+    story.add(180, udp, GATEWAY, 123, NAMES_TOO, 123, b"\x23" + bytes(47))
+    story.add(180, udp, NAMES_TOO, 123, GATEWAY, 123, b"\x24" + bytes(47))
+    page = tcp(VISITOR, 50501, GATEWAY, 443, PSH | ACK, 1001, 5001, payload=b"h" * 1600,
+               identification=len(story.records) + 1)
+    add_fragments(story, 200, page, 1480)
+    knock(story, 240, (SCANNER, 52400, "192.0.2.77", 443), SYN)
     return story.capture()
 
 
@@ -234,7 +406,8 @@ def first():
     return capture_header() + b"".join(record(0, 0, packet) for packet in packets)
 
 
-CAPTURES = {"first.pcap": first, "home.pcap": home, "office.pcap": office}
+CAPTURES = {"first.pcap": first, "gateway.pcap": gateway, "home.pcap": home, "office.pcap": office,
+            "server.pcap": server}
 
 
 def main():
