@@ -23,12 +23,20 @@ pub enum Failure<'a> {
     Usage(String),
     /// A word is no network.
     BadNetwork(&'a str),
+    /// A word isn't of the form that the flag asks for.
+    BadValue {
+        flag: &'a str,
+        form: &'a str,
+        word: &'a str,
+    },
     /// A file can't be opened or read.
     CannotOpen(&'a str),
     Rules(ConfError),
     Capture(CaptureError, u64),
     ReadFailed(u64),
     WriteFailed(Output, u64),
+    /// Standard output failed, with nothing replayed.
+    PrintFailed,
     NoMemory(u64),
 }
 
@@ -50,12 +58,16 @@ impl<'a> Failure<'a> {
             Failure::NoWords
             | Failure::Usage(_)
             | Failure::BadNetwork(_)
+            | Failure::BadValue { .. }
             | Failure::Capture(_, _) => REFUSED,
-            Failure::CannotOpen(_) | Failure::ReadFailed(_) | Failure::WriteFailed(_, _) => DEVICE,
+            Failure::CannotOpen(_)
+            | Failure::ReadFailed(_)
+            | Failure::WriteFailed(_, _)
+            | Failure::PrintFailed => DEVICE,
             Failure::NoMemory(_) => NO_MEMORY,
             Failure::Rules(fault) => match fault.kind {
-                ConfErrorKind::UnknownWord => REFUSED,
                 ConfErrorKind::Memory => NO_MEMORY,
+                _ => REFUSED,
             },
         }
     }
@@ -67,6 +79,9 @@ impl fmt::Display for Failure<'_> {
             Failure::NoWords => write!(f, "the command line is no text"),
             Failure::Usage(text) => f.write_str(text.as_str()),
             Failure::BadNetwork(word) => write!(f, "no network: {word}"),
+            Failure::BadValue { flag, form, word } => {
+                write!(f, "invalid value '{word}' for '{flag} <{form}>'")
+            }
             Failure::CannotOpen(name) => write!(f, "cannot open: {name}"),
             Failure::Rules(fault) => write!(f, "{fault}"),
             Failure::Capture(refusal, lines) => match refusal {
@@ -83,6 +98,7 @@ impl fmt::Display for Failure<'_> {
             Failure::WriteFailed(Output::Packets, lines) => {
                 write!(f, "write failed: packets, committed {lines}")
             }
+            Failure::PrintFailed => write!(f, "write failed: standard output"),
             Failure::NoMemory(lines) => write!(f, "no memory, committed {lines}"),
         }
     }

@@ -4,11 +4,16 @@ use crate::lines::LineWriter;
 use crate::packets::PacketWriter;
 use crate::words::{Asked, parse};
 use pfr_capture::{Source, Tail};
-use pfr_out::{ConfError, ConfErrorKind, Output, Report, Stop, replay_plain};
+use pfr_expand::Interface;
+use pfr_out::ruleset::LONGEST_TEXT;
+use pfr_out::{ConfError, Output, Report, Stop, replay_plain, ruleset_of};
+use pfr_sync::checksum;
+use std::alloc::{AllocError, Global};
 use std::cell::Cell;
-use std::io::{ErrorKind, Write};
+use std::fs::File;
+use std::io;
+use std::io::{ErrorKind, Read, Write};
 use std::rt::Files;
-use std::{fs, io};
 
 /// Does what the words ask, the program's name first among them, and answers the status to end with. What
 /// is wrong goes to `err`, in one line.
@@ -40,7 +45,14 @@ fn work<'a, R: Files + AllocGlobal, S: Source, O: Write + Drop>(
     match parse(rt.alloc(), words)? {
         Asked::Help(text) => {
             out.print(text.as_bytes())
-                .map_err(|_| Failure::WriteFailed(Output::Verdicts, 0))?;
+                .map_err(|_| Failure::PrintFailed)?;
+            Ok(DONE)
+        }
+        Asked::Check { rules, interface } => {
+            let text = ruleset_text(rt, rules)?;
+            let summary = summary(rt.alloc(), text.as_slice(), &interface)?;
+            out.print(summary.as_bytes())
+                .map_err(|_| Failure::PrintFailed)?;
             Ok(DONE)
         }
         Asked::Replay {
@@ -90,16 +102,38 @@ fn finish<'a, R: Files, O: Write + Drop>(
     }
 }
 
-/// The text of a ruleset's file.
+/// The text of a ruleset's file; of one that is longer than a text may be so much that this shows.
 fn ruleset_text<'a, R: Files + AllocGlobal>(rt: &R, name: &'a str) -> Result<Vec<u8>, Failure<'a>> {
-    match fs::read(rt, name) {
+    match beginning(rt, name) {
         Ok(text) => Ok(text),
         Err(error) => match error.kind() {
-            ErrorKind::OutOfMemory => Err(Failure::Rules(ConfError {
-                line: 0,
-                kind: ConfErrorKind::Memory,
-            })),
+            ErrorKind::OutOfMemory => Err(Failure::Rules(ConfError::from(AllocError))),
             _ => Err(Failure::CannotOpen(name)),
         },
     }
+}
+
+/// The bytes of a file, at most one more than a ruleset's text may have.
+fn beginning<R: Files + AllocGlobal>(rt: &R, name: &str) -> io::Result<Vec<u8>> {
+    let file = File::open(rt, name)?;
+    let mut text = Vec::new(rt.alloc());
+    file.take(LONGEST_TEXT as u64 + 1).read_to_end(&mut text)?;
+    Ok(text)
+}
+
+/// The line that says how many rules a text makes for an interface, and what its checksum is.
+fn summary<'a>(
+    alloc: Global,
+    text: &[u8],
+    interface: &Interface,
+) -> Result<String, Failure<'a>> {
+    let ruleset = ruleset_of(alloc, text, interface).map_err(Failure::Rules)?;
+    let (filter, translation) = ruleset.counts();
+    let mut line = String::new(alloc);
+    write!(line, "{filter} filter, {translation} translation, ")?;
+    for byte in checksum(text) {
+        write!(line, "{byte:02x}")?;
+    }
+    writeln!(line)?;
+    Ok(line)
 }

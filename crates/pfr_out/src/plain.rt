@@ -6,12 +6,14 @@ ghost use Rattle.pfr_capture.specs.Reading.{HasGiven, bytes_of};
 ghost use Rattle.pfr_capture.specs.Records.{text_of};
 ghost use Rattle.pfr_out.specs.Plain.{Begun, OfEvery, Replayed, StopFails, StopOf, Stopped, UnderRules, counts, judged, line_of, outputs, packet_of, rules_of, stop_for};
 ghost use Rattle.pfr_out.specs.Writing.{RecordCounts, RecordFails, WroteRecord, stop_in_record};
+ghost use Rattle.pfr_terms.specs.Input.{Gives};
 ghost use Rattle.pfr_expand.specs.declared.ruleset.Ruleset.{Ruleset};
 
 use crate::report::{Output, Report, Stop};
 use crate::ruleset::{plain_interface, ruleset_of};
 use crate::verdict::{Judgement, Verdict, VerdictLine};
 use pfr_capture::{Capture, CaptureError, Fault, Record, Sink, Source, write_all};
+use pfr_conf::ConfError;
 use pfr_expand::Ruleset;
 use pfr_headers::{Net, view};
 use std::alloc::{AllocError, Global};
@@ -100,6 +102,13 @@ fn write_record<S: Sink, T: Sink>(
         write_packet(packet, packets).map_err(|_| RecordError::Packets)?;
     }
     Ok(())
+}
+
+/// What a text means for the run's interface, or its fault.
+fn rules_of(alloc: Global, text: &[u8]) -> Result<Ruleset, ConfError>
+    ensures { Gives (rules_of text.now) result }
+{
+    ruleset_of(alloc, text, &plain_interface())
 }
 
 /// The stop for a refusal of the capture's reader.
@@ -205,7 +214,7 @@ pub fn replay_plain<R: Source, S: Sink, T: Sink>(
     ensures stopped { IfErr result (λ stop. IsTrue (R.told source.old) → IsTrue (S.told verdicts.old) → IsTrue (T.told packets.old) → StopOf text.now inside.now (R.unread source.old) (R.unread source.new) (outputs (S.written verdicts.old) (T.written packets.old)) (outputs (S.written verdicts.new) (T.written packets.new)) stop) }
     ensures failure { IfErr result (λ stop. StopFails stop (counts (R.failures source.old) (S.failures verdicts.old) (T.failures packets.old)) (counts (R.failures source.new) (S.failures verdicts.new) (T.failures packets.new))) }
 {
-    let rules = match ruleset_of(alloc, text, &plain_interface()) {
+    let rules = match rules_of(alloc, text) {
         Ok(rules) => rules,
         Err(fault) => return Err(Stop::Ruleset(fault)),
     };

@@ -1,7 +1,7 @@
 //! The rows of the plain run, and devices that fail at each call in turn.
 use pfr_capture::{CaptureError, Mem, Tail};
 use pfr_headers::{Ipv4Address, Net};
-use pfr_out::{ConfError, ConfErrorKind, Output, Report, Stop, replay_plain};
+use pfr_out::{ConfErrorKind, Output, Report, Stop, replay_plain};
 use std::alloc::{AllocError, Global};
 use std::process::Abort;
 use std::test::Fail;
@@ -81,24 +81,24 @@ fn gives_a_line_for_each_packet(rt: HostRuntime) -> Result<(), Fail> {
 }
 
 #[test]
-fn refuses_a_line_that_is_no_rule(rt: HostRuntime) -> Result<(), Fail> {
+fn refuses_a_text_at_fault(rt: HostRuntime) -> Result<(), Fail> {
     let alloc = rt.alloc();
-    let texts: [&[u8]; 5] = [
-        b"block in all\npass in all",
-        b"block in all\nblock  in all",
-        b"block in all\nblock in all no state\n",
-        b"\nblock in from 10.0.0.0/33 to any",
-        b"\npass in quick from any to 256.0.0.1 no state",
+    let texts: [&[u8]; 3] = [
+        b"block in all\npass in all pass",
+        b"\nblock in all no\n",
+        b"\n, \n",
     ];
     for text in texts {
         let source = Mem::new(three_packets(alloc, [0, 0, 0])?);
         let mut verdicts = Mem::new(Vec::new(alloc));
         let stop = replay(alloc, source, text, &mut verdicts);
-        let fault = ConfError {
-            line: 2,
-            kind: ConfErrorKind::UnknownWord,
-        };
-        assert_eq!(rt; stop, Err(Stop::Ruleset(fault)));
+        match stop {
+            Err(Stop::Ruleset(fault)) => {
+                assert_eq!(rt; fault.line, 2);
+                assert!(rt; matches!(fault.kind, ConfErrorKind::UnknownWord));
+            }
+            _ => assert!(rt; false),
+        }
         assert_eq!(rt; verdicts.bytes().len(), 0);
     }
     Ok(())
@@ -120,7 +120,7 @@ fn reads_captures_of_each_length(rt: HostRuntime) -> Result<(), Fail> {
 /// How the run over the first so many bytes of three packets ends.
 fn ends_by_length(rt: &impl Abort, length: usize, outcome: Result<Report, Stop>, verdicts: &[u8]) {
     if length < 24 {
-        assert_eq!(rt; outcome, Err(Stop::Capture(CaptureError::HeaderCut, 0)));
+        assert!(rt; matches!(outcome, Err(Stop::Capture(CaptureError::HeaderCut, 0))));
         assert_eq!(rt; verdicts.len(), 0);
         return;
     }
@@ -132,7 +132,7 @@ fn ends_by_length(rt: &impl Abort, length: usize, outcome: Result<Report, Stop>,
     };
     let lines =
         b"1 10 in pass rule r=1 t=- s=-\n2 10 in block rule r=3 t=- s=-\n3 11 out pass default r=- t=- s=-\n";
-    assert_eq!(rt; outcome, Ok(Report { committed, tail }));
+    assert!(rt; matches!(outcome, Ok(report) if report == Report { committed, tail }));
     assert_eq!(rt; lines_in(verdicts), committed);
     assert!(rt; lines.starts_with(verdicts));
 }
@@ -153,7 +153,7 @@ fn refuses_other_captures(rt: HostRuntime) -> Result<(), Fail> {
         let source = Mem::new(bytes);
         let mut verdicts = Mem::new(Vec::new(alloc));
         let outcome = replay(alloc, source, RULES, &mut verdicts);
-        assert_eq!(rt; outcome, Err(Stop::Capture(refusal, 0)));
+        assert!(rt; matches!(outcome, Err(Stop::Capture(told, 0)) if told == refusal));
         assert_eq!(rt; verdicts.bytes().len(), 0);
     }
     Ok(())
@@ -166,7 +166,7 @@ fn writes_a_line_at_a_time(rt: HostRuntime) -> Result<(), Fail> {
     let source = Mem::new(three_packets(alloc, [0, 0, 0])?);
     let mut verdicts = Mem::new(Vec::new(alloc)).failing_after(2);
     let outcome = replay(alloc, source, RULES, &mut verdicts);
-    assert_eq!(rt; outcome, Err(Stop::Write(Output::Verdicts, 2)));
+    assert!(rt; matches!(outcome, Err(Stop::Write(Output::Verdicts, 2))));
     assert_eq!(rt; lines_in(verdicts.bytes()), 2);
     assert!(rt; verdicts.bytes().ends_with(b"\n"));
     Ok(())
@@ -190,16 +190,14 @@ fn stops_where_a_read_fails(rt: HostRuntime) -> Result<(), Fail> {
 fn ends_by_read(rt: &impl Abort, calls: u64, outcome: Result<Report, Stop>, verdicts: &[u8]) {
     // 24 bytes, three records of 44, and the read that meets the end.
     if calls > 156 {
-        assert_eq!(rt;
-            outcome,
-            Ok(Report {
-                committed: 3,
-                tail: Tail::Clean
-            })
-        );
+        let whole = Report {
+            committed: 3,
+            tail: Tail::Clean,
+        };
+        assert!(rt; matches!(outcome, Ok(report) if report == whole));
     } else {
         let committed = calls.saturating_sub(24) / 44;
-        assert_eq!(rt; outcome, Err(Stop::Read(committed)));
+        assert!(rt; matches!(outcome, Err(Stop::Read(told)) if told == committed));
         assert_eq!(rt; lines_in(verdicts), committed);
         assert!(rt; verdicts.is_empty() || verdicts.ends_with(b"\n"));
     }
@@ -224,7 +222,7 @@ fn stops_where_a_write_fails(rt: HostRuntime) -> Result<(), Fail> {
 /// How the run ends whose sink of verdicts fails after so many bytes.
 fn ends_by_write(rt: &impl Abort, calls: usize, outcome: Result<Report, Stop>, verdicts: &[u8]) {
     let committed = lines_in(verdicts);
-    assert_eq!(rt; outcome, Err(Stop::Write(Output::Verdicts, committed)));
+    assert!(rt; matches!(outcome, Err(Stop::Write(Output::Verdicts, told)) if told == committed));
     assert_eq!(rt; verdicts.len(), calls);
     assert!(rt; LINES.starts_with(verdicts));
 }
@@ -236,6 +234,6 @@ fn stops_where_nothing_is_taken(rt: HostRuntime) -> Result<(), Fail> {
     let source = Mem::new(three_packets(alloc, [0, 0, 0])?);
     let mut verdicts = Mem::new(Vec::new(alloc)).at_most(0);
     let outcome = replay(alloc, source, RULES, &mut verdicts);
-    assert_eq!(rt; outcome, Err(Stop::Write(Output::Verdicts, 0)));
+    assert!(rt; matches!(outcome, Err(Stop::Write(Output::Verdicts, 0))));
     Ok(())
 }
