@@ -122,12 +122,11 @@ fn beginning<R: Files + AllocGlobal>(rt: &R, name: &str) -> io::Result<Vec<u8>> 
 }
 
 /// The line that says how many rules a text makes for an interface, and what its checksum is.
-fn summary<'a>(
-    alloc: Global,
-    text: &[u8],
-    interface: &Interface,
-) -> Result<String, Failure<'a>> {
-    let ruleset = ruleset_of(alloc, text, interface).map_err(Failure::Rules)?;
+fn summary<'a>(alloc: Global, text: &[u8], interface: &Interface) -> Result<String, Failure<'a>> {
+    let ruleset = match ruleset_of(alloc, text, interface) {
+        Ok(ruleset) => ruleset,
+        Err(fault) => return Err(Failure::Rules(fault)),
+    };
     let (filter, translation) = ruleset.counts();
     let mut line = String::new(alloc);
     write!(line, "{filter} filter, {translation} translation, ")?;

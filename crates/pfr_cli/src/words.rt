@@ -19,7 +19,10 @@ pub enum Asked<'a> {
         packets: Option<&'a str>,
     },
     /// To say how many rules the ruleset in this file makes for an interface.
-    Check { rules: &'a str, interface: Interface },
+    Check {
+        rules: &'a str,
+        interface: Interface,
+    },
     /// To print this text and no more.
     Help(String),
 }
