@@ -6,7 +6,7 @@ from pathlib import Path
 
 from cases import INSIDE, Case, capture_of
 from filter_texts import HOSTS, INSIDE_HOSTS, OUTSIDE_HOSTS, PORTS, some_ruleset
-from packets import (ACK, FIN, ICMP, IGMP, MORE_FRAGMENTS, PSH, RST, SYN, TCP, UDP, ipv4, summed_message, tcp, udp)
+from packets import ACK, FIN, ICMP, IGMP, MORE_FRAGMENTS, PSH, RST, SYN, ipv4, summed_message, tcp, udp
 
 HERE = Path(__file__).resolve().parent
 GRE = 47

@@ -89,6 +89,8 @@ def verdict_rows():
               (SYN_PACKET, "in block rule r=2"), (PING, "in block rule r=3"))
     yield row("a quick rule", "pass quick proto udp\nblock\nblock quick proto tcp\npass",
               (UDP_NINE, "in pass rule r=0"), (SYN_PACKET, "in block rule r=2"), (PING, "in pass rule r=3"))
+    yield row("65536 rules", "pass\n" * 65535 + "block proto udp\n", (UDP_NINE, "in block rule r=65535"),
+              (PING, "in pass rule r=65534"))
     # each packet is judged by itself, so the answer to one that a stateful rule has let out stays outside
     yield row("no states", "block\npass out keep state", (udp("10.0.0.5", 9, OUTSIDE, 9), "out pass rule r=1"),
               (udp(OUTSIDE, 9, "10.0.0.5", 9), "in block rule r=0"))
@@ -215,8 +217,9 @@ NOTHING, EVERYTHING = (False,) * 7, (True,) * 7
 FRAGMENTS_HELD = (
     ("from port 53", NOTHING), ("to port 53", NOTHING), ("to port != 9", NOTHING), ("proto udp to port 53", NOTHING),
     ("flags S/SA no state", NOTHING), ("flags A/SA", NOTHING), ("icmp-type 8", NOTHING),
-    ("icmp-type 8 code 0", NOTHING), ("proto icmp icmp-type 8", NOTHING), ("flags any", EVERYTHING), ("", EVERYTHING), ("no state", EVERYTHING),
-    ("keep state", EVERYTHING), ("on em0", EVERYTHING), ("from 198.51.100.7 to 192.0.2.1", EVERYTHING),
+    ("icmp-type 8 code 0", NOTHING), ("proto icmp icmp-type 8", NOTHING), ("flags any", EVERYTHING), ("", EVERYTHING),
+    ("no state", EVERYTHING), ("keep state", EVERYTHING), ("on em0", EVERYTHING),
+    ("from 198.51.100.7 to 192.0.2.1", EVERYTHING),
     ("proto udp", (True, True, False, False, False, False, False)),
     ("proto tcp", (False, False, True, True, False, False, False)),
     ("proto icmp", (False, False, False, False, True, True, False)),

@@ -5,7 +5,7 @@ INSIDE_HOSTS = ("10.0.0.5", "10.0.0.6", "10.1.2.3", "10.1.3.3")
 OUTSIDE_HOSTS = ("198.51.100.7", "198.51.100.8", "203.0.113.9", "192.0.2.1", "192.0.2.77")
 HOSTS = INSIDE_HOSTS + OUTSIDE_HOSTS
 NETWORKS = ("10.0.0.0/8", "10.1.0.0/16", "10.1.2.0/24", "198.51.100.0/24", "198.51.100.6/31", "192.0.2.0/24",
-            "128.0.0.0/1", "203.0.113.9/32", "0.0.0.0/0")
+            "0.0.0.0/0", "128.0.0.0/1", "203.0.113.9/32")
 RANGES = ("10.0.0.6 - 10.1.2.3", "10.0.0.0 - 198.51.100.7", "198.51.100.8 - 203.0.113.9", "192.0.2.1 - 192.0.2.1")
 FORMS = ("self", "em0", "em0:0", "em0:network", "(em0)", "(em0:network)", "$own", "($own)", "$own:network")
 TABLES = ("few", "many")
@@ -132,7 +132,8 @@ def some_statements(chance, depth, count):
 
 def some_table(chance, name):
     """A table of networks within one another, about a third of them with a not; no two of them are one."""
-    entries = chance.sample(HOSTS[:-2] + NETWORKS[:-1], chance.randint(0, 6)) + sometimes(chance, 0.2, ["$desk/30"])
+    # the last of the networks is one of the hosts
+    entries = chance.sample(HOSTS + NETWORKS[:-1], chance.randint(0, 6)) + sometimes(chance, 0.2, ["$desk/30"])
     words = [entry if "$" in entry or chance.random() < 0.65 else f"!{entry}" for entry in entries]
     return f"table <{name}> {chance.choice(['', 'persist ', 'const '])}{{ {', '.join(words)} }}"
 
