@@ -39,8 +39,9 @@ def rows():
     yield (Case("three packets", FIRST_RULES, INSIDE, first),
            b"1 0 in pass rule r=1 t=- s=-\n2 0 in block rule r=0 t=- s=-\n3 0 out pass default r=- t=- s=-\n",
            b"", 0, opening + one + three)
-    yield (Case("a pass rule without 'no state'", b"block in all\npass in all\n", INSIDE, first),
-           b"", b"pfreplay: rules line 2: unknown word\n", 1, None)
+    yield (Case("a pass rule that keeps state", b"block in all\npass in all\n", INSIDE, first),
+           b"1 0 in pass rule r=1 t=- s=-\n2 0 in pass rule r=1 t=- s=-\n3 0 out pass default r=- t=- s=-\n",
+           b"", 0, first)
     yield Case("no packet", b"", INSIDE, capture_header()), b"", b"", 0, opening
     yield (Case("a header of 23 bytes", b"", INSIDE, capture_header()[:23]),
            b"", b"pfreplay: capture: header cut\n", 1, None)
@@ -142,15 +143,14 @@ def edges():
     yield Case("many blocked packets", b"block all\n", INSIDE, capture_of(PACKETS * 3000))
 
 
-GOOD_LINES = [
+# rules, slips in them, and odd bytes
+LINES = [
     b"block all", b"pass all no state", b"block in all", b"block out all", b"pass in all no state",
     b"block quick all", b"block in quick all", b"pass out quick all no state", b"block from any to any",
     b"pass quick from any to 192.0.2.1 no state", b"block from 0.0.0.0/0 to 255.255.255.255/32",
     b"block from 010.0.0.05 to 192.000.002.0001", b"block from 10.0.0.0/08 to any",
     b"block from 203.0.113.9/0000000000000000000000000000024 to any", b"block from 203.0.113.255/24 to any",
     b"block from 0000000000000000000000000000000000203.0.113.9 to any", b"block from any to 192.0.2.1/31",
-]
-BAD_LINES = [
     b" ", b"  ", b" block all", b"block all ", b"block  all", b"block\tall", b"block all\t", b"block all\r",
     b"\r", b"\0", b"block all\0", b"# block all", b"block all # all", b"Block all", b"BLOCK ALL", b"block",
     b"pass", b"all", b"in all", b"block in", b"block quick", b"block all all", b"block all block all",
@@ -177,12 +177,9 @@ BAD_LINES = [
 
 def lines():
     capture = capture_of(PACKETS)
-    for line in GOOD_LINES:
-        yield Case(f"good line {line!r}", line + b"\n", INSIDE, capture)
-        yield Case(f"good line {line!r} without newline", b"block all\n\n" + line, INSIDE, capture)
-    for line in BAD_LINES:
-        yield Case(f"bad line {line[:80]!r}", line + b"\n", INSIDE, capture)
-        yield Case(f"bad line 4 {line[:80]!r}", b"\nblock all\n\n" + line, INSIDE, capture)
+    for line in LINES:
+        yield Case(f"line {line[:80]!r}", line + b"\n", INSIDE, capture)
+        yield Case(f"line 4 {line[:80]!r} without newline", b"\nblock all\n\n" + line, INSIDE, capture)
     for text in (b"", b"\n", b"\n\n\n", b"block all\n" * 3000, b"\n" * 3000 + b"bad", b"bad\nworse\n"):
         yield Case(f"text {text[:20]!r} of {len(text)} bytes", text, INSIDE, capture)
     for text in (b"block all\r\nblock all\r\n", b"block all\rblock all\r"):
@@ -205,7 +202,7 @@ def some_rule(chance):
     words = [chance.choice(["pass", "block"])] + chance.choice([[], ["in"], ["out"]])
     words += ["quick"] if chance.random() < 0.2 else []
     words += ["all"] if chance.random() < 0.2 else ["from", some_address(chance), "to", some_address(chance)]
-    return " ".join(words + (["no", "state"] if words[0] == "pass" else []))
+    return " ".join(words + (["no", "state"] if words[0] == "pass" and chance.random() < 0.8 else []))
 
 
 def some_rules(chance):

@@ -1,9 +1,10 @@
 #!/usr/bin/env python3
 """Runs the program on many rulesets and captures and compares each run with the model.
 
-    compare.py PROGRAM [WORDS..]     (the words come before those of each case)
+    compare.py [PROGRAM [WORDS..]]     (the words come before those of each case)
 
-It exits with 1 where a run ends otherwise than the model says, and shows such runs.
+It exits with 1 where a run ends otherwise than the model says, and shows such runs. Without a program it asks of the
+model alone whether it says what is written of cases with a written outcome, and whether it has an answer to all others.
 """
 
 import os
@@ -16,6 +17,11 @@ from pathlib import Path
 sys.dont_write_bytecode = True
 
 import cases
+import check_cases
+import check_compare
+import check_model
+import filter_cases
+import filter_rows
 import frame_cases
 import model
 from model import Outcome
@@ -40,18 +46,22 @@ class Comparison:
         self.count = 0
         self.wrong = []
 
-    def run(self, rules, inside, capture, packets=None, out=subprocess.PIPE):
+    def execute(self, words, source=os.devnull, out=subprocess.PIPE):
         """One run of the program; None where it takes too long."""
-        third = [] if packets is None else [str(packets)]
-        source = os.open(capture, os.O_RDONLY)
+        given = os.open(source, os.O_RDONLY)
         try:
-            seen = subprocess.run([*self.command, str(rules), inside, *third], stdin=source, stdout=out,
-                                  stderr=subprocess.PIPE, timeout=TIME_LIMIT, check=False)
+            seen = subprocess.run([*self.command, *map(str, words)], stdin=given, stdout=out, stderr=subprocess.PIPE,
+                                  timeout=TIME_LIMIT, check=False)
         except subprocess.TimeoutExpired:
             return None
         finally:
-            os.close(source)
+            os.close(given)
         return Outcome(seen.stdout or b"", seen.stderr, seen.returncode, self.left())
+
+    def run(self, rules, inside, capture, packets=None, out=subprocess.PIPE):
+        """One replay."""
+        third = [] if packets is None else [packets]
+        return self.execute([rules, inside, *third], capture, out)
 
     def left(self):
         """What stands in the file for the packets, None where there is none."""
@@ -62,7 +72,7 @@ class Comparison:
         if seen != expected:
             self.wrong.append((name, expected, seen))
 
-    def prepare(self, way):
+    def prepare(self, way=WITHOUT):
         """The third word of a run; whatever was left there before is gone."""
         self.packets.unlink(missing_ok=True)
         if way == OLD:
@@ -82,16 +92,14 @@ class Comparison:
                     self.run(self.rules, case.inside, self.capture, packets))
 
     def rows(self):
-        """Cases with a written outcome: they show that the model is right too."""
-        for case, *written in (*cases.rows(), *frame_cases.rows()):
-            expected = Outcome(*written)
-            self.expect(f"model: {case.name}", expected, model.run(case.rules, case.inside, case.capture))
+        """Cases with a written outcome."""
+        for case, *written in written_cases():
             for way in (WITHOUT, NEW, OLD):
-                self.compare(case, expected, way)
+                self.compare(case, Outcome(*written), way)
 
     def modelled(self):
         ways = (WITHOUT, NEW, WITHOUT, OLD)
-        for number, case in enumerate((*cases.all_cases(), *frame_cases.all_cases())):
+        for number, case in enumerate(modelled_cases()):
             expected = model.run(case.rules, case.inside, case.capture)
             self.compare(case, expected, ways[number % len(ways)])
 
@@ -115,7 +123,7 @@ class Comparison:
 
     def full_disks(self, whole):
         """Each output to a full disk alone, the other one may hold any beginning of what is right."""
-        packets = self.prepare(WITHOUT)
+        packets = self.prepare()
         with open("/dev/full", "wb") as full:
             self.expect("a full disk", Outcome(b"", b"pfreplay: write failed: verdicts, committed 0\n", 3),
                         self.run(self.rules, cases.INSIDE, self.capture, packets, full))
@@ -167,6 +175,42 @@ class Comparison:
                         (self.folder / capture.name).read_bytes())
 
 
+def written_cases():
+    """The replays with a written outcome."""
+    for module in (cases, frame_cases, filter_rows):
+        yield from module.rows()
+
+
+def modelled_cases():
+    """The replays that the model answers."""
+    for module in (cases, frame_cases, filter_cases):
+        yield from module.all_cases()
+
+
+def compare_model(comparison):
+    """What the model says to the cases with a written outcome, which shows that it is right too."""
+    for case, *written in written_cases():
+        comparison.expect(f"model: {case.name}", Outcome(*written), model.run(case.rules, case.inside, case.capture))
+    for case, *written in check_cases.rows():
+        comparison.expect(f"model: {case.name}", Outcome(*written),
+                          check_model.check(case.text, case.interface, case.network))
+
+
+def compare_program(comparison):
+    comparison.rows()
+    comparison.modelled()
+    comparison.devices()
+    comparison.example_captures()
+    check_compare.compare(comparison)
+
+
+def answer_all():
+    """Has the model answer every other case, and says how many there are."""
+    replays = [model.run(case.rules, case.inside, case.capture) for case in modelled_cases()]
+    checks = [check_model.check(case.text, case.interface, case.network) for case in check_cases.all_cases()]
+    print(f"the model answers {len(replays)} replays and {len(checks)} checks more")
+
+
 def beginning(seen, whole):
     """What was seen where it is a beginning of the whole, and else the whole."""
     return seen if seen is not None and whole.startswith(seen) else whole
@@ -187,14 +231,14 @@ def digest(packets):
 
 
 def main():
-    if len(sys.argv) < 2:
-        sys.exit(__doc__)
+    command = sys.argv[1:]
     with tempfile.TemporaryDirectory() as folder:
-        comparison = Comparison(sys.argv[1:], Path(folder))
-        comparison.rows()
-        comparison.modelled()
-        comparison.devices()
-        comparison.example_captures()
+        comparison = Comparison(command, Path(folder))
+        compare_model(comparison)
+        if command:
+            compare_program(comparison)
+        else:
+            answer_all()
     for name, expected, seen in comparison.wrong[:MOST_SHOWN]:
         print(f"{name}:\n  expected {shown(expected)}\n  seen     {shown(seen)}")
     if comparison.wrong:

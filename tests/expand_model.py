@@ -73,13 +73,13 @@ class Ruleset:
         return len(self.rules.filter), self.rules.translation_count
 
 
-def expand(text, interface, address, bits):
+def expand(text, interface, address, bits, translation=True):
     """The Ruleset of the bytes of a text, or ('fault', its line, its kind). The address is a.b.c.d. Rules of translation
-    are read, though the reader of rulesets may still leave them out."""
+    are read, unless it is told to leave them out as the reader of rulesets still may."""
     number = int.from_bytes(bytes(int(octet) for octet in address.split(".")), "big")
     ruleset = Ruleset(Run(interface, number, bits))
     try:
-        for statement in tree_of(text, translation=True):
+        for statement in tree_of(text, translation):
             ruleset.take(statement)
     except Fault as fault:
         return "fault", fault.line, fault.kind

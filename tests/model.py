@@ -5,20 +5,29 @@ It is written from the description of the formats alone, for clearness and not f
 program can be compared with it. As a command it takes the program's words: RULES INSIDE [PACKETS] < CAPTURE.
 """
 
-import re
 import struct
 import sys
+from functools import lru_cache
 from typing import NamedTuple
 
+sys.dont_write_bytecode = True
+
+from expand_model import Ruleset, expand
+from expand_values import TOO_MANY
+from filter_model import deciding_place, network_holds
+from frame_model import ETHERNET, LOOPBACK, RAW, view
+from ruleset_model import READS_TRANSLATION, worded
+from ruleset_tree import Network
+
 MOST_CAPTURED = 262144
-LOOPBACK, ETHERNET, RAW = 0, 1, 101
-# the loopback family of IPv4 in either byte order
-FAMILIES = (b"\2\0\0\0", b"\0\0\0\2")
-TYPE_IPV4, TYPE_VLAN = b"\x08\0", b"\x81\0"
-ICMP, TCP, UDP = 1, 6, 17
-ADDRESS = rb"any|[0-9]+\.[0-9]+\.[0-9]+\.[0-9]+(?:/[0-9]+)?"
-RULE = re.compile(rb"(pass|block)(?: (in|out))?(?: (quick))?"
-                  rb"(?: all| from (" + ADDRESS + rb") to (" + ADDRESS + rb"))( no state)?")
+# bytes of a ruleset's text
+MOST_TEXT = 1048576
+# the interface of every run: its name, its address and the bits of its network
+INTERFACE = ("em0", "192.0.2.1", 24)
+# the verdict of a rule by what it does
+VERDICTS = {"pass": "pass", "drop": "block", "return": "return"}
+# verdicts of packets that go on
+PASSED = ("pass", "skip")
 
 
 class Outcome(NamedTuple):
@@ -32,32 +41,6 @@ class Outcome(NamedTuple):
 
 class Refused(Exception):
     """The ruleset or the capture is refused with this text."""
-
-
-class Network(NamedTuple):
-    """The addresses whose first `bits` bits are those of `address`."""
-    address: int
-    bits: int
-
-    def holds(self, address):
-        return (self.address ^ address) >> (32 - self.bits) == 0
-
-
-ANY = Network(0, 0)
-
-
-class Rule(NamedTuple):
-    verdict: str
-    direction: str | None
-    quick: bool
-    source: Network
-    destination: Network
-
-
-class Packet(NamedTuple):
-    source: int
-    destination: int
-    has_options: bool
 
 
 class Header(NamedTuple):
@@ -82,47 +65,28 @@ class Replay(NamedTuple):
     status: int
 
 
-def read_number(word, most):
-    """A decimal number up to `most`, leading zeros allowed, or ValueError."""
-    digits = word.lstrip(b"0") or b"0"
-    # the length goes first, since int refuses texts of thousands of digits
-    if len(digits) > len(str(most)) or int(digits) > most:
-        raise ValueError(word)
-    return int(digits)
-
-
 def read_network(word):
-    """The network that an address of a rule or of the inside networks means, or ValueError."""
-    if word == b"any":
-        return ANY
-    address, _, bits = word.partition(b"/")
-    octets = bytes(read_number(octet, 255) for octet in address.split(b"."))
-    return Network(int.from_bytes(octets, "big"), read_number(bits, 32) if bits else 32)
+    """One of the inside networks."""
+    address, _, bits = word.partition("/")
+    octets = bytes(int(octet) for octet in address.split("."))
+    return Network(int.from_bytes(octets, "big"), int(bits) if bits else 32)
 
 
-def read_rule(line):
-    """The rule of one line, or ValueError."""
-    found = RULE.fullmatch(line)
-    if not found:
-        raise ValueError(line)
-    verdict, direction, quick, source, destination, no_state = found.groups()
-    if (verdict == b"pass") != (no_state is not None):
-        raise ValueError(line)
-    return Rule(verdict.decode(), direction and direction.decode(), quick is not None,
-                read_network(source) if source else ANY,
-                read_network(destination) if destination else ANY)
+@lru_cache
+def meaning(text, interface):
+    """The Ruleset of a text for an interface with its address and bits, or its first fault in words."""
+    if len(text) > MOST_TEXT:
+        return f"rules line 1: {TOO_MANY}"
+    answer = expand(text, *interface, READS_TRANSLATION)
+    return answer if isinstance(answer, Ruleset) else f"rules {worded(answer)}"
 
 
-def read_rules(text):
-    """All rules of a text in their order; the first bad line refuses it."""
-    rules = []
-    for number, line in enumerate(text.split(b"\n"), 1):
-        try:
-            if line:
-                rules.append(read_rule(line))
-        except ValueError:
-            raise Refused(f"rules line {number}: unknown word") from None
-    return rules
+def read_rules(text, interface):
+    """The Ruleset of a text; a fault refuses it."""
+    answer = meaning(text, interface)
+    if not isinstance(answer, Ruleset):
+        raise Refused(answer)
+    return answer
 
 
 def read_header(capture):
@@ -142,75 +106,27 @@ def read_header(capture):
     return Header(order, link)
 
 
-def datagram_of(link, frame):
-    """The bytes of a frame that are taken for an IPv4 datagram, or None where it carries anything else."""
-    if link == RAW:
-        return frame if frame and frame[0] >> 4 == 4 else None
-    if link == LOOPBACK:
-        return frame[4:] if frame[:4] in FAMILIES else None
-    if frame[12:14] == TYPE_IPV4:
-        return frame[14:]
-    if frame[12:14] == TYPE_VLAN and frame[16:18] == TYPE_IPV4:
-        return frame[18:]
-    return None
+def decide(ruleset, packet, direction):
+    """The verdict of the rule that decides, but that a packet with IP options passes by one that allows them alone."""
+    place = deciding_place(ruleset, packet, direction)
+    if place is None:
+        verdict, reason, allows_options = "pass", "default", False
+    else:
+        rule = ruleset.rules.filter[place]
+        verdict, reason, allows_options = VERDICTS[rule.action], "rule", rule.allow_opts
+    if verdict == "pass" and packet.has_options and not allows_options:
+        verdict, reason = "block", "ip-option"
+    return Verdict(direction, verdict, reason, "-" if place is None else place)
 
 
-def lacks_transport(protocol, segment, whole):
-    """Whether the transport's header isn't whole: neither in the captured bytes of the segment, nor in the
-    `whole` bytes that it is said to have."""
-    if protocol in (ICMP, UDP):
-        return min(len(segment), whole) < 8
-    if protocol != TCP:
-        return False
-    if len(segment) < 20:
-        return True
-    header_length = 4 * (segment[12] >> 4)
-    return header_length < 20 or min(len(segment), whole) < header_length
-
-
-def view(link, frame):
-    """The packet that the bytes of a record show: `skip`, `short` or a Packet."""
-    datagram = datagram_of(link, frame)
-    if datagram is None:
-        return "skip"
-    if len(datagram) < 20 or datagram[0] >> 4 != 4:
-        return "short"
-    header_length = 4 * (datagram[0] & 15)
-    total = int.from_bytes(datagram[2:4], "big")
-    if header_length < 20 or len(datagram) < header_length or total < header_length:
-        return "short"
-    # the flag for more fragments, or an offset
-    is_fragment = int.from_bytes(datagram[6:8], "big") % 16384 != 0
-    if not is_fragment and lacks_transport(datagram[9], datagram[header_length:], total - header_length):
-        return "short"
-    return Packet(int.from_bytes(datagram[12:16], "big"), int.from_bytes(datagram[16:20], "big"),
-                  header_length > 20)
-
-
-def decide(rules, packet, direction):
-    """Verdict, reason and rule: the last matching rule decides, a matching quick one ends the walk."""
-    decided = "pass", "default", "-"
-    for number, rule in enumerate(rules):
-        if (rule.direction in (None, direction) and rule.source.holds(packet.source)
-                and rule.destination.holds(packet.destination)):
-            decided = rule.verdict, "rule", number
-            if rule.quick:
-                break
-    return decided
-
-
-def judge(rules, inside, seen):
+def judge(ruleset, inside, seen):
     """The verdict on what a record shows."""
     if seen == "skip":
         return Verdict("-", "skip", "not-ip")
     if seen == "short":
         return Verdict("-", "block", "short")
-    direction = "out" if any(network.holds(seen.source) for network in inside) else "in"
-    verdict, reason, rule = decide(rules, seen, direction)
-    # no rule allows options yet, so what is blocked already keeps its reason
-    if verdict == "pass" and seen.has_options:
-        verdict, reason = "block", "ip-option"
-    return Verdict(direction, verdict, reason, rule)
+    direction = "out" if any(network_holds(network, seen.source) for network in inside) else "in"
+    return decide(ruleset, seen, direction)
 
 
 def verdict_line(number, clock, verdict):
@@ -219,7 +135,7 @@ def verdict_line(number, clock, verdict):
     return f"{number} {clock} {direction} {verdict} {reason} r={rule} t=- s=-"
 
 
-def replay(rules, inside, capture, header):
+def replay(ruleset, inside, capture, header):
     """The replay of all records that the capture holds."""
     lines, records, clock, place = [], [], 0, 24
     while place + 16 <= len(capture):
@@ -231,9 +147,9 @@ def replay(rules, inside, capture, header):
         record = capture[place:place + 16 + captured]
         place += len(record)
         clock = max(clock, seconds)
-        verdict = judge(rules, inside, view(header.link, record[16:]))
+        verdict = judge(ruleset, inside, view(header.link, record[16:]))
         lines.append(verdict_line(len(lines) + 1, clock, verdict))
-        if verdict.verdict != "block":
+        if verdict.verdict in PASSED:
             records.append(record)
     return Replay(lines, records, "", 0 if place == len(capture) else 2)
 
@@ -250,13 +166,13 @@ def refused(text):
 
 def run(text, inside, capture):
     """The whole run: the ruleset's text as bytes, the inside networks as a word, the capture as bytes."""
-    networks = [read_network(word.encode()) for word in inside.split(",")]
+    networks = [read_network(word) for word in inside.split(",")]
     try:
-        rules = read_rules(text)
+        ruleset = read_rules(text, INTERFACE)
         header = read_header(capture)
     except Refused as why:
         return refused(why)
-    lines, records, refusal, status = replay(rules, networks, capture, header)
+    lines, records, refusal, status = replay(ruleset, networks, capture, header)
     out = "".join(line + "\n" for line in lines)
     err = f"pfreplay: {refusal}\n" if refusal else ""
     return Outcome(out.encode(), err.encode(), status, packets_text(capture, records))

@@ -1,4 +1,4 @@
-"""Which endings of the plain program are lawful under each fault.
+"""Which endings of a replay are lawful under each fault.
 
 The program's words are the ruleset's file, the inside networks and, where there is a third one, a file for the
 packets; the capture is its standard input.

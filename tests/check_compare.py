@@ -1,0 +1,65 @@
+"""Runs the program's command `check` on many rulesets and compares each run with the model."""
+
+import check_cases
+import check_model
+import model
+from check_cases import FITTING, RULES
+from model import Outcome
+
+# what a fault of the command line is shown as where the program says something else
+ONE_LINE = b"pfreplay: (one line)\n"
+
+
+def compare(comparison):
+    """All checks; the comparison keeps their number and what went wrong."""
+    for case, *written in check_cases.rows():
+        compare_case(comparison, case, Outcome(*written))
+    for case in check_cases.all_cases():
+        compare_case(comparison, case, check_model.check(case.text, case.interface, case.network))
+    orders(comparison)
+    files(comparison)
+    command_lines(comparison)
+
+
+def compare_case(comparison, case, expected):
+    comparison.prepare()
+    comparison.rules.write_bytes(case.text)
+    words = ["check", comparison.rules, "--interface", case.interface, "--address", case.network]
+    comparison.expect(f"check: {case.name}", expected, comparison.execute(words))
+
+
+def orders(comparison):
+    """The flags in another order, and before the ruleset's name."""
+    comparison.rules.write_bytes(b"pass from em0:network")
+    expected = check_model.check(b"pass from em0:network", "em0", "192.0.2.1/24")
+    rules = [comparison.rules]
+    for words in ([*rules, *FITTING[2:], *FITTING[:2]], [*FITTING, *rules], [*FITTING[:2], *rules, *FITTING[2:]]):
+        comparison.expect(f"check: words {words}", expected, comparison.execute(["check", *words]))
+
+
+def files(comparison):
+    """Files that can't be read, and a full disk."""
+    for rules in (comparison.folder / "missing", comparison.folder, comparison.rules / "below"):
+        comparison.expect(f"check: rules from {rules}", model.cannot_open(rules),
+                          comparison.execute(["check", rules, *FITTING]))
+    comparison.rules.write_bytes(b"pass\n")
+    with open("/dev/full", "wb") as full:
+        seen = comparison.execute(["check", comparison.rules, *FITTING], out=full)
+        comparison.expect("check: a full disk", Outcome(b"", a_line(seen, b"pfreplay: write failed"), 3), seen)
+
+
+def a_line(seen, beginning):
+    """What was said where it is one line with this beginning, else what stands for such a line."""
+    if seen is not None and seen.err.startswith(beginning) and seen.err.find(b"\n") == len(seen.err) - 1:
+        return seen.err
+    return ONE_LINE
+
+
+def command_lines(comparison):
+    """Command lines that don't fit. How that is worded isn't fixed; the ruleset isn't looked at."""
+    comparison.rules.write_bytes(b"scrub in all\n")
+    places = {RULES: comparison.rules, "missing": comparison.folder / "missing"}
+    for line in check_cases.bad_command_lines():
+        words = [places.get(word, word) for word in line]
+        seen = comparison.execute(["check", *words])
+        comparison.expect(f"check: words {line}", Outcome(b"", a_line(seen, b"pfreplay: "), 1), seen)

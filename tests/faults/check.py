@@ -1,0 +1,77 @@
+"""Which endings of the command `check` are lawful under each fault.
+
+The words behind `check` are the ruleset's file and the flags. Nothing else is read than that file, and only standard
+output and standard error are written.
+"""
+
+import re
+
+from plain import MEMORY, MESSAGES, TRANSFER, judge_lost
+from trial import Target, Unlawful
+
+RULES = Target("read", "", TRANSFER)
+ANSWER = Target("write", "1", TRANSFER)
+TARGETS = (MEMORY, RULES, ANSWER, MESSAGES)
+# the place of the word for the ruleset
+RULES_WORD = 2
+
+# in the order of the summary
+ENDINGS = ("whole", "shorter input", "cannot open", "write failed", "no memory", "message lost")
+
+# a cut read or write changes nothing; what an input that ends early or a lost message leaves is judged apart
+LAWFUL = {
+    (MEMORY, "fail"): {"whole", "no memory"},
+    (RULES, "fail"): {"cannot open"},
+    (ANSWER, "fail"): {"write failed"},
+    (ANSWER, "zero"): {"write failed"},
+}
+
+TEXTS = (
+    ("cannot open", 3, rb"cannot open: (.*)"),
+    ("write failed", 3, rb"write failed.*"),
+    ("no memory", 4, rb"rules line 0: no memory"),
+    ("no memory", 4, rb"no memory.*"),
+)
+
+
+def judge(trial, fault, counts, seen):
+    """The ending of a run with this fault, one of ENDINGS; Unlawful where it is none of the lawful ones."""
+    if fault.target == RULES and fault.deed == "zero":
+        return judge_shorter(trial, counts, seen)
+    if fault.target == MESSAGES and fault.deed != "cut":
+        return judge_lost(trial.clean, seen)
+    ending = ending_of(trial, seen)
+    if ending not in LAWFUL.get((fault.target, fault.deed), {"whole"}):
+        raise Unlawful(f"'{ending}' isn't lawful after this fault")
+    return ending
+
+
+def ending_of(trial, seen):
+    """The ending that status and standard error tell, once standard output agrees with it."""
+    if seen == trial.clean:
+        return "whole"
+    for ending, status, text in TEXTS:
+        found = re.fullmatch(rb"pfreplay: " + text + rb"\n", seen.err)
+        if found and seen.status == status:
+            check_told(trial, ending, found, seen)
+            return ending
+    raise Unlawful("no such status and standard error")
+
+
+def check_told(trial, ending, found, seen):
+    """What is told holds: the file is the one that was named, and nothing was answered but where a write failed."""
+    if ending == "cannot open" and found[1] != trial.command[RULES_WORD].encode():
+        raise Unlawful("standard error names another file")
+    if seen.out and (ending != "write failed" or not trial.clean.out.startswith(seen.out)):
+        raise Unlawful("standard output isn't empty")
+
+
+def judge_shorter(trial, counts, seen):
+    """A ruleset that ends early is as a file of that length."""
+    words = list(trial.command)
+    with trial.beginning(words[RULES_WORD], counts.moved) as shorter:
+        words[RULES_WORD] = shorter.name
+        expected = trial.without_fault(words)
+    if seen != expected:
+        raise Unlawful(f"a file of {counts.moved} bytes ends with status {expected.status}, {expected.err!r}")
+    return "whole" if seen == trial.clean else "shorter input"
