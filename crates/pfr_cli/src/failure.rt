@@ -40,6 +40,12 @@ pub enum Failure<'a> {
     NoMemory(u64),
 }
 
+impl From<ConfError> for Failure<'_> {
+    fn from(fault: ConfError) -> Self {
+        Failure::Rules(fault)
+    }
+}
+
 impl<'a> Failure<'a> {
     /// The failure for a stop of the run, after which all is written of so many packets.
     pub fn of(stop: Stop, committed: u64) -> Failure<'a> {

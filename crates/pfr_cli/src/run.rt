@@ -2,13 +2,13 @@
 use crate::failure::{CUT, DONE, Failure};
 use crate::lines::LineWriter;
 use crate::packets::PacketWriter;
+use crate::summary::Summary;
 use crate::words::{Asked, parse};
 use pfr_capture::{Source, Tail};
 use pfr_expand::Interface;
 use pfr_out::ruleset::LONGEST_TEXT;
-use pfr_out::{ConfError, Output, Report, Stop, replay_plain, ruleset_of};
-use pfr_sync::checksum;
-use std::alloc::{AllocError, Global};
+use pfr_out::{ConfError, Output, Report, Stop, replay_plain};
+use std::alloc::AllocError;
 use std::cell::Cell;
 use std::fs::File;
 use std::io;
@@ -43,18 +43,8 @@ fn work<'a, R: Files + AllocGlobal, S: Source, O: Write + Drop>(
     given: &'a Cell<u64>,
 ) -> Result<u8, Failure<'a>> {
     match parse(rt.alloc(), words)? {
-        Asked::Help(text) => {
-            out.print(text.as_bytes())
-                .map_err(|_| Failure::PrintFailed)?;
-            Ok(DONE)
-        }
-        Asked::Check { rules, interface } => {
-            let text = ruleset_text(rt, rules)?;
-            let summary = summary(rt.alloc(), text.as_slice(), &interface)?;
-            out.print(summary.as_bytes())
-                .map_err(|_| Failure::PrintFailed)?;
-            Ok(DONE)
-        }
+        Asked::Help(text) => print(out, text.as_bytes()),
+        Asked::Check { rules, interface } => check(rt, rules, &interface, out),
         Asked::Replay {
             rules,
             inside,
@@ -72,6 +62,27 @@ fn work<'a, R: Files + AllocGlobal, S: Source, O: Write + Drop>(
             );
             finish(outcome, out, &mut packets)
         }
+    }
+}
+
+/// Prints what a ruleset makes for an interface.
+fn check<'a, R: Files + AllocGlobal, O: Write + Drop>(
+    rt: &R,
+    rules: &'a str,
+    interface: &Interface,
+    out: &mut LineWriter<'_, O>,
+) -> Result<u8, Failure<'a>> {
+    let text = ruleset_text(rt, rules)?;
+    let summary = Summary::of(rt.alloc(), text.as_slice(), interface)?;
+    let line = summary.line(rt.alloc())?;
+    print(out, line.as_bytes())
+}
+
+/// Prints a text and no more.
+fn print<'a, O: Write + Drop>(out: &mut LineWriter<'_, O>, text: &[u8]) -> Result<u8, Failure<'a>> {
+    match out.print(text) {
+        Ok(()) => Ok(DONE),
+        Err(_) => Err(Failure::PrintFailed),
     }
 }
 
@@ -119,20 +130,4 @@ fn beginning<R: Files + AllocGlobal>(rt: &R, name: &str) -> io::Result<Vec<u8>> 
     let mut text = Vec::new(rt.alloc());
     file.take(LONGEST_TEXT as u64 + 1).read_to_end(&mut text)?;
     Ok(text)
-}
-
-/// The line that says how many rules a text makes for an interface, and what its checksum is.
-fn summary<'a>(alloc: Global, text: &[u8], interface: &Interface) -> Result<String, Failure<'a>> {
-    let ruleset = match ruleset_of(alloc, text, interface) {
-        Ok(ruleset) => ruleset,
-        Err(fault) => return Err(Failure::Rules(fault)),
-    };
-    let (filter, translation) = ruleset.counts();
-    let mut line = String::new(alloc);
-    write!(line, "{filter} filter, {translation} translation, ")?;
-    for byte in checksum(text) {
-        write!(line, "{byte:02x}")?;
-    }
-    writeln!(line)?;
-    Ok(line)
 }
