@@ -135,7 +135,7 @@ def packets_text(clean, count):
     text, place = clean.files[0], 24
     order = "little" if text[:1] in (b"\xd4", b"\x4d") else "big"
     for line in clean.out.splitlines()[:count]:
-        if line.split()[3] != b"block":
+        if line.split()[3] in (b"pass", b"skip"):
             place += 16 + int.from_bytes(text[place + 8:place + 12], order)
     if len(text) < place:
         raise Unlawful("the packets aren't all there even without a fault")
