@@ -1,6 +1,5 @@
 -- What a ruleset text means for an interface.
 use Rattle.std.specs.Prelude.{ℕ, nat_lt, if◌then◌else◌, List, length, Result, Ok, Err, codes}
-use Rattle.pfr_terms.specs.declared.address.Ipv4Address.{Ipv4Address}
 use Rattle.pfr_terms.specs.declared.error.ConfError.{ConfError}
 use Rattle.pfr_terms.specs.declared.error.ConfErrorKind.TheVariants.{TooMany}
 use Rattle.pfr_elements.specs.declared.interface.Interface.{Interface}

@@ -25,11 +25,7 @@ pub fn plain_interface() -> Interface
 /// What a ruleset text means for an interface, or the first fault of the text. One that is longer than
 /// [`LONGEST_TEXT`] has too many words in its first line, and isn't read.
 #[tactic(auto, unfolding(crate::specs::Rulesets::ruleset_of))]
-pub fn ruleset_of(
-    alloc: Global,
-    text: &[u8],
-    interface: &Interface,
-) -> Result<Ruleset, ConfError>
+pub fn ruleset_of(alloc: Global, text: &[u8], interface: &Interface) -> Result<Ruleset, ConfError>
     ensures { Gives (spec.ruleset_of text.now interface.now) result }
 {
     if text.len() > LONGEST_TEXT {

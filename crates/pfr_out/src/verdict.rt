@@ -111,7 +111,8 @@ impl Judgement {
         };
         let direction = Direction::of(packet, inside);
         let (decision, _visits) = filter(alloc, flat, packet, direction)?;
-        let lacks_leave = packet.has_options() && !allows_options(flat.filter.rules(), decision.rule);
+        let lacks_leave = packet.has_options()
+            && !allows_options(flat.filter.rules(), decision.rule);
         if lacks_leave && decision.action == FilterAction::Pass {
             return Ok(Judgement {
                 direction: Some(direction),
