@@ -1,0 +1,5 @@
+pub mod Datagrams
+pub mod Sequences
+pub mod Tcp
+pub mod Timeouts
+pub mod Tracking
