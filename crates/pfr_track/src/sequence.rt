@@ -9,7 +9,7 @@ pub struct Sequence(pub u32);
 impl Sequence {
     /// The number so many places on.
     #[inline]
-    pub fn plus(self, count: u32) -> Sequence
+    pub(crate) fn plus(self, count: u32) -> Sequence
         ensures { result ≡ spec.plus self count }
     {
         Sequence(self.0.wrapping_add(count))
@@ -17,7 +17,7 @@ impl Sequence {
 
     /// The number so many places back.
     #[inline]
-    pub fn minus(self, count: u32) -> Sequence
+    pub(crate) fn minus(self, count: u32) -> Sequence
         ensures { result ≡ spec.minus self count }
     {
         Sequence(self.0.wrapping_sub(count))
@@ -25,7 +25,7 @@ impl Sequence {
 
     /// How many places it is from another number on to this one.
     #[inline]
-    pub fn since(self, other: Sequence) -> u32
+    pub(crate) fn since(self, other: Sequence) -> u32
         ensures { result ≡ spec.since self other }
     {
         self.0.wrapping_sub(other.0)
