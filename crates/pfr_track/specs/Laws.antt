@@ -1,10 +1,19 @@
 -- Words of the laws: what a packet leaves of a state, and how far its ends come.
-use Rattle.std.specs.Prelude.{◌≡◌, ◌≢◌, ◌+◌}
+use Rattle.std.specs.Prelude.{◌≡◌, ◌≢◌, ◌+◌, true}
 use Rattle.pfr_headers.specs.declared.packet.Direction.{Direction}
 use Rattle.pfr_headers.specs.declared.packet.Packet.{Packet}
+use Rattle.pfr_headers.specs.declared.transport.Transport.{Transport}
+use Rattle.pfr_headers.specs.declared.transport.Transport.TheVariants as transport
+use Rattle.pfr_track.specs.declared.datagram.DatagramPeer.{DatagramPeer}
+use Rattle.pfr_track.specs.declared.datagram.DatagramPeer.TheVariants.{Silent, Single}
+use Rattle.pfr_track.specs.declared.peers.Peers.{Peers}
+use Rattle.pfr_track.specs.declared.peers.Peers.TheVariants as peers
 use Rattle.pfr_track.specs.declared.state.State.{State}
+use Rattle.pfr_track.specs.declared.tcp.TcpPeer.{TcpPeer}
+use Rattle.pfr_track.specs.declared.tcp.TcpPeerState.TheVariants.{Closed, SynSent, FinWait2}
 use Rattle.pfr_track.specs.declared.time.Clock.{Clock}
 use Rattle.pfr_track.specs.declared.timeout.Timeouts.{Timeouts}
+use Rattle.pfr_track.specs.Tcp.{has_reached}
 use Rattle.pfr_track.specs.Timeouts.{seconds_of}
 use Rattle.pfr_track.specs.Tracking.{with_packet}
 
@@ -27,3 +36,45 @@ pub record IsLeftBy (state : State) (packet : Packet) (way : Direction) (clock :
   -- and a packet that goes the other way is counted there alone
   pub counts_back : way ≢ state.direction → next.back ≡ with_packet packet state.back
   pub keeps_forth : way ≢ state.direction → next.forth ≡ state.forth
+
+-- ---- ends that have closed
+
+-- both ends of a TCP connection have closed: both FINs were acknowledged, or there was an RST
+pub record HaveBothClosed (first second : TcpPeer) : Type 0 where
+  pub first_has : has_reached FinWait2 first.state ≡ true
+  pub second_has : has_reached FinWait2 second.state ≡ true
+
+-- the connection is one of TCP, and both of its ends have closed
+abbrev pub HaveClosed : Peers → Type 0
+HaveClosed (peers.Tcp first second) = HaveBothClosed first second
+HaveClosed (peers.Udp first second) = ⊥
+HaveClosed peers.Icmp = ⊥
+HaveClosed (peers.Other first second) = ⊥
+
+-- ---- a new state
+
+-- of a new TCP connection the maker's end was seen, and the other one wasn't
+pub record AreNewTcp (first second : TcpPeer) : Type 0 where
+  pub maker : first.state ≡ SynSent
+  pub other : second.state ≡ Closed
+
+-- of a new connection of datagrams the maker has spoken, and the other end hasn't
+pub record AreNewDatagrams (first second : DatagramPeer) : Type 0 where
+  pub maker : first ≡ Single
+  pub other : second ≡ Silent
+
+-- the ends are of the packet's kind, and new; fragments count as another protocol
+abbrev pub AreMadeBy : Transport → Peers → Type 0
+AreMadeBy (transport.Tcp header) (peers.Tcp first second) = AreNewTcp first second
+AreMadeBy (transport.Udp header) (peers.Udp first second) = AreNewDatagrams first second
+AreMadeBy (transport.Icmp header) peers.Icmp = Unit
+AreMadeBy transport.Fragment (peers.Other first second) = AreNewDatagrams first second
+AreMadeBy transport.Other (peers.Other first second) = AreNewDatagrams first second
+AreMadeBy _ _ = ⊥
+
+-- what is true of a state that a packet has just made
+pub record IsNew (packet : Packet) (clock : Clock) (timeouts : Timeouts) (state : State) : Type 0 where
+  -- it waits for as many seconds as its timeout has
+  pub deadline : state.deadline.0 ≡ clock.0 + seconds_of timeouts state.timeout
+  -- its ends fit the packet
+  pub ends : AreMadeBy packet.transport state.peers

@@ -2,15 +2,29 @@
 ghost use Rattle.std.specs.Prelude.{◌≡◌};
 ghost use Rattle.pfr_headers.specs.declared.packet.Direction.{Direction};
 ghost use Rattle.pfr_headers.specs.declared.packet.Packet.{Packet};
+ghost use Rattle.pfr_track.specs.declared.key.Key.{Key};
 ghost use Rattle.pfr_track.specs.declared.state.State.{State};
+ghost use Rattle.pfr_track.specs.declared.state.StateNumber.{StateNumber};
+ghost use Rattle.pfr_track.specs.declared.state.StateRules.{StateRules};
 ghost use Rattle.pfr_track.specs.declared.time.Clock.{Clock};
 ghost use Rattle.pfr_track.specs.declared.timeout.Timeouts.{Timeouts};
-ghost use Rattle.pfr_track.specs.declared.outcome.Touch.TheVariants.{Touched};
-ghost use Rattle.pfr_track.specs.Laws.{IsLeftBy};
-ghost use Rattle.pfr_track.specs.Tracking.{touched};
+ghost use Rattle.pfr_track.specs.declared.outcome.Touch.TheVariants.{Touched, Removed};
+ghost use Rattle.pfr_track.specs.Laws.{HaveClosed, IsLeftBy, IsNew};
+ghost use Rattle.pfr_track.specs.Tracking.{made, touched};
 
 /// A packet that fits leaves the state what it was but for its ends, its timeout and deadline and its counts. The
 /// deadline is the clock and the seconds of the timeout, and the packet is counted once, on its way.
 pub fn what_a_packet_leaves()
     ensures { (state next : State) (packet : Packet) (direction : Direction) (clock : Clock) (timeouts : Timeouts) → touched state packet direction clock timeouts ≡ Touched next → IsLeftBy state packet direction clock timeouts next }
+{}
+
+/// A packet ends a state only where it is one of TCP whose ends have both closed.
+pub fn only_ended_connections_are_removed()
+    ensures { (state : State) (packet : Packet) (direction : Direction) (clock : Clock) (timeouts : Timeouts) → touched state packet direction clock timeouts ≡ Removed → HaveClosed state.peers }
+{}
+
+/// A new state's deadline is the clock and the seconds of its timeout, and its ends are of the packet's kind: the maker's
+/// was seen, and the other one wasn't.
+pub fn new_state_waits_by_its_timeout()
+    ensures { (number : StateNumber) (packet : Packet) (direction : Direction) (wire stack : Key) (rules : StateRules) (clock : Clock) (timeouts : Timeouts) → IsNew packet clock timeouts (made number packet direction wire stack rules clock timeouts) }
 {}
