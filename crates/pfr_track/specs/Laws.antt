@@ -1,5 +1,5 @@
 -- Words of the laws: what a packet leaves of a state, and how far its ends come.
-use Rattle.std.specs.Prelude.{◌≡◌, ◌≢◌, ◌+◌, true}
+use Rattle.std.specs.Prelude.{◌≡◌, ◌≢◌, ◌+◌, ◌^◌, ◌<◌, ◌≤◌, true}
 use Rattle.pfr_headers.specs.declared.packet.Direction.{Direction}
 use Rattle.pfr_headers.specs.declared.packet.Packet.{Packet}
 use Rattle.pfr_headers.specs.declared.transport.Transport.{Transport}
@@ -13,7 +13,9 @@ use Rattle.pfr_track.specs.declared.tcp.TcpPeer.{TcpPeer}
 use Rattle.pfr_track.specs.declared.tcp.TcpPeerState.TheVariants.{Closed, SynSent, FinWait2}
 use Rattle.pfr_track.specs.declared.time.Clock.{Clock}
 use Rattle.pfr_track.specs.declared.timeout.Timeouts.{Timeouts}
-use Rattle.pfr_track.specs.Tcp.{has_reached}
+use Rattle.pfr_track.specs.Datagrams as datagram
+use Rattle.pfr_track.specs.Sequences.{is_at_least}
+use Rattle.pfr_track.specs.Tcp.{code_of, has_reached}
 use Rattle.pfr_track.specs.Timeouts.{seconds_of}
 use Rattle.pfr_track.specs.Tracking.{with_packet}
 
@@ -78,3 +80,29 @@ pub record IsNew (packet : Packet) (clock : Clock) (timeouts : Timeouts) (state 
   pub deadline : state.deadline.0 ≡ clock.0 + seconds_of timeouts state.timeout
   -- its ends fit the packet
   pub ends : AreMadeBy packet.transport state.peers
+
+-- ---- ends that move on
+
+-- how far an end of a TCP connection has come behind a packet
+pub record HasMovedOn (old next : TcpPeer) : Type 0 where
+  -- its state is no earlier one
+  pub state : code_of old.state ≤ code_of next.state
+  -- once something was seen of it, what it has sent becomes no less
+  pub low : has_reached SynSent old.state ≡ true → old.low.0 < 2 ^ 32 → is_at_least next.low old.low ≡ true
+
+pub record HaveMovedOnTcp (first second next_first next_second : TcpPeer) : Type 0 where
+  pub first_has : HasMovedOn first next_first
+  pub second_has : HasMovedOn second next_second
+
+-- an end that has spoken goes on having spoken, and one that was answered goes on having been answered
+pub record HaveMovedOnDatagrams (first second next_first next_second : DatagramPeer) : Type 0 where
+  pub first_has : datagram.code_of first ≤ datagram.code_of next_first
+  pub second_has : datagram.code_of second ≤ datagram.code_of next_second
+
+-- the ends are still of the same kind, and neither has gone back
+abbrev pub HaveMovedOn : Peers → Peers → Type 0
+HaveMovedOn (peers.Tcp first second) (peers.Tcp next_first next_second) = HaveMovedOnTcp first second next_first next_second
+HaveMovedOn (peers.Udp first second) (peers.Udp next_first next_second) = HaveMovedOnDatagrams first second next_first next_second
+HaveMovedOn peers.Icmp peers.Icmp = Unit
+HaveMovedOn (peers.Other first second) (peers.Other next_first next_second) = HaveMovedOnDatagrams first second next_first next_second
+HaveMovedOn _ _ = ⊥

@@ -9,8 +9,14 @@ ghost use Rattle.pfr_track.specs.declared.state.StateRules.{StateRules};
 ghost use Rattle.pfr_track.specs.declared.time.Clock.{Clock};
 ghost use Rattle.pfr_track.specs.declared.timeout.Timeouts.{Timeouts};
 ghost use Rattle.pfr_track.specs.declared.outcome.Touch.TheVariants.{Touched, Removed};
-ghost use Rattle.pfr_track.specs.Laws.{HaveClosed, IsLeftBy, IsNew};
+ghost use Rattle.pfr_track.specs.Laws.{HaveClosed, HaveMovedOn, IsLeftBy, IsNew};
 ghost use Rattle.pfr_track.specs.Tracking.{made, touched};
+
+/// No packet takes an end back: a connection's kind stays, each end's state or code is no lesser one behind a packet, and
+/// what an end of TCP has sent, once something was seen of it, is no earlier place of the sequence.
+pub fn ends_never_go_back()
+    ensures { (state next : State) (packet : Packet) (direction : Direction) (clock : Clock) (timeouts : Timeouts) → touched state packet direction clock timeouts ≡ Touched next → HaveMovedOn state.peers next.peers }
+{}
 
 /// A packet that fits leaves the state what it was but for its ends, its timeout and deadline and its counts. The
 /// deadline is the clock and the seconds of the timeout, and the packet is counted once, on its way.
