@@ -5,3 +5,4 @@ pub mod TrackingLeft
 pub mod TrackingMade
 pub mod TrackingRemoved
 pub mod TrackingSegments
+pub mod TrackingTurned

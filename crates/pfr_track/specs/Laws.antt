@@ -1,11 +1,14 @@
 -- Words of the laws: what a packet leaves of a state, and how far its ends come.
 use Rattle.std.specs.Prelude.{◌≡◌, ◌≢◌, ◌+◌, ◌^◌, ◌<◌, ◌≤◌, true}
 use Rattle.pfr_headers.specs.declared.packet.Direction.{Direction}
+use Rattle.pfr_headers.specs.declared.packet.Direction.TheVariants.{In, Out}
 use Rattle.pfr_headers.specs.declared.packet.Packet.{Packet}
 use Rattle.pfr_headers.specs.declared.transport.Transport.{Transport}
 use Rattle.pfr_headers.specs.declared.transport.Transport.TheVariants as transport
 use Rattle.pfr_track.specs.declared.datagram.DatagramPeer.{DatagramPeer}
 use Rattle.pfr_track.specs.declared.datagram.DatagramPeer.TheVariants.{Silent, Single}
+use Rattle.pfr_track.specs.declared.outcome.Touch.{Touch}
+use Rattle.pfr_track.specs.declared.outcome.Touch.TheVariants.{Touched, Removed, Mismatch}
 use Rattle.pfr_track.specs.declared.peers.Peers.{Peers}
 use Rattle.pfr_track.specs.declared.peers.Peers.TheVariants as peers
 use Rattle.pfr_track.specs.declared.state.State.{State}
@@ -106,3 +109,30 @@ HaveMovedOn (peers.Udp first second) (peers.Udp next_first next_second) = HaveMo
 HaveMovedOn peers.Icmp peers.Icmp = Unit
 HaveMovedOn (peers.Other first second) (peers.Other next_first next_second) = HaveMovedOnDatagrams first second next_first next_second
 HaveMovedOn _ _ = ⊥
+
+-- ---- a connection from its other side
+
+abbrev pub opposite : Direction → Direction
+opposite In = Out
+opposite Out = In
+
+-- both ends, the other one first
+abbrev pub turned_ends : Peers → Peers
+turned_ends (peers.Tcp first second) = peers.Tcp second first
+turned_ends (peers.Udp first second) = peers.Udp second first
+turned_ends peers.Icmp = peers.Icmp
+turned_ends (peers.Other first second) = peers.Other second first
+
+-- the state as if the other end had been its maker; what it says of addresses and rules stays as it is
+abbrev pub turned : State → State
+turned state = record state {
+  direction = opposite state.direction;
+  peers = turned_ends state.peers;
+  forth = state.back;
+  back = state.forth;
+}
+
+abbrev pub turned_touch : Touch → Touch
+turned_touch (Touched next) = Touched (turned next)
+turned_touch Removed = Removed
+turned_touch Mismatch = Mismatch

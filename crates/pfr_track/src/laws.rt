@@ -9,7 +9,7 @@ ghost use Rattle.pfr_track.specs.declared.state.StateRules.{StateRules};
 ghost use Rattle.pfr_track.specs.declared.time.Clock.{Clock};
 ghost use Rattle.pfr_track.specs.declared.timeout.Timeouts.{Timeouts};
 ghost use Rattle.pfr_track.specs.declared.outcome.Touch.TheVariants.{Touched, Removed};
-ghost use Rattle.pfr_track.specs.Laws.{HaveClosed, HaveMovedOn, IsLeftBy, IsNew};
+ghost use Rattle.pfr_track.specs.Laws.{HaveClosed, HaveMovedOn, IsLeftBy, IsNew, turned, turned_touch};
 ghost use Rattle.pfr_track.specs.Tracking.{made, touched};
 
 /// No packet takes an end back: a connection's kind stays, each end's state or code is no lesser one behind a packet, and
@@ -33,4 +33,10 @@ pub fn only_ended_connections_are_removed()
 /// was seen, and the other one wasn't.
 pub fn new_state_waits_by_its_timeout()
     ensures { (number : StateNumber) (packet : Packet) (direction : Direction) (wire stack : Key) (rules : StateRules) (clock : Clock) (timeouts : Timeouts) → IsNew packet clock timeouts (made number packet direction wire stack rules clock timeouts) }
+{}
+
+/// Neither end is followed by other rules than the other one: what a packet does to a state from its other side, where
+/// the ends, the ways and the counts have changed places, is what it does to the state, from its other side.
+pub fn both_directions_agree()
+    ensures { (state : State) (packet : Packet) (direction : Direction) (clock : Clock) (timeouts : Timeouts) → touched (turned state) packet direction clock timeouts ≡ turned_touch (touched state packet direction clock timeouts) }
 {}
