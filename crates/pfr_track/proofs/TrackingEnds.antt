@@ -1,5 +1,5 @@
 -- How far the ends of a connection come by a packet.
-use Rattle.std.proofs.Common.{◌≡◌, ◌≤◌, Bool, true, false, cond, refl, ap, subst, arith}
+use Rattle.std.proofs.Common.{◌≡◌, ◌≤◌, Bool, true, false, cond, subst, arith}
 use Rattle.pfr_headers.specs.declared.packet.Direction.{Direction}
 use Rattle.pfr_headers.specs.declared.packet.Packet.{Packet}
 use Rattle.pfr_headers.specs.declared.tcp.TcpHeader.{TcpHeader}
@@ -18,10 +18,10 @@ use Rattle.pfr_track.specs.declared.tcp.TcpPeer.{TcpPeer}
 use Rattle.pfr_track.specs.declared.time.Clock.{Clock}
 use Rattle.pfr_track.specs.declared.timeout.Timeouts.{Timeouts}
 use Rattle.pfr_track.specs.Datagrams.{answered, code_of, spoken}
-use Rattle.pfr_track.specs.Laws.{HasMovedOn, HaveMovedOn, HaveMovedOnDatagrams, HaveMovedOnTcp}
+use Rattle.pfr_track.specs.Laws.{HaveMovedOn, HaveMovedOnDatagrams, HaveMovedOnTcp}
 use Rattle.pfr_track.specs.Tcp.{begins_anew, fits, moved, prepared, raised}
 use Rattle.pfr_track.specs.Tracking.{exchanged, followed, is_same_way, placed, tcp_track, touched, track}
-use Rattle.pfr_track.proofs.TrackingKinds.{IsTrueOfEach, of_track}
+use Rattle.pfr_track.proofs.TrackingKinds.{of_track}
 use Rattle.pfr_track.proofs.TrackingLeft.{accepted}
 use Rattle.pfr_track.proofs.TrackingSegments.{sender_moves_on, receiver_moves_on}
 

@@ -7,7 +7,7 @@ use Rattle.pfr_headers.specs.declared.tcp.TcpHeader.{TcpHeader}
 use Rattle.pfr_headers.specs.declared.transport.Transport.{Transport}
 use Rattle.pfr_track.specs.declared.outcome.Followed.{Followed}
 use Rattle.pfr_track.specs.declared.outcome.Followed.TheVariants as follow
-use Rattle.pfr_track.specs.declared.outcome.Touch.TheVariants.{Touched, Removed, Mismatch}
+use Rattle.pfr_track.specs.declared.outcome.Touch.TheVariants.{Removed}
 use Rattle.pfr_track.specs.declared.outcome.Track.{Track}
 use Rattle.pfr_track.specs.declared.outcome.Track.TheVariants as tracks
 use Rattle.pfr_track.specs.declared.peers.Peers.{Peers}
@@ -19,7 +19,7 @@ use Rattle.pfr_track.specs.declared.timeout.Timeouts.{Timeouts}
 use Rattle.pfr_track.specs.Laws.{HaveBothClosed, HaveClosed}
 use Rattle.pfr_track.specs.Tcp.{begins_anew, fits, has_reached, is_ack, is_syn, moved, prepared, raised}
 use Rattle.pfr_track.specs.Tracking.{followed, is_same_way, placed, tcp_track, touched, track, with_track}
-use Rattle.pfr_track.proofs.TrackingKinds.{IsTrueOfEach, of_track}
+use Rattle.pfr_track.proofs.TrackingKinds.{of_track}
 
 -- a connection is begun anew only over ends that have both closed
 removed_by : (anew fits : Bool) (sender receiver first second : TcpPeer) (header : TcpHeader) → begins_anew sender receiver header ≡ anew

@@ -1,6 +1,6 @@
 -- How far the ends of a TCP connection come by a segment.
-use Rattle.std.proofs.Common.{◌≡◌, ◌+◌, ◌-◌, ◌%◌, ◌^◌, ◌<◌, ◌≤◌, ℕ, Bool, true, false, cond, eqb, Option, Some, None, refl, sym, ap, ◌∙◌, arith}
-use Rattle.std.proofs.lemmas.Bool.{false≢true, leb-false, le-leb}
+use Rattle.std.proofs.Common.{◌≡◌, ◌+◌, ◌-◌, ◌%◌, ◌^◌, ◌<◌, ◌≤◌, ℕ, Bool, true, false, cond, eqb, Option, Some, None, refl, sym, ◌∙◌, arith}
+use Rattle.std.proofs.lemmas.Bool.{false≢true, leb-false}
 use Rattle.pfr_headers.specs.declared.tcp.TcpHeader.{TcpHeader}
 use Rattle.pfr_track.specs.declared.segment.Exchange.{Exchange}
 use Rattle.pfr_track.specs.declared.segment.Segment.{Segment}
@@ -9,7 +9,7 @@ use Rattle.pfr_track.specs.declared.tcp.TcpPeer.{TcpPeer}
 use Rattle.pfr_track.specs.declared.tcp.TcpPeerState.{TcpPeerState}
 use Rattle.pfr_track.specs.declared.tcp.TcpPeerState.TheVariants.{Closed, Listen, SynSent, SynReceived, Established, CloseWait, FinWait1, Closing, LastAck, FinWait2, TimeWait}
 use Rattle.pfr_track.specs.Laws.{HasMovedOn}
-use Rattle.pfr_track.specs.Sequences.{is_at_least, since}
+use Rattle.pfr_track.specs.Sequences.{is_at_least}
 use Rattle.pfr_track.specs.Tcp.{acknowledged, acknowledged_state, begun, code_of, eased, first_seen, has_reached, is_ack, is_fin, is_rst, is_syn, lacks_acknowledgement, low_by, moved, opened, prepared, raised, raised_to, receiver_state, sender_state, settled, with_scales}
 
 -- ---- states

@@ -1,4 +1,5 @@
--- Words of the laws: what a packet leaves of a state, and how far its ends come.
+-- Words of the laws: what a packet makes, leaves and ends, how far the ends of a connection come, and a connection from its
+-- other side.
 use Rattle.std.specs.Prelude.{◌≡◌, ◌≢◌, ◌+◌, ◌^◌, ◌<◌, ◌≤◌, true}
 use Rattle.pfr_headers.specs.declared.packet.Direction.{Direction}
 use Rattle.pfr_headers.specs.declared.packet.Direction.TheVariants.{In, Out}
@@ -26,27 +27,36 @@ use Rattle.pfr_track.specs.Tracking.{with_packet}
 
 -- what becomes of a state behind a packet of its connection, which comes this way
 pub record IsLeftBy (state : State) (packet : Packet) (way : Direction) (clock : Clock) (timeouts : Timeouts) (next : State) : Type 0 where
-  -- it is still the state that was made once, of the same connection and by the same rules
+  -- it is the same state
   pub number : next.number ≡ state.number
+  -- of a connection that began the same way
   pub direction : next.direction ≡ state.direction
+  -- with the same addresses and ports on the wire
   pub wire : next.wire ≡ state.wire
+  -- and behind the translation
   pub stack : next.stack ≡ state.stack
+  -- made by the same rules
   pub rules : next.rules ≡ state.rules
+  -- at the same time
   pub made : next.made ≡ state.made
   -- it waits anew, for as many seconds as its timeout has
   pub deadline : next.deadline.0 ≡ clock.0 + seconds_of timeouts next.timeout
-  -- a packet that goes the way of the first one is counted there, and nothing the other way
+  -- a packet that goes the way of the first one is counted there
   pub counts_forth : way ≡ state.direction → next.forth ≡ with_packet packet state.forth
+  -- and not the other way
   pub keeps_back : way ≡ state.direction → next.back ≡ state.back
-  -- and a packet that goes the other way is counted there alone
+  -- a packet that goes the other way is counted there
   pub counts_back : way ≢ state.direction → next.back ≡ with_packet packet state.back
+  -- and not the way of the first one
   pub keeps_forth : way ≢ state.direction → next.forth ≡ state.forth
 
 -- ---- ends that have closed
 
--- both ends of a TCP connection have closed: both FINs were acknowledged, or there was an RST
+-- both ends of a TCP connection have closed: their FINs were acknowledged, or there was an RST
 pub record HaveBothClosed (first second : TcpPeer) : Type 0 where
+  -- the maker's end
   pub first_has : has_reached FinWait2 first.state ≡ true
+  -- the other one
   pub second_has : has_reached FinWait2 second.state ≡ true
 
 -- the connection is one of TCP, and both of its ends have closed
@@ -58,14 +68,18 @@ HaveClosed (peers.Other first second) = ⊥
 
 -- ---- a new state
 
--- of a new TCP connection the maker's end was seen, and the other one wasn't
+-- both ends of a new TCP connection
 pub record AreNewTcp (first second : TcpPeer) : Type 0 where
+  -- the maker's was seen
   pub maker : first.state ≡ SynSent
+  -- the other one wasn't
   pub other : second.state ≡ Closed
 
--- of a new connection of datagrams the maker has spoken, and the other end hasn't
+-- both ends of a new connection of datagrams
 pub record AreNewDatagrams (first second : DatagramPeer) : Type 0 where
+  -- the maker has spoken
   pub maker : first ≡ Single
+  -- the other end hasn't
   pub other : second ≡ Silent
 
 -- the ends are of the packet's kind, and new; fragments count as another protocol
@@ -90,16 +104,21 @@ pub record IsNew (packet : Packet) (clock : Clock) (timeouts : Timeouts) (state 
 pub record HasMovedOn (old next : TcpPeer) : Type 0 where
   -- its state is no earlier one
   pub state : code_of old.state ≤ code_of next.state
-  -- once something was seen of it, what it has sent becomes no less
+  -- once something was seen of it, the place behind what it has sent is the same or a later one
   pub low : has_reached SynSent old.state ≡ true → old.low.0 < 2 ^ 32 → is_at_least next.low old.low ≡ true
 
+-- both ends of a TCP connection
 pub record HaveMovedOnTcp (first second next_first next_second : TcpPeer) : Type 0 where
+  -- the maker's end
   pub first_has : HasMovedOn first next_first
+  -- the other one
   pub second_has : HasMovedOn second next_second
 
--- an end that has spoken goes on having spoken, and one that was answered goes on having been answered
+-- both ends of a connection of datagrams: one that has spoken stays one that has, and so does one that was answered
 pub record HaveMovedOnDatagrams (first second next_first next_second : DatagramPeer) : Type 0 where
+  -- the maker's end
   pub first_has : datagram.code_of first ≤ datagram.code_of next_first
+  -- the other one
   pub second_has : datagram.code_of second ≤ datagram.code_of next_second
 
 -- the ends are still of the same kind, and neither has gone back
@@ -112,6 +131,7 @@ HaveMovedOn _ _ = ⊥
 
 -- ---- a connection from its other side
 
+-- the other way
 abbrev pub opposite : Direction → Direction
 opposite In = Out
 opposite Out = In
@@ -132,6 +152,7 @@ turned state = record state {
   back = state.forth;
 }
 
+-- what a packet does to a state, with the state that it leaves turned
 abbrev pub turned_touch : Touch → Touch
 turned_touch (Touched next) = Touched (turned next)
 turned_touch Removed = Removed

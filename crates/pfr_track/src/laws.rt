@@ -12,8 +12,8 @@ ghost use Rattle.pfr_track.specs.declared.outcome.Touch.TheVariants.{Touched, Re
 ghost use Rattle.pfr_track.specs.Laws.{HaveClosed, HaveMovedOn, IsLeftBy, IsNew, turned, turned_touch};
 ghost use Rattle.pfr_track.specs.Tracking.{made, touched};
 
-/// No packet takes an end back: a connection's kind stays, each end's state or code is no lesser one behind a packet, and
-/// what an end of TCP has sent, once something was seen of it, is no earlier place of the sequence.
+/// No packet takes an end back: the ends stay ones of the same protocol, each end's code is no lesser one behind a packet,
+/// and the place behind what an end of TCP has sent, once something was seen of it, is the same or a later one.
 pub fn ends_never_go_back()
     ensures { (state next : State) (packet : Packet) (direction : Direction) (clock : Clock) (timeouts : Timeouts) → touched state packet direction clock timeouts ≡ Touched next → HaveMovedOn state.peers next.peers }
 {}
@@ -24,7 +24,7 @@ pub fn what_a_packet_leaves()
     ensures { (state next : State) (packet : Packet) (direction : Direction) (clock : Clock) (timeouts : Timeouts) → touched state packet direction clock timeouts ≡ Touched next → IsLeftBy state packet direction clock timeouts next }
 {}
 
-/// A packet ends a state only where it is one of TCP whose ends have both closed.
+/// A packet ends a state only where that is one of TCP whose ends have both closed.
 pub fn only_ended_connections_are_removed()
     ensures { (state : State) (packet : Packet) (direction : Direction) (clock : Clock) (timeouts : Timeouts) → touched state packet direction clock timeouts ≡ Removed → HaveClosed state.peers }
 {}
@@ -35,8 +35,8 @@ pub fn new_state_waits_by_its_timeout()
     ensures { (number : StateNumber) (packet : Packet) (direction : Direction) (wire stack : Key) (rules : StateRules) (clock : Clock) (timeouts : Timeouts) → IsNew packet clock timeouts (made number packet direction wire stack rules clock timeouts) }
 {}
 
-/// Neither end is followed by other rules than the other one: what a packet does to a state from its other side, where
-/// the ends, the ways and the counts have changed places, is what it does to the state, from its other side.
+/// Both ends are followed by the same rules: where a state is turned, so that its ends, its direction and its counts change
+/// places, a packet does to it what it does to the state itself, turned as well.
 pub fn both_directions_agree()
     ensures { (state : State) (packet : Packet) (direction : Direction) (clock : Clock) (timeouts : Timeouts) → touched (turned state) packet direction clock timeouts ≡ turned_touch (touched state packet direction clock timeouts) }
 {}
