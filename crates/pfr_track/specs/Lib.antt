@@ -1,4 +1,5 @@
 pub mod Datagrams
+pub mod Laws
 pub mod Sequences
 pub mod Tcp
 pub mod Timeouts

@@ -7,6 +7,7 @@
 
 pub mod datagram;
 pub mod key;
+pub mod laws;
 pub mod making;
 pub mod outcome;
 pub mod peers;
