@@ -7,8 +7,8 @@ puts the packets of an earlier one before its own. Each of its packets is a line
 
 A TCP packet is its direction, flags, sequence number and acknowledged number, and then words with numbers: `win`, `scale`,
 `data` (the length of the payload), `length` (of the whole packet, where it isn't what follows from the others) and `at`, the
-clock from here on. Others are their direction, kind and length, and `at`. A number may be `-` for zero, or a sum as
-`4294967295-1` or a shifted number as `1<<31`.
+clock from here on. Flags are their first letters (C is CWR), or a point for none. Others are their direction, kind and
+length, and `at`. A number may be `-` for zero, or a sum as `1000+67035`.
 """
 
 import re
@@ -19,7 +19,7 @@ from track_model import DEFAULT_SECONDS, ICMP, TCP, UDP, Conversation, Packet
 PROTOCOLS = {"tcp": TCP, "udp": UDP, "icmp": ICMP, "other": 47}
 FLAG_LETTERS = "FSRPAUEC"
 KEY = "198.51.100.7:80,10.0.0.5:1000"
-NUMBER = re.compile(r"\d+((\+|-|<<)\d+)*")
+SUM = re.compile(r"\d+(\+\d+)*")
 
 
 class Written(NamedTuple):
@@ -32,10 +32,9 @@ class Written(NamedTuple):
 def number(word):
     if word == "-":
         return 0
-    if not NUMBER.fullmatch(word):
+    if not SUM.fullmatch(word):
         raise SystemExit(f"no number: {word}")
-    # made of digits and three signs alone
-    return eval(word) % 2**64
+    return sum(map(int, word.split("+")))
 
 
 def options(words):
