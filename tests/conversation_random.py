@@ -1,4 +1,5 @@
-"""Random conversations, of values near the bounds: what a packet holds is drawn by what the model says of the ends before it."""
+"""Random conversations, of values near the bounds: what a packet holds is drawn by what the model says of the ends before
+it."""
 
 import random
 

@@ -1,9 +1,9 @@
 """Reads the written conversations, `conversations/*.txt`.
 
-A conversation begins with its protocol (tcp, udp, icmp or other) and its name, as `tcp: a SYN sent twice`. In a line behind it
-`state NUMBER WIRE STACK R T` may say what else its packets share, `seconds` and 14 numbers may set the timeouts, and `after NAME`
-puts the packets of an earlier one before its own. Each of its packets is a line, and what it is expected to do an indented line below:
-`mismatch`, `removed`, or the end of the line of the state that it makes or changes, from the ends on.
+A conversation begins with its protocol (tcp, udp, icmp or other) and its name, as `tcp: a SYN sent twice`. In lines behind
+it `state NUMBER WIRE STACK R T` may say what else its packets share, `seconds` and 14 numbers may set the timeouts, and
+`after NAME` puts the packets of an earlier one before its own. Each of its packets is a line, and what it is expected to do an
+indented line below: `mismatch`, `removed`, or the end of the line of the state that it makes or changes, from the ends on.
 
 A TCP packet is its direction, flags, sequence number and acknowledged number, and then words with numbers: `win`, `scale`,
 `data` (the length of the payload), `length` (of the whole packet, where it isn't what follows from the others) and `at`, the
