@@ -15,6 +15,8 @@ pub mod segment;
 pub mod sequence;
 pub mod state;
 pub mod tcp;
+#[cfg(test)]
+mod tests;
 pub mod time;
 pub mod timeout;
 pub mod touching;
