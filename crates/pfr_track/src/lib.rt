@@ -1,0 +1,34 @@
+//! What becomes of one state when a packet of its connection comes.
+//!
+//! [`make`] gives the state that a packet makes, [`touch`] what a packet does to a state: it is followed by the rules of
+//! pf's own tracking, over TCP's sequence numbers and windows (RFC 9293, RFC 7323), or by who has spoken for other
+//! protocols. A packet that doesn't fit changes nothing. Nothing here takes memory.
+#![tactic(auto)]
+
+pub mod datagram;
+pub mod key;
+pub mod laws;
+pub mod making;
+pub mod outcome;
+pub mod peers;
+pub mod segment;
+pub mod sequence;
+pub mod state;
+pub mod tcp;
+#[cfg(test)]
+mod tests;
+pub mod time;
+pub mod timeout;
+pub mod touching;
+
+pub use datagram::DatagramPeer;
+pub use key::{Endpoint, Key};
+pub use making::make;
+pub use outcome::Touch;
+pub use peers::Peers;
+pub use sequence::Sequence;
+pub use state::{RuleNumber, State, StateNumber, StateRules, Traffic};
+pub use tcp::{TcpPeer, TcpPeerState};
+pub use time::{Clock, Deadline};
+pub use timeout::{Timeout, Timeouts};
+pub use touching::touch;

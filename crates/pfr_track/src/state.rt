@@ -1,0 +1,73 @@
+//! States.
+ghost use Rattle.std.specs.Prelude.{◌≡◌};
+ghost use Rattle.pfr_track.specs.Tracking as spec;
+
+use crate::key::Key;
+use crate::peers::Peers;
+use crate::time::{Clock, Deadline};
+use crate::timeout::Timeout;
+use pfr_headers::{Direction, Packet};
+
+/// The number of a state: that of the packet that made it.
+#[derive(Clone, Copy, Debug, PartialEq, Eq, PartialOrd, Ord, Hash)]
+pub struct StateNumber(pub u64);
+
+/// The number of a rule as messages carry it.
+#[derive(Clone, Copy, Debug, PartialEq, Eq, PartialOrd, Ord, Hash)]
+pub struct RuleNumber(pub u32);
+
+/// The rules by which a state was made, and what they say of it.
+#[derive(Clone, Copy, Debug, PartialEq, Eq)]
+pub struct StateRules {
+    /// None where no filter rule decided.
+    pub filter: Option<RuleNumber>,
+    /// None where nothing is translated.
+    pub translation: Option<RuleNumber>,
+    /// Whether a standby is told of it: its rule doesn't say `no-sync`.
+    pub is_synchronised: bool,
+    /// Whether its packets may have IP options: its rule says `allow-opts`.
+    pub allows_options: bool,
+}
+
+/// Packets and bytes (IP total lengths) that went one way. A count at its last value stays there.
+#[derive(Clone, Copy, Debug, PartialEq, Eq)]
+pub struct Traffic {
+    pub packets: u64,
+    pub bytes: u64,
+}
+
+impl Traffic {
+    /// The same with one packet more.
+    pub(crate) fn with(self, packet: &Packet) -> Traffic
+        ensures { result ≡ spec.with_packet packet.now self }
+    {
+        Traffic {
+            packets: self.packets.saturating_add(1),
+            bytes: self.bytes.saturating_add(u64::from(packet.total_length)),
+        }
+    }
+}
+
+/// What is kept of one connection.
+#[derive(Clone, Copy, Debug, PartialEq, Eq)]
+pub struct State {
+    pub number: StateNumber,
+    /// The way of the packet that made it.
+    pub direction: Direction,
+    /// What its packets are on the wire, and what they are behind the firewall's translation. Both have the connection's
+    /// protocol.
+    pub wire: Key,
+    pub stack: Key,
+    pub rules: StateRules,
+    pub peers: Peers,
+    /// The clock when it was made.
+    pub made: Clock,
+    /// From here on it is no more.
+    pub deadline: Deadline,
+    /// The timeout of which the deadline is.
+    pub timeout: Timeout,
+    /// What went the way of the packet that made it.
+    pub forth: Traffic,
+    /// What went the other way.
+    pub back: Traffic,
+}

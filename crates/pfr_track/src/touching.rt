@@ -1,0 +1,151 @@
+//! Packets of a connection that has a state.
+ghost use Rattle.std.specs.Prelude.{◌≡◌, ◌==◌};
+ghost use Rattle.pfr_track.specs.Tcp as tcp;
+ghost use Rattle.pfr_track.specs.Tracking as spec;
+
+use crate::datagram::{DatagramPeer, timeout_by as datagram_timeout};
+use crate::outcome::{Followed, Touch, Track};
+use crate::peers::Peers;
+use crate::segment::{Exchange, is_ack, is_syn};
+use crate::state::State;
+use crate::tcp::{TcpPeer, TcpPeerState, timeout_by};
+use crate::time::{Clock, Deadline};
+use crate::timeout::{Timeout, Timeouts};
+use pfr_headers::{Direction, IcmpMessage, Packet, TcpHeader, Transport};
+
+fn begins_anew(sender: &TcpPeer, receiver: &TcpPeer, header: &TcpHeader) -> bool
+    ensures { result ≡ tcp.begins_anew sender.now receiver.now header.now }
+{
+    is_syn(header)
+        && !is_ack(header)
+        && sender.state.is_at_least(TcpPeerState::FinWait2)
+        && receiver.state.is_at_least(TcpPeerState::FinWait2)
+}
+
+/// Follows a segment between its sender and the other end.
+#[tactic(auto, unfolding(crate::specs::Tracking::followed))]
+fn follow(sender: TcpPeer, receiver: TcpPeer, header: &TcpHeader) -> Followed
+    ensures { result ≡ spec.followed sender receiver header.now }
+{
+    if begins_anew(&sender, &receiver, header) {
+        return Followed::Removed;
+    }
+    let mut exchange = Exchange::of(sender, receiver, header);
+    if !exchange.fits() {
+        return Followed::Refused;
+    }
+    exchange.advance();
+    exchange.raise(header);
+    Followed::Accepted(exchange.sender, exchange.receiver)
+}
+
+/// Follows a segment between the maker of the state and the other end, of which the maker sends it or the other one.
+#[tactic(auto, unfolding(crate::specs::Tracking::tcp_track))]
+fn tcp_track(maker: TcpPeer, other: TcpPeer, header: &TcpHeader, is_forth: bool) -> Track
+    ensures { result ≡ spec.tcp_track maker other header.now is_forth }
+{
+    let followed = if is_forth {
+        follow(maker, other, header)
+    } else {
+        follow(other, maker, header)
+    };
+    match followed {
+        Followed::Removed => Track::Removed,
+        Followed::Refused => Track::Refused,
+        Followed::Accepted(sender, receiver) => {
+            let peers = if is_forth {
+                Peers::Tcp(sender, receiver)
+            } else {
+                Peers::Tcp(receiver, sender)
+            };
+            Track::Accepted(peers, timeout_by(sender.state, receiver.state))
+        }
+    }
+}
+
+/// Both ends of a connection of datagrams, the maker's first, after one that the maker or the other one sent.
+fn exchanged(
+    maker: DatagramPeer,
+    other: DatagramPeer,
+    is_forth: bool,
+) -> (DatagramPeer, DatagramPeer)
+    ensures { result ≡ spec.exchanged maker other is_forth }
+{
+    if is_forth {
+        (maker.spoken(), other.answered())
+    } else {
+        (maker.answered(), other.spoken())
+    }
+}
+
+/// What a packet does to both ends of a connection.
+#[tactic(auto, unfolding(crate::specs::Tracking::track))]
+fn track(peers: &Peers, transport: &Transport, is_forth: bool) -> Track
+    ensures { result ≡ spec.track peers.now transport.now is_forth }
+{
+    match (*peers, *transport) {
+        (Peers::Tcp(maker, other), Transport::Tcp(header)) => {
+            tcp_track(maker, other, &header, is_forth)
+        }
+        (Peers::Udp(maker, other), Transport::Udp(_)) => {
+            let (maker, other) = exchanged(maker, other, is_forth);
+            let timeout = datagram_timeout(maker, other, Timeout::UdpSingle, Timeout::UdpMultiple);
+            Track::Accepted(Peers::Udp(maker, other), timeout)
+        }
+        (Peers::Icmp, Transport::Icmp(header)) => match header.message {
+            IcmpMessage::Echo(_) => Track::Accepted(Peers::Icmp, Timeout::IcmpError),
+            _ => Track::Refused,
+        },
+        (Peers::Other(maker, other), Transport::Other) => {
+            let (maker, other) = exchanged(maker, other, is_forth);
+            let timeout = datagram_timeout(
+                maker,
+                other,
+                Timeout::OtherSingle,
+                Timeout::OtherMultiple,
+            );
+            Track::Accepted(Peers::Other(maker, other), timeout)
+        }
+        _ => Track::Refused,
+    }
+}
+
+/// Whether two ways are one.
+fn is_same_way(first: Direction, second: Direction) -> bool
+    ensures { result ≡ spec.is_same_way first second }
+{
+    match (first, second) {
+        (Direction::In, Direction::In) | (Direction::Out, Direction::Out) => true,
+        _ => false,
+    }
+}
+
+/// What a packet of its connection does to a state. One that is accepted is counted, and the state waits anew for the next
+/// one.
+#[tactic(auto, unfolding(crate::specs::Tracking::touched))]
+pub fn touch(
+    state: &State,
+    packet: &Packet,
+    direction: Direction,
+    clock: Clock,
+    timeouts: &Timeouts,
+) -> Touch
+    ensures { result ≡ spec.touched state.now packet.now direction clock timeouts.now }
+{
+    let is_forth = is_same_way(direction, state.direction);
+    let (peers, timeout) = match track(&state.peers, &packet.transport, is_forth) {
+        Track::Accepted(peers, timeout) => (peers, timeout),
+        Track::Removed => return Touch::Removed,
+        Track::Refused => return Touch::Mismatch,
+    };
+    let mut touched = *state;
+    touched.peers = peers;
+    touched.timeout = timeout;
+    touched.deadline = Deadline::after(clock, timeouts.of(timeout));
+    if is_forth {
+        touched.forth = state.forth.with(packet);
+    } else {
+        touched.back = state.back.with(packet);
+    }
+    Touch::Touched(touched)
+}
