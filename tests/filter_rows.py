@@ -91,6 +91,9 @@ def verdict_rows():
               (UDP_NINE, "in pass rule r=0"), (SYN_PACKET, "in block rule r=2"), (PING, "in pass rule r=3"))
     yield row("65536 rules", "pass\n" * 65535 + "block proto udp\n", (UDP_NINE, "in block rule r=65535"),
               (PING, "in pass rule r=65534"))
+    # the rules that are visited have a gap at each anchor
+    yield row("300 anchors that don't hold", "anchor proto tcp {\nblock quick\n}\npass in\n" * 300,
+              (UDP_NINE, "in pass rule r=599"), (PING, "in pass rule r=599"))
     # each packet is judged by itself, so the answer to one that a stateful rule has let out stays outside
     yield row("no states", "block\npass out keep state", (udp("10.0.0.5", 9, OUTSIDE, 9), "out pass rule r=1"),
               (udp(OUTSIDE, 9, "10.0.0.5", 9), "in block rule r=0"))
