@@ -1,0 +1,1 @@
+//! Questions to a list of states.
