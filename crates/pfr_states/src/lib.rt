@@ -3,7 +3,8 @@
 #![tactic(auto)]
 
 pub mod change;
-pub mod scan;
+mod edit;
+mod scan;
 pub mod table;
 
 pub use change::{Side, TableChange, TableError};

@@ -104,7 +104,12 @@ pub(crate) fn due(states: &[State], clock: Clock) -> Option<State>
 pub(crate) fn after(states: &[State], number: StateNumber) -> Option<State>
     ensures { result ≡ spec.after number states.now }
 {
-    states.iter().find(|state| number.0 < state.number.0).copied()
+    for state in states {
+        if number.0 < state.number.0 {
+            return Some(*state);
+        }
+    }
+    None
 }
 
 /// Whether some state has a key in common with this one.
