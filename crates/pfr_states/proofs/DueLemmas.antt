@@ -60,31 +60,41 @@ next_by : (goes : Bool) (start x : State) (xs : List State) → goes_before x st
 next_by true start x xs goes found =
     let rest = found x in
     let first = rest.0 in
-    let is = rest.2 in
-    (first, rest.1, record {
-      at = inr (elim is.at [ inl same ↦ rw (← same) (here x xs) | inr later ↦ there x xs first later ]);
-      not_start = λ before. elim (compared start x first before) [ inl less ↦ asymmetric start x less (is_before x start goes) | inr below ↦ is.not_start below ];
-      none = λ other h before. elim (in_cons x xs other h) [ inl same ↦ is.not_start (subst (λ (s : State). Before s first) (sym same) before) | inr later ↦ is.none other later before ];
-    })
+    let is = rest.2 in (
+      first,
+      rest.1,
+      record {
+        at = inr (elim is.at [ inl same ↦ rw (← same) (here x xs) | inr later ↦ there x xs first later ]);
+        not_start = λ before. elim (compared start x first before) [ inl less ↦ asymmetric start x less (is_before x start goes) | inr below ↦ is.not_start below ];
+        none = λ other h before. elim (in_cons x xs other h) [ inl same ↦ is.not_start (subst (λ (s : State). Before s first) (sym same) before) | inr later ↦ is.none other later before ];
+      },
+    )
 next_by false start x xs goes found =
     let rest = found start in
     let first = rest.0 in
-    let is = rest.2 in
-    (first, rest.1, record {
-      at = elim is.at [ inl same ↦ inl same | inr later ↦ inr (there x xs first later) ];
-      not_start = is.not_start;
-      none = λ other h before. elim (in_cons x xs other h) [
-        | inl same ↦ elim (compared x start first (subst (λ (s : State). Before s first) (sym same) before)) [ inl less ↦ no_before x start goes less | inr below ↦ is.not_start below ]
-        | inr later ↦ is.none other later before
-      ];
-    })
+    let is = rest.2 in (
+      first,
+      rest.1,
+      record {
+        at = elim is.at [ inl same ↦ inl same | inr later ↦ inr (there x xs first later) ];
+        not_start = is.not_start;
+        none = λ other h before. elim (in_cons x xs other h) [
+          | inl same ↦ elim (compared x start first (subst (λ (s : State). Before s first) (sym same) before)) [ inl less ↦ no_before x start goes less | inr below ↦ is.not_start below ]
+          | inr later ↦ is.none other later before
+        ];
+      },
+    )
 
 first_from : (xs : List State) (start : State) → (first : State) × (fold earlier (Some start) xs ≡ Some first) × IsFirst start xs first
-first_from [] start = (start, refl, record {
-  at = inl refl;
-  not_start = λ before. asymmetric start start before before;
-  none = λ other h before. in_none other h;
-})
+first_from [] start = (
+  start,
+  refl,
+  record {
+    at = inl refl;
+    not_start = λ before. asymmetric start start before before;
+    none = λ other h before. in_none other h;
+  },
+)
 first_from (x ∷ xs) start = next_by (goes_before x start) start x xs refl (first_from xs)
 
 -- ---- what is due

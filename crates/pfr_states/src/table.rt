@@ -59,7 +59,7 @@ impl Table {
     pub fn room(&self, clock: Clock) -> bool
         ensures { result ≡ spec.has_room self.now.limit (spec.purged clock self.now.states) }
     {
-        self.states.len() < self.limit || scan::some_is_due(&self.states, clock)
+        self.len() < self.limit || scan::some_is_due(&self.states, clock)
     }
 
     /// Of the states whose deadline has come the one with the least deadline; of those the one with the least number.
@@ -95,7 +95,7 @@ impl Table {
         if scan::some_shares_key(&self.states, &state) {
             return Err(TableError::KeyTaken);
         }
-        if self.states.len() >= self.limit {
+        if self.len() >= self.limit {
             return Err(TableError::Full);
         }
         put(&mut self.states, state)?;
