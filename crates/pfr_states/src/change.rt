@@ -1,0 +1,46 @@
+//! What is asked of a table.
+use pfr_track::{State, StateNumber};
+use std::alloc::AllocError;
+use thiserror::Error;
+
+/// The sides of the firewall on which packets are looked up: those that come in on the wire, those that go out on the stack.
+#[derive(Clone, Copy, Debug, PartialEq, Eq, Hash)]
+pub enum Side {
+    Wire,
+    Stack,
+}
+
+/// What a packet changes in the table.
+#[derive(Clone, Copy, Debug, PartialEq, Eq)]
+pub enum TableChange {
+    /// A new state.
+    Made(State),
+    /// A state as a packet leaves it.
+    Touched(State),
+    /// The state of this number is no more.
+    Removed(StateNumber),
+}
+
+/// Why a table doesn't take a change.
+#[derive(Clone, Copy, Debug, PartialEq, Eq, Error)]
+pub enum TableError {
+    /// Another state has one of the state's keys.
+    #[error("key taken")]
+    KeyTaken,
+    /// There are as many states as there may be.
+    #[error("full")]
+    Full,
+    #[error("no memory")]
+    Memory,
+}
+
+impl From<AllocError> for TableError {
+    ghost use Rattle.std.specs.Prelude.{◌≡◌};
+    ghost use Rattle.pfr_states.specs.declared.change.TableError.TheVariants.{Memory};
+
+    ghost from_gives = { λ _ e. e ≡ Memory };
+
+    fn from(_refused: AllocError) -> TableError {
+        TableError::Memory
+    }
+}

@@ -1,0 +1,12 @@
+//! The table of states: a finite map from number to state in which no two states share a key, and from which states go when
+//! their deadline comes.
+#![tactic(auto)]
+
+pub mod change;
+mod edit;
+pub mod laws;
+mod scan;
+pub mod table;
+
+pub use change::{Side, TableChange, TableError};
+pub use table::Table;

@@ -1,0 +1,146 @@
+//! The table of states.
+ghost use Rattle.std.specs.Prelude.{◌≡◌, ◌≢◌, length, Some, None, OnOk, OnErr, IfErr, IsOk};
+ghost use Rattle.pfr_track.specs.declared.state.StateNumber.{StateNumber};
+ghost use Rattle.pfr_states.specs.declared.change.TableError.TheVariants.{Memory};
+ghost use Rattle.pfr_states.specs.declared.change.TableChange.TheVariants.{Made, Touched, Removed};
+ghost use Rattle.pfr_states.specs.States as spec;
+
+use crate::change::{Side, TableChange, TableError};
+use crate::edit::{purge, put, remove, touch};
+use crate::scan;
+use pfr_track::{Clock, Key, State, StateNumber};
+use std::alloc::Global;
+use std::marker::Model;
+
+/// States by their numbers, no two of which share a key, and at most as many as a limit says. Contracts see the list of
+/// states by rising number, and the limit.
+#[derive(Drop)]
+pub struct Table {
+    states: Vec<State>,
+    limit: usize,
+}
+
+impl Model for Table {
+    ghost use Rattle.pfr_states.specs.States.{IsTable, StateTable};
+
+    ghost Value = { StateTable };
+
+    ghost view = { λ t. record { states = t.states.items; limit = t.limit } };
+
+    ghost invariant = { λ t. IsTable (record { states = t.states.items; limit = t.limit }) };
+}
+
+impl Table {
+    /// A table without states, for so many.
+    pub fn new(alloc: Global, limit: usize) -> Table
+        ensures { result ≡ spec.empty limit }
+    {
+        Table {
+            states: Vec::new(alloc),
+            limit,
+        }
+    }
+
+    /// How many states there are, with those whose deadline has come.
+    pub fn len(&self) -> usize
+        ensures { result ≡ length self.now.states }
+    {
+        self.states.len()
+    }
+
+    /// The state with this key on a side, where its deadline hasn't come.
+    pub fn at(&self, side: Side, key: &Key, clock: Clock) -> Option<State>
+        ensures { result ≡ spec.at side key.now (spec.purged clock self.now.states) }
+    {
+        scan::at(&self.states, side, key, clock)
+    }
+
+    /// Whether there is room for one more state once those are gone whose deadline has come.
+    pub fn room(&self, clock: Clock) -> bool
+        ensures { result ≡ spec.has_room self.now.limit (spec.purged clock self.now.states) }
+    {
+        self.len() < self.limit || scan::some_is_due(&self.states, clock)
+    }
+
+    /// Of the states whose deadline has come the one with the least deadline; of those the one with the least number.
+    pub fn due(&self, clock: Clock) -> Option<State>
+        ensures { result ≡ spec.due clock self.now.states }
+    {
+        scan::due(&self.states, clock)
+    }
+
+    /// The state of the least number above this one.
+    pub fn after(&self, number: StateNumber) -> Option<State>
+        ensures { result ≡ spec.after number self.now.states }
+    {
+        scan::after(&self.states, number)
+    }
+
+    /// Takes out the states whose deadline has come.
+    pub fn purge(&mut self, clock: Clock)
+        ensures states { self.new.states ≡ spec.purged clock self.old.states }
+        ensures limit { self.new.limit ≡ self.old.limit }
+    {
+        purge(&mut self.states, clock);
+    }
+
+    /// A new state.
+    fn make(&mut self, state: State) -> Result<(), TableError>
+        ensures done { OnOk result (self.new.states ≡ spec.with_change (Made state) self.old.states) }
+        ensures allowed { OnOk result (spec.refusal (Made state) self.old.limit self.old.states ≡ None) }
+        ensures refused { IfErr result (λ e. e ≢ Memory → spec.refusal (Made state) self.old.limit self.old.states ≡ Some e) }
+        ensures kept { OnErr result (self.new ≡ self.old) }
+        ensures limit { self.new.limit ≡ self.old.limit }
+    {
+        if scan::some_shares_key(&self.states, &state) {
+            return Err(TableError::KeyTaken);
+        }
+        if self.len() >= self.limit {
+            return Err(TableError::Full);
+        }
+        put(&mut self.states, state)?;
+        Ok(())
+    }
+
+    /// A state as a packet leaves it.
+    fn touch(&mut self, state: State) -> Result<(), TableError>
+        ensures done { OnOk result (self.new.states ≡ spec.with_change (Touched state) self.old.states) }
+        ensures allowed { OnOk result (spec.refusal (Touched state) self.old.limit self.old.states ≡ None) }
+        ensures refused { IfErr result (λ e. spec.refusal (Touched state) self.old.limit self.old.states ≡ Some e) }
+        ensures kept { OnErr result (self.new ≡ self.old) }
+        ensures limit { self.new.limit ≡ self.old.limit }
+    {
+        if scan::some_other_shares_key(&self.states, &state) {
+            return Err(TableError::KeyTaken);
+        }
+        touch(&mut self.states, &state);
+        Ok(())
+    }
+
+    /// The state of a number is no more.
+    fn remove(&mut self, number: StateNumber)
+        ensures states { self.new.states ≡ spec.with_change (Removed number) self.old.states }
+        ensures limit { self.new.limit ≡ self.old.limit }
+    {
+        remove(&mut self.states, number);
+    }
+
+    /// Takes a change over. Where it is refused the table stays as it was. A removal never is.
+    pub fn apply(&mut self, change: TableChange) -> Result<(), TableError>
+        ensures done { OnOk result (self.new.states ≡ spec.with_change change self.old.states) }
+        ensures allowed { OnOk result (spec.refusal change self.old.limit self.old.states ≡ None) }
+        ensures refused { IfErr result (λ e. e ≢ Memory → spec.refusal change self.old.limit self.old.states ≡ Some e) }
+        ensures kept { OnErr result (self.new ≡ self.old) }
+        ensures limit { self.new.limit ≡ self.old.limit }
+        ensures removes { (number : StateNumber) → change ≡ Removed number → IsOk result }
+    {
+        match change {
+            TableChange::Made(state) => self.make(state),
+            TableChange::Touched(state) => self.touch(state),
+            TableChange::Removed(number) => {
+                self.remove(number);
+                Ok(())
+            }
+        }
+    }
+}
