@@ -47,6 +47,8 @@ def change(crates, changes):
 
 def folder_of(words):
     """The folder that is named on a command line, or a new one, to be used by `with`."""
+    if words and words[0].startswith("-"):
+        raise SystemExit("the one word is a folder")
     if words:
         folder = Path(words[0])
         folder.mkdir(parents=True, exist_ok=True)
