@@ -7,7 +7,7 @@ use crate::scan::{is_number, lives, place};
 use pfr_track::{Clock, State, StateNumber};
 use std::alloc::AllocError;
 
-/// Puts a state in its place, and one of its number goes. Where memory is refused the states are as before.
+/// Puts a state in its place by number; one of the same number goes. Where memory is refused the states are as before.
 pub(crate) fn put(states: &mut Vec<State>, state: State) -> Result<(), AllocError>
     ensures done { OnOk result (states.new.items ≡ spec.with_state state states.old.items) }
     ensures kept { OnErr result (states.new.items ≡ states.old.items) }
@@ -21,7 +21,7 @@ pub(crate) fn put(states: &mut Vec<State>, state: State) -> Result<(), AllocErro
     Ok(())
 }
 
-/// Puts a state in the place of the one of its number.
+/// Puts a state in the place of the one of its number; where there is none, nothing changes.
 pub(crate) fn touch(states: &mut [State], state: &State)
     ensures { states.new ≡ spec.with_touched state.now states.old }
 {
@@ -32,7 +32,7 @@ pub(crate) fn touch(states: &mut [State], state: &State)
     }
 }
 
-/// Takes the state of a number out.
+/// Takes the state of a number out, if there is one.
 pub(crate) fn remove(states: &mut Vec<State>, number: StateNumber)
     ensures { states.new.items ≡ filter (λ state. not (spec.is_number number state)) states.old.items }
 {

@@ -6,6 +6,7 @@ ghost use Rattle.pfr_states.specs.States as spec;
 use crate::change::Side;
 use pfr_track::{Clock, Endpoint, Key, State, StateNumber};
 
+/// Whether two ends are one.
 fn is_same_end(a: &Endpoint, b: &Endpoint) -> bool
     ensures { result ≡ spec.is_same_end a.now b.now }
 {
@@ -13,7 +14,7 @@ fn is_same_end(a: &Endpoint, b: &Endpoint) -> bool
 }
 
 /// Whether two keys are one.
-pub(crate) fn is_same_key(a: &Key, b: &Key) -> bool
+fn is_same_key(a: &Key, b: &Key) -> bool
     ensures { result ≡ spec.is_same_key a.now b.now }
 {
     a.protocol.0 == b.protocol.0
@@ -126,7 +127,8 @@ pub(crate) fn some_other_shares_key(states: &[State], state: &State) -> bool
     states.iter().any(|other| !is_number(state.number, other) && shares_key(state, other))
 }
 
-/// How many states stand before the place of a number.
+/// How many states come before the first one whose number is this one or above it: where a state of this number has its
+/// place.
 pub(crate) fn place(states: &[State], number: StateNumber) -> usize
     ensures { result ≡ prefix_len (λ other. nat_lt other.number.0 number.0) states.now }
 {

@@ -31,7 +31,7 @@ impl Model for Table {
 }
 
 impl Table {
-    /// A table without states, for so many.
+    /// A table without states, for so many. It takes memory only once states are made.
     pub fn new(alloc: Global, limit: usize) -> Table
         ensures { result ≡ spec.empty limit }
     {
@@ -41,14 +41,14 @@ impl Table {
         }
     }
 
-    /// How many states there are, with those whose deadline has come.
+    /// How many states there are; those whose deadline has come are counted until they are purged.
     pub fn len(&self) -> usize
         ensures { result ≡ length self.now.states }
     {
         self.states.len()
     }
 
-    /// The state with this key on a side, where its deadline hasn't come.
+    /// The state with this key on a side. One whose deadline has come isn't answered, purged or not.
     pub fn at(&self, side: Side, key: &Key, clock: Clock) -> Option<State>
         ensures { result ≡ spec.at side key.now (spec.purged clock self.now.states) }
     {
@@ -84,7 +84,7 @@ impl Table {
         purge(&mut self.states, clock);
     }
 
-    /// A new state.
+    /// Takes a new state over.
     fn make(&mut self, state: State) -> Result<(), TableError>
         ensures done { OnOk result (self.new.states ≡ spec.with_change (Made state) self.old.states) }
         ensures allowed { OnOk result (spec.refusal (Made state) self.old.limit self.old.states ≡ None) }
@@ -102,7 +102,7 @@ impl Table {
         Ok(())
     }
 
-    /// A state as a packet leaves it.
+    /// Takes a state over as a packet leaves it.
     fn touch(&mut self, state: State) -> Result<(), TableError>
         ensures done { OnOk result (self.new.states ≡ spec.with_change (Touched state) self.old.states) }
         ensures allowed { OnOk result (spec.refusal (Touched state) self.old.limit self.old.states ≡ None) }
@@ -117,7 +117,7 @@ impl Table {
         Ok(())
     }
 
-    /// The state of a number is no more.
+    /// Takes the state of a number out.
     fn remove(&mut self, number: StateNumber)
         ensures states { self.new.states ≡ spec.with_change (Removed number) self.old.states }
         ensures limit { self.new.limit ≡ self.old.limit }
@@ -125,7 +125,10 @@ impl Table {
         remove(&mut self.states, number);
     }
 
-    /// Takes a change over. Where it is refused the table stays as it was. A removal never is.
+    /// Takes a change over. Where it is refused the table stays as it was: a key that another state has is the first reason,
+    /// too many states the second. States count until they are purged, whether their deadline has come or not. Only a made
+    /// state takes memory. A removal is never refused; where no state has the number of a touched or removed one, the table
+    /// stays as it was.
     pub fn apply(&mut self, change: TableChange) -> Result<(), TableError>
         ensures done { OnOk result (self.new.states ≡ spec.with_change change self.old.states) }
         ensures allowed { OnOk result (spec.refusal change self.old.limit self.old.states ≡ None) }
