@@ -13,6 +13,7 @@ use Rattle.pfr_capture.specs.Records.{RecordBytes, IsCapture, seconds_of, text_o
 use Rattle.pfr_headers.specs.declared.network.Net.{Net}
 use Rattle.pfr_headers.specs.View.{view_of}
 use Rattle.pfr_terms.specs.declared.error.ConfError.{ConfError}
+use Rattle.pfr_terms.specs.declared.error.ConfErrorKind.TheVariants.{Memory as NoMemory}
 use Rattle.pfr_terms.specs.Input.{Gives}
 use Rattle.pfr_expand.specs.declared.ruleset.Ruleset.{Ruleset}
 use Rattle.pfr_out.specs.declared.report.Output.TheVariants as output
@@ -182,9 +183,10 @@ pub record UnderRules (text : List ℕ) (P : Ruleset → Type 0) : Type 0 where
   pub are : rules_of text ≡ Ok rules
   pub hold : P rules
 
--- the fault is the text's, but for want of memory
-abbrev pub IsFaultOf : List ℕ → ConfError → Type 0
-IsFaultOf text fault = Gives (rules_of text) (Err fault)
+-- the fault is the text's, but for want of memory, which has line 0
+pub record IsFaultOf (text : List ℕ) (fault : ConfError) : Type 0 where
+  pub is : Gives (rules_of text) (Err fault)
+  pub line : fault.kind ≡ NoMemory → fault.line ≡ 0
 
 -- what each stop of a plain run says. A fault of the ruleset leaves the source unread and the outputs as they
 -- were.

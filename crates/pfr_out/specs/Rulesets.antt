@@ -1,7 +1,7 @@
 -- What a ruleset text means for an interface.
-use Rattle.std.specs.Prelude.{ℕ, nat_lt, if◌then◌else◌, List, length, Result, Ok, Err, codes}
+use Rattle.std.specs.Prelude.{◌≡◌, ◌≢◌, ℕ, nat_lt, if◌then◌else◌, List, length, Result, Ok, Err, codes}
 use Rattle.pfr_terms.specs.declared.error.ConfError.{ConfError}
-use Rattle.pfr_terms.specs.declared.error.ConfErrorKind.TheVariants.{TooMany}
+use Rattle.pfr_terms.specs.declared.error.ConfErrorKind.TheVariants.{Memory, TooMany}
 use Rattle.pfr_elements.specs.declared.interface.Interface.{Interface}
 use Rattle.pfr_elements.specs.Interfaces.{if_name}
 use Rattle.pfr_conf.specs.declared.statement.Statements.{Statements}
@@ -22,3 +22,9 @@ unfoldable pub ruleset_of : List ℕ → Interface → Result Ruleset ConfError
 ruleset_of text interface =
     if nat_lt 1048576 (length text) then Err (record { line = 1; kind = TooMany })
     else expanded_by (statements_of text) interface
+
+-- a fault as it is told: the same, but want of memory has line 0
+pub record IsTold (fault told : ConfError) : Type 0 where
+  pub same : told.kind ≢ Memory → told ≡ fault
+  pub kind : told.kind ≡ fault.kind
+  pub line : told.kind ≡ Memory → told.line ≡ 0

@@ -6,6 +6,7 @@ ghost use Rattle.pfr_capture.specs.Reading.{HasGiven, bytes_of};
 ghost use Rattle.pfr_capture.specs.Records.{text_of};
 ghost use Rattle.pfr_out.specs.Plain.{Begun, OfEvery, Replayed, StopFails, StopOf, Stopped, UnderRules, counts, judged, line_of, outputs, packet_of, rules_of, stop_for};
 ghost use Rattle.pfr_out.specs.Writing.{RecordCounts, RecordFails, WroteRecord, stop_in_record};
+ghost use Rattle.pfr_terms.specs.declared.error.ConfErrorKind.TheVariants.{Memory as NoMemory};
 ghost use Rattle.pfr_terms.specs.Input.{Gives};
 ghost use Rattle.pfr_expand.specs.declared.ruleset.Ruleset.{Ruleset};
 
@@ -106,7 +107,8 @@ fn write_record<S: Sink, T: Sink>(
 
 /// What a text means for the run's interface, or its fault.
 fn rules_of(alloc: Global, text: &[u8]) -> Result<Ruleset, ConfError>
-    ensures { Gives (rules_of text.now) result }
+    ensures meaning { Gives (rules_of text.now) result }
+    ensures memory { IfErr result (λ fault. fault.kind ≡ NoMemory → fault.line ≡ 0) }
 {
     ruleset_of(alloc, text, &plain_interface())
 }

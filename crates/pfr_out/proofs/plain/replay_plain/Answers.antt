@@ -16,7 +16,7 @@ pub returns-in-Err-open-clause-stopped : goal.returns-in-Err-open-clause-stopped
 returns-in-Err-open-clause-stopped g c =
     λ t u v.
     rw c.stop_for.ensures
-    (under_rules c.args.text.now _ c.args.inside.now _ _ _ _ _ c.in-Ok.ensures
+    (under_rules c.args.text.now _ c.args.inside.now _ _ _ _ _ c.in-Ok.ensures.meaning
     (refused_opening _ c.args.inside.now _ _ _ c.in-Err-open.refusal _ _ (c.in-Err-open.ensures.refused t) (c.in-Err-open.ensures.early t) c.in-Err-open.ensures.failed))
 
 pub returns-clause-ok : goal.returns-clause-ok
@@ -24,7 +24,7 @@ returns-clause-ok g c =
     IfOk-weaker c.replay_capture.result _ _ (λ (r : Report) p t u v.
     let o = c.in-Ok-open.ensures.opens t in
     let mid : IsTrue (g.R.Source.told c.open.new.source) = rw c.open.ensures.told t in
-    record { rules = c.in-Ok.rules; are = c.in-Ok.ensures; hold = rw o.gave (p mid u v o.came o.given) })
+    record { rules = c.in-Ok.rules; are = c.in-Ok.ensures.meaning; hold = rw o.gave (p mid u v o.came o.given) })
     c.replay_capture.ensures.ok
 
 pub returns-clause-stopped : goal.returns-clause-stopped
@@ -32,5 +32,5 @@ returns-clause-stopped g c =
     IfErr-weaker c.replay_capture.result _ _ (λ (s : Stop) p t u v.
     let o = c.in-Ok-open.ensures.opens t in
     let mid : IsTrue (g.R.Source.told c.open.new.source) = rw c.open.ensures.told t in
-    rw o.gave (under_rules c.args.text.now _ c.args.inside.now _ _ _ _ s c.in-Ok.ensures (p mid u v o.came o.given)))
+    rw o.gave (under_rules c.args.text.now _ c.args.inside.now _ _ _ _ s c.in-Ok.ensures.meaning (p mid u v o.came o.given)))
     c.replay_capture.ensures.stopped
