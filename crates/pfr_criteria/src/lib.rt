@@ -12,4 +12,4 @@ mod tests;
 pub mod transports;
 
 pub use hosts::host_holds;
-pub use packets::{anchor_holds, match_holds, rule_holds};
+pub use packets::{anchor_holds, is_named, match_holds, rule_holds};

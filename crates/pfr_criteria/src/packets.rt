@@ -23,7 +23,8 @@ fn direction_holds(written: Option<WrittenDirection>, direction: Direction) -> b
     }
 }
 
-fn is_named(name: &IfName, other: &IfName) -> bool
+/// Whether two names are one.
+pub fn is_named(name: &IfName, other: &IfName) -> bool
     ensures { result ≡ spec.is_named name.now other.now }
 {
     name.bytes.as_slice() == other.bytes.as_slice()

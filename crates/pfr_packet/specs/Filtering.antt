@@ -1,0 +1,86 @@
+-- What the filter makes of a packet by itself (pf.conf(5), "Packet filtering").
+use Rattle.std.specs.Prelude.{ℕ, Bool, false, not, min, List, [], Option, Some, None}
+use Rattle.std.specs.List.{slice_get}
+use Rattle.pfr_headers.specs.declared.packet.Direction.{Direction}
+use Rattle.pfr_headers.specs.declared.packet.Packet.{Packet}
+use Rattle.pfr_flat.specs.declared.flat.FilterAction.{FilterAction}
+use Rattle.pfr_flat.specs.declared.flat.FilterAction.TheVariants as action
+use Rattle.pfr_flat.specs.declared.flat.FlatRule.{FlatRule}
+use Rattle.pfr_flat.specs.declared.flat.StateRule.{StateRule}
+use Rattle.pfr_expand.specs.declared.ruleset.Ruleset.{Ruleset}
+use Rattle.pfr_rules.specs.declared.decision.Decision.{Decision}
+use Rattle.pfr_rules.specs.declared.decision.RuleNumber as place
+use Rattle.pfr_rules.specs.Filter.{decision_of, visited}
+use Rattle.pfr_track.specs.declared.state.RuleNumber.{RuleNumber}
+use Rattle.pfr_track.specs.declared.state.StateRules.{StateRules}
+use Rattle.pfr_packet.specs.declared.filtering.Conduct.{Conduct}
+use Rattle.pfr_packet.specs.declared.outcome.Outcome.{Outcome}
+use Rattle.pfr_packet.specs.declared.verdict.Reason.{Reason}
+use Rattle.pfr_packet.specs.declared.verdict.Reason.TheVariants as reason
+use Rattle.pfr_packet.specs.declared.verdict.Verdict.{Verdict}
+use Rattle.pfr_packet.specs.declared.verdict.Verdict.TheVariants as verdict
+use Rattle.pfr_packet.specs.Outcomes.{without_leave}
+
+abbrev pub verdict_of : FilterAction → Verdict
+verdict_of action.Pass = verdict.Pass
+verdict_of action.Drop = verdict.Block
+verdict_of action.Return = verdict.Return
+
+abbrev pub reason_of : Option place.RuleNumber → Reason
+reason_of (Some number) = reason.Rule
+reason_of None = reason.Default
+
+-- a rule's number as lines and messages carry it
+abbrev pub number_of : place.RuleNumber → RuleNumber
+number_of number = record { 0 = min number.0 4294967295 }
+
+abbrev pub named : Option place.RuleNumber → Option RuleNumber
+named None = None
+named (Some number) = Some (number_of number)
+
+-- ---- what the rule that decides says beyond its verdict
+
+-- what the state says of its rules that a rule keeps
+abbrev pub kept_by : RuleNumber → Bool → Option StateRule → Option StateRules
+kept_by number allowed None = None
+kept_by number allowed (Some state) = Some (record { filter = Some number; translation = None; is_synchronised = not state.no_sync; allows_options = allowed })
+
+abbrev pub conduct_by : RuleNumber → FlatRule → Conduct
+conduct_by number rule = record { allows_options = rule.allow_opts; kept = kept_by number rule.allow_opts rule.state }
+
+abbrev pub silent : Conduct
+silent = record { allows_options = false; kept = None }
+
+abbrev pub conduct_at : RuleNumber → Option FlatRule → Conduct
+conduct_at number None = silent
+conduct_at number (Some rule) = conduct_by number rule
+
+-- without a rule that decides IP options aren't allowed, and no state is kept
+abbrev pub conduct_of : List FlatRule → Option place.RuleNumber → Conduct
+conduct_of rules None = silent
+conduct_of rules (Some number) = conduct_at (number_of number) (slice_get rules number.0)
+
+-- ---- a packet
+
+abbrev pub decided : Direction → Decision → List ℕ → Outcome
+decided direction decision visits = record {
+  direction = Some direction;
+  verdict = verdict_of decision.action;
+  reason = reason_of decision.rule;
+  rule = named decision.rule;
+  translation = None;
+  state = None;
+  visited = record { translation = []; filter = visits };
+  bytes = None;
+  change = None;
+}
+
+-- what the filter makes of a packet: one with IP options that the deciding rule doesn't allow doesn't pass
+unfoldable pub filtered : Ruleset → Packet → Direction → Outcome
+filtered rules packet direction =
+    without_leave packet (conduct_of rules.filter.rules (decision_of rules packet direction).rule).allows_options
+        (decided direction (decision_of rules packet direction) (visited rules packet direction))
+
+-- what the state says of its rules that the deciding rule keeps
+unfoldable pub kept : Ruleset → Packet → Direction → Option StateRules
+kept rules packet direction = (conduct_of rules.filter.rules (decision_of rules packet direction).rule).kept

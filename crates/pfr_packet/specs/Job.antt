@@ -1,0 +1,23 @@
+-- What packets are evaluated by.
+use Rattle.std.specs.Prelude.{ℕ, Bool, List}
+use Rattle.std.specs.List.{list_any}
+use Rattle.pfr_headers.specs.declared.network.Net.{Net}
+use Rattle.pfr_elements.specs.declared.interface.Interface.{Interface}
+use Rattle.pfr_criteria.specs.Packets.{is_named}
+use Rattle.pfr_expand.specs.declared.ruleset.Ruleset.{Ruleset}
+use Rattle.pfr_track.specs.declared.timeout.Timeouts.{Timeouts}
+
+-- the inputs, and the ruleset that the text means for the interface
+pub record RunJob : Type 0 where
+  pub text : List ℕ
+  pub interface : Interface
+  pub inside : List Net
+  pub seed : List ℕ
+  pub rules : Ruleset
+
+abbrev pub timeouts_of : RunJob → Timeouts
+timeouts_of job = record { seconds = job.rules.options.timeouts.seconds }
+
+-- packets of the interface aren't filtered (pf.conf(5), "set skip on")
+abbrev pub is_skipped : RunJob → Bool
+is_skipped job = list_any (λ name. is_named name job.interface.name) job.rules.options.skipped

@@ -1,0 +1,83 @@
+-- What packets are looked up by, and what is written into those whose connection is translated.
+use Rattle.std.specs.Prelude.{◌==◌, ◌&&◌, Bool, if◌then◌else◌, Option, Some, None}
+use Rattle.pfr_headers.specs.declared.address.Ipv4Address.{Ipv4Address}
+use Rattle.pfr_headers.specs.declared.change.Change.{Change}
+use Rattle.pfr_headers.specs.declared.change.End.{End}
+use Rattle.pfr_headers.specs.declared.change.End.TheVariants.{Source, Destination}
+use Rattle.pfr_headers.specs.declared.icmp.IcmpMessage.{IcmpMessage}
+use Rattle.pfr_headers.specs.declared.icmp.IcmpMessage.TheVariants as message
+use Rattle.pfr_headers.specs.declared.icmp.Inner.{Inner}
+use Rattle.pfr_headers.specs.declared.packet.Direction.{Direction}
+use Rattle.pfr_headers.specs.declared.packet.Direction.TheVariants.{In, Out}
+use Rattle.pfr_headers.specs.declared.packet.Packet.{Packet}
+use Rattle.pfr_headers.specs.declared.packet.Protocol.{Protocol}
+use Rattle.pfr_headers.specs.declared.port.Port.{Port}
+use Rattle.pfr_headers.specs.declared.transport.Transport.{Transport}
+use Rattle.pfr_headers.specs.declared.transport.Transport.TheVariants as transport
+use Rattle.pfr_track.specs.declared.key.Endpoint.{Endpoint}
+use Rattle.pfr_track.specs.declared.key.Key.{Key}
+use Rattle.pfr_states.specs.declared.change.Side.{Side}
+use Rattle.pfr_states.specs.declared.change.Side.TheVariants.{Wire, Stack}
+use Rattle.pfr_packet.specs.declared.keys.Subject.{Subject}
+use Rattle.pfr_packet.specs.declared.keys.Subject.TheVariants.{Alone, Told, Connection}
+
+-- packets that come in are looked up on the wire side, those that go out on the stack side
+abbrev pub side_of : Direction → Side
+side_of In = Wire
+side_of Out = Stack
+
+-- the source of a packet that comes in is outside, that of one that goes out inside
+abbrev pub key_of : Direction → Protocol → Endpoint → Endpoint → Key
+key_of In protocol source destination = record { protocol = protocol; outside = source; inside = destination }
+key_of Out protocol source destination = record { protocol = protocol; outside = destination; inside = source }
+
+abbrev pub opposite : Direction → Direction
+opposite In = Out
+opposite Out = In
+
+abbrev pub endpoint : Ipv4Address → Port → Endpoint
+endpoint address port = record { address = address; port = port }
+
+abbrev pub own_key : Direction → Packet → Port → Port → Key
+own_key direction packet source destination =
+    key_of direction packet.protocol (endpoint packet.source source) (endpoint packet.destination destination)
+
+-- the packet that an error tells of went the other way
+abbrev pub told_key : Direction → Inner → Key
+told_key direction inner =
+    key_of (opposite direction) inner.protocol (endpoint inner.source inner.source_port) (endpoint inner.destination inner.destination_port)
+
+-- an echo has its identifier as both ports
+abbrev pub message_subject : Direction → Packet → IcmpMessage → Subject
+message_subject direction packet (message.Echo identifier) = Connection (own_key direction packet (record { 0 = identifier }) (record { 0 = identifier }))
+message_subject direction packet (message.Error inner) = Told (told_key direction inner)
+message_subject direction packet message.Other = Alone
+
+abbrev pub subject_by : Direction → Packet → Transport → Subject
+subject_by direction packet transport.Fragment = Alone
+subject_by direction packet (transport.Tcp header) = Connection (own_key direction packet header.source header.destination)
+subject_by direction packet (transport.Udp header) = Connection (own_key direction packet header.source header.destination)
+subject_by direction packet (transport.Icmp header) = message_subject direction packet header.message
+subject_by direction packet transport.Other = Connection (own_key direction packet (record { 0 = 0 }) (record { 0 = 0 }))
+
+abbrev pub subject_of : Direction → Packet → Subject
+subject_of direction packet = subject_by direction packet packet.transport
+
+-- ---- translated packets
+
+abbrev pub end_of : Direction → End
+end_of In = Destination
+end_of Out = Source
+
+-- a packet that comes in goes to what is inside behind the firewall, one that goes out comes from what is inside on the wire
+abbrev pub translated_end : Direction → Key → Key → Endpoint
+translated_end In wire stack = stack.inside
+translated_end Out wire stack = wire.inside
+
+abbrev pub is_same_end : Endpoint → Endpoint → Bool
+is_same_end a b = a.address.0 == b.address.0 && a.port.0 == b.port.0
+
+abbrev pub written_by : Direction → Packet → Key → Key → Option Change
+written_by direction packet wire stack =
+    if is_same_end wire.inside stack.inside then None
+    else Some (record { packet = packet; end = end_of direction; to = record { address = (translated_end direction wire stack).address; port = (translated_end direction wire stack).port } })

@@ -1,0 +1,10 @@
+pub mod Filtering
+pub mod Found
+pub mod Job
+pub mod Keys
+pub mod Making
+pub mod Outcomes
+pub mod Plan
+pub mod Rulesets
+pub mod Steps
+pub mod Verdicts

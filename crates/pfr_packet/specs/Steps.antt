@@ -1,0 +1,107 @@
+-- The evaluation of one packet, in the order in which it is gone through:
+--
+--   what is no IPv4 packet is passed over
+--   packets of an interface that isn't filtered pass
+--   what is too short is blocked
+--   a part of a packet, and an ICMP message of no connection, is filtered, and makes no state
+--   an ICMP error passes by the state of the packet that it tells of; without one it is filtered, and makes no state
+--   a packet of a state's connection is tracked
+--   any other is filtered, and where it passes makes the state that the deciding rule keeps, if there is a place for it
+--
+-- Packets with IP options are blocked where they would pass and their rule doesn't allow them, before a state is made.
+use Rattle.std.specs.Prelude.{ℕ, Bool, if◌then◌else◌, List, Option, Some, None}
+use Rattle.pfr_headers.specs.declared.packet.Direction.{Direction}
+use Rattle.pfr_headers.specs.declared.packet.Packet.{Packet}
+use Rattle.pfr_headers.specs.declared.packet.View.{View}
+use Rattle.pfr_headers.specs.declared.packet.View.TheVariants.{Ipv4, Skip, Short}
+use Rattle.pfr_headers.specs.Address.{direction_of}
+use Rattle.pfr_track.specs.declared.key.Key.{Key}
+use Rattle.pfr_track.specs.declared.state.State.{State}
+use Rattle.pfr_track.specs.declared.state.StateRules.{StateRules}
+use Rattle.pfr_track.specs.declared.time.Clock.{Clock}
+use Rattle.pfr_track.specs.Tracking.{made, touched}
+use Rattle.pfr_states.specs.States.{StateTable}
+use Rattle.pfr_packet.specs.declared.answers.Question.{Question}
+use Rattle.pfr_packet.specs.declared.keys.Subject.{Subject}
+use Rattle.pfr_packet.specs.declared.keys.Subject.TheVariants.{Alone, Told, Connection}
+use Rattle.pfr_packet.specs.declared.making.Passage.{Passage}
+use Rattle.pfr_packet.specs.declared.outcome.Outcome.{Outcome}
+use Rattle.pfr_packet.specs.declared.verdict.Reason.TheVariants as reason
+use Rattle.pfr_packet.specs.declared.verdict.Verdict.TheVariants as verdict
+use Rattle.pfr_packet.specs.Filtering.{filtered, kept}
+use Rattle.pfr_packet.specs.Found.{told, tracked}
+use Rattle.pfr_packet.specs.Job.{RunJob, is_skipped, timeouts_of}
+use Rattle.pfr_packet.specs.Keys.{side_of, subject_of}
+use Rattle.pfr_packet.specs.Making.{making, untranslated}
+use Rattle.pfr_packet.specs.Outcomes.{unseen}
+use Rattle.pfr_packet.specs.Plan.{Plan, done, ask_at, outcome_of, purged_at, questions_of}
+use Rattle.pfr_packet.specs.Verdicts.{lets_pass}
+
+-- ---- filtered without a state
+
+abbrev pub alone : RunJob → Packet → Direction → Outcome
+alone job packet direction = filtered job.rules packet direction
+
+-- ---- an error that tells of a connection
+
+abbrev pub by_told : RunJob → Packet → Direction → Option State → Plan
+by_told job packet direction None = done (alone job packet direction)
+by_told job packet direction (Some state) = done (told direction packet state)
+
+abbrev pub asking_told : RunJob → Packet → Direction → Key → Plan
+asking_told job packet direction key = ask_at (side_of direction) key (by_told job packet direction)
+
+-- ---- a packet of a connection
+
+-- one that is not the first is tracked
+abbrev pub following : RunJob → Clock → Packet → Direction → State → Outcome
+following job clock packet direction state = tracked direction packet state (touched state packet direction clock (timeouts_of job))
+
+-- the first one makes the state that the deciding rule keeps, where it passes so far
+abbrev pub opened : RunJob → ℕ → Clock → Packet → Direction → Passage → Outcome → Option StateRules → Plan
+opened job number clock packet direction passage outcome None = done outcome
+opened job number clock packet direction passage outcome (Some rules) =
+    if lets_pass outcome.verdict
+    then making packet (made (record { 0 = number }) packet direction passage.wire passage.stack rules clock (timeouts_of job)) outcome
+    else done outcome
+
+abbrev pub opening : RunJob → ℕ → Clock → Packet → Direction → Passage → Plan
+opening job number clock packet direction passage =
+    opened job number clock packet direction passage (filtered job.rules packet direction) (kept job.rules packet direction)
+
+abbrev pub by_connection : RunJob → ℕ → Clock → Packet → Direction → Key → Option State → Plan
+by_connection job number clock packet direction key None = opening job number clock packet direction (untranslated key)
+by_connection job number clock packet direction key (Some state) = done (following job clock packet direction state)
+
+abbrev pub asking_connection : RunJob → ℕ → Clock → Packet → Direction → Key → Plan
+asking_connection job number clock packet direction key = ask_at (side_of direction) key (by_connection job number clock packet direction key)
+
+-- ---- an IPv4 packet
+
+abbrev pub subject_plan : RunJob → ℕ → Clock → Packet → Direction → Subject → Plan
+subject_plan job number clock packet direction Alone = done (alone job packet direction)
+subject_plan job number clock packet direction (Told key) = asking_told job packet direction key
+subject_plan job number clock packet direction (Connection key) = asking_connection job number clock packet direction key
+
+unfoldable pub packet_plan : RunJob → ℕ → Clock → Packet → Direction → Plan
+packet_plan job number clock packet direction = subject_plan job number clock packet direction (subject_of direction packet)
+
+-- ---- a frame
+
+abbrev pub passed_over : Outcome
+passed_over = unseen verdict.Pass reason.SkipOn
+
+unfoldable pub plan : RunJob → ℕ → Clock → View → Plan
+plan job number clock Skip = done (unseen verdict.Skip reason.NotIp)
+plan job number clock Short = if is_skipped job then done passed_over else done (unseen verdict.Block reason.Short)
+plan job number clock (Ipv4 packet) = if is_skipped job then done passed_over else packet_plan job number clock packet (direction_of job.inside packet)
+
+-- ---- over a table
+
+-- what packet `number` comes to at a clock, over a table
+unfoldable pub step_of : RunJob → ℕ → Clock → View → StateTable → Outcome
+step_of job number clock view table = outcome_of (purged_at clock table) (plan job number clock view)
+
+-- what is asked of the table on the way
+unfoldable pub asked_of : RunJob → ℕ → Clock → View → StateTable → List Question
+asked_of job number clock view table = questions_of (purged_at clock table) (plan job number clock view)

@@ -1,0 +1,138 @@
+//! What the filter makes of a packet by itself.
+ghost use Rattle.std.specs.Prelude.{◌≡◌, IfOk, min};
+ghost use Rattle.pfr_packet.specs.Filtering as spec;
+
+use crate::outcome::{Outcome, VisitedRules};
+use crate::verdict::{Reason, Verdict};
+use pfr_expand::Ruleset;
+use pfr_flat::{FilterAction, FlatRule};
+use pfr_headers::{Direction, Packet};
+use pfr_rules::{Decision, RuleNumber as Place, Visits, filter};
+use pfr_track::{RuleNumber, StateRules};
+use std::alloc::{AllocError, Global};
+
+/// What the rule that decides says beyond its verdict.
+#[derive(Clone, Copy, Debug, PartialEq, Eq)]
+pub struct Conduct {
+    /// Packets with IP options may pass.
+    pub allows_options: bool,
+    /// What the state says of its rules that the rule keeps; None where it keeps none.
+    pub kept: Option<StateRules>,
+}
+
+/// A rule's number as lines and messages carry it.
+#[inline]
+fn number_of(place: Place) -> RuleNumber
+    ensures { result ≡ spec.number_of place }
+{
+    RuleNumber(place.0.min(4294967295) as u32)
+}
+
+#[inline]
+fn verdict_of(action: FilterAction) -> Verdict
+    ensures { result ≡ spec.verdict_of action }
+{
+    match action {
+        FilterAction::Pass => Verdict::Pass,
+        FilterAction::Drop => Verdict::Block,
+        FilterAction::Return => Verdict::Return,
+    }
+}
+
+#[inline]
+fn reason_of(rule: Option<Place>) -> Reason
+    ensures { result ≡ spec.reason_of rule }
+{
+    match rule {
+        Some(_) => Reason::Rule,
+        None => Reason::Default,
+    }
+}
+
+/// What a rule says beyond its verdict, by its number.
+fn conduct_by(number: RuleNumber, rule: &FlatRule) -> Conduct
+    ensures { result ≡ spec.conduct_by number rule.now }
+{
+    Conduct {
+        allows_options: rule.allow_opts,
+        kept: match rule.state {
+            None => None,
+            Some(state) => Some(StateRules {
+                filter: Some(number),
+                translation: None,
+                is_synchronised: !state.no_sync,
+                allows_options: rule.allow_opts,
+            }),
+        },
+    }
+}
+
+/// What the rule that decides says beyond its verdict. Without one IP options aren't allowed, and no state is kept.
+fn conduct_of(rules: &[FlatRule], rule: Option<Place>) -> Conduct
+    ensures { result ≡ spec.conduct_of rules.now rule }
+{
+    let silent = Conduct {
+        allows_options: false,
+        kept: None,
+    };
+    match rule {
+        None => silent,
+        Some(place) => match rules.get(place.0) {
+            None => silent,
+            Some(rule) => conduct_by(number_of(place), rule),
+        },
+    }
+}
+
+/// What a decision of the filter comes to.
+fn decided(alloc: Global, direction: Direction, decision: Decision, visits: Visits) -> Outcome
+    ensures { result ≡ spec.decided direction decision visits }
+{
+    Outcome {
+        direction: Some(direction),
+        verdict: verdict_of(decision.action),
+        reason: reason_of(decision.rule),
+        rule: match decision.rule {
+            None => None,
+            Some(place) => Some(number_of(place)),
+        },
+        translation: None,
+        state: None,
+        visited: VisitedRules {
+            translation: Visits::new(alloc),
+            filter: visits,
+        },
+        bytes: None,
+        change: None,
+    }
+}
+
+/// What the filter makes of a packet.
+#[derive(Drop)]
+pub(crate) struct Filtered {
+    pub(crate) outcome: Outcome,
+    /// What the state says of its rules that the deciding rule keeps, for a packet that passes and may make one.
+    pub(crate) kept: Option<StateRules>,
+}
+
+impl Filtered {
+    /// What the filter makes of a packet by itself. One with IP options that are not allowed doesn't pass.
+    #[tactic(auto, unfolding(crate::specs::Filtering::filtered, crate::specs::Filtering::kept))]
+    pub(crate) fn of(
+        alloc: Global,
+        rules: &Ruleset,
+        packet: &Packet,
+        direction: Direction,
+    ) -> Result<Filtered, AllocError>
+        ensures outcome { IfOk result (λ f. f.outcome ≡ spec.filtered rules.now packet.now direction) }
+        ensures kept { IfOk result (λ f. f.kept ≡ spec.kept rules.now packet.now direction) }
+    {
+        let (decision, visits) = filter(alloc, rules, packet, direction)?;
+        let conduct = conduct_of(rules.filter.rules(), decision.rule);
+        let outcome = decided(alloc, direction, decision, visits);
+        Ok(Filtered {
+            outcome: outcome.without_leave(packet, conduct.allows_options),
+            kept: conduct.kept,
+        })
+    }
+}

@@ -1,0 +1,135 @@
+//! What packets are evaluated by.
+ghost use Rattle.std.specs.Prelude.{◌≡◌, ◌↔◌, IfOk, IfErr, Ok, Err, IsTrue};
+ghost use Rattle.pfr_terms.specs.declared.error.ConfErrorKind.TheVariants.{Memory};
+ghost use Rattle.pfr_terms.specs.Input.{Gives};
+ghost use Rattle.pfr_packet.specs.Job as spec;
+ghost use Rattle.pfr_packet.specs.Rulesets.{ruleset_of};
+
+use crate::ruleset::ruleset_of;
+use pfr_criteria::is_named;
+use pfr_conf::{ConfError, ConfErrorKind, Items};
+use pfr_expand::{Interface, Ruleset};
+use pfr_headers::Net;
+use pfr_track::Timeouts;
+use std::alloc::Global;
+use std::marker::Model;
+
+/// What every packet of a run is evaluated by: the ruleset's text, the interface, the inside networks and the seed, and the
+/// ruleset that the text means for the interface. Two jobs are one where the first four are.
+#[derive(Drop)]
+pub struct Job {
+    text: Items<u8>,
+    interface: Interface,
+    inside: Items<Net>,
+    seed: [u8; 32],
+    rules: Ruleset,
+}
+
+impl Model for Job {
+    ghost use Rattle.std.specs.Prelude.{◌≡◌, Ok};
+    ghost use Rattle.pfr_packet.specs.Job.{RunJob};
+    ghost use Rattle.pfr_packet.specs.Rulesets.{ruleset_of};
+
+    ghost Value = { RunJob };
+
+    ghost view = { λ j. record { text = j.text; interface = j.interface; inside = j.inside; seed = j.seed; rules = j.rules } };
+
+    ghost invariant = { λ j. ruleset_of j.text j.interface ≡ Ok j.rules };
+}
+
+impl Job {
+    /// A job by its inputs, or the first fault of the ruleset's text. A text of more than one MiB is refused before it is
+    /// read.
+    pub fn new(
+        alloc: Global,
+        text: &[u8],
+        interface: Interface,
+        inside: &[Net],
+        seed: [u8; 32],
+    ) -> Result<Job, ConfError>
+        ensures inputs { IfOk result (λ job. (job.text ≡ text.now) × (job.interface ≡ interface) × (job.inside ≡ inside.now) × (job.seed ≡ seed)) }
+        ensures meaning { IfOk result (λ job. ruleset_of text.now interface ≡ Ok job.rules) }
+        ensures fault { IfErr result (λ fault. Gives (ruleset_of text.now interface) (Err fault)) }
+        ensures memory { IfErr result (λ fault. fault.kind ≡ Memory → fault.line ≡ 0) }
+    {
+        let rules = ruleset_of(alloc, text, &interface)?;
+        Job::of(alloc, text, interface, inside, seed, rules)
+    }
+
+    /// A job whose ruleset is known.
+    fn of(
+        alloc: Global,
+        text: &[u8],
+        interface: Interface,
+        inside: &[Net],
+        seed: [u8; 32],
+        rules: Ruleset,
+    ) -> Result<Job, ConfError>
+        requires { ruleset_of text.now interface ≡ Ok rules }
+        ensures inputs { IfOk result (λ job. (job.text ≡ text.now) × (job.interface ≡ interface) × (job.inside ≡ inside.now) × (job.seed ≡ seed)) }
+        ensures meaning { IfOk result (λ job. job.rules ≡ rules) }
+        ensures memory { IfErr result (λ fault. (fault.kind ≡ Memory) × (fault.line ≡ 0)) }
+    {
+        let text = match Items::copied(alloc, text) {
+            Ok(text) => text,
+            Err(_) => return Err(no_memory()),
+        };
+        let inside = match Items::copied(alloc, inside) {
+            Ok(inside) => inside,
+            Err(_) => return Err(no_memory()),
+        };
+        Ok(Job {
+            text,
+            interface,
+            inside,
+            seed,
+            rules,
+        })
+    }
+
+    /// The ruleset that the text means.
+    #[inline]
+    pub fn rules(&self) -> &Ruleset
+        ensures { result.now ≡ self.now.rules }
+    {
+        &self.rules
+    }
+
+    /// The networks whose packets go out.
+    #[inline]
+    pub fn inside(&self) -> &[Net]
+        ensures { result.now ≡ self.now.inside }
+    {
+        self.inside.as_slice()
+    }
+
+    /// Whether packets of the interface aren't filtered (pf.conf(5), "set skip on").
+    pub(crate) fn is_skipped(&self) -> bool
+        ensures { result ≡ spec.is_skipped self.now }
+    {
+        let name = &self.interface.name;
+        let skipped = self.rules.options.skipped.as_slice();
+        skipped.iter().any(|other| is_named(other, name))
+    }
+
+    /// The timeouts of the ruleset.
+    #[inline]
+    pub(crate) fn timeouts(&self) -> Timeouts
+        ensures { result ≡ spec.timeouts_of self.now }
+    {
+        Timeouts {
+            seconds: self.rules.options.timeouts.seconds,
+        }
+    }
+}
+
+/// Want of memory, which is no line's.
+fn no_memory() -> ConfError
+    ensures kind { result.kind ≡ Memory }
+    ensures line { result.line ≡ 0 }
+{
+    ConfError {
+        line: 0,
+        kind: ConfErrorKind::Memory,
+    }
+}

@@ -1,0 +1,24 @@
+//! What one packet of a run comes to.
+//!
+//! [`step`] evaluates a packet under a [`Job`], by what a table of states answers. Its definition is a plan: done with an
+//! outcome, or a question to the table and how it goes on by the answer. So what a packet comes to, and all that was asked for
+//! it, are two readings of one definition.
+#![tactic(auto)]
+
+pub mod answers;
+mod evaluation;
+pub mod filtering;
+mod found;
+pub mod job;
+pub mod keys;
+pub mod making;
+pub mod outcome;
+pub mod ruleset;
+pub mod verdict;
+
+pub use answers::{Answers, Direct, Question};
+pub use evaluation::step;
+pub use job::Job;
+pub use outcome::{Outcome, VisitedRules};
+pub use ruleset::ruleset_of;
+pub use verdict::{Reason, Verdict};

@@ -1,0 +1,112 @@
+//! What a packet comes to.
+ghost use Rattle.std.specs.Prelude.{◌≡◌};
+ghost use Rattle.pfr_packet.specs.Outcomes as spec;
+
+use crate::verdict::{Reason, Verdict};
+use pfr_headers::{Change, Direction, Packet};
+use pfr_rules::Visits;
+use pfr_states::TableChange;
+use pfr_track::{RuleNumber, State, StateNumber};
+use std::alloc::Global;
+
+/// The rules that are visited on the way to a verdict.
+#[derive(Drop)]
+pub struct VisitedRules {
+    pub translation: Visits,
+    pub filter: Visits,
+}
+
+/// What a packet comes to: what becomes of it, and what that changes.
+#[derive(Drop)]
+pub struct Outcome {
+    /// None for what isn't looked at: no IPv4 packet, one that is too short, or one of an interface that isn't filtered.
+    pub direction: Option<Direction>,
+    pub verdict: Verdict,
+    pub reason: Reason,
+    /// The filter rule that decided, or that of the packet's state.
+    pub rule: Option<RuleNumber>,
+    /// The translation rule that matched, or that of the packet's state.
+    pub translation: Option<RuleNumber>,
+    /// The state that the packet was found to have, or that it makes.
+    pub state: Option<StateNumber>,
+    pub visited: VisitedRules,
+    /// What is written into its bytes.
+    pub bytes: Option<Change>,
+    /// What it changes in the table of states.
+    pub change: Option<TableChange>,
+}
+
+impl VisitedRules {
+    fn none(alloc: Global) -> VisitedRules
+        ensures { result ≡ spec.none_visited }
+    {
+        VisitedRules {
+            translation: Visits::new(alloc),
+            filter: Visits::new(alloc),
+        }
+    }
+}
+
+impl Outcome {
+    /// What a packet comes to that isn't looked at.
+    pub(crate) fn unseen(alloc: Global, verdict: Verdict, reason: Reason) -> Outcome
+        ensures { result ≡ spec.unseen verdict reason }
+    {
+        Outcome {
+            direction: None,
+            verdict,
+            reason,
+            rule: None,
+            translation: None,
+            state: None,
+            visited: VisitedRules::none(alloc),
+            bytes: None,
+            change: None,
+        }
+    }
+
+    /// What a packet comes to whose state is found: the state's rules are named, and nothing changes.
+    pub(crate) fn by_state(
+        alloc: Global,
+        direction: Direction,
+        state: &State,
+        verdict: Verdict,
+        reason: Reason,
+    ) -> Outcome
+        ensures { result ≡ spec.by_state direction state.now verdict reason }
+    {
+        Outcome {
+            direction: Some(direction),
+            verdict,
+            reason,
+            rule: state.rules.filter,
+            translation: state.rules.translation,
+            state: Some(state.number),
+            visited: VisitedRules::none(alloc),
+            bytes: None,
+            change: None,
+        }
+    }
+
+    /// The same, blocked: nothing changes.
+    pub(crate) fn blocked(mut self, reason: Reason) -> Outcome
+        ensures { result ≡ spec.blocked reason self }
+    {
+        self.verdict = Verdict::Block;
+        self.reason = reason;
+        self.bytes = None;
+        self.change = None;
+        self
+    }
+
+    /// The same, but blocked where the packet would pass, has IP options, and these are not allowed.
+    pub(crate) fn without_leave(self, packet: &Packet, allows_options: bool) -> Outcome
+        ensures { result ≡ spec.without_leave packet.now allows_options self }
+    {
+        if self.verdict.lets_pass() && packet.has_options() && !allows_options {
+            self.blocked(Reason::IpOption)
+        } else {
+            self
+        }
+    }
+}
