@@ -11,6 +11,7 @@ pub mod filtering;
 mod found;
 pub mod job;
 pub mod keys;
+pub mod laws;
 pub mod making;
 pub mod outcome;
 pub mod ruleset;
