@@ -87,6 +87,16 @@ impl Job {
         })
     }
 
+    /// Whether two jobs are one: they have the same inputs.
+    pub fn is_same(&self, other: &Job) -> bool
+        ensures { IsTrue result ↔ (self.now ≡ other.now) }
+    {
+        is_same_interface(&self.interface, &other.interface)
+            && is_same_bytes(&self.seed, &other.seed)
+            && are_same_networks(self.inside.as_slice(), other.inside.as_slice())
+            && is_same_bytes(self.text.as_slice(), other.text.as_slice())
+    }
+
     /// The ruleset that the text means.
     #[inline]
     pub fn rules(&self) -> &Ruleset
@@ -121,6 +131,24 @@ impl Job {
             seconds: self.rules.options.timeouts.seconds,
         }
     }
+}
+
+fn is_same_bytes(first: &[u8], second: &[u8]) -> bool
+    ensures { IsTrue result ↔ (first.now ≡ second.now) }
+{
+    first == second
+}
+
+fn are_same_networks(first: &[Net], second: &[Net]) -> bool
+    ensures { IsTrue result ↔ (first.now ≡ second.now) }
+{
+    first == second
+}
+
+fn is_same_interface(first: &Interface, second: &Interface) -> bool
+    ensures { IsTrue result ↔ (first.now ≡ second.now) }
+{
+    first == second
 }
 
 /// Want of memory, which is no line's.

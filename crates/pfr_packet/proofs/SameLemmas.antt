@@ -1,0 +1,24 @@
+-- Lists of networks that are compared one by one.
+use Rattle.std.proofs.Common.{rules, ◌≡◌, ◌↔◌, ◌&&◌, Bool, true, false, List, [], ◌∷◌, refl, sym, ap, ◌∙◌, IsTrue}
+use Rattle.std.proofs.lemmas.Bool.{and_parts, and_from}
+use lib.Pointwise.{pointwise}
+use Rattle.pfr_headers.specs.declared.network.Net.{Net}
+use Rattle.pfr_headers.specs.contracts.network.NetPartialEq.TheImpl.{ghosts}
+
+pub same_network : (x y : Net) → ghosts.eq x y ≡ true → x ≡ y
+same_network x y h = Prim.search rules
+
+pub network_same : (x : Net) → ghosts.eq x x ≡ true
+network_same x = Prim.search rules
+
+pub same_networks : (xs ys : List Net) → pointwise ghosts.eq xs ys ≡ true → xs ≡ ys
+same_networks [] [] h = refl
+same_networks [] (y ∷ ys) h = absurd (cc h)
+same_networks (x ∷ xs) [] h = absurd (cc h)
+same_networks (x ∷ xs) (y ∷ ys) h =
+    let parts = and_parts (ghosts.eq x y) (pointwise ghosts.eq xs ys) h in
+    ap (λ z. z ∷ xs) (same_network x y parts.0) ∙ ap (λ zs. y ∷ zs) (same_networks xs ys parts.1)
+
+pub networks_same : (xs : List Net) → pointwise ghosts.eq xs xs ≡ true
+networks_same [] = refl
+networks_same (x ∷ xs) = and_from (ghosts.eq x x) (pointwise ghosts.eq xs xs) (network_same x) (networks_same xs)
