@@ -1,0 +1,2 @@
+pub mod RecordLemmas
+pub mod SoundLemmas

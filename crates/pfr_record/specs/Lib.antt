@@ -1,0 +1,2 @@
+pub mod Record
+pub mod Speculations

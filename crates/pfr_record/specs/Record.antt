@@ -1,0 +1,37 @@
+-- The record of the questions that an evaluation asked, with their answers.
+use Rattle.std.specs.Prelude.{◌≡◌, ℕ, List}
+use Rattle.std.specs.List.{All, Contains}
+use Rattle.std.specs.Map.{keys_of}
+use Rattle.pfr_headers.specs.declared.packet.View.{View}
+use Rattle.pfr_track.specs.declared.time.Clock.{Clock}
+use Rattle.pfr_states.specs.States.{StateTable}
+use Rattle.pfr_packet.specs.declared.answers.Question.{Question}
+use Rattle.pfr_packet.specs.declared.answers.Question.TheVariants.{At, Room}
+use Rattle.pfr_packet.specs.declared.outcome.Outcome.{Outcome}
+use Rattle.pfr_packet.specs.Job.{RunJob}
+use Rattle.pfr_packet.specs.Plan.{found_in, has_room_in, purged_at}
+use Rattle.pfr_packet.specs.Steps.{asked_of, step_of}
+use Rattle.pfr_record.specs.declared.answer.Answer.{Answer}
+use Rattle.pfr_record.specs.declared.answer.Answer.TheVariants.{Found, HasRoom}
+
+-- what a table answers
+abbrev pub answer_of : StateTable → Question → Answer
+answer_of table (At side key) = Found (found_in table side key)
+answer_of table Room = HasRoom (has_room_in table)
+
+abbrev pub Entries : Type 0
+Entries = List (Question × Answer)
+
+-- a table answers each question of a record as recorded; states are the same in all that they hold
+abbrev pub Agrees : StateTable → Entries → Type 0
+Agrees table entries = All (λ entry. answer_of table entry.0 ≡ entry.1) entries
+
+-- a question is one of a record's
+abbrev pub IsKept : Entries → Question → Type 0
+IsKept entries question = Contains (keys_of entries) question
+
+-- over every table that agrees with the record, the packet comes to this outcome, and all that is asked of the table is in the
+-- record
+abbrev pub IsSound : RunJob → ℕ → Clock → View → Outcome → Entries → Type 0
+IsSound job number clock view outcome entries = (table : StateTable) → Agrees (purged_at clock table) entries
+    → (step_of job number clock view table ≡ outcome) × All (λ question. ∥ IsKept entries question ∥₁) (asked_of job number clock view table)

@@ -1,0 +1,94 @@
+//! Answers of a table of states.
+ghost use Rattle.std.specs.Prelude.{◌≡◌, ◌↔◌, IsTrue};
+
+use pfr_track::{DatagramPeer, Key, Peers, State, StateRules, TcpPeer, Traffic};
+
+/// What a table of states answered.
+#[derive(Clone, Copy, Debug, PartialEq, Eq)]
+pub enum Answer {
+    /// The state with a key, if there is one.
+    Found(Option<State>),
+    /// Whether there was room for one more state.
+    HasRoom(bool),
+}
+
+fn is_same_key(first: &Key, second: &Key) -> bool
+    ensures { IsTrue result ↔ (first.now ≡ second.now) }
+{
+    first == second
+}
+
+fn are_same_rules(first: &StateRules, second: &StateRules) -> bool
+    ensures { IsTrue result ↔ (first.now ≡ second.now) }
+{
+    first == second
+}
+
+fn is_same_tcp_peer(first: &TcpPeer, second: &TcpPeer) -> bool
+    ensures { IsTrue result ↔ (first.now ≡ second.now) }
+{
+    first == second
+}
+
+fn is_same_datagram_peer(first: &DatagramPeer, second: &DatagramPeer) -> bool
+    ensures { IsTrue result ↔ (first.now ≡ second.now) }
+{
+    first == second
+}
+
+fn are_same_peers(first: &Peers, second: &Peers) -> bool
+    ensures { IsTrue result ↔ (first.now ≡ second.now) }
+{
+    match (first, second) {
+        (Peers::Tcp(maker, other), Peers::Tcp(maker_too, other_too)) => {
+            is_same_tcp_peer(maker, maker_too) && is_same_tcp_peer(other, other_too)
+        }
+        (Peers::Udp(maker, other), Peers::Udp(maker_too, other_too)) => {
+            is_same_datagram_peer(maker, maker_too) && is_same_datagram_peer(other, other_too)
+        }
+        (Peers::Icmp, Peers::Icmp) => true,
+        (Peers::Other(maker, other), Peers::Other(maker_too, other_too)) => {
+            is_same_datagram_peer(maker, maker_too) && is_same_datagram_peer(other, other_too)
+        }
+        _ => false,
+    }
+}
+
+fn is_same_traffic(first: &Traffic, second: &Traffic) -> bool
+    ensures { IsTrue result ↔ (first.now ≡ second.now) }
+{
+    first == second
+}
+
+/// Whether two states are one in all that they hold.
+fn is_same_state(first: &State, second: &State) -> bool
+    ensures { IsTrue result ↔ (first.now ≡ second.now) }
+{
+    first.number == second.number
+        && first.direction == second.direction
+        && is_same_key(&first.wire, &second.wire)
+        && is_same_key(&first.stack, &second.stack)
+        && are_same_rules(&first.rules, &second.rules)
+        && are_same_peers(&first.peers, &second.peers)
+        && first.made == second.made
+        && first.deadline == second.deadline
+        && first.timeout == second.timeout
+        && is_same_traffic(&first.forth, &second.forth)
+        && is_same_traffic(&first.back, &second.back)
+}
+
+impl Answer {
+    /// Whether two answers are one: states in all that they hold.
+    pub(crate) fn is_same(&self, other: &Answer) -> bool
+        ensures { IsTrue result ↔ (self.now ≡ other.now) }
+    {
+        match (self, other) {
+            (Answer::Found(Some(first)), Answer::Found(Some(second))) => {
+                is_same_state(first, second)
+            }
+            (Answer::Found(None), Answer::Found(None)) => true,
+            (Answer::HasRoom(first), Answer::HasRoom(second)) => first == second,
+            _ => false,
+        }
+    }
+}

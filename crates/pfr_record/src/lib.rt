@@ -1,0 +1,14 @@
+//! What a packet was found to come to on some table, with the record of all that this rests on.
+//!
+//! [`speculate`] evaluates a packet ahead, on a table that may change until the packet's turn comes. Its [`Speculation`] is
+//! sound by its type: over every table that agrees with its record, the packet comes to its outcome.
+#![tactic(auto)]
+
+pub mod answer;
+mod recorder;
+mod speculating;
+pub mod speculation;
+
+pub use answer::Answer;
+pub use speculating::speculate;
+pub use speculation::Speculation;

@@ -1,0 +1,67 @@
+//! Answers that are recorded.
+ghost use Rattle.std.specs.Prelude.{◌≡◌, OnOk};
+ghost use Rattle.pfr_packet.specs.declared.answers.Question.{Question};
+ghost use Rattle.pfr_packet.specs.Plan.{purged_at};
+ghost use Rattle.pfr_record.specs.Record.{Agrees, IsKept, answer_of};
+
+use crate::answer::Answer;
+use indexmap::IndexMap;
+use pfr_packet::{Answers, Question};
+use pfr_states::{Side, Table};
+use pfr_track::{Clock, Key, State};
+use std::alloc::{AllocError, Global};
+
+/// The answers of a table at a clock, with a record of what was asked and answered, in the order in which it was asked first.
+#[derive(Drop)]
+pub(crate) struct Recorder<'a> {
+    table: &'a Table,
+    clock: Clock,
+    pub(crate) answers: IndexMap<Question, Answer>,
+    ghost agrees: { Agrees (purged_at clock table.now) answers.entries },
+}
+
+impl<'a> Recorder<'a> {
+    ghost use Rattle.std.specs.Prelude.{[]};
+
+    /// Nothing was asked so far.
+    pub(crate) fn new(alloc: Global, table: &'a Table, clock: Clock) -> Recorder<'a>
+        ensures seen { purged_at result.clock result.table.now ≡ purged_at clock table.now }
+    {
+        Recorder {
+            table,
+            clock,
+            answers: IndexMap::new(alloc),
+        }
+    }
+
+    /// Records an answer of the table.
+    fn keep(&mut self, question: Question, answer: Answer) -> Result<(), AllocError>
+        requires { answer_of (purged_at self.old.clock self.old.table.now) question ≡ answer }
+        ensures seen { purged_at self.new.clock self.new.table.now ≡ purged_at self.old.clock self.old.table.now }
+        ensures asked { OnOk result (IsKept self.new.answers.entries question) }
+        ensures kept { (other : Question) → IsKept self.old.answers.entries other → IsKept self.new.answers.entries other }
+    {
+        self.answers.insert(question, answer)?;
+        Ok(())
+    }
+}
+
+impl Answers for Recorder<'_> {
+    ghost seen = { λ recorder. purged_at recorder.clock recorder.table.now };
+
+    ghost asked = { λ recorder question. IsKept recorder.answers.entries question };
+
+    #[tactic(auto, unfolding(pfr_packet::specs::Plan::found_in, pfr_packet::specs::Plan::purged_at))]
+    fn at(&mut self, side: Side, key: &Key) -> Result<Option<State>, AllocError> {
+        let found = self.table.at(side, key, self.clock);
+        self.keep(Question::At(side, *key), Answer::Found(found))?;
+        Ok(found)
+    }
+
+    #[tactic(auto, unfolding(pfr_packet::specs::Plan::has_room_in, pfr_packet::specs::Plan::purged_at))]
+    fn room(&mut self) -> Result<bool, AllocError> {
+        let room = self.table.room(self.clock);
+        self.keep(Question::Room, Answer::HasRoom(room))?;
+        Ok(room)
+    }
+}

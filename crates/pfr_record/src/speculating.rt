@@ -1,0 +1,40 @@
+//! Packets that are evaluated ahead.
+ghost use Rattle.std.specs.Prelude.{◌≡◌, IfOk};
+ghost use Rattle.std.specs.Arc.{arc_value};
+ghost use Rattle.pfr_packet.specs.Plan.{purged_at};
+ghost use Rattle.pfr_record.specs.Record.{Agrees};
+
+use crate::recorder::Recorder;
+use crate::speculation::Speculation;
+use pfr_headers::View;
+use pfr_packet::{Job, step};
+use pfr_states::Table;
+use pfr_track::Clock;
+use std::alloc::{AllocError, Global};
+use std::sync::Arc;
+
+/// Evaluates packet `number` of a job at a clock on a table, and records what was asked of the table and answered.
+pub fn speculate(
+    alloc: Global,
+    job: &Arc<Job>,
+    number: u64,
+    clock: Clock,
+    view: View,
+    table: &Table,
+) -> Result<Speculation, AllocError>
+    ensures job { IfOk result (λ s. arc_value s.job ≡ arc_value job.now) }
+    ensures packet { IfOk result (λ s. (s.number ≡ number) × (s.clock ≡ clock) × (s.view ≡ view)) }
+    ensures agrees { IfOk result (λ s. Agrees (purged_at clock table.now) s.answers.entries) }
+{
+    let mut recorder = Recorder::new(alloc, table, clock);
+    let outcome = step(alloc, job, number, clock, &view, &mut recorder)?;
+    let job = Arc::try_clone(job)?;
+    Ok(Speculation {
+        job,
+        number,
+        clock,
+        view,
+        outcome,
+        answers: recorder.answers,
+    })
+}
