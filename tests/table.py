@@ -4,9 +4,9 @@ each allocation in turn.
 
     table.py [FOLDER]
 
-Compared are the answers to random lists of calls, and to the one for which memory is refused. Where it is, a change that isn't
-taken leaves every answer as it was, and is taken when it is asked again. The program is a crate of its own on pfr_states, in the folder, or in a temporary
-one. Where the crates under it were checked before, it takes two minutes.
+Compared are the answers to random lists of calls, and to the one for which memory is refused. Where it is, a change that
+isn't taken leaves every answer as it was, and is taken when it is asked again. The program is a crate of its own on
+pfr_states, in the folder, or in a temporary one. Where the crates under it were checked before, it takes two minutes.
 """
 
 import subprocess

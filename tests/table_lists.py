@@ -9,7 +9,7 @@ from typing import NamedTuple
 from table_model import State, Table, answer
 
 LIMITS = (1, 2, 3, 100000)
-# of the limits' lists every second one of the last limit has so many keys and numbers to pick from
+# every second list of the last limit has so many keys and numbers to pick from
 MANY_KEYS = 20000
 MANY_NUMBERS = 20000
 GREATEST_CLOCK = 2**32 - 1
@@ -62,8 +62,10 @@ class Writer:
         return self.source.choice(self.pool.keys)
 
     def kept(self):
-        """One of the states, as long as there are some; but now and then none."""
-        return self.source.choice(list(self.table.states.values())) if self.table.states and self.source.randrange(4) else None
+        """One of the states, but now and then none."""
+        if self.table.states and self.source.randrange(4):
+            return self.source.choice(list(self.table.states.values()))
+        return None
 
     def number(self):
         kept = self.kept()
@@ -132,14 +134,14 @@ def random_lists(count, calls):
 
 
 class Refusals(Writer):
-    """Writes the list for memory that is refused: behind each change stand questions that see the whole table, then the
-    change once more, and the questions."""
+    """Writes the list for memory that is refused, of states whose keys are those of two places in a list."""
 
-    def __init__(self, keys):
+    def __init__(self):
         super().__init__(0, LIMITS[-1], False)
-        self.keys = keys
+        self.keys = [far_key(self.source) for _ in range(34)]
 
     def look(self):
+        """Questions that see the table, but of the order of deadlines its beginning alone."""
         self.add("list")
         for key in self.keys:
             for side in ("wire", "stack"):
@@ -148,37 +150,53 @@ class Refusals(Writer):
             self.add("due", clock)
             self.add("room", clock)
 
-    def change(self, *parts):
+    def twice(self, *parts):
+        """A change, and the same change once more."""
         for _ in range(2):
             self.add(*parts)
             self.look()
 
-    def state(self, number, wire, stack, deadline):
-        """The text of a state of which the keys are those of these places."""
+    def text(self, number, wire, stack, deadline):
         return State(number, self.keys[wire], self.keys[stack], deadline, len(self.lines)).text()
+
+    def grow(self):
+        """Makes states until each index of them has grown a few times, touches them, and makes one over another."""
+        for number in range(1, 31):
+            self.twice("make", self.text(number, number, 31 - number, 1000 + number * 7 % 30))
+        for number in range(1, 31, 3):
+            self.twice("touch", self.text(number, number, 31 - number, 2000 + number * 11 % 30))
+        for number in range(2, 31, 9):
+            # no state has the keys 0, 31, 32 and 33
+            self.twice("touch", self.text(number, number, 0, 1500))
+            self.twice("touch", self.text(number, 31, 32, 1500 + number))
+            self.twice("remove", number)
+        self.twice("make", self.text(1, 33, 33, 3000))
+        self.twice("touch", self.text(99, 32, 32, 3000))
+
+    def grow_and_purge(self, count):
+        """Makes so many states, touches most of them, and purges them one after the other: so the whole order of
+        deadlines is seen, behind a change that was refused too."""
+        numbers = range(1, count + 1)
+        deadlines = self.source.sample(range(1000, 1000 + 2 * count), 2 * count)
+        for number in numbers:
+            self.add("make", self.text(number, number, number, deadlines[number - 1]))
+        self.look()
+        for number in numbers[:2 * count // 3]:
+            # one of them gets another key too
+            wire = 33 if number == 2 else number
+            self.add("touch", self.text(number, wire, number, deadlines[-number]))
+        self.look()
+        for clock in sorted(deadlines):
+            self.add("due", clock)
+            self.add("purge", clock)
+            self.add("list")
 
 
 def refusals():
-    """The list for memory that is refused: states are made until each index of them has grown a few times, touched with
-    other deadlines and other keys, made over another one, and go again."""
-    source = random.Random(1)
-    writer = Refusals([far_key(source) for _ in range(34)])
-    for number in range(1, 31):
-        writer.change("make", writer.state(number, number, 31 - number, 1000 + number * 7 % 30))
-    for number in range(1, 31, 3):
-        writer.change("touch", writer.state(number, number, 31 - number, 2000 + number * 11 % 30))
-    for number in range(2, 31, 9):
-        # places of keys that no state has
-        writer.change("touch", writer.state(number, number, 0, 1500))
-        writer.change("touch", writer.state(number, 31, 32, 1500 + number))
-        writer.change("remove", number)
-    writer.change("make", writer.state(1, 33, 33, 3000))
-    writer.change("touch", writer.state(99, 32, 32, 3000))
-    for number in (40, 41, 42, 43):
-        writer.change("make", writer.state(number, number - 40, 33 - number % 2, 900))
-    for clock in (900, 1015, 2010):
-        writer.change("purge", clock)
-    for number in range(50, 62):
-        writer.change("make", writer.state(number, number - 45, number - 45, 4000 - number))
-    writer.drain()
+    """The list for memory that is refused."""
+    writer = Refusals()
+    writer.grow()
+    writer.add("purge", GREATEST_CLOCK)
+    for count in (1, 2, 3, 5, 8, 12, 20, 32):
+        writer.grow_and_purge(count)
     return writer.lines
