@@ -23,7 +23,7 @@ PROGRAM = "states_bench"
 SIZES = (1000, 100000, 1000000)
 # at least so many are made, looked up, touched and purged in a run, and each run is made so often
 LEAST = 1000000
-RUNS = 3
+RUNS = 5
 WORKS = ("makes", "hits", "misses", "touches", "purges")
 # the files and lines below /proc/PID that tell of a process's memory, in KiB: what it holds, and the most that it held
 MEMORY = {"bytes a state": ("smaps_rollup", "Rss"), "bytes at most": ("status", "VmHWM")}
