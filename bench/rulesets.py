@@ -3,7 +3,7 @@
 
     rulesets.py [PROGRAM]
 
-Builds the program that reads rulesets (see tests/rulesets.py) unless it is given one, and prints for each kind of
+Takes the program of the crate read_rulesets unless it is given one, and prints for each kind of
 text, at lengths that double, the nanoseconds and the bytes of memory that a byte of text takes. Both should stay as they
 are.
 """
@@ -18,7 +18,7 @@ from pathlib import Path
 sys.dont_write_bytecode = True
 sys.path.insert(0, str(Path(__file__).resolve().parent.parent / "tests"))
 
-import rulesets
+import building
 
 LENGTHS = [1 << n for n in (18, 19, 20, 21, 22)]
 RULE = b"pass in quick on em0 proto { tcp, udp } from { 10.0.0.0/8, !<bad> } to any port { 80, 443 } keep state\n"
@@ -67,11 +67,7 @@ def measure(program):
 
 
 def main():
-    if len(sys.argv) > 1:
-        measure(sys.argv[1])
-        return
-    with tempfile.TemporaryDirectory() as name:
-        measure(rulesets.build(Path(name)))
+    measure(sys.argv[1] if len(sys.argv) > 1 else building.program_of("read_rulesets"))
 
 
 if __name__ == "__main__":

@@ -1,11 +1,10 @@
 #!/usr/bin/env python3
-"""Builds the program beside it, which follows conversations, and compares it with the model of states in track_model.py.
+"""Compares the program of the crate track_states, which follows conversations, with the model of states in track_model.py.
 
-    conversations.py [FOLDER]
+    conversations.py
 
-Compared are the written conversations, whose lines the model must give too, and random ones. The program is a crate of its
-own on pfr_track, in the folder, or in a temporary one. Where the crates under it were checked before, it takes two
-minutes.
+Compared are the written conversations, whose lines the model must give too, and random ones. The program is the one that
+the gate left, or is built before.
 """
 
 import subprocess
@@ -24,11 +23,6 @@ RANDOM_CONVERSATIONS = 20000
 # how many conversations that differ are shown
 SHOWN = 5
 KINDS = {"echo": 1, "error": 2, "icmp": 3, "fragment": 4, "other": 5, "tcp": 6, "udp": 17}
-
-
-def build(folder):
-    """The program, built in this folder."""
-    return building.build(folder, "track_states", ["bitflags", "pfr_headers", "pfr_track"])
 
 
 def key_bytes(key):
@@ -110,9 +104,8 @@ def compare_random(program):
 
 
 def main():
-    with building.folder_of(sys.argv[1:]) as name:
-        program = build(Path(name))
-        sys.exit(bool(compare_written(program) + compare_random(program)))
+    program = building.program_of("track_states")
+    sys.exit(bool(compare_written(program) + compare_random(program)))
 
 
 if __name__ == "__main__":

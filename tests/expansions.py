@@ -1,11 +1,9 @@
 #!/usr/bin/env python3
-"""Builds the program beside it, which expands rulesets, hands it to expand_compare.py, and refuses it each allocation in
-turn.
+"""Hands the program of the crate expand_rulesets to expand_compare.py, and refuses it each allocation in turn.
 
-    expansions.py [FOLDER]
+    expansions.py
 
-The program is a crate of its own on the expansion of rulesets, in the folder, or in a temporary one, over a copy of
-the reader that reads translation rules. Where the crates under it were checked before, it takes five minutes.
+The program is the one that the gate left, or is built before. It reads translation rules too.
 """
 
 import subprocess
@@ -16,7 +14,6 @@ from pathlib import Path
 sys.dont_write_bytecode = True
 
 import building
-import translation_read
 from expand_compare import record
 from expand_rulesets import EXPANSIONS
 from expand_texts import Text
@@ -34,11 +31,6 @@ SHORT_OF_MEMORY = (
 )
 
 
-def build(folder):
-    """The program, built in this folder."""
-    return building.build(folder, "expand_rulesets", ["pfr_conf", "pfr_expand"], translation_read.CHANGES)
-
-
 def refuse_memory(program):
     """Whether the program answers as it has to where an allocation is refused, each in turn."""
     with tempfile.TemporaryFile() as given:
@@ -51,10 +43,9 @@ def refuse_memory(program):
 
 
 def main():
-    with building.folder_of(sys.argv[1:]) as name:
-        program = build(Path(name))
-        answers = subprocess.run([HERE / "expand_compare.py", program], check=False).returncode == 0
-        sys.exit(not (answers and refuse_memory(program)))
+    program = building.program_of("expand_rulesets")
+    answers = subprocess.run([HERE / "expand_compare.py", program], check=False).returncode == 0
+    sys.exit(not (answers and refuse_memory(program)))
 
 
 if __name__ == "__main__":

@@ -1,10 +1,9 @@
 #!/usr/bin/env python3
-"""Builds the program beside it, which reads rulesets, hands it to read_rulesets.py, and refuses it each allocation in turn.
+"""Hands the program of the crate read_rulesets to read_rulesets.py, and refuses it each allocation in turn.
 
-    rulesets.py [FOLDER]
+    rulesets.py
 
-The program is a crate of its own on the reader of rulesets, in the folder, or in a temporary one. Where the crates under it
-were checked before, it takes a minute.
+The program is the one that the gate left, or is built before.
 """
 
 import subprocess
@@ -21,11 +20,6 @@ HERE = Path(__file__).resolve().parent
 SHORT_OF_MEMORY = ("example_router", "example_web_server", "left_out_scrub", "set_fingerprints")
 
 
-def build(folder):
-    """The program, built in this folder."""
-    return building.build(folder, "read_rulesets", ["pfr_words", "pfr_conf"])
-
-
 def refuse_memory(program):
     """Whether the program answers as it has to where an allocation is refused, each in turn."""
     with tempfile.TemporaryFile() as given:
@@ -38,10 +32,9 @@ def refuse_memory(program):
 
 
 def main():
-    with building.folder_of(sys.argv[1:]) as name:
-        program = build(Path(name))
-        answers = subprocess.run([HERE / "read_rulesets.py", program], check=False).returncode == 0
-        sys.exit(not (answers and refuse_memory(program)))
+    program = building.program_of("read_rulesets")
+    answers = subprocess.run([HERE / "read_rulesets.py", program], check=False).returncode == 0
+    sys.exit(not (answers and refuse_memory(program)))
 
 
 if __name__ == "__main__":

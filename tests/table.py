@@ -1,12 +1,12 @@
 #!/usr/bin/env python3
-"""Builds the program beside it, which calls a table of states, compares it with the model in table_model.py, and refuses it
+"""Compares the program of the crate table_calls, which calls a table of states, with the model in table_model.py, and refuses it
 each allocation in turn.
 
-    table.py [FOLDER]
+    table.py
 
 Compared are the answers to random lists of calls, and to the one for which memory is refused. Where it is, a change that
-isn't taken leaves every answer as it was, and is taken when it is asked again. The program is a crate of its own on
-pfr_states, in the folder, or in a temporary one. Where the crates under it were checked before, it takes two minutes.
+isn't taken leaves every answer as it was, and is taken when it is asked again. The program is the one that the gate left, or
+is built before.
 """
 
 import subprocess
@@ -26,11 +26,6 @@ LISTS = 40
 CALLS = 2500
 # how many lists that differ are shown
 SHOWN = 5
-
-
-def build(folder):
-    """The program, built in this folder."""
-    return building.build(folder, "table_calls", ["pfr_headers", "pfr_states", "pfr_track"])
 
 
 def text_of(lines):
@@ -78,10 +73,9 @@ def refuse_memory(program):
 
 
 def main():
-    with building.folder_of(sys.argv[1:]) as name:
-        program = build(Path(name))
-        differ = compare(program)
-        sys.exit(not (refuse_memory(program) and not differ))
+    program = building.program_of("table_calls")
+    differ = compare(program)
+    sys.exit(not (refuse_memory(program) and not differ))
 
 
 if __name__ == "__main__":

@@ -1,6 +1,6 @@
 """Lists of calls to a table of states: random ones, and one for memory that is refused.
 
-A list is of the lines that table_calls.rattle reads: the limit, and then the calls.
+A list is of the lines that the program of table_calls reads: the limit, and then the calls.
 """
 
 import random

@@ -32,7 +32,7 @@ pub struct Statements<'a> {
 
 /// How far a ruleset has come: options stand before translation rules, and these before filter rules.
 #[derive(Clone, Copy, Debug, PartialEq, Eq)]
-pub(crate) enum Section {
+pub enum Section {
     Options,
     Filter,
 }
@@ -196,7 +196,7 @@ fn set_statement<'a>(
 
 /// Adds a statement to those found so far, and answers how far the ruleset has come with it.
 #[tactic(auto, unfolding(crate::specs::Statements::any_statement))]
-pub(crate) fn any_statement<'a>(
+pub fn any_statement<'a>(
     alloc: Global,
     reader: &mut Reader<'_, 'a>,
     found: &mut Items<Statement<'a>>,

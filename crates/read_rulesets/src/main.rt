@@ -1,4 +1,4 @@
-//! Reads rulesets from standard input, each with its length before it in four bytes, the greatest first, and prints a
+//! A program for the tests: reads rulesets from standard input, each with its length before it in four bytes, the greatest first, and prints a
 //! line for each: the number of its statements, those of bodies too, or its first fault.
 #![tactic(auto)]
 
@@ -55,7 +55,10 @@ fn main(rt: HostRuntime) -> io::Result<()> {
         let [a, b, c, d, behind @ ..] = rest else {
             break;
         };
-        let length = usize::from(*a) * 16777216 + usize::from(*b) * 65536 + usize::from(*c) * 256 + usize::from(*d);
+        let length = usize::from(*a) * 16777216
+            + usize::from(*b) * 65536
+            + usize::from(*c) * 256
+            + usize::from(*d);
         let (text, next) = behind.split_at(length.min(behind.len()));
         rest = next;
         match read(alloc, text) {

@@ -1,5 +1,5 @@
-//! Reads conversations from standard input and prints for each packet of them what it makes of the state, as
-//! `track_model.py` prints it: the line of a state that it makes, `touched` and the line of one that it changes, `removed`
+//! A program for the tests: reads conversations from standard input and prints for each packet of them what it makes of
+//! the state, as `track_model.py` of the folder `tests` prints it: the line of a state that it makes, `touched` and the line of one that it changes, `removed`
 //! or `mismatch`. The packet behind one that removes the state makes it anew.
 //!
 //! A conversation holds the number of its state (8 bytes), its protocol (1), its keys on the wire and on the stack (12

@@ -1,4 +1,4 @@
-//! Reads calls to a table of states from standard input, one a line, and prints what the table answers to each.
+//! A program for the tests: reads calls to a table of states from standard input, one a line, and prints what the table answers to each.
 //!
 //! The first line is how many states there may be. A call is a word and numbers, with spaces between them:
 //!
