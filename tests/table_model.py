@@ -1,4 +1,4 @@
-"""A model of the table of states, and what it answers to the calls that table_calls.rattle reads.
+"""A model of the table of states, and what it answers to the calls that the program of table_calls reads.
 
 The table is a dictionary by number, and each question goes over all of it. A key is a tuple: the protocol, the outside
 party's address and port, and the inside one's.

@@ -22,7 +22,8 @@ use Rattle.pfr_out.specs.declared.report.Stop.{Stop}
 use Rattle.pfr_out.specs.declared.report.Stop.TheVariants as stop
 use Rattle.pfr_out.specs.declared.verdict.Judgement.{Judgement}
 use Rattle.pfr_out.specs.Lines.{is_written, judgement_of, line_text}
-use Rattle.pfr_out.specs.Rulesets.{plain_interface, ruleset_of}
+use Rattle.pfr_packet.specs.Rulesets.{ruleset_of}
+use Rattle.pfr_out.specs.Rulesets.{plain_interface}
 
 -- what becomes of one packet
 unfoldable pub judged : Ruleset → List Net → ℕ → List ℕ → Judgement

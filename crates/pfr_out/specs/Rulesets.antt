@@ -1,30 +1,8 @@
--- What a ruleset text means for an interface.
-use Rattle.std.specs.Prelude.{◌≡◌, ◌≢◌, ℕ, nat_lt, if◌then◌else◌, List, length, Result, Ok, Err, codes}
-use Rattle.pfr_terms.specs.declared.error.ConfError.{ConfError}
-use Rattle.pfr_terms.specs.declared.error.ConfErrorKind.TheVariants.{Memory, TooMany}
+-- The interface of a run that names none.
+use Rattle.std.specs.Prelude.{codes}
 use Rattle.pfr_elements.specs.declared.interface.Interface.{Interface}
 use Rattle.pfr_elements.specs.Interfaces.{if_name}
-use Rattle.pfr_conf.specs.declared.statement.Statements.{Statements}
-use Rattle.pfr_conf.specs.Statements.{statements_of}
-use Rattle.pfr_expand.specs.declared.ruleset.Ruleset.{Ruleset}
-use Rattle.pfr_expand.specs.Rulesets.{expanded}
 
--- the interface of a run that names none
+-- em0 with the address 192.0.2.1/24 (RFC 5737)
 unfoldable pub plain_interface : Interface
 plain_interface = record { name = if_name (codes "em0"); address = record { 0 = 3221225985 }; bits = 24 }
-
-abbrev pub expanded_by : Result Statements ConfError → Interface → Result Ruleset ConfError
-expanded_by (Err fault) interface = Err fault
-expanded_by (Ok statements) interface = expanded statements interface
-
--- a text longer than a MiB is refused whole; else the first fault of its statements is told, and then of what they mean
-unfoldable pub ruleset_of : List ℕ → Interface → Result Ruleset ConfError
-ruleset_of text interface =
-    if nat_lt 1048576 (length text) then Err (record { line = 1; kind = TooMany })
-    else expanded_by (statements_of text) interface
-
--- a fault as it is told: the same, but want of memory has line 0
-pub record IsTold (fault told : ConfError) : Type 0 where
-  pub same : told.kind ≢ Memory → told ≡ fault
-  pub kind : told.kind ≡ fault.kind
-  pub line : told.kind ≡ Memory → told.line ≡ 0

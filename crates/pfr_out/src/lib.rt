@@ -15,5 +15,4 @@ pub mod verdict;
 pub use pfr_conf::{ConfError, ConfErrorKind};
 pub use plain::replay_plain;
 pub use report::{Output, Report, Stop};
-pub use ruleset::ruleset_of;
 pub use verdict::{Judgement, Reason, Verdict, VerdictLine};

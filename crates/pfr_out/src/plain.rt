@@ -11,12 +11,13 @@ ghost use Rattle.pfr_terms.specs.Input.{Gives};
 ghost use Rattle.pfr_expand.specs.declared.ruleset.Ruleset.{Ruleset};
 
 use crate::report::{Output, Report, Stop};
-use crate::ruleset::{plain_interface, ruleset_of};
+use crate::ruleset::plain_interface;
 use crate::verdict::{Judgement, Verdict, VerdictLine};
 use pfr_capture::{Capture, CaptureError, Fault, Record, Sink, Source, write_all};
 use pfr_conf::ConfError;
 use pfr_expand::Ruleset;
 use pfr_headers::{Net, view};
+use pfr_packet::ruleset_of;
 use std::alloc::{AllocError, Global};
 use std::fmt::Write;
 
