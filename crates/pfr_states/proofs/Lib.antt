@@ -1,5 +1,6 @@
 pub mod DueLemmas
 pub mod FilterLemmas
+pub mod FindLemmas
 pub mod KeyLemmas
 pub mod LawLemmas
 pub mod Membership

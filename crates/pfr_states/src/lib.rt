@@ -4,6 +4,7 @@
 
 pub mod change;
 mod edit;
+mod indexes;
 pub mod laws;
 mod scan;
 pub mod table;
