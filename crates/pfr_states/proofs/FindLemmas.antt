@@ -149,10 +149,10 @@ find_with p s (x ∷ xs) fresh free =
 
 -- ---- with a state in the place of the one of its number
 
-none_above : (n : StateNumber) (x : State) (xs : List State) → n.0 ≡ x.number.0 → list_all (λ (other : State). nat_lt x.number.0 other.number.0) xs ≡ true → list_any (is_number n) xs ≡ false
+pub none_above : (n : StateNumber) (x : State) (xs : List State) → n.0 ≡ x.number.0 → list_all (λ (other : State). nat_lt x.number.0 other.number.0) xs ≡ true → list_any (is_number n) xs ≡ false
 none_above n x xs is above = none_any (is_number n) xs (λ a h. (let over = ltb-true x.number.0 a.number.0 (above_all x.number x a xs above h) in ne_eqb a.number.0 n.0 (λ same. absurd (omega arith))))
 
-with_first : (s x : State) (xs : List State) → s.number.0 ≡ x.number.0 → list_all (λ (other : State). nat_lt x.number.0 other.number.0) xs ≡ true → with_state s xs ≡ s ∷ xs
+pub with_first : (s x : State) (xs : List State) → s.number.0 ≡ x.number.0 → list_all (λ (other : State). nat_lt x.number.0 other.number.0) xs ≡ true → with_state s xs ≡ s ∷ xs
 with_first s x [] is above = refl
 with_first s x (y ∷ ys) is above =
     let parts = and_parts (nat_lt x.number.0 y.number.0) (list_all (λ (other : State). nat_lt x.number.0 other.number.0) ys) above in

@@ -1,6 +1,8 @@
+pub mod ChangeLemmas
 pub mod DueLemmas
 pub mod FilterLemmas
 pub mod FindLemmas
+pub mod IndexLemmas
 pub mod KeyLemmas
 pub mod LawLemmas
 pub mod Membership

@@ -72,7 +72,7 @@ untouched n s (x ∷ xs) is all =
     rw (not_number n s x is parts.0, untouched n s xs is parts.1) refl
 
 -- a state of another number has a key of the touched one
-abbrev other_shares : State → State → Bool
+abbrev pub other_shares : State → State → Bool
 other_shares s x = not (is_number s.number x) && shares_key s x
 
 none_shares : (n : ℕ) (s : State) (xs : List State) → n ≡ s.number.0 → list_all (λ (x : State). nat_lt n x.number.0) xs ≡ true → list_any (other_shares s) xs ≡ false → list_any (shares_key s) xs ≡ false

@@ -1,5 +1,6 @@
 //! Where the states of a table are found: by their keys, and by their deadlines.
-ghost use Rattle.std.specs.Prelude.{◌≡◌, ◌<◌, ◌||◌, Some, None, true, false, cond, OnOk, OnErr};
+ghost use Rattle.std.specs.Prelude.{◌≡◌, ◌<◌, Some, None, true, false, cond, OnOk, OnErr, IfSome, IfNone};
+ghost use Rattle.std.specs.Ordering.{is_gt};
 ghost use Rattle.std.specs.HashMap.{spare};
 ghost use Rattle.pfr_track.specs.declared.key.Key.{Key};
 ghost use Rattle.pfr_track.specs.declared.time.Deadline.{Deadline};
@@ -118,6 +119,18 @@ impl Indexes {
         }
     }
 
+    /// The least deadline, and of one deadline the least number.
+    pub(crate) fn first_due(&self) -> Option<(Deadline, StateNumber)>
+        ensures there { IfSome result (λ due. index.awaits self.now.deadlines due ≡ true) }
+        ensures first { IfSome result (λ due. (other : Deadline × StateNumber) → index.awaits self.now.deadlines other ≡ true → is_gt (index.due_cmp due other) ≡ false) }
+        ensures none { IfNone result ((due : Deadline × StateNumber) → index.awaits self.now.deadlines due ≡ false) }
+    {
+        match self.deadlines.first() {
+            Some(due) => Some(*due),
+            None => None,
+        }
+    }
+
     /// Adds a state's keys and its deadline.
     pub(crate) fn add(&mut self, state: &State) -> Result<(), AllocError>
         ensures wire { OnOk result ((key : Key) → index.number_of self.new.wire key ≡ cond (spec.is_same_key state.now.wire key) (Some state.now.number) (index.number_of self.old.wire key)) }
@@ -148,7 +161,6 @@ impl Indexes {
 
     /// Puts a state's keys and deadline in the place of those that its number has.
     pub(crate) fn replace(&mut self, old: &State, new: &State) -> Result<(), AllocError>
-        requires number { old.now.number ≡ new.now.number }
         requires wire { index.number_of self.old.wire old.now.wire ≡ Some new.now.number }
         requires stack { index.number_of self.old.stack old.now.stack ≡ Some new.now.number }
         requires deadline { index.awaits self.old.deadlines (old.now.deadline, new.now.number) ≡ true }

@@ -4,6 +4,7 @@
 
 pub mod change;
 mod edit;
+mod indexed;
 mod indexes;
 pub mod laws;
 mod scan;

@@ -1,0 +1,137 @@
+//! States in the order of their numbers, which are found by their keys and deadlines as well.
+ghost use Rattle.std.specs.Prelude.{◌≡◌, ◌&&◌, not, true, false, [], length, Some, None, OnOk, OnErr};
+ghost use Rattle.std.specs.List.{filter, list_any};
+ghost use Rattle.pfr_states.specs.Indexed as index;
+ghost use Rattle.pfr_states.specs.States as spec;
+
+use crate::change::Side;
+use crate::indexes::Indexes;
+use pfr_track::{Clock, Key, State, StateNumber};
+use std::alloc::{AllocError, Global};
+use std::collections::BTreeMap;
+use std::marker::Model;
+use std::ops::Bound;
+
+/// States by their numbers, no two of which share a key. Contracts see the list of states by rising number.
+#[derive(Drop)]
+pub(crate) struct IndexedStates {
+    states: BTreeMap<StateNumber, State>,
+    indexes: Indexes,
+}
+
+impl Model for IndexedStates {
+    ghost use Rattle.std.specs.Prelude.{List};
+    ghost use Rattle.std.specs.Map.{values_of};
+    ghost use Rattle.pfr_track.specs.declared.state.State.{State};
+    ghost use Rattle.pfr_states.specs.Indexed.{IsIndexed, number_of, awaits};
+
+    ghost Value = { List State };
+
+    ghost view = { λ t. values_of t.states.entries };
+
+    ghost invariant = { λ t. IsIndexed t.states.entries (number_of t.indexes.wire) (number_of t.indexes.stack) (awaits t.indexes.deadlines) };
+}
+
+impl IndexedStates {
+    /// No states. It takes memory only once states are added.
+    pub(crate) fn new(alloc: Global) -> IndexedStates
+        ensures { result ≡ [] }
+    {
+        IndexedStates {
+            states: BTreeMap::new(alloc),
+            indexes: Indexes::new(alloc),
+        }
+    }
+
+    /// How many states there are.
+    pub(crate) fn len(&self) -> usize
+        ensures { result ≡ length self.now }
+    {
+        self.states.len()
+    }
+
+    /// The state of a number.
+    pub(crate) fn get(&self, number: StateNumber) -> Option<State>
+        ensures { result ≡ index.state_of number self.now }
+    {
+        self.states.get(&number).copied()
+    }
+
+    /// The number of the state with a key on a side.
+    pub(crate) fn number_at(&self, side: Side, key: &Key) -> Option<StateNumber>
+        ensures { result ≡ index.number_at side key.now self.now }
+    {
+        match side {
+            Side::Wire => self.indexes.wire.get(key).copied(),
+            Side::Stack => self.indexes.stack.get(key).copied(),
+        }
+    }
+
+    /// The state with a key on a side.
+    pub(crate) fn at(&self, side: Side, key: &Key) -> Option<State>
+        ensures { result ≡ spec.at side key.now self.now }
+    {
+        match self.number_at(side, key) {
+            Some(number) => self.get(number),
+            None => None,
+        }
+    }
+
+    /// Of the states whose deadline has come the one with the least deadline; of those the one with the least number.
+    pub(crate) fn due(&self, clock: Clock) -> Option<State>
+        ensures { result ≡ spec.due clock self.now }
+    {
+        match self.indexes.first_due() {
+            Some((deadline, number)) if deadline.has_come(clock) => self.get(number),
+            _ => None,
+        }
+    }
+
+    /// The state of the least number above this one.
+    pub(crate) fn after(&self, number: StateNumber) -> Option<State>
+        ensures { result ≡ spec.after number self.now }
+    {
+        self.states
+            .range((Bound::Excluded(number), Bound::Unbounded))
+            .next()
+            .map(|(_, state)| *state)
+    }
+
+    /// Adds a state of a new number with keys that no other one has. Where memory is refused nothing changes.
+    pub(crate) fn add(&mut self, state: State) -> Result<(), AllocError>
+        requires number { list_any (spec.is_number state.number) self.old ≡ false }
+        requires keys { list_any (spec.shares_key state) self.old ≡ false }
+        ensures done { OnOk result (self.new ≡ spec.with_state state self.old) }
+        ensures kept { OnErr result (self.new ≡ self.old) }
+    {
+        self.states.insert(state.number, state)?;
+        if let Err(refused) = self.indexes.add(&state) {
+            self.states.remove(&state.number);
+            return Err(refused);
+        }
+        Ok(())
+    }
+
+    /// Puts a state in the place of the one of its number. Where memory is refused nothing changes.
+    pub(crate) fn replace(&mut self, old: &State, state: State) -> Result<(), AllocError>
+        requires number { index.state_of state.number self.old ≡ Some old.now }
+        requires keys { list_any (λ other. not (spec.is_number state.number other) && spec.shares_key state other) self.old ≡ false }
+        ensures done { OnOk result (self.new ≡ spec.with_touched state self.old) }
+        ensures kept { OnErr result (self.new ≡ self.old) }
+    {
+        self.indexes.replace(old, &state)?;
+        match self.states.insert(state.number, state) {
+            Ok(_) => Ok(()),
+            Err(_) => unreachable!(),
+        }
+    }
+
+    /// Takes the state of a number out, if there is one.
+    pub(crate) fn remove(&mut self, number: StateNumber)
+        ensures { self.new ≡ filter (λ state. not (spec.is_number number state)) self.old }
+    {
+        if let Some(state) = self.states.remove(&number) {
+            self.indexes.remove(&state);
+        }
+    }
+}
