@@ -97,13 +97,13 @@ keys_without side old xs f g before now in_order own has = λ key.
 
 -- ---- deadlines
 
-abbrev Due : Type 0
+abbrev pub Due : Type 0
 Due = Deadline × StateNumber
 
-abbrev is_due : Due → State → Bool
+abbrev pub is_due : Due → State → Bool
 is_due due state = is_same_due (state.deadline, state.number) due
 
-abbrev Awaits : (Due → Bool) → List State → Type 0
+abbrev pub Awaits : (Due → Bool) → List State → Type 0
 Awaits f xs = (due : Due) → f due ≡ is_some (due_at due xs)
 
 due_number : (due : Due) (a : State) → is_due due a ≡ true → a.number.0 ≡ due.1.0
@@ -141,83 +141,41 @@ values_are es xs is = ap (λ (es : Entries). values_of es) is ∙ values_numbere
 refolded : (xs : List State) (es : Entries) (w t : Numbers) (d : Due → Bool) → Indexes xs es w t d → IsIndexed es w t d
 refolded xs es w t d is = subst (λ (states : List State). Indexes states es w t d) (sym (values_are es xs is.by_number)) is
 
-module _ (es fs : Entries) (w v t u : Numbers) (d e : Due → Bool) (is : IsIndexed es w t d) where
+-- what the states are of entries that belong to them
+module _ {es : Entries} {w t : Numbers} {d : Due → Bool} (is : IsIndexed es w t d) where
   -- the state under a number
   pub state_there : (n : StateNumber) → lookup (is_at (number_cmp n)) es ≡ state_of n (values_of es)
   state_there n = ap (λ (es : Entries). lookup (is_at (number_cmp n)) es) is.by_number ∙ lookup_numbered n (values_of es)
 
-  entries_with : (s : State) → fs ≡ insert_entry number_cmp es s.number s → fs ≡ numbered (with_state s (values_of es))
-  entries_with s now = now ∙ ap (λ (es : Entries). insert_entry number_cmp es s.number s) is.by_number ∙ insert_numbered s (values_of es)
-
-  pub values_with : (s : State) → fs ≡ insert_entry number_cmp es s.number s → values_of fs ≡ with_state s (values_of es)
-  values_with s now = values_are fs (with_state s (values_of es)) (entries_with s now)
-
-  pub indexed_with : (s : State) → fs ≡ insert_entry number_cmp es s.number s → Adds Wire s w v → Adds Stack s t u → ((due : Due) → e due ≡ cond (is_due due s) true (d due))
-      → list_any (is_number s.number) (values_of es) ≡ false → list_any (shares_key s) (values_of es) ≡ false → IsIndexed fs v u e
-  indexed_with s now wire stack due fresh free = refolded (with_state s (values_of es)) fs v u e (record {
-    by_number = entries_with s now;
-    by_wire = keys_with Wire s (values_of es) w v is.by_wire wire fresh (λ a h. apart_side Wire s a (none_of (shares_key s) (values_of es) a free h));
-    by_stack = keys_with Stack s (values_of es) t u is.by_stack stack fresh (λ a h. apart_side Stack s a (none_of (shares_key s) (values_of es) a free h));
-    by_deadline = waits_with s (values_of es) d e is.by_deadline due fresh;
-    in_order = rise_with s (values_of es) is.in_order;
-    own_keys = own_with s (values_of es) is.own_keys free;
-  })
-
-  -- what was put in and taken out again
-  pub entries_again : (s : State) (gs : Entries) → fs ≡ insert_entry number_cmp es s.number s → gs ≡ remove_entry (is_at (number_cmp s.number)) fs → list_any (is_number s.number) (values_of es) ≡ false → gs ≡ es
-  entries_again s gs now again fresh =
-      again ∙ ap (λ (es : Entries). remove_entry (is_at (number_cmp s.number)) es) (now ∙ ap (λ (es : Entries). insert_entry number_cmp es s.number s) is.by_number)
-      ∙ put_out s (values_of es) fresh ∙ sym is.by_number
-
-  pub indexed_same : fs ≡ es → ((key : Key) → v key ≡ w key) → ((key : Key) → u key ≡ t key) → ((due : Due) → e due ≡ d due) → IsIndexed fs v u e
-  indexed_same now wire stack due = refolded (values_of es) fs v u e (record {
-    by_number = now ∙ is.by_number;
-    by_wire = λ key. wire key ∙ is.by_wire key;
-    by_stack = λ key. stack key ∙ is.by_stack key;
-    by_deadline = λ q. due q ∙ is.by_deadline q;
-    in_order = is.in_order;
-    own_keys = is.own_keys;
-  })
-
-  -- ---- without a state
-
-  entries_without : (n : StateNumber) → fs ≡ remove_entry (is_at (number_cmp n)) es → fs ≡ numbered (without n (values_of es))
-  entries_without n now = now ∙ ap (λ (es : Entries). remove_entry (is_at (number_cmp n)) es) is.by_number ∙ remove_numbered n (values_of es) is.in_order
-
-  pub values_without : (n : StateNumber) → fs ≡ remove_entry (is_at (number_cmp n)) es → values_of fs ≡ without n (values_of es)
-  values_without n now = values_are fs (without n (values_of es)) (entries_without n now)
-
   pub number_there : (n : StateNumber) (old : State) → state_of n (values_of es) ≡ Some old → old.number ≡ n
   number_there n old there = number_is old.number n (eqb-true old.number.0 n.0 (found_there (is_number n) (values_of es) old there).1)
-
-  pub indexed_without : (n : StateNumber) (old : State) → state_of n (values_of es) ≡ Some old → fs ≡ remove_entry (is_at (number_cmp n)) es → Drops Wire old w v → Drops Stack old t u
-      → ((due : Due) → e due ≡ cond (is_due due old) false (d due)) → IsIndexed fs v u e
-  indexed_without n old there now wire stack due =
-      let has = (found_there (is_number n) (values_of es) old there).0 in
-      let same = number_there n old there in
-      refolded (without n (values_of es)) fs v u e (record {
-        by_number = entries_without n now;
-        by_wire = subst (λ (n : StateNumber). AnswersFor Wire v (without n (values_of es))) same (keys_without Wire old (values_of es) w v is.by_wire wire is.in_order is.own_keys has);
-        by_stack = subst (λ (n : StateNumber). AnswersFor Stack u (without n (values_of es))) same (keys_without Stack old (values_of es) t u is.by_stack stack is.in_order is.own_keys has);
-        by_deadline = subst (λ (n : StateNumber). Awaits e (without n (values_of es))) same (waits_without old (values_of es) d e is.by_deadline due is.in_order has);
-        in_order = rise_filter (λ state. not (is_number n state)) (values_of es) is.in_order;
-        own_keys = own_filter (λ state. not (is_number n state)) (values_of es) is.own_keys;
-      })
-
-  -- where no state has the number
-  pub values_same : (n : StateNumber) → fs ≡ es → state_of n (values_of es) ≡ None → values_of fs ≡ without n (values_of es)
-  values_same n now none = ap (λ (es : Entries). values_of es) now ∙ sym (all_without n (values_of es) (none_any (is_number n) (values_of es) (found_none (is_number n) (values_of es) none)))
-
-  -- ---- with a state in the place of another one
 
   present : (s old : State) → state_of s.number (values_of es) ≡ Some old → list_any (is_number s.number) (values_of es) ≡ true
   present s old there = (let h = found_there (is_number s.number) (values_of es) old there in some_any (is_number s.number) (values_of es) old h.0 h.1)
 
-  entries_touched : (s old : State) → state_of s.number (values_of es) ≡ Some old → fs ≡ insert_entry number_cmp es s.number s → fs ≡ numbered (with_touched s (values_of es))
+  entries_with : {fs : Entries} (s : State) → fs ≡ insert_entry number_cmp es s.number s → fs ≡ numbered (with_state s (values_of es))
+  entries_with s now = now ∙ ap (λ (es : Entries). insert_entry number_cmp es s.number s) is.by_number ∙ insert_numbered s (values_of es)
+
+  pub values_with : {fs : Entries} (s : State) → fs ≡ insert_entry number_cmp es s.number s → values_of fs ≡ with_state s (values_of es)
+  values_with {fs} s now = values_are fs (with_state s (values_of es)) (entries_with s now)
+
+  -- what was put in and taken out again
+  pub entries_again : {fs gs : Entries} (s : State) → fs ≡ insert_entry number_cmp es s.number s → gs ≡ remove_entry (is_at (number_cmp s.number)) fs → list_any (is_number s.number) (values_of es) ≡ false → gs ≡ es
+  entries_again s now again fresh =
+      again ∙ ap (λ (es : Entries). remove_entry (is_at (number_cmp s.number)) es) (now ∙ ap (λ (es : Entries). insert_entry number_cmp es s.number s) is.by_number)
+      ∙ put_out s (values_of es) fresh ∙ sym is.by_number
+
+  entries_without : {fs : Entries} (n : StateNumber) → fs ≡ remove_entry (is_at (number_cmp n)) es → fs ≡ numbered (without n (values_of es))
+  entries_without n now = now ∙ ap (λ (es : Entries). remove_entry (is_at (number_cmp n)) es) is.by_number ∙ remove_numbered n (values_of es) is.in_order
+
+  pub values_without : {fs : Entries} (n : StateNumber) → fs ≡ remove_entry (is_at (number_cmp n)) es → values_of fs ≡ without n (values_of es)
+  values_without {fs} n now = values_are fs (without n (values_of es)) (entries_without n now)
+
+  entries_touched : {fs : Entries} (s old : State) → state_of s.number (values_of es) ≡ Some old → fs ≡ insert_entry number_cmp es s.number s → fs ≡ numbered (with_touched s (values_of es))
   entries_touched s old there now = entries_with s now ∙ ap numbered (with_present s (values_of es) is.in_order (present s old there))
 
-  pub values_touched : (s old : State) → state_of s.number (values_of es) ≡ Some old → fs ≡ insert_entry number_cmp es s.number s → values_of fs ≡ with_touched s (values_of es)
-  values_touched s old there now = values_are fs (with_touched s (values_of es)) (entries_touched s old there now)
+  pub values_touched : {fs : Entries} (s old : State) → state_of s.number (values_of es) ≡ Some old → fs ≡ insert_entry number_cmp es s.number s → values_of fs ≡ with_touched s (values_of es)
+  values_touched {fs} s old there now = values_are fs (with_touched s (values_of es)) (entries_touched s old there now)
 
   other_apart : (side : Side) (s : State) → list_any (other_shares s) (values_of es) ≡ false → IsFree side s (without s.number (values_of es))
   other_apart side s free = λ a h.
@@ -237,9 +195,9 @@ module _ (es fs : Entries) (w v t u : Numbers) (d e : Due → Bool) (is : IsInde
       subst (λ (ys : List State). AnswersFor side g ys) (sym (touched_without s xs is.in_order (present s old there)))
           (keys_with side s (without s.number xs) (λ key. cond (has_key side key old) None (f key)) g left now (none_without s.number xs) (other_apart side s free))
 
-  waits_touched : (s old : State) → ((due : Due) → e due ≡ cond (is_due due s) true (cond (is_same_due (old.deadline, s.number) due) false (d due))) → state_of s.number (values_of es) ≡ Some old
+  waits_touched : (s old : State) (e : Due → Bool) → ((due : Due) → e due ≡ cond (is_due due s) true (cond (is_same_due (old.deadline, s.number) due) false (d due))) → state_of s.number (values_of es) ≡ Some old
       → Awaits e (with_touched s (values_of es))
-  waits_touched s old now there =
+  waits_touched s old e now there =
       let xs = values_of es in
       let has = (found_there (is_number s.number) xs old there).0 in
       let same = number_there s.number old there in
@@ -249,16 +207,53 @@ module _ (es fs : Entries) (w v t u : Numbers) (d e : Due → Bool) (is : IsInde
       subst (λ (ys : List State). Awaits e ys) (sym (touched_without s xs is.in_order (present s old there)))
           (waits_with s (without s.number xs) (λ due. cond (is_same_due (old.deadline, s.number) due) false (d due)) e left now (none_without s.number xs))
 
+-- the indexes of the states that a change leaves
+module _ {es fs : Entries} {w v t u : Numbers} {d e : Due → Bool} (is : IsIndexed es w t d) where
+  pub indexed_with : (s : State) → fs ≡ insert_entry number_cmp es s.number s → Adds Wire s w v → Adds Stack s t u → ((due : Due) → e due ≡ cond (is_due due s) true (d due))
+      → list_any (is_number s.number) (values_of es) ≡ false → list_any (shares_key s) (values_of es) ≡ false → IsIndexed fs v u e
+  indexed_with s now wire stack due fresh free = refolded (with_state s (values_of es)) fs v u e (record {
+    by_number = entries_with is s now;
+    by_wire = keys_with Wire s (values_of es) w v is.by_wire wire fresh (λ a h. apart_side Wire s a (none_of (shares_key s) (values_of es) a free h));
+    by_stack = keys_with Stack s (values_of es) t u is.by_stack stack fresh (λ a h. apart_side Stack s a (none_of (shares_key s) (values_of es) a free h));
+    by_deadline = waits_with s (values_of es) d e is.by_deadline due fresh;
+    in_order = rise_with s (values_of es) is.in_order;
+    own_keys = own_with s (values_of es) is.own_keys free;
+  })
+
+  pub indexed_same : fs ≡ es → ((key : Key) → v key ≡ w key) → ((key : Key) → u key ≡ t key) → ((due : Due) → e due ≡ d due) → IsIndexed fs v u e
+  indexed_same now wire stack due = refolded (values_of es) fs v u e (record {
+    by_number = now ∙ is.by_number;
+    by_wire = λ key. wire key ∙ is.by_wire key;
+    by_stack = λ key. stack key ∙ is.by_stack key;
+    by_deadline = λ q. due q ∙ is.by_deadline q;
+    in_order = is.in_order;
+    own_keys = is.own_keys;
+  })
+
+  pub indexed_without : (n : StateNumber) (old : State) → state_of n (values_of es) ≡ Some old → fs ≡ remove_entry (is_at (number_cmp n)) es → Drops Wire old w v → Drops Stack old t u
+      → ((due : Due) → e due ≡ cond (is_due due old) false (d due)) → IsIndexed fs v u e
+  indexed_without n old there now wire stack due =
+      let has = (found_there (is_number n) (values_of es) old there).0 in
+      let same = number_there is n old there in
+      refolded (without n (values_of es)) fs v u e (record {
+        by_number = entries_without is n now;
+        by_wire = subst (λ (n : StateNumber). AnswersFor Wire v (without n (values_of es))) same (keys_without Wire old (values_of es) w v is.by_wire wire is.in_order is.own_keys has);
+        by_stack = subst (λ (n : StateNumber). AnswersFor Stack u (without n (values_of es))) same (keys_without Stack old (values_of es) t u is.by_stack stack is.in_order is.own_keys has);
+        by_deadline = subst (λ (n : StateNumber). Awaits e (without n (values_of es))) same (waits_without old (values_of es) d e is.by_deadline due is.in_order has);
+        in_order = rise_filter (λ state. not (is_number n state)) (values_of es) is.in_order;
+        own_keys = own_filter (λ state. not (is_number n state)) (values_of es) is.own_keys;
+      })
+
   pub indexed_touched : (s old : State) → state_of s.number (values_of es) ≡ Some old → fs ≡ insert_entry number_cmp es s.number s
       → ((key : Key) → v key ≡ cond (has_key Wire key s) (Some s.number) (cond (has_key Wire key old) None (w key)))
       → ((key : Key) → u key ≡ cond (has_key Stack key s) (Some s.number) (cond (has_key Stack key old) None (t key)))
       → ((due : Due) → e due ≡ cond (is_due due s) true (cond (is_same_due (old.deadline, s.number) due) false (d due)))
       → list_any (other_shares s) (values_of es) ≡ false → IsIndexed fs v u e
   indexed_touched s old there now wire stack due free = refolded (with_touched s (values_of es)) fs v u e (record {
-    by_number = entries_touched s old there now;
-    by_wire = keys_touched Wire s old w v is.by_wire wire there free;
-    by_stack = keys_touched Stack s old t u is.by_stack stack there free;
-    by_deadline = waits_touched s old due there;
+    by_number = entries_touched is s old there now;
+    by_wire = keys_touched is Wire s old w v is.by_wire wire there free;
+    by_stack = keys_touched is Stack s old t u is.by_stack stack there free;
+    by_deadline = waits_touched is s old e due there;
     in_order = rise_touched s (values_of es) is.in_order;
     own_keys = own_touched s (values_of es) is.in_order is.own_keys free;
   })

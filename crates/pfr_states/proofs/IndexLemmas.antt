@@ -22,13 +22,13 @@ number n = record { 0 = n }
 pub number_is : (a b : StateNumber) → a.0 ≡ b.0 → a ≡ b
 number_is a b same = ap number same
 
-is_less : (a b : ℕ) → a < b → nat_cmp a b ≡ Less
+pub is_less : (a b : ℕ) → a < b → nat_cmp a b ≡ Less
 is_less a b less = rw (lt-ltb a b less) refl
 
-is_same : (a b : ℕ) → a ≡ b → nat_cmp a b ≡ Equal
+pub is_same : (a b : ℕ) → a ≡ b → nat_cmp a b ≡ Equal
 is_same a b same = rw (le-ltb a b (omega (arith, same)), eq-eqb a b same) refl
 
-is_more : (a b : ℕ) → b < a → nat_cmp a b ≡ Greater
+pub is_more : (a b : ℕ) → b < a → nat_cmp a b ≡ Greater
 is_more a b more = rw (le-ltb a b (omega arith), ne_eqb a b (λ same. absurd (omega arith))) refl
 
 is_eq_turned : (n : StateNumber) (x : State) → is_eq (number_cmp n x.number) ≡ is_number n x

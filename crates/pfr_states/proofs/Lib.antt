@@ -7,5 +7,6 @@ pub mod KeyLemmas
 pub mod LawLemmas
 pub mod Membership
 pub mod PutLemmas
+pub mod QuestionLemmas
 pub mod RefusalLemmas
 pub mod TouchLemmas

@@ -52,9 +52,13 @@ impl IndexedStates {
 
     /// The state of a number.
     pub(crate) fn get(&self, number: StateNumber) -> Option<State>
-        ensures { result ≡ index.state_of number self.now }
+        ensures state { result ≡ index.state_of number self.now }
+        ensures in_order { spec.rise self.now ≡ true }
     {
-        self.states.get(&number).copied()
+        match self.states.get(&number) {
+            Some(state) => Some(*state),
+            None => None,
+        }
     }
 
     /// The number of the state with a key on a side.
@@ -82,8 +86,14 @@ impl IndexedStates {
         ensures { result ≡ spec.due clock self.now }
     {
         match self.indexes.first_due() {
-            Some((deadline, number)) if deadline.has_come(clock) => self.get(number),
-            _ => None,
+            Some((deadline, number)) => {
+                if deadline.has_come(clock) {
+                    self.get(number)
+                } else {
+                    None
+                }
+            }
+            None => None,
         }
     }
 
@@ -91,14 +101,43 @@ impl IndexedStates {
     pub(crate) fn after(&self, number: StateNumber) -> Option<State>
         ensures { result ≡ spec.after number self.now }
     {
-        self.states
-            .range((Bound::Excluded(number), Bound::Unbounded))
-            .next()
-            .map(|(_, state)| *state)
+        let mut above = self
+            .states
+            .range((Bound::Excluded(number), Bound::Unbounded));
+        match above.next() {
+            Some((_, state)) => Some(*state),
+            None => None,
+        }
+    }
+
+    /// Whether some state has a key in common with this one.
+    pub(crate) fn shares_key(&self, state: &State) -> bool
+        ensures { result ≡ list_any (spec.shares_key state.now) self.now }
+    {
+        self.number_at(Side::Wire, &state.wire).is_some()
+            || self.number_at(Side::Stack, &state.stack).is_some()
+    }
+
+    /// Whether a state of another number than this one has a key on a side.
+    fn another_has_key(&self, number: StateNumber, side: Side, key: &Key) -> bool
+        ensures { result ≡ list_any (λ other. not (spec.is_number number other) && spec.is_same_key (spec.key_on side other) key.now) self.now }
+    {
+        match self.number_at(side, key) {
+            Some(owner) => owner != number,
+            None => false,
+        }
+    }
+
+    /// Whether some state of another number has a key in common with this one.
+    pub(crate) fn another_shares_key(&self, state: &State) -> bool
+        ensures { result ≡ list_any (λ other. not (spec.is_number state.now.number other) && spec.shares_key state.now other) self.now }
+    {
+        self.another_has_key(state.number, Side::Wire, &state.wire)
+            || self.another_has_key(state.number, Side::Stack, &state.stack)
     }
 
     /// Adds a state of a new number with keys that no other one has. Where memory is refused nothing changes.
-    pub(crate) fn add(&mut self, state: State) -> Result<(), AllocError>
+    fn add(&mut self, state: State) -> Result<(), AllocError>
         requires number { list_any (spec.is_number state.number) self.old ≡ false }
         requires keys { list_any (spec.shares_key state) self.old ≡ false }
         ensures done { OnOk result (self.new ≡ spec.with_state state self.old) }
@@ -113,7 +152,7 @@ impl IndexedStates {
     }
 
     /// Puts a state in the place of the one of its number. Where memory is refused nothing changes.
-    pub(crate) fn replace(&mut self, old: &State, state: State) -> Result<(), AllocError>
+    fn replace(&mut self, old: &State, state: State) -> Result<(), AllocError>
         requires number { index.state_of state.number self.old ≡ Some old.now }
         requires keys { list_any (λ other. not (spec.is_number state.number other) && spec.shares_key state other) self.old ≡ false }
         ensures done { OnOk result (self.new ≡ spec.with_touched state self.old) }
@@ -126,12 +165,47 @@ impl IndexedStates {
         }
     }
 
+    /// Puts a state, whose keys no other one has, in its place by number; one of the same number goes. Where memory is
+    /// refused nothing changes.
+    pub(crate) fn put(&mut self, state: State) -> Result<(), AllocError>
+        requires { list_any (spec.shares_key state) self.old ≡ false }
+        ensures done { OnOk result (self.new ≡ spec.with_state state self.old) }
+        ensures kept { OnErr result (self.new ≡ self.old) }
+    {
+        match self.get(state.number) {
+            Some(old) => self.replace(&old, state),
+            None => self.add(state),
+        }
+    }
+
+    /// Puts a state, whose keys none of another number has, in the place of the one of its number; where there is none,
+    /// nothing changes. Where memory is refused nothing changes.
+    pub(crate) fn touch(&mut self, state: State) -> Result<(), AllocError>
+        requires { list_any (λ other. not (spec.is_number state.number other) && spec.shares_key state other) self.old ≡ false }
+        ensures done { OnOk result (self.new ≡ spec.with_touched state self.old) }
+        ensures kept { OnErr result (self.new ≡ self.old) }
+    {
+        match self.get(state.number) {
+            Some(old) => self.replace(&old, state),
+            None => Ok(()),
+        }
+    }
+
     /// Takes the state of a number out, if there is one.
     pub(crate) fn remove(&mut self, number: StateNumber)
         ensures { self.new ≡ filter (λ state. not (spec.is_number number state)) self.old }
     {
         if let Some(state) = self.states.remove(&number) {
             self.indexes.remove(&state);
+        }
+    }
+
+    /// Takes the states out whose deadline has come, one after the other.
+    pub(crate) fn purge(&mut self, clock: Clock)
+        ensures { self.new ≡ spec.purged clock self.old }
+    {
+        while let Some(state) = self.due(clock) {
+            self.remove(state.number);
         }
     }
 }
