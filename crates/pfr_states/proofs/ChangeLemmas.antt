@@ -46,11 +46,11 @@ key_is a b same =
 abbrev pub has_key : Side → Key → State → Bool
 has_key side key state = is_same_key (key_on side state) key
 
-shares_side : (side : Side) (a b : State) → is_same_key (key_on side a) (key_on side b) ≡ true → shares_key a b ≡ true
+pub shares_side : (side : Side) (a b : State) → is_same_key (key_on side a) (key_on side b) ≡ true → shares_key a b ≡ true
 shares_side Wire a b same = or_left (is_same_key a.wire b.wire) (is_same_key a.stack b.stack) same
 shares_side Stack a b same = or_right (is_same_key a.wire b.wire) (is_same_key a.stack b.stack) same
 
-apart_side : (side : Side) (a b : State) → shares_key a b ≡ false → is_same_key (key_on side a) (key_on side b) ≡ false
+pub apart_side : (side : Side) (a b : State) → shares_key a b ≡ false → is_same_key (key_on side a) (key_on side b) ≡ false
 apart_side Wire a b apart = (or_parts (is_same_key a.wire b.wire) (is_same_key a.stack b.stack) apart).0
 apart_side Stack a b apart = (or_parts (is_same_key a.wire b.wire) (is_same_key a.stack b.stack) apart).1
 
@@ -58,7 +58,7 @@ pub one_key : (side : Side) (key : Key) (xs : List State) → have_own_keys xs �
 one_key side key xs own = λ a b ha hb is_a is_b. one_of xs a b own ha hb (shares_side side a b (subst (λ (k : Key). is_same_key (key_on side a) k ≡ true) (sym (key_is (key_on side b) key is_b)) is_a))
 
 -- no state has the key that s has on the side
-abbrev IsFree : Side → State → List State → Type 0
+abbrev pub IsFree : Side → State → List State → Type 0
 IsFree side s xs = (a : State) → Contains xs a → is_same_key (key_on side s) (key_on side a) ≡ false
 
 free_key : (side : Side) (key : Key) (s : State) (xs : List State) → IsFree side s xs → has_key side key s ≡ true → list_any (has_key side key) xs ≡ false

@@ -66,7 +66,7 @@ all_kept q (x ∷ xs) none =
     let parts = or_parts (not (q x)) (list_any (λ x. not (q x)) xs) none in
     rw (not-false (q x) parts.0) (ap suc (all_kept q xs parts.1))
 
-one_less : {X : Type 0} (q : X → Bool) (xs : List X) → list_any (λ x. not (q x)) xs ≡ true → length (filter q xs) < length xs
+pub one_less : {X : Type 0} (q : X → Bool) (xs : List X) → list_any (λ x. not (q x)) xs ≡ true → length (filter q xs) < length xs
 one_less q [] some = absurd cc
 one_less q (x ∷ xs) some =
     elim (cases_Bool (q x)) [

@@ -7,6 +7,8 @@ pub mod KeyLemmas
 pub mod LawLemmas
 pub mod Membership
 pub mod PutLemmas
+pub mod PurgeLemmas
 pub mod QuestionLemmas
 pub mod RefusalLemmas
+pub mod ShareLemmas
 pub mod TouchLemmas

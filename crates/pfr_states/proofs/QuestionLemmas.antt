@@ -48,10 +48,6 @@ at_by side key xs n (Some a) in_order answer is =
 pub state_at : (side : Side) (key : Key) (xs : List State) (n : StateNumber) → rise xs ≡ true → number_at side key xs ≡ Some n → state_of n xs ≡ at side key xs
 state_at side key xs n in_order is = at_by side key xs n (at side key xs) in_order (answer (has_key side key) xs) is
 
-pub none_at : (side : Side) (key : Key) (xs : List State) (r : Option State) → at side key xs ≡ r → number_at side key xs ≡ None → r ≡ None
-none_at side key xs None is none = refl
-none_at side key xs (Some a) is none = absurd (false≢true (sym (ap (λ (r : Option StateNumber). is_some r) (sym (ap (option_map (λ (state : State). state.number)) is) ∙ none))))
-
 -- ---- by number
 
 is_lt_is : (a b : ℕ) → is_lt (nat_cmp a b) ≡ nat_lt a b
@@ -107,7 +103,7 @@ some_by : {X : Type 0} (p : X → Bool) (xs : List X) (r : Option X) → Answer 
 some_by p xs None answer some = absurd (false≢true some)
 some_by p xs (Some a) answer some = (a, answer.0, answer.1)
 
-some_found : {X : Type 0} (p : X → Bool) (xs : List X) → is_some (find p xs) ≡ true → (a : X) × Contains xs a × (p a ≡ true)
+pub some_found : {X : Type 0} (p : X → Bool) (xs : List X) → is_some (find p xs) ≡ true → (a : X) × Contains xs a × (p a ≡ true)
 some_found p xs some = some_by p xs (find p xs) (answer p xs) some
 
 is_some_by : {X : Type 0} (p : X → Bool) (xs : List X) (a : X) (r : Option X) → Answer p xs r → Contains xs a → p a ≡ true → is_some r ≡ true

@@ -63,7 +63,8 @@ impl IndexedStates {
 
     /// The number of the state with a key on a side.
     pub(crate) fn number_at(&self, side: Side, key: &Key) -> Option<StateNumber>
-        ensures { result ≡ index.number_at side key.now self.now }
+        ensures number { result ≡ index.number_at side key.now self.now }
+        ensures own_keys { spec.have_own_keys self.now ≡ true }
     {
         match side {
             Side::Wire => self.indexes.wire.get(key).copied(),
@@ -83,7 +84,8 @@ impl IndexedStates {
 
     /// Of the states whose deadline has come the one with the least deadline; of those the one with the least number.
     pub(crate) fn due(&self, clock: Clock) -> Option<State>
-        ensures { result ≡ spec.due clock self.now }
+        ensures state { result ≡ spec.due clock self.now }
+        ensures in_order { spec.rise self.now ≡ true }
     {
         match self.indexes.first_due() {
             Some((deadline, number)) => {

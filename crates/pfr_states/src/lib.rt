@@ -3,11 +3,11 @@
 #![tactic(auto)]
 
 pub mod change;
-mod edit;
 mod indexed;
 mod indexes;
 pub mod laws;
-mod scan;
+#[cfg(test)]
+mod plain;
 pub mod table;
 
 pub use change::{Side, TableChange, TableError};
