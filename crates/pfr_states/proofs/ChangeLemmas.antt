@@ -191,9 +191,9 @@ module _ {es : Entries} {w t : Numbers} {d : Due → Bool} (is : IsIndexed es w 
       let has = (found_there (is_number s.number) xs old there).0 in
       let left : AnswersFor side (λ key. cond (has_key side key old) None (f key)) (without s.number xs)
       = subst (λ (n : StateNumber). AnswersFor side (λ key. cond (has_key side key old) None (f key)) (without n xs)) (number_there s.number old there)
-            (keys_without side old xs f (λ key. cond (has_key side key old) None (f key)) before (λ key. refl) is.in_order is.own_keys has) in
+      (keys_without side old xs f (λ key. cond (has_key side key old) None (f key)) before (λ key. refl) is.in_order is.own_keys has) in
       subst (λ (ys : List State). AnswersFor side g ys) (sym (touched_without s xs is.in_order (present s old there)))
-          (keys_with side s (without s.number xs) (λ key. cond (has_key side key old) None (f key)) g left now (none_without s.number xs) (other_apart side s free))
+      (keys_with side s (without s.number xs) (λ key. cond (has_key side key old) None (f key)) g left now (none_without s.number xs) (other_apart side s free))
 
   waits_touched : (s old : State) (e : Due → Bool) → ((due : Due) → e due ≡ cond (is_due due s) true (cond (is_same_due (old.deadline, s.number) due) false (d due))) → state_of s.number (values_of es) ≡ Some old
       → Awaits e (with_touched s (values_of es))
@@ -203,9 +203,9 @@ module _ {es : Entries} {w t : Numbers} {d : Due → Bool} (is : IsIndexed es w 
       let same = number_there s.number old there in
       let left : Awaits (λ due. cond (is_same_due (old.deadline, s.number) due) false (d due)) (without s.number xs)
       = subst (λ (n : StateNumber). Awaits (λ due. cond (is_same_due (old.deadline, n) due) false (d due)) (without n xs)) same
-            (waits_without old xs d (λ due. cond (is_due due old) false (d due)) is.by_deadline (λ due. refl) is.in_order has) in
+      (waits_without old xs d (λ due. cond (is_due due old) false (d due)) is.by_deadline (λ due. refl) is.in_order has) in
       subst (λ (ys : List State). Awaits e ys) (sym (touched_without s xs is.in_order (present s old there)))
-          (waits_with s (without s.number xs) (λ due. cond (is_same_due (old.deadline, s.number) due) false (d due)) e left now (none_without s.number xs))
+      (waits_with s (without s.number xs) (λ due. cond (is_same_due (old.deadline, s.number) due) false (d due)) e left now (none_without s.number xs))
 
 -- the indexes of the states that a change leaves
 module _ {es fs : Entries} {w v t u : Numbers} {d e : Due → Bool} (is : IsIndexed es w t d) where

@@ -94,10 +94,10 @@ pub find_out : {X : Type 0} (p q : X → Bool) (old : X) (xs : List X) → IsOne
 find_out p q old xs one has gone only = elim (cases_Bool (p old)) [
   | inl it_is ↦
       found p (filter q xs) None (one_filter p q xs one)
-          (λ a h. elim (cases_Bool (p a)) [
-            | inl passes ↦ absurd (both_ways (q a) (ap q (one a old (from_filter q xs a h).0 has passes it_is) ∙ gone) (from_filter q xs a h).1)
-            | inr other ↦ other
-          ])
+      (λ a h. elim (cases_Bool (p a)) [
+        | inl passes ↦ absurd (both_ways (q a) (ap q (one a old (from_filter q xs a h).0 has passes it_is) ∙ gone) (from_filter q xs a h).1)
+        | inr other ↦ other
+      ])
       ∙ sym (cond-true (p old) None (find p xs) it_is)
   | inr not_it ↦ found p (filter q xs) (find p xs) (one_filter p q xs one) (answer_out p q old xs (find p xs) not_it only (answer p xs)) ∙ sym (cond-false (p old) None (find p xs) not_it)
 ]
@@ -111,7 +111,7 @@ is_gone n x same = ap not (eq-eqb x.number.0 n.0 same)
 pub find_without : (p : State → Bool) (old : State) (xs : List State) → rise xs ≡ true → IsOne p xs → Contains xs old → find p (without old.number xs) ≡ cond (p old) None (find p xs)
 find_without p old xs in_order one has =
     find_out p (λ state. not (is_number old.number state)) old xs one has (is_gone old.number old refl)
-        (λ a h gone. elim (cases_Bool (is_number old.number a)) [ inl is ↦ one_number xs in_order a old h has (eqb-true a.number.0 old.number.0 is) | inr other ↦ absurd (both_ways (not (is_number old.number a)) gone (ap not other)) ])
+    (λ a h gone. elim (cases_Bool (is_number old.number a)) [ inl is ↦ one_number xs in_order a old h has (eqb-true a.number.0 old.number.0 is) | inr other ↦ absurd (both_ways (not (is_number old.number a)) gone (ap not other)) ])
 
 pub none_without : (n : StateNumber) (xs : List State) → list_any (is_number n) (without n xs) ≡ false
 none_without n xs = none_any (is_number n) (without n xs) (λ a h. elim (cases_Bool (is_number n a)) [

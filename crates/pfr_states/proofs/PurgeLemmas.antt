@@ -62,8 +62,8 @@ at_gone side key clock xs a own is come =
     let past = leb-true a.deadline.0 clock.0 come in
     let gone : lives clock a ≡ false = le-ltb clock.0 a.deadline.0 past in
     sym (found (has_key side key) (purged clock xs) None (one_filter (has_key side key) (lives clock) xs (one_key side key xs own)) (λ b inside.
-        let parts = from_filter (lives clock) xs b inside in
-        false_from_ne_true (has_key side key b) (λ too. both_ways (lives clock b) (ap (lives clock) (one_key side key xs own b a parts.0 h.0 too h.1) ∙ gone) parts.1)))
+    let parts = from_filter (lives clock) xs b inside in
+    false_from_ne_true (has_key side key b) (λ too. both_ways (lives clock b) (ap (lives clock) (one_key side key xs own b a parts.0 h.0 too h.1) ∙ gone) parts.1)))
 
 pub at_alive : (side : Side) (key : Key) (clock : Clock) (xs : List State) (a : State) → have_own_keys xs ≡ true → at side key xs ≡ Some a → nat_le a.deadline.0 clock.0 ≡ false → Some a ≡ at side key (purged clock xs)
 at_alive side key clock xs a own is not_come =

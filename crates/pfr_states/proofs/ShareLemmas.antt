@@ -81,7 +81,7 @@ owner_other n owner side key xs own is = owner_by n owner side key xs (at side k
 pub no_owner : (n : StateNumber) (side : Side) (key : Key) (xs : List State) → number_at side key xs ≡ None → false ≡ list_any (other_has n side key) xs
 no_owner n side key xs none =
     sym (none_any (other_has n side key) xs (λ b h. and_right (not (is_number n b)) (has_key side key b)
-        (found_none (has_key side key) xs (none_is (at side key xs) (sym (is_some_map (at side key xs)) ∙ ap (λ (r : Option StateNumber). is_some r) none)) b h)))
+    (found_none (has_key side key) xs (none_is (at side key xs) (sym (is_some_map (at side key xs)) ∙ ap (λ (r : Option StateNumber). is_some r) none)) b h)))
 
 other_some : (side : Side) (s : State) (xs : List State) → list_any (other_has s.number side (key_on side s)) xs ≡ true → list_any (other_shares s) xs ≡ true
 other_some side s xs some =

@@ -47,12 +47,7 @@ fn make_room(
 }
 
 /// Gives a number, which has a key, another one in its place.
-fn move_key(
-    numbers: &mut HashMap<Key, StateNumber>,
-    from: &Key,
-    to: Key,
-    number: StateNumber,
-)
+fn move_key(numbers: &mut HashMap<Key, StateNumber>, from: &Key, to: Key, number: StateNumber)
     requires room { spec.is_same_key from.now to ≡ false → 0 < spare numbers.old }
     requires there { index.number_of numbers.old from.now ≡ Some number }
     ensures { (q : Key) → index.number_of numbers.new q ≡ cond (spec.is_same_key to q) (Some number) (cond (spec.is_same_key from.now q) None (index.number_of numbers.old q)) }

@@ -9,6 +9,8 @@ pub mod laws;
 #[cfg(test)]
 mod plain;
 pub mod table;
+#[cfg(test)]
+mod tests;
 
 pub use change::{Side, TableChange, TableError};
 pub use table::Table;

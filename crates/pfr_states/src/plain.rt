@@ -7,6 +7,7 @@ ghost use Rattle.pfr_states.specs.States as spec;
 
 use crate::change::{Side, TableChange, TableError};
 use edit::{purge, put, remove, touch};
+
 mod edit;
 mod scan;
 

@@ -11,7 +11,7 @@ pub invariant_of-self-in-Err : goal.invariant_of-self-in-Err
 invariant_of-self-in-Err c =
     let fresh : list_any (is_number c.args.state.number) (values_of c.self.inside.states.entries) ≡ false = rw c.self.view_is c.requires.number in
     indexed_same c.self.invariant (entries_again c.self.invariant c.args.state c.in_ok-insert.ensures.entries c.remove.ensures.entries fresh)
-        c.in-Err.ensures.same_wire c.in-Err.ensures.same_stack c.in-Err.ensures.same_deadlines
+    c.in-Err.ensures.same_wire c.in-Err.ensures.same_stack c.in-Err.ensures.same_deadlines
 
 pub returns-in-Err-clause-kept : goal.returns-in-Err-clause-kept
 returns-in-Err-clause-kept c =

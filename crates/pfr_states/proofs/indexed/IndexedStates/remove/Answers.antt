@@ -5,7 +5,7 @@ use Rattle.pfr_states.proofs.indexed.IndexedStates.remove.Goals as goal
 pub invariant_of-self : goal.invariant_of-self
 invariant_of-self c =
     indexed_without c.self.invariant c.args.number c.in-Some.state (sym (state_there c.self.invariant c.args.number) ∙ sym c.remove.ensures.value ∙ c.in-Some.is)
-        c.remove.ensures.entries c.remove-in-Some.ensures.wire c.remove-in-Some.ensures.stack c.remove-in-Some.ensures.deadlines
+    c.remove.ensures.entries c.remove-in-Some.ensures.wire c.remove-in-Some.ensures.stack c.remove-in-Some.ensures.deadlines
 
 pub returns-in-Some : goal.returns-in-Some
 returns-in-Some c = rw (← c.self.view_is) (values_without c.self.invariant c.args.number c.remove.ensures.entries)

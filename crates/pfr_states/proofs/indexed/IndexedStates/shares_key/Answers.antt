@@ -9,4 +9,4 @@ returns-then-is_some c = shares_wire c.args.state.now c.args.self.now c.is_some.
 pub returns-else-is_some : goal.returns-else-is_some
 returns-else-is_some c =
     shares_stack c.args.state.now c.args.self.now c.is_some.result c.is_some-else-is_some.result (c.is_some.ensures ∙ ap (λ (r : Option StateNumber). is_some r) c.number_at.ensures.number) c.if-is_some.false
-        (c.is_some-else-is_some.ensures ∙ ap (λ (r : Option StateNumber). is_some r) c.number_at-else-is_some.ensures.number)
+    (c.is_some-else-is_some.ensures ∙ ap (λ (r : Option StateNumber). is_some r) c.number_at-else-is_some.ensures.number)
