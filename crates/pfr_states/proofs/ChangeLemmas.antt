@@ -12,7 +12,7 @@ use Rattle.pfr_track.specs.declared.state.StateNumber.{StateNumber}
 use Rattle.pfr_track.specs.declared.time.Deadline.{Deadline}
 use Rattle.pfr_states.specs.declared.change.Side.{Side}
 use Rattle.pfr_states.specs.declared.change.Side.TheVariants.{Wire, Stack}
-use Rattle.pfr_states.specs.Indexed.{Indexes, IsIndexed, due_at, is_same_due, number_at, number_cmp, numbered, state_of}
+use Rattle.pfr_states.specs.Indexed.{AreIndexed, IsIndexed, due_at, is_same_due, number_at, number_cmp, numbered, state_of}
 use Rattle.pfr_states.specs.States.{have_own_keys, is_number, is_same_end, is_same_key, key_on, rise, shares_key, with_state, with_touched}
 use Rattle.pfr_states.proofs.FilterLemmas.{own_filter, rise_filter}
 use Rattle.pfr_states.proofs.FindLemmas.{IsOne, all_without, find_with, find_without, found_none, found_there, none_any, none_without, one_number, some_any, touched_without, with_present, without}
@@ -138,8 +138,8 @@ Entries = List (StateNumber × State)
 values_are : (es : Entries) (xs : List State) → es ≡ numbered xs → values_of es ≡ xs
 values_are es xs is = ap (λ (es : Entries). values_of es) is ∙ values_numbered xs
 
-refolded : (xs : List State) (es : Entries) (w t : Numbers) (d : Due → Bool) → Indexes xs es w t d → IsIndexed es w t d
-refolded xs es w t d is = subst (λ (states : List State). Indexes states es w t d) (sym (values_are es xs is.by_number)) is
+refolded : (xs : List State) (es : Entries) (w t : Numbers) (d : Due → Bool) → AreIndexed xs es w t d → IsIndexed es w t d
+refolded xs es w t d is = subst (λ (states : List State). AreIndexed states es w t d) (sym (values_are es xs is.by_number)) is
 
 -- what the states are of entries that belong to them
 module _ {es : Entries} {w t : Numbers} {d : Due → Bool} (is : IsIndexed es w t d) where

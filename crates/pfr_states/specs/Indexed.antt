@@ -58,7 +58,7 @@ awaits index due = sorted.contains due_cmp index due
 
 -- the entries are the states under their numbers, each key on a side has the number of the state that has it, and the deadlines are
 -- those of the states
-pub record Indexes (states : List State) (entries : List (StateNumber × State)) (wire stack : Key → Option StateNumber) (waits : Deadline × StateNumber → Bool) : Type 0 where
+pub record AreIndexed (states : List State) (entries : List (StateNumber × State)) (wire stack : Key → Option StateNumber) (waits : Deadline × StateNumber → Bool) : Type 0 where
   pub by_number : entries ≡ numbered states
   pub by_wire : (key : Key) → wire key ≡ number_at Wire key states
   pub by_stack : (key : Key) → stack key ≡ number_at Stack key states
@@ -67,4 +67,4 @@ pub record Indexes (states : List State) (entries : List (StateNumber × State))
   pub own_keys : have_own_keys states ≡ true
 
 abbrev pub IsIndexed : List (StateNumber × State) → (Key → Option StateNumber) → (Key → Option StateNumber) → (Deadline × StateNumber → Bool) → Type 0
-IsIndexed entries wire stack waits = Indexes (values_of entries) entries wire stack waits
+IsIndexed entries wire stack waits = AreIndexed (values_of entries) entries wire stack waits

