@@ -1,10 +1,10 @@
 -- The indexes of a table answer for its states after each change.
-use Rattle.std.proofs.Common.{◌≡◌, ◌&&◌, ◌∙◌, ℕ, Bool, true, false, cond, not, is_some, List, Option, Some, None, sym, refl, ap, subst, inl, inr}
-use Rattle.std.specs.List.{Contains, filter, list_any}
+use Rattle.std.proofs.Common.{◌≡◌, ◌∙◌, ℕ, Bool, true, false, cond, not, is_some, List, Option, Some, None, sym, refl, ap, subst, inl, inr}
+use Rattle.std.specs.List.{Contains, list_any}
 use Rattle.std.specs.Map.{lookup, remove_entry, values_of}
 use Rattle.std.specs.BTreeMap.{insert_entry, is_at}
 use Rattle.std.specs.Option.{option_map}
-use Rattle.std.proofs.lemmas.Bool.{and_cases, and_parts, both_ways, cases_Bool, eq-eqb, eqb-true, false_from_ne_true, or_left, or_parts, or_right}
+use Rattle.std.proofs.lemmas.Bool.{and_cases, and_parts, both_ways, eq-eqb, eqb-true, false_from_ne_true, or_left, or_parts, or_right}
 use Rattle.pfr_track.specs.declared.key.Endpoint.{Endpoint}
 use Rattle.pfr_track.specs.declared.key.Key.{Key}
 use Rattle.pfr_track.specs.declared.state.State.{State}
@@ -15,7 +15,7 @@ use Rattle.pfr_states.specs.declared.change.Side.TheVariants.{Wire, Stack}
 use Rattle.pfr_states.specs.Indexed.{AreIndexed, IsIndexed, due_at, is_same_due, number_at, number_cmp, numbered, state_of}
 use Rattle.pfr_states.specs.States.{have_own_keys, is_number, is_same_end, is_same_key, key_on, rise, shares_key, with_state, with_touched}
 use Rattle.pfr_states.proofs.FilterLemmas.{own_filter, rise_filter}
-use Rattle.pfr_states.proofs.FindLemmas.{IsOne, all_without, find_with, find_without, found_none, found_there, none_any, none_without, one_number, some_any, touched_without, with_present, without}
+use Rattle.pfr_states.proofs.FindLemmas.{IsOne, find_with, find_without, found_there, none_any, none_without, one_number, some_any, touched_without, with_present, without}
 use Rattle.pfr_states.proofs.IndexLemmas.{insert_numbered, lookup_numbered, number_is, put_out, remove_numbered, values_numbered}
 use Rattle.pfr_states.proofs.KeyLemmas.{key_turned}
 use Rattle.pfr_states.proofs.LawLemmas.{one_of}

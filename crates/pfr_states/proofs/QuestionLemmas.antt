@@ -1,21 +1,21 @@
 -- What the indexes of a table answer is what the states answer.
-use Rattle.std.proofs.Common.{◌≡◌, ◌<◌, ◌≤◌, ◌&&◌, ◌==◌, ◌∙◌, ℕ, Bool, true, false, cond, not, is_some, nat_lt, nat_le, List, [], ◌∷◌, Option, Some, None, sym, refl, ap, subst, inl, inr, arith}
+use Rattle.std.proofs.Common.{◌≡◌, ◌≤◌, ◌&&◌, ◌==◌, ◌∙◌, ℕ, Bool, true, false, is_some, nat_lt, nat_le, List, [], ◌∷◌, Option, Some, None, sym, refl, ap, inl, inr, arith}
 use Rattle.std.specs.List.{Contains, filter, find}
 use Rattle.std.specs.Map.{values_of}
 use Rattle.std.specs.Option.{option_map, unwrap_or}
 use Rattle.std.specs.Ordering.{is_gt, is_lt, nat_cmp}
-use Rattle.std.specs.BTreeMap.Range.{entries_between, range_contains}
+use Rattle.std.specs.BTreeMap.Range.{entries_between}
 use Rattle.std.specs.declared.ops.Bound.TheVariants.{Excluded, Unbounded}
-use Rattle.std.proofs.lemmas.Bool.{and_from, and_parts, both_ways, cases_Bool, cases_order, cond-false, cond-true, eq-eqb, eqb-true, false≢true, le-ltb, leb-false, leb-true, lt-ltb}
+use Rattle.std.proofs.lemmas.Bool.{and_from, and_parts, both_ways, cases_Bool, cases_order, eq-eqb, eqb-true, false≢true, le-ltb, leb-false, leb-true, lt-ltb}
 use Rattle.pfr_track.specs.declared.key.Key.{Key}
 use Rattle.pfr_track.specs.declared.state.State.{State}
 use Rattle.pfr_track.specs.declared.state.StateNumber.{StateNumber}
 use Rattle.pfr_track.specs.declared.time.Clock.{Clock}
 use Rattle.pfr_track.specs.declared.time.Deadline.{Deadline}
 use Rattle.pfr_states.specs.declared.change.Side.{Side}
-use Rattle.pfr_states.specs.Indexed.{due_at, due_cmp, is_same_due, number_at, number_cmp, numbered, state_of}
+use Rattle.pfr_states.specs.Indexed.{due_at, due_cmp, number_at, number_cmp, numbered, state_of}
 use Rattle.pfr_states.specs.Laws.{AnswersDue, IsFirstDue}
-use Rattle.pfr_states.specs.States.{after, at, due, goes_before, have_own_keys, is_number, is_same_key, key_on, lives, rise}
+use Rattle.pfr_states.specs.States.{after, at, due, have_own_keys, is_number, is_same_key, key_on, lives, rise}
 use Rattle.pfr_states.proofs.ChangeLemmas.{Awaits, Due, has_key, is_due, one_due, one_key}
 use Rattle.pfr_states.proofs.DueLemmas.{Before, due_first, no_before, not_before}
 use Rattle.pfr_states.proofs.FindLemmas.{Answer, answer, found, found_there, one_number, one_of_number}

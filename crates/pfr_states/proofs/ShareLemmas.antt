@@ -1,8 +1,8 @@
 -- Who has a key, by the numbers that the indexes of keys answer.
-use Rattle.std.proofs.Common.{◌≡◌, ◌==◌, ◌&&◌, ◌∙◌, Bool, true, false, not, is_some, List, [], ◌∷◌, Option, Some, None, sym, refl, ap, subst, inl, inr}
+use Rattle.std.proofs.Common.{◌≡◌, ◌==◌, ◌&&◌, ◌∙◌, Bool, true, false, not, is_some, List, [], ◌∷◌, Option, Some, None, sym, refl, ap, inl, inr}
 use Rattle.std.specs.List.{Contains, list_any}
 use Rattle.std.specs.Option.{option_map, unwrap_or}
-use Rattle.std.proofs.lemmas.Bool.{and_from, and_left, and_parts, and_right, both_ways, cases_Bool, false≢true, not-false, or_from, or_parts}
+use Rattle.std.proofs.lemmas.Bool.{and_from, and_left, and_parts, and_right, cases_Bool, false≢true, or_from, or_parts}
 use Rattle.pfr_track.specs.declared.key.Key.{Key}
 use Rattle.pfr_track.specs.declared.state.State.{State}
 use Rattle.pfr_track.specs.declared.state.StateNumber.{StateNumber}
@@ -10,7 +10,7 @@ use Rattle.pfr_states.specs.declared.change.Side.{Side}
 use Rattle.pfr_states.specs.declared.change.Side.TheVariants.{Wire, Stack}
 use Rattle.pfr_states.specs.Indexed.{number_at, state_of}
 use Rattle.pfr_states.specs.States.{at, have_own_keys, is_number, is_same_key, key_on, rise, shares_key, with_state, with_touched}
-use Rattle.pfr_states.proofs.ChangeLemmas.{IsFree, apart_side, has_key, one_key, shares_side}
+use Rattle.pfr_states.proofs.ChangeLemmas.{IsFree, has_key, one_key, shares_side}
 use Rattle.pfr_states.proofs.FindLemmas.{Answer, answer, found_none, found_there, none_any, some_any, with_present}
 use Rattle.pfr_states.proofs.KeyLemmas.{key_turned}
 use Rattle.pfr_states.proofs.Membership.{here, none_of, there}

@@ -1,5 +1,5 @@
 -- What the indexes of a table answer: which state a number has, which number a key has, and which deadlines come.
-use Rattle.std.specs.Prelude.{◌≡◌, ℕ, ◌==◌, ◌&&◌, Bool, true, is_some, List, map, Option}
+use Rattle.std.specs.Prelude.{◌≡◌, ◌==◌, ◌&&◌, Bool, true, is_some, List, map, Option}
 use Rattle.std.specs.List.{find}
 use Rattle.std.specs.Map.{values_of}
 use Rattle.std.specs.Option.{option_map}

@@ -1,4 +1,4 @@
-use Rattle.std.proofs.Common.{◌≡◌, ◌∙◌, ap, false, List, sym}
+use Rattle.std.proofs.Common.{◌≡◌, ◌∙◌, ap, false, List}
 use Rattle.std.specs.List.{list_any}
 use Rattle.std.specs.Map.{values_of}
 use Rattle.pfr_track.specs.declared.state.State.{State}

@@ -1,4 +1,4 @@
-use Rattle.std.proofs.Common.{◌∙◌, sym, not, filter, ap}
+use Rattle.std.proofs.Common.{◌∙◌, sym}
 use Rattle.pfr_states.proofs.ChangeLemmas.{indexed_without, state_there, values_without}
 use Rattle.pfr_states.proofs.indexed.IndexedStates.remove.Goals as goal
 

@@ -1,4 +1,4 @@
-use Rattle.std.proofs.Common.{◌≡◌, ◌∙◌, ap, false, Some, None, is_some, true, Option, sym}
+use Rattle.std.proofs.Common.{◌≡◌, ◌∙◌, ap, false, Some, is_some, Option, sym}
 use Rattle.std.specs.List.{list_any}
 use Rattle.std.specs.Map.{values_of}
 use Rattle.std.proofs.lemmas.Bool.{false≢true}
