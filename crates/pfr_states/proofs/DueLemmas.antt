@@ -10,23 +10,23 @@ use Rattle.pfr_states.proofs.Membership.{from_filter, here, in_cons, in_none, th
 
 -- ---- an order
 
-abbrev Before : State → State → Type 0
+abbrev pub Before : State → State → Type 0
 Before a b = (a.deadline.0 < b.deadline.0) ⊎ ((a.deadline.0 ≡ b.deadline.0) × (a.number.0 < b.number.0))
 
-is_before : (a b : State) → goes_before a b ≡ true → Before a b
+pub is_before : (a b : State) → goes_before a b ≡ true → Before a b
 is_before a b before = elim (or_cases (nat_lt a.deadline.0 b.deadline.0) (a.deadline.0 == b.deadline.0 && nat_lt a.number.0 b.number.0) before) [
   | inl less ↦ inl (ltb-true a.deadline.0 b.deadline.0 less)
   | inr both ↦ (let parts = and_parts (a.deadline.0 == b.deadline.0) (nat_lt a.number.0 b.number.0) both in inr (eqb-true a.deadline.0 b.deadline.0 parts.0, ltb-true a.number.0 b.number.0 parts.1))
 ]
 
-not_before : (a b : State) → (Before a b → ⊥) → goes_before a b ≡ false
+pub not_before : (a b : State) → (Before a b → ⊥) → goes_before a b ≡ false
 not_before a b none = elim (cases_Bool (goes_before a b)) [ inl before ↦ absurd (none (is_before a b before)) | inr other ↦ other ]
 
-before_is : (a b : State) → Before a b → goes_before a b ≡ true
+pub before_is : (a b : State) → Before a b → goes_before a b ≡ true
 before_is a b (inl less) = rw (lt-ltb a.deadline.0 b.deadline.0 less) refl
 before_is a b (inr both) = rw (le-ltb a.deadline.0 b.deadline.0 (omega (arith, both.0)), eq-eqb a.deadline.0 b.deadline.0 both.0, lt-ltb a.number.0 b.number.0 both.1) refl
 
-no_before : (a b : State) → goes_before a b ≡ false → Before a b → ⊥
+pub no_before : (a b : State) → goes_before a b ≡ false → Before a b → ⊥
 no_before a b none before = absurd (cc (before_is a b before, none))
 
 -- the first of two states is before a third, or the second isn't

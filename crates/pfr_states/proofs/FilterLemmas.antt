@@ -25,7 +25,7 @@ none_filter p q (x ∷ xs) none =
       | inr not_it ↦ rw not_it rest
     ]
 
-rise_filter : (q : State → Bool) (states : List State) → rise states ≡ true → rise (filter q states) ≡ true
+pub rise_filter : (q : State → Bool) (states : List State) → rise states ≡ true → rise (filter q states) ≡ true
 rise_filter q [] in_order = refl
 rise_filter q (x ∷ xs) in_order =
     let parts = and_parts (are_above x xs) (rise xs) in_order in
@@ -35,7 +35,7 @@ rise_filter q (x ∷ xs) in_order =
       | inr not_it ↦ rw not_it rest
     ]
 
-own_filter : (q : State → Bool) (states : List State) → have_own_keys states ≡ true → have_own_keys (filter q states) ≡ true
+pub own_filter : (q : State → Bool) (states : List State) → have_own_keys states ≡ true → have_own_keys (filter q states) ≡ true
 own_filter q [] own = refl
 own_filter q (x ∷ xs) own =
     let parts = and_parts (not (list_any (shares_key x) xs)) (have_own_keys xs) own in
@@ -45,7 +45,7 @@ own_filter q (x ∷ xs) own =
       | inr not_it ↦ rw not_it rest
     ]
 
-length_filter : {X : Type 0} (q : X → Bool) (xs : List X) → length (filter q xs) ≤ length xs
+pub length_filter : {X : Type 0} (q : X → Bool) (xs : List X) → length (filter q xs) ≤ length xs
 length_filter q [] = omega arith
 length_filter q (x ∷ xs) =
     let rest = length_filter q xs in
@@ -66,7 +66,7 @@ all_kept q (x ∷ xs) none =
     let parts = or_parts (not (q x)) (list_any (λ x. not (q x)) xs) none in
     rw (not-false (q x) parts.0) (ap suc (all_kept q xs parts.1))
 
-one_less : {X : Type 0} (q : X → Bool) (xs : List X) → list_any (λ x. not (q x)) xs ≡ true → length (filter q xs) < length xs
+pub one_less : {X : Type 0} (q : X → Bool) (xs : List X) → list_any (λ x. not (q x)) xs ≡ true → length (filter q xs) < length xs
 one_less q [] some = absurd cc
 one_less q (x ∷ xs) some =
     elim (cases_Bool (q x)) [

@@ -15,7 +15,7 @@ same_turned a b = elim (cases_eq a b) [
 end_turned : (a b : Endpoint) → is_same_end a b ≡ is_same_end b a
 end_turned a b = rw (same_turned a.address.0 b.address.0, same_turned a.port.0 b.port.0) refl
 
-key_turned : (a b : Key) → is_same_key a b ≡ is_same_key b a
+pub key_turned : (a b : Key) → is_same_key a b ≡ is_same_key b a
 key_turned a b = rw (same_turned a.protocol.0 b.protocol.0, end_turned a.outside b.outside, end_turned a.inside b.inside) refl
 
 pub shares_turned : (a b : State) → shares_key a b ≡ shares_key b a

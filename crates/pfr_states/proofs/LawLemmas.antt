@@ -25,7 +25,7 @@ purged_twice states first later since = filter_narrower (lives first) (lives lat
 
 -- ---- keys
 
-one_of : (states : List State) (a b : State) → have_own_keys states ≡ true → Contains states a → Contains states b → shares_key a b ≡ true → a ≡ b
+pub one_of : (states : List State) (a b : State) → have_own_keys states ≡ true → Contains states a → Contains states b → shares_key a b ≡ true → a ≡ b
 one_of [] a b own has_a has_b shared = absurd (in_none a has_a)
 one_of (x ∷ xs) a b own has_a has_b shared =
     let parts = and_parts (not (list_any (shares_key x) xs)) (have_own_keys xs) own in

@@ -1,8 +1,14 @@
+pub mod ChangeLemmas
 pub mod DueLemmas
 pub mod FilterLemmas
+pub mod FindLemmas
+pub mod IndexLemmas
 pub mod KeyLemmas
 pub mod LawLemmas
 pub mod Membership
 pub mod PutLemmas
+pub mod PurgeLemmas
+pub mod QuestionLemmas
 pub mod RefusalLemmas
+pub mod ShareLemmas
 pub mod TouchLemmas

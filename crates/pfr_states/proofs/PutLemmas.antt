@@ -11,13 +11,13 @@ use Rattle.pfr_states.proofs.KeyLemmas.{shares_turned}
 abbrev pub place : State → List State → ℕ
 place s xs = prefix_len (λ (x : State). nat_lt x.number.0 s.number.0) xs
 
-with_before : (s x : State) (xs : List State) → s.number.0 < x.number.0 → with_state s (x ∷ xs) ≡ s ∷ x ∷ xs
+pub with_before : (s x : State) (xs : List State) → s.number.0 < x.number.0 → with_state s (x ∷ xs) ≡ s ∷ x ∷ xs
 with_before s x xs before = rw (lt-ltb s.number.0 x.number.0 before) refl
 
-with_over : (s x : State) (xs : List State) → x.number.0 ≡ s.number.0 → with_state s (x ∷ xs) ≡ s ∷ xs
+pub with_over : (s x : State) (xs : List State) → x.number.0 ≡ s.number.0 → with_state s (x ∷ xs) ≡ s ∷ xs
 with_over s x xs is = rw (le-ltb s.number.0 x.number.0 (omega arith), eq-eqb x.number.0 s.number.0 is) refl
 
-with_behind : (s x : State) (xs : List State) → x.number.0 < s.number.0 → with_state s (x ∷ xs) ≡ x ∷ with_state s xs
+pub with_behind : (s x : State) (xs : List State) → x.number.0 < s.number.0 → with_state s (x ∷ xs) ≡ x ∷ with_state s xs
 with_behind s x xs behind = rw (le-ltb s.number.0 x.number.0 (omega arith), ne_eqb x.number.0 s.number.0 (λ is. absurd (omega arith))) refl
 
 place_here : (s x : State) (xs : List State) → s.number.0 ≤ x.number.0 → place s (x ∷ xs) ≡ 0
@@ -81,7 +81,7 @@ all_lower m n (x ∷ xs) low all =
     let above = ltb-true n x.number.0 parts.0 in
     rw (lt-ltb m x.number.0 (omega arith)) (all_lower m n xs low parts.1)
 
-rise_with : (s : State) (xs : List State) → rise xs ≡ true → rise (with_state s xs) ≡ true
+pub rise_with : (s : State) (xs : List State) → rise xs ≡ true → rise (with_state s xs) ≡ true
 rise_with s [] in_order = refl
 rise_with s (x ∷ xs) in_order =
     let parts = and_parts (are_above x xs) (rise xs) in_order in
@@ -103,7 +103,7 @@ none_with p s (x ∷ xs) it none =
       | inr (inr before) ↦ rw (with_before s x xs before, it) none
     ]
 
-own_with : (s : State) (xs : List State) → have_own_keys xs ≡ true → list_any (shares_key s) xs ≡ false → have_own_keys (with_state s xs) ≡ true
+pub own_with : (s : State) (xs : List State) → have_own_keys xs ≡ true → list_any (shares_key s) xs ≡ false → have_own_keys (with_state s xs) ≡ true
 own_with s [] own none = refl
 own_with s (x ∷ xs) own none =
     let owns = and_parts (not (list_any (shares_key x) xs)) (have_own_keys xs) own in

@@ -45,7 +45,7 @@ all_touched n s (x ∷ xs) all =
     let parts = and_parts (nat_lt n x.number.0) (list_all (λ (x : State). nat_lt n x.number.0) xs) all in
     and_from (nat_lt n (in_place s x).number.0) (list_all (λ (x : State). nat_lt n x.number.0) (with_touched s xs)) (ap (nat_lt n) (same_number s x) ∙ parts.0) (all_touched n s xs parts.1)
 
-rise_touched : (s : State) (xs : List State) → rise xs ≡ true → rise (with_touched s xs) ≡ true
+pub rise_touched : (s : State) (xs : List State) → rise xs ≡ true → rise (with_touched s xs) ≡ true
 rise_touched s [] in_order = refl
 rise_touched s (x ∷ xs) in_order =
     let parts = and_parts (are_above x xs) (rise xs) in_order in
@@ -65,14 +65,14 @@ none_touched p s (x ∷ xs) it none =
 not_number : (n : ℕ) (s x : State) → n ≡ s.number.0 → nat_lt n x.number.0 ≡ true → is_number s.number x ≡ false
 not_number n s x is above = (let less = ltb-true n x.number.0 above in ne_eqb x.number.0 s.number.0 (λ same. absurd (omega arith)))
 
-untouched : (n : ℕ) (s : State) (xs : List State) → n ≡ s.number.0 → list_all (λ (x : State). nat_lt n x.number.0) xs ≡ true → with_touched s xs ≡ xs
+pub untouched : (n : ℕ) (s : State) (xs : List State) → n ≡ s.number.0 → list_all (λ (x : State). nat_lt n x.number.0) xs ≡ true → with_touched s xs ≡ xs
 untouched n s [] is all = refl
 untouched n s (x ∷ xs) is all =
     let parts = and_parts (nat_lt n x.number.0) (list_all (λ (x : State). nat_lt n x.number.0) xs) all in
     rw (not_number n s x is parts.0, untouched n s xs is parts.1) refl
 
 -- a state of another number has a key of the touched one
-abbrev other_shares : State → State → Bool
+abbrev pub other_shares : State → State → Bool
 other_shares s x = not (is_number s.number x) && shares_key s x
 
 none_shares : (n : ℕ) (s : State) (xs : List State) → n ≡ s.number.0 → list_all (λ (x : State). nat_lt n x.number.0) xs ≡ true → list_any (other_shares s) xs ≡ false → list_any (shares_key s) xs ≡ false
@@ -82,7 +82,7 @@ none_shares n s (x ∷ xs) is all none =
     let nones = or_parts (other_shares s x) (list_any (other_shares s) xs) none in
     or_from (shares_key s x) (list_any (shares_key s) xs) (rw (not_number n s x is parts.0) at nones.0) (none_shares n s xs is parts.1 nones.1)
 
-own_touched : (s : State) (xs : List State) → rise xs ≡ true → have_own_keys xs ≡ true → list_any (other_shares s) xs ≡ false → have_own_keys (with_touched s xs) ≡ true
+pub own_touched : (s : State) (xs : List State) → rise xs ≡ true → have_own_keys xs ≡ true → list_any (other_shares s) xs ≡ false → have_own_keys (with_touched s xs) ≡ true
 own_touched s [] in_order own none = refl
 own_touched s (x ∷ xs) in_order own none =
     let orders = and_parts (are_above x xs) (rise xs) in_order in

@@ -1,2 +1,3 @@
+pub mod Indexed
 pub mod Laws
 pub mod States

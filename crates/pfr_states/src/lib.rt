@@ -3,10 +3,14 @@
 #![tactic(auto)]
 
 pub mod change;
-mod edit;
+mod indexed;
+mod indexes;
 pub mod laws;
-mod scan;
+#[cfg(test)]
+mod plain;
 pub mod table;
+#[cfg(test)]
+mod tests;
 
 pub use change::{Side, TableChange, TableError};
 pub use table::Table;

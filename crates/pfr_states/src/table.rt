@@ -6,8 +6,7 @@ ghost use Rattle.pfr_states.specs.declared.change.TableChange.TheVariants.{Made,
 ghost use Rattle.pfr_states.specs.States as spec;
 
 use crate::change::{Side, TableChange, TableError};
-use crate::edit::{purge, put, remove, touch};
-use crate::scan;
+use crate::indexed::IndexedStates;
 use pfr_track::{Clock, Key, State, StateNumber};
 use std::alloc::Global;
 use std::marker::Model;
@@ -16,7 +15,7 @@ use std::marker::Model;
 /// states by rising number, and the limit.
 #[derive(Drop)]
 pub struct Table {
-    states: Vec<State>,
+    states: IndexedStates,
     limit: usize,
 }
 
@@ -25,9 +24,9 @@ impl Model for Table {
 
     ghost Value = { StateTable };
 
-    ghost view = { λ t. record { states = t.states.items; limit = t.limit } };
+    ghost view = { λ t. record { states = t.states; limit = t.limit } };
 
-    ghost invariant = { λ t. IsTable (record { states = t.states.items; limit = t.limit }) };
+    ghost invariant = { λ t. IsTable (record { states = t.states; limit = t.limit }) };
 }
 
 impl Table {
@@ -36,14 +35,16 @@ impl Table {
         ensures { result ≡ spec.empty limit }
     {
         Table {
-            states: Vec::new(alloc),
+            states: IndexedStates::new(alloc),
             limit,
         }
     }
 
-    /// How many states there are; those whose deadline has come are counted until they are purged.
+    /// How many states there are; those whose deadline has come are counted until they are purged. Their numbers rise, no
+    /// two share a key, and they are at most as many as the limit says.
     pub fn len(&self) -> usize
-        ensures { result ≡ length self.now.states }
+        ensures count { result ≡ length self.now.states }
+        ensures table { spec.IsTable self.now }
     {
         self.states.len()
     }
@@ -52,28 +53,37 @@ impl Table {
     pub fn at(&self, side: Side, key: &Key, clock: Clock) -> Option<State>
         ensures { result ≡ spec.at side key.now (spec.purged clock self.now.states) }
     {
-        scan::at(&self.states, side, key, clock)
+        match self.states.at(side, key) {
+            Some(state) => {
+                if state.deadline.has_come(clock) {
+                    None
+                } else {
+                    Some(state)
+                }
+            }
+            None => None,
+        }
     }
 
     /// Whether there is room for one more state once those are gone whose deadline has come.
     pub fn room(&self, clock: Clock) -> bool
         ensures { result ≡ spec.has_room self.now.limit (spec.purged clock self.now.states) }
     {
-        self.len() < self.limit || scan::some_is_due(&self.states, clock)
+        self.len() < self.limit || self.states.due(clock).is_some()
     }
 
     /// Of the states whose deadline has come the one with the least deadline; of those the one with the least number.
     pub fn due(&self, clock: Clock) -> Option<State>
         ensures { result ≡ spec.due clock self.now.states }
     {
-        scan::due(&self.states, clock)
+        self.states.due(clock)
     }
 
     /// The state of the least number above this one.
     pub fn after(&self, number: StateNumber) -> Option<State>
         ensures { result ≡ spec.after number self.now.states }
     {
-        scan::after(&self.states, number)
+        self.states.after(number)
     }
 
     /// Takes out the states whose deadline has come.
@@ -81,7 +91,7 @@ impl Table {
         ensures states { self.new.states ≡ spec.purged clock self.old.states }
         ensures limit { self.new.limit ≡ self.old.limit }
     {
-        purge(&mut self.states, clock);
+        self.states.purge(clock);
     }
 
     /// Takes a new state over.
@@ -92,13 +102,13 @@ impl Table {
         ensures kept { OnErr result (self.new ≡ self.old) }
         ensures limit { self.new.limit ≡ self.old.limit }
     {
-        if scan::some_shares_key(&self.states, &state) {
+        if self.states.shares_key(&state) {
             return Err(TableError::KeyTaken);
         }
         if self.len() >= self.limit {
             return Err(TableError::Full);
         }
-        put(&mut self.states, state)?;
+        self.states.put(state)?;
         Ok(())
     }
 
@@ -106,14 +116,14 @@ impl Table {
     fn touch(&mut self, state: State) -> Result<(), TableError>
         ensures done { OnOk result (self.new.states ≡ spec.with_change (Touched state) self.old.states) }
         ensures allowed { OnOk result (spec.refusal (Touched state) self.old.limit self.old.states ≡ None) }
-        ensures refused { IfErr result (λ e. spec.refusal (Touched state) self.old.limit self.old.states ≡ Some e) }
+        ensures refused { IfErr result (λ e. e ≢ Memory → spec.refusal (Touched state) self.old.limit self.old.states ≡ Some e) }
         ensures kept { OnErr result (self.new ≡ self.old) }
         ensures limit { self.new.limit ≡ self.old.limit }
     {
-        if scan::some_other_shares_key(&self.states, &state) {
+        if self.states.another_shares_key(&state) {
             return Err(TableError::KeyTaken);
         }
-        touch(&mut self.states, &state);
+        self.states.touch(state)?;
         Ok(())
     }
 
@@ -122,13 +132,13 @@ impl Table {
         ensures states { self.new.states ≡ spec.with_change (Removed number) self.old.states }
         ensures limit { self.new.limit ≡ self.old.limit }
     {
-        remove(&mut self.states, number);
+        self.states.remove(number);
     }
 
     /// Takes a change over. Where it is refused the table stays as it was: a key that another state has is the first reason,
-    /// too many states the second. States count until they are purged, whether their deadline has come or not. Only a made
-    /// state takes memory. A removal is never refused; where no state has the number of a touched or removed one, the table
-    /// stays as it was.
+    /// too many states the second. States count until they are purged, whether their deadline has come or not. A made or
+    /// touched state may be refused memory. A removal is never refused; where no state has the number of a touched or removed
+    /// one, the table stays as it was.
     pub fn apply(&mut self, change: TableChange) -> Result<(), TableError>
         ensures done { OnOk result (self.new.states ≡ spec.with_change change self.old.states) }
         ensures allowed { OnOk result (spec.refusal change self.old.limit self.old.states ≡ None) }
