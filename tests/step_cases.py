@@ -145,6 +145,47 @@ def tracked_cases():
                (UDP_IN, "in pass rule r=0 s=1; 0; made 1"), (udp(HERE, 9, P, 9), "in pass rule r=0 s=2; 0; made 2"))
 
 
+def first_segment(options, window, offer, flags=SYN, reach=1002, length=None, payload=b""):
+    """A case of the connection that a TCP packet with these options begins; its line has the window and the offer."""
+    octets = bytes(options)
+    segment = tcp(H, 1000, P, 80, flags, 1000, 0, 1000, octets, payload)
+    length = length or len(segment)
+    return case(f"a first packet with the TCP options {octets.hex()}", "pass out flags any",
+                (segment[:2] + length.to_bytes(2) + segment[4:], MADE),
+                states="1 6 out 198.51.100.7:80,10.0.0.5:1000 198.51.100.7:80,10.0.0.5:1000 r=0 t=- "
+                       f"2/1000/{reach}/{window}/{offer} 0/0/1/1/- 0 120 1 {length} 0 0\n")
+
+
+def segment_cases():
+    yield first_segment([3, 3, 2, 0], 250, 2)
+    yield first_segment([1, 3, 3, 2], 250, 2)
+    yield first_segment([2, 4, 5, 180, 3, 3, 0, 0], 1000, 0)
+    yield first_segment([3, 3, 3, 0], 125, 3)
+    yield first_segment([3, 3, 4, 0], 63, 4)
+    yield first_segment([3, 3, 14, 0], 1, 14)
+    yield first_segment([3, 3, 15, 0], 1, 14)
+    yield first_segment([3, 3, 255, 0], 1, 14)
+    yield first_segment([3, 4, 7, 7, 3, 3, 2, 0], 250, 2)
+    yield first_segment([3, 3, 2, 3, 3, 5, 0, 0], 250, 2)
+    yield first_segment([0, 2, 3, 3, 2, 0, 0, 0], 1000, "-")
+    yield first_segment([1, 0, 3, 3, 2, 0, 0, 0], 1000, "-")
+    yield first_segment([2, 1, 3, 3, 2, 0, 0, 0], 1000, "-")
+    yield first_segment([2, 0, 3, 3, 2, 0, 0, 0], 1000, "-")
+    yield first_segment([5, 9, 3, 3, 2, 0, 0, 0], 1000, "-")
+    yield first_segment([1, 1, 1, 3], 1000, "-")
+    yield first_segment([1, 1, 3, 3], 1000, "-")
+    yield first_segment([3, 3, 2, 0], 1000, "-", flags=ACK, reach=1001)
+    # what it carries goes by the total length, whatever was captured
+    yield first_segment([], 1000, "-", reach=1102, payload=bytes(100))
+    yield first_segment([], 1000, "-", reach=1102, length=140)
+    yield first_segment([], 1000, "-", reach=1002, length=40, payload=bytes(6))
+    yield first_segment([], 1000, "-", flags=SYN | FIN, reach=1003)
+    yield case("a total length that isn't that of a datagram counts as it stands", "pass out",
+               (UDP_OUT[:2] + (1500).to_bytes(2) + UDP_OUT[4:], MADE), counters="filter 0 1 1 1500\ntotal 1 1 0 0 0\n",
+               states="1 17 out 198.51.100.7:53,10.0.0.5:1000 198.51.100.7:53,10.0.0.5:1000 r=0 t=- 1/0/0/0/- 0/0/0/0/- 0 60 "
+                      "1 1500 0 0\n")
+
+
 def filter_cases():
     yield case("no rule", "", (UDP_IN, "in pass default r=- s=-; -; -"), counters="total 1 1 0 0 0\n", states="")
     yield case("no rule that holds", "block out\nblock in proto tcp", (UDP_IN, "in pass default r=- s=-; 0,1; -"),
@@ -239,6 +280,7 @@ def cases():
     yield from fragment_cases()
     yield from step_error_cases.cases(case)
     yield from tracked_cases()
+    yield from segment_cases()
     yield from filter_cases()
     yield from option_cases()
     yield from limit_cases()

@@ -81,6 +81,10 @@ def quoted_cases(case):
                (error(changed(UDP_OUT, 6, b"\x10\x00")), FILTERED),
                (error(changed(UDP_OUT, 6, DONT_FRAGMENT.to_bytes(2))), TOLD),
                (error(changed(UDP_OUT, 6, b"\x80\x00")), TOLD))
+    # the ports that would stand at 16 and at 0 bytes, if so short a header were taken
+    yield case("a quoted header that is too short and has ports in it", RULES,
+               (udp(H, 0xC633, P, 0x6407), MADE), (error(changed(UDP_OUT, 0, b"\x44")), FILTERED),
+               (udp(H, 0x4000, P, 0x1C), "out pass rule r=1 s=3; 0,1; made 3"), (error(changed(UDP_OUT, 0, b"\x40")), FILTERED))
     tunnel = ipv4(H, P, GRE, bytes(8))
     yield case("a quoted packet of another protocol", RULES, (tunnel, MADE), (error(tunnel), FILTERED))
     request = echo(H, P, True, 0, 0)
@@ -98,6 +102,14 @@ def unknown_cases(case):
     yield case("an error that quotes the packet of the other way", RULES, (UDP_OUT, MADE),
                (error(udp(P, 53, H, 1000)), FILTERED),
                (error(UDP_OUT, source=H, destination=P), "out pass rule r=1 s=-; 0,1; -"))
+    neighbour = udp(H, 1, "10.0.0.6", 2)
+    yield case("an error from the inside to the inside tells of a packet from the outside", RULES, (neighbour, MADE),
+               (icmp_error("10.0.0.6", UNREACHABLE, 3, neighbour), "out pass rule r=1 s=-; 0,1; -"),
+               (error(udp("10.0.0.6", 2, H, 1), source="10.0.0.6"), "out pass state-error r=1 s=1; -; -"))
+    passing_by = udp(P, 1, ROUTER, 2)
+    yield case("an error from the outside to the outside tells of a packet from the inside", "pass in",
+               (passing_by, "in pass rule r=0 s=1; 0; made 1"),
+               (icmp_error(ROUTER, UNREACHABLE, 3, passing_by), "in pass rule r=0 s=-; 0; -"))
     yield case("an error of other ports, addresses, protocols", RULES, (UDP_OUT, MADE),
                (error(udp(H, 1001, P, 53)), FILTERED), (error(udp(H, 1000, P, 54)), FILTERED),
                (error(udp("10.0.0.6", 1000, P, 53)), FILTERED), (error(udp(H, 1000, ROUTER, 53)), FILTERED),

@@ -10,7 +10,8 @@ from filter_texts import INSIDE_HOSTS, OUTSIDE_HOSTS, PORTS
 from frame_model import ICMP, TCP, UDP
 from packets import (ACK, ETHER_ARP, ETHER_IPV4, ETHER_IPV6, FIN, IGMP, LINKTYPE_ETHERNET, LINKTYPE_LOOPBACK, LINKTYPE_RAW,
                      RST, SYN, echo, ethernet, ipv4, loopback, summed_message, tcp, udp)
-from replay_model import Record, Refused, job_of, steps_of
+from replay_model import Interface, Record, Refused, job_of, steps_of
+from ruleset_tree import Network
 from step_runs import INSIDE, INTERFACE, Run
 from step_texts import some_text
 from table_model import StateTable
@@ -27,12 +28,17 @@ STRANGE_FRAMES = {
 FRAGMENT_FIELDS = (0x2000, 1, 0x2001, 0x1FFF, 185)
 IP_OPTIONS = (bytes([1, 1, 1, 1]), bytes([148, 4, 0, 0]), bytes([0, 0, 0, 0]))
 # windows are scaled by option 3; the others are read over, or end the reading
-SCALE_PREFIXES = (b"", b"", b"\1", b"\2\4\5\xb4", b"\4\2", b"\3\4\7\7", b"\3\3\5", b"\0", b"\2\1", b"\5\x30")
+SCALE_PREFIXES = (b"", b"", b"\1", b"\2\4\5\xb4", b"\4\2", b"\3\4\7\7", b"\3\3\5", b"\0", b"\0\2", b"\2\1", b"\5\x30")
 ERROR_TYPES = (3, 3, 3, 11, 11, 12, 4, 5)
 MESSAGES = (3, 4, 5, 9, 11, 12, 13, 14)
 PROTOCOLS = (TCP,) * 5 + (UDP,) * 4 + (ICMP,) * 2 + (47, IGMP)
 IDENTIFIERS = (7, 8, 80)
 LONGEST = 65535
+LAST_SECOND = 2**32 - 1
+# networks of the inside, and interfaces, for runs that don't have those of most
+OTHER_INSIDES = ((), (Network(0, 0),), (Network(0x0A0000FF, 24), Network(0xC6336407, 32)), (Network(0x0A000005, 32),),
+                 (Network(0x0A000006, 31), Network(0xC0000201, 24)))
+OTHER_INTERFACES = (Interface("em1", "10.0.0.1", 8), Interface("a2345678901234.", "198.51.100.8", 31))
 
 
 def with_field(datagram, place, number):
@@ -87,7 +93,7 @@ class Packets:
         self.draw = draw
         self.link = link
         self.table = table
-        self.clock = draw.choice((0, 1000))
+        self.clock = draw.choice((0, 0, 1000, 1000, 1000, LAST_SECOND - 100))
         self.earlier = []
 
     # Datagrams
@@ -194,6 +200,7 @@ class Packets:
             self.clock = max(self.clock, draw.choice(deadlines) + draw.choice((-1, 0, 1)))
         else:
             self.clock += draw.choice((0,) * 8 + (1, 1, 3, 10))
+        self.clock = min(self.clock, LAST_SECOND)
         return self.clock if draw.random() < 0.95 else max(self.clock - draw.randint(1, 50), 0)
 
     def records(self, count):
@@ -206,13 +213,15 @@ def some_run(draw, number, most):
     """A run of at most so many packets."""
     rules, link = some_text(draw), draw.choice(LINKS)
     count = min(draw.randint(20, 60), most)
+    interface = INTERFACE if draw.random() < 0.9 else draw.choice(OTHER_INTERFACES)
+    inside = INSIDE if draw.random() < 0.8 else draw.choice(OTHER_INSIDES)
     try:
-        job = job_of(rules.encode(), INTERFACE, INSIDE)
+        job = job_of(rules.encode(), interface, inside)
         table = StateTable(job.ruleset.options.values["states"])
         records = [step.record for step in steps_of(job, link, Packets(draw, link, table).records(count), table)]
     except Refused:
         records = []
-    return Run(f"random run {number}", rules, [(record.seconds, record.frame) for record in records], link)
+    return Run(f"random run {number}", rules, [(record.seconds, record.frame) for record in records], link, interface, inside)
 
 
 def runs(packets):
