@@ -112,8 +112,23 @@ def stops(rules, hit):
     return quick_rules + quick_anchors
 
 
+def last_reached(rules, hit):
+    """The place of the first stop, or of the last rule where there is none."""
+    return min(stops(rules, hit), default=len(rules.filter) - 1)
+
+
 def deciding_place(ruleset, packet, direction):
     """The place of the rule that decides, None where none does: the last that hits up to the first stop."""
     hit = hits(ruleset, packet, direction)
-    last_reached = min(stops(ruleset.rules, hit), default=len(ruleset.rules.filter))
-    return max((place for place in hit if place <= last_reached), default=None)
+    last = last_reached(ruleset.rules, hit)
+    return max((place for place in hit if place <= last), default=None)
+
+
+def visited_places(ruleset, packet, direction):
+    """The places of the rules that are visited: those up to the first stop whose anchors all hold, whether they hold
+    themselves or not."""
+    rules = ruleset.rules
+    last = last_reached(rules, hits(ruleset, packet, direction))
+    held = [holds(ruleset, anchor, packet, direction) for anchor in rules.anchors]
+    return tuple(place for place, rule in enumerate(rules.filter[:last + 1])
+                 if all(held[anchor] for anchor in rule.anchors))
