@@ -7,10 +7,10 @@ The program takes any number of records on standard input: a byte, 1 where only 
 else 0; the interface's name with its length before it in one byte, its address in four and the bits of its network in
 one; and the text with its length before it in four, the greatest first. It answers each with the lines of the dump of
 expand_model.py, the line `F filter, T translation`, or `line L: KIND` for the first fault, and behind it a line `end`.
-The texts of the folder `expansions` have their answers written beside them, and so have the rows of expand_rows.py, to
-which the model has to give them too, and hostile texts. What is made from the texts of the folders, macros of every word in every place and random rulesets are answered by the model. It exits with
-1 where an answer is another one, and shows such texts. Rules of translation are among all of these, so the program has to
-read them.
+The texts of the folder `expansions` have their answers written beside them, and so have hostile texts and the rows of
+expand_rows.py, to which the model has to give them too. What is made from the texts of the folders, macros of every word in
+every place and random rulesets are answered by the model. It exits with 1 where an answer is another one, and shows such
+texts. Rules of translation are among all of these, so the program has to read them.
 """
 
 import random

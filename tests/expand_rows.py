@@ -31,7 +31,8 @@ PROTOCOLS = (
                                      for number, protocol in enumerate((6, 17, 47))]),
     Row('x = "{ udp 47 }"\nblock proto { tcp $x }', [f"filter {number} drop proto {protocol} {ALL}"
                                                      for number, protocol in enumerate((6, 17, 47))]),
-    Row("block icmp-type { 3 , unreach code 0 }", [f"filter 0 drop icmp 3 {ALL}", f"filter 1 drop icmp 3 code 0 {ALL}"]),
+    Row("block icmp-type { 3 , unreach code 0 }",
+        [f"filter 0 drop icmp 3 {ALL}", f"filter 1 drop icmp 3 code 0 {ALL}"]),
     Row('x = "{ unreach code 0, 8 }"\nblock icmp-type $x',
         [f"filter 0 drop icmp 3 code 0 {ALL}", f"filter 1 drop icmp 8 {ALL}"]),
 )
@@ -50,8 +51,8 @@ REPLACED = (
     Row('x = "{ 80, 443 }"\nblock to port $x', ports_of("=80", "=443")),
     Row('x = "{ 80, 443 }"\nblock to port { 22 $x, 25 }', ports_of("=22", "=80", "=443", "=25")),
     # from its place on the later definition counts
-    Row('x = "{ 80, 443 }"\ny = $x\nx = "80"\nz = "{" $x ", 443 }"\nblock to port $x\nblock to port $y\nblock to port $z',
-        ports_of("=80", "=80", "=443", "=80", "=443")),
+    Row('x = "{ 80, 443 }"\ny = $x\nx = "80"\nz = "{" $x ", 443 }"\n'
+        "block to port $x\nblock to port $y\nblock to port $z", ports_of("=80", "=80", "=443", "=80", "=443")),
     Row('x = "em0"\nblock from $x:network', sources_of("192.0.2.0/24")),
     Row('x = "em0"\nblock from $x:0', sources_of("192.0.2.1/32")),
     Row('x = "em0"\nblock from ($x)', sources_of("192.0.2.1/32")),
@@ -140,14 +141,15 @@ LISTS = (
         f"filter {number} pass out proto {protocol} from any to {host}/32 port ={port}{STATE}"
         for number, (protocol, host, port) in enumerate((
             (6, "198.51.100.7", 80), (6, "198.51.100.7", 443), (6, "198.51.100.8", 80), (6, "198.51.100.8", 443),
-            (17, "198.51.100.7", 80), (17, "198.51.100.7", 443), (17, "198.51.100.8", 80), (17, "198.51.100.8", 443)))]),
+            (17, "198.51.100.7", 80), (17, "198.51.100.7", 443), (17, "198.51.100.8", 80),
+            (17, "198.51.100.8", 443)))]),
 )
 ANCHORS = (
     Row('block all\nanchor "a" {\npass quick all\n}\nblock quick all\n', [
         f"filter 0 drop {ALL}", f"anchor 0 rules 1 1 {ALL}", f"filter 1 pass quick {ALL}{STATE} anchors 0",
         f"filter 2 drop quick {ALL}"]),
-    Row("block all\nanchor proto { tcp, udp } {\npass all\nanchor from { 10.0.0.1, 10.0.0.2 } {\nblock all\npass all\n}\n}\n"
-        "anchor {\n}\n", [
+    Row("block all\nanchor proto { tcp, udp } {\npass all\nanchor from { 10.0.0.1, 10.0.0.2 } {\nblock all\npass all\n}\n"
+        "}\nanchor {\n}\n", [
             f"filter 0 drop {ALL}", f"anchor 0 rules 1 5 proto 6 {ALL}", f"filter 1 pass {ALL}{STATE} anchors 0",
             "anchor 1 inside 0 rules 2 3 from 10.0.0.1/32 to any", f"filter 2 drop {ALL} anchors 0 1",
             f"filter 3 pass {ALL}{STATE} anchors 0 1", "anchor 2 inside 0 rules 4 5 from 10.0.0.2/32 to any",
@@ -235,14 +237,14 @@ SOURCES = (("{ 10.0.0.1 }", "left out: pool"), ("<nowhere>", "bad address"))
 
 def target_row(before, target, answer, line):
     """A rule to a target whose fault, if that is the answer, stands on this line."""
-    translated = [f"nat 0 {ALL} -> {answer}"]
-    return Row(f"{before}nat from any to any -> {target}", translated if answer[0].isdigit() else f"line {line}: {answer}")
+    expected = [f"nat 0 {ALL} -> {answer}"] if answer[0].isdigit() else f"line {line}: {answer}"
+    return Row(f"{before}nat from any to any -> {target}", expected)
 
 
 def rows():
     """All rows."""
-    for group in (PROTOCOLS, PORTS, REPLACED, FIRST_FAULTS, LONG_NAMES, TABLES, LISTS, ANCHORS, OPTIONS, RULES, TOO_MANY,
-                  TRANSLATION):
+    for group in (PROTOCOLS, PORTS, REPLACED, FIRST_FAULTS, LONG_NAMES, TABLES, LISTS, ANCHORS, OPTIONS, RULES,
+                  TOO_MANY, TRANSLATION):
         yield from group
     for value, use, kind in VALUES:
         yield Row(f'x = "{value}"\nblock from {{ 10.0.0.1,\n{use} }}', f"line 3: {kind}")
