@@ -7,10 +7,10 @@ The program takes any number of records on standard input: a byte, 1 where only 
 else 0; the interface's name with its length before it in one byte, its address in four and the bits of its network in
 one; and the text with its length before it in four, the greatest first. It answers each with the lines of the dump of
 expand_model.py, the line `F filter, T translation`, or `line L: KIND` for the first fault, and behind it a line `end`.
-The texts of the folder `expansions` have their answers written beside them, and so have hostile texts. What is made from
-the texts of the folders, macros of every word in every place and random rulesets are answered by the model. It exits with
-1 where an answer is another one, and shows such texts. Rules of translation are among all of these, so the program has to
-read them.
+The texts of the folder `expansions` have their answers written beside them, and so have hostile texts and the rows of
+expand_rows.py, to which the model has to give them too. What is made from the texts of the folders, macros of every word in
+every place and random rulesets are answered by the model. It exits with 1 where an answer is another one, and shows such
+texts. Rules of translation are among all of these, so the program has to read them.
 """
 
 import random
@@ -94,10 +94,15 @@ def differences(command, texts):
             if seen != answer]
 
 
-def written():
-    """The texts of the folders with the answers beside them."""
-    for case, text, answer in expand_rulesets.written():
-        yield Text(case.name, text, case.interface, case.network, answer)
+def texts_of(cases):
+    """Texts with the answers that are written for them."""
+    return [Text(case.name, text, case.interface, case.network, answer) for case, text, answer in cases]
+
+
+def model_faults(texts):
+    """The texts to which the model says something else than what is written."""
+    return [(text._replace(name=f"model: {text.name}"), answer_of(text), seen) for text in texts
+            if (seen := model_answer(text)) != answer_of(text)]
 
 
 def changed(texts):
@@ -120,15 +125,16 @@ def chunks(texts):
 
 def compare(command):
     """The number of texts, and those with other answers."""
-    files, hard = list(written()), hostile()
+    files, rows = texts_of(expand_rulesets.written()), texts_of(expand_rulesets.rows())
+    hard = hostile()
     others = [*changed(files), *each_value(), *random_texts(RANDOM_TEXTS)]
-    wrong = differences(command, files)
+    wrong = model_faults(rows) + differences(command, files + rows)
     for text in hard:
         wrong += differences(command, [text])
     with ProcessPoolExecutor() as pool:
         for some in pool.map(differences, [command] * len(chunks(others)), chunks(others)):
             wrong += some
-    return len(files) + len(hard) + len(others), wrong
+    return len(files) + len(rows) + len(hard) + len(others), wrong
 
 
 def shown(lines, others):

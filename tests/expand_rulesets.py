@@ -1,5 +1,6 @@
 #!/usr/bin/env python3
-"""Compares what the model of the expansion says to the texts of the folder `expansions` with the answers beside them.
+"""Compares what the model of the expansion says to the texts of the folder `expansions` with the answers beside them,
+and to the rows of expand_rows.py.
 
     expand_rulesets.py
 
@@ -16,6 +17,7 @@ from typing import NamedTuple
 sys.dont_write_bytecode = True
 
 import expand_model
+import expand_rows
 from ruleset_model import worded
 
 EXPANSIONS = Path(__file__).resolve().parent / "expansions"
@@ -78,6 +80,15 @@ def written():
                 yield case, (folder / case.name).read_bytes(), case.answer or whole(case.lines, defaults)
 
 
+def rows():
+    """The rows of expand_rows.py, each as the cases of the folders are."""
+    defaults = cases_of(EXPANSIONS)[0].lines
+    for number, row in enumerate(expand_rows.rows()):
+        is_line = isinstance(row.answer, str)
+        case = Case(f"row {number}", row.interface, "192.0.2.1/24", row.answer if is_line else None, [])
+        yield case, row.text.encode(), row.answer if is_line else whole(row.answer, defaults)
+
+
 def seen_answer(case, text):
     """What the model says: a line, or the lines of the dump."""
     address, _, bits = case.network.partition("/")
@@ -96,7 +107,7 @@ def shown(answer):
 
 def main():
     count, wrong = 0, 0
-    for case, text, expected in written():
+    for case, text, expected in (*written(), *rows()):
         count += 1
         seen = seen_answer(case, text)
         if seen != expected:

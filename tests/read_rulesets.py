@@ -91,6 +91,25 @@ def written(folder):
     return [Ruleset(name, (folder / name).read_bytes(), answer) for name, answer in sorted(table.items())]
 
 
+def short():
+    """Short texts with the line of the first fault, and some whose faults only the expansion finds."""
+    nat = "1 statements" if ruleset_model.READS_TRANSLATION else "line 1: left out: nat"
+    rows = (
+        ("pass all\nset skip on lo0", "line 2: out of order"),
+        ("scrub in all", "line 1: left out: scrub"),
+        ('\nset fingerprints "x"', "line 2: left out: set fingerprints"),
+        ("pass log (all)", "line 1: left out: log"),
+        ("nat on em0 from any to any -> em0", nat),
+        ("pass in from $x to any", "1 statements"),
+        ("table <t> { 10.0.0.1, !10.0.0.1 }", "1 statements"),
+        ("pass from gateway to <nowhere>", "1 statements"),
+        ('p = "{ 80, 443 }"\npass in proto tcp to port $p\n', "2 statements"),
+        ("set timeout { tcp.first 5,\n  frag 030 }\n\n", "1 statements"),
+    )
+    for number, (text, answer) in enumerate(rows):
+        yield Ruleset(f"short text {number}", text.encode(), answer)
+
+
 def large():
     """Texts of a mebibyte, and anchors as deep as they may be and one deeper."""
     yield Ruleset("one large word", b"a" * LARGE, "line 1: unknown word")
@@ -231,7 +250,7 @@ def compare(command):
     wrong = model_faults(translation, True)
     if ruleset_model.READS_TRANSLATION:
         files += translation
-    with_answers = [*files, *large()]
+    with_answers = [*files, *short(), *large()]
     wrong += model_faults(with_answers, ruleset_model.READS_TRANSLATION)
     without = [*each_byte(), *each_word(), *beginnings(files), *changed(files)]
     rulesets = with_answers + [Ruleset(name, text, model_answer(text)) for name, text, _ in without]

@@ -9,8 +9,6 @@ pub mod expansion;
 pub mod options;
 pub mod ruleset;
 pub mod tables;
-#[cfg(test)]
-mod tests;
 pub mod timeouts;
 pub mod translation;
 
