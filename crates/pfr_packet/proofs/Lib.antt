@@ -1,2 +1,5 @@
+pub mod ChangeLemmas
+pub mod FreeLemmas
 pub mod Local
+pub mod Members
 pub mod SameLemmas

@@ -1,10 +1,9 @@
 -- An evaluation over another table that gives the same answers.
-use Rattle.std.proofs.Common.{◌≡◌, Bool, Option, List, [], ◌∷◌, refl, ap, subst}
+use Rattle.std.proofs.Common.{◌≡◌, Bool, Option, ◌∷◌, refl, ap, subst}
 use Rattle.std.specs.List.{All}
 use Rattle.std.proofs.lemmas.List.Elements.{All-head, All-tail}
 use Rattle.pfr_track.specs.declared.state.State.{State}
 use Rattle.pfr_states.specs.States.{StateTable}
-use Rattle.pfr_packet.specs.declared.answers.Question.{Question}
 use Rattle.pfr_packet.specs.declared.answers.Question.TheVariants.{At, Room}
 use Rattle.pfr_packet.specs.Plan.{Plan, done, ask_at, ask_room, SameAnswer, found_in, has_room_in, outcome_of, questions_of}
 
@@ -13,7 +12,7 @@ pub local : (table other : StateTable) (steps : Plan) → All (SameAnswer table 
 local table other (done outcome) h = (refl, refl)
 local table other (ask_at side key next) h =
     let same : found_in table side key ≡ found_in other side key =
-        All-head (SameAnswer table other) (At side key) (questions_of table (next (found_in table side key))) h in
+    All-head (SameAnswer table other) (At side key) (questions_of table (next (found_in table side key))) h in
     let rest = local table other (next (found_in table side key)) (All-tail (SameAnswer table other) (At side key) (questions_of table (next (found_in table side key))) h) in (
       subst (λ (found : Option State). outcome_of other (next found) ≡ outcome_of table (next (found_in table side key))) same rest.0,
       subst (λ (found : Option State). At side key ∷ questions_of other (next found) ≡ At side key ∷ questions_of table (next (found_in table side key))) same

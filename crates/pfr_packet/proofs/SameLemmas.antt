@@ -1,5 +1,5 @@
 -- Lists of networks that are compared one by one.
-use Rattle.std.proofs.Common.{rules, ◌≡◌, ◌↔◌, ◌&&◌, Bool, true, false, List, [], ◌∷◌, refl, sym, ap, ◌∙◌, IsTrue}
+use Rattle.std.proofs.Common.{rules, ◌≡◌, true, List, [], ◌∷◌, refl, ap, ◌∙◌}
 use Rattle.std.proofs.lemmas.Bool.{and_parts, and_from}
 use lib.Pointwise.{pointwise}
 use Rattle.pfr_headers.specs.declared.network.Net.{Net}

@@ -79,7 +79,7 @@ decided direction decision visits = record {
 unfoldable pub filtered : Ruleset → Packet → Direction → Outcome
 filtered rules packet direction =
     without_leave packet (conduct_of rules.filter.rules (decision_of rules packet direction).rule).allows_options
-        (decided direction (decision_of rules packet direction) (visited rules packet direction))
+    (decided direction (decision_of rules packet direction) (visited rules packet direction))
 
 -- what the state says of its rules that the deciding rule keeps
 unfoldable pub kept : Ruleset → Packet → Direction → Option StateRules

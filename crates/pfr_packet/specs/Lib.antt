@@ -2,6 +2,7 @@ pub mod Filtering
 pub mod Found
 pub mod Job
 pub mod Keys
+pub mod Laws
 pub mod Making
 pub mod Outcomes
 pub mod Plan

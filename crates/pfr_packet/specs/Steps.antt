@@ -9,7 +9,7 @@
 --   any other is filtered, and where it passes makes the state that the deciding rule keeps, if there is a place for it
 --
 -- Packets with IP options are blocked where they would pass and their rule doesn't allow them, before a state is made.
-use Rattle.std.specs.Prelude.{ℕ, Bool, if◌then◌else◌, List, Option, Some, None}
+use Rattle.std.specs.Prelude.{ℕ, if◌then◌else◌, List, Option, Some, None}
 use Rattle.pfr_headers.specs.declared.packet.Direction.{Direction}
 use Rattle.pfr_headers.specs.declared.packet.Packet.{Packet}
 use Rattle.pfr_headers.specs.declared.packet.View.{View}

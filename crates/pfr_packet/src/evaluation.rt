@@ -64,8 +64,12 @@ impl Arrival<'_> {
         ensures goes { IfOk result (λ outcome. Goes (A.seen answers.old) (spec.opening self.now.job.now self.now.number self.now.clock self.now.packet.now self.now.direction passage.now) outcome (A.asked answers.new)) }
         ensures kept { (question : Question) → A.asked answers.old question → A.asked answers.new question }
     {
-        let Filtered { outcome, kept } =
-            Filtered::of(self.alloc, self.job.rules(), self.packet, self.direction)?;
+        let Filtered { outcome, kept } = Filtered::of(
+            self.alloc,
+            self.job.rules(),
+            self.packet,
+            self.direction,
+        )?;
         match kept {
             Some(rules) if outcome.verdict.lets_pass() => {
                 let state = make(

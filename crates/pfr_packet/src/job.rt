@@ -6,8 +6,8 @@ ghost use Rattle.pfr_packet.specs.Job as spec;
 ghost use Rattle.pfr_packet.specs.Rulesets.{ruleset_of};
 
 use crate::ruleset::ruleset_of;
-use pfr_criteria::is_named;
 use pfr_conf::{ConfError, ConfErrorKind, Items};
+use pfr_criteria::is_named;
 use pfr_expand::{Interface, Ruleset};
 use pfr_headers::Net;
 use pfr_track::Timeouts;

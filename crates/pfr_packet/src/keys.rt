@@ -32,12 +32,7 @@ pub fn side_of(direction: Direction) -> Side
 
 /// The key of a packet of a direction, by its ends.
 #[inline]
-fn key_of(
-    direction: Direction,
-    protocol: Protocol,
-    source: Endpoint,
-    destination: Endpoint,
-) -> Key
+fn key_of(direction: Direction, protocol: Protocol, source: Endpoint, destination: Endpoint) -> Key
     ensures { result ≡ spec.key_of direction protocol source destination }
 {
     match direction {

@@ -1,4 +1,4 @@
-use Rattle.std.proofs.Common.{◌≡◌, ◌∙◌, sym, subst, true, List, IsTrue}
+use Rattle.std.proofs.Common.{◌≡◌, ◌∙◌, sym, subst, true, List}
 use lib.Pointwise.{pointwise}
 use Rattle.pfr_headers.specs.declared.network.Net.{Net}
 use Rattle.pfr_headers.specs.contracts.network.NetPartialEq.TheImpl.{ghosts}

@@ -1,0 +1,261 @@
+-- Where the change of an outcome comes from, along the plan of a packet.
+use Rattle.std.proofs.Common.{◌≡◌, ℕ, Bool, true, false, not, ◌&&◌, Option, Some, None, cond, refl, sym, ap, ◌∙◌, subst}
+use Rattle.std.specs.List.{Contains}
+use Rattle.pfr_headers.specs.declared.packet.Direction.{Direction}
+use Rattle.pfr_headers.specs.declared.packet.Packet.{Packet}
+use Rattle.pfr_headers.specs.declared.packet.View.{View}
+use Rattle.pfr_headers.specs.declared.packet.View.TheVariants.{Ipv4, Skip, Short}
+use Rattle.pfr_headers.specs.Address.{direction_of}
+use Rattle.pfr_headers.specs.View.{has_options}
+use Rattle.pfr_expand.specs.declared.ruleset.Ruleset.{Ruleset}
+use Rattle.pfr_rules.specs.Filter.{decision_of, visited}
+use Rattle.pfr_track.specs.declared.key.Key.{Key}
+use Rattle.pfr_track.specs.declared.outcome.Touch.{Touch}
+use Rattle.pfr_track.specs.declared.outcome.Touch.TheVariants as touch
+use Rattle.pfr_track.specs.declared.state.State.{State}
+use Rattle.pfr_track.specs.declared.state.StateRules.{StateRules}
+use Rattle.pfr_track.specs.declared.time.Clock.{Clock}
+use Rattle.pfr_track.specs.declared.timeout.Timeouts.{Timeouts}
+use Rattle.pfr_track.specs.Laws.{IsLeftBy}
+use Rattle.pfr_track.specs.Tracking.{made, touched}
+use Rattle.pfr_states.specs.declared.change.Side.{Side}
+use Rattle.pfr_states.specs.declared.change.Side.TheVariants.{Wire, Stack}
+use Rattle.pfr_states.specs.declared.change.TableChange.{TableChange}
+use Rattle.pfr_states.specs.declared.change.TableChange.TheVariants.{Made, Touched, Removed}
+use Rattle.pfr_states.specs.States.{StateTable, is_same_key, key_on, lives, purged, refusal}
+use Rattle.pfr_packet.specs.declared.keys.Subject.{Subject}
+use Rattle.pfr_packet.specs.declared.keys.Subject.TheVariants.{Alone, Told, Connection}
+use Rattle.pfr_packet.specs.declared.making.Passage.{Passage}
+use Rattle.pfr_packet.specs.declared.outcome.Outcome.{Outcome}
+use Rattle.pfr_packet.specs.declared.verdict.Reason.{Reason}
+use Rattle.pfr_packet.specs.declared.verdict.Reason.TheVariants as reason
+use Rattle.pfr_packet.specs.declared.verdict.Verdict.{Verdict}
+use Rattle.pfr_packet.specs.declared.verdict.Verdict.TheVariants as verdict
+use Rattle.pfr_packet.specs.Filtering.{conduct_of, decided, filtered, kept}
+use Rattle.pfr_packet.specs.Found.{passed, told, tracked}
+use Rattle.pfr_packet.specs.Job.{RunJob, is_skipped, timeouts_of}
+use Rattle.pfr_packet.specs.Keys.{side_of, subject_of, written_by}
+use Rattle.pfr_packet.specs.Laws.{IsOwnChange, only_removes}
+use Rattle.pfr_packet.specs.Making.{making, untranslated, with_keys, with_room}
+use Rattle.pfr_packet.specs.Outcomes.{blocked, by_state, without_leave}
+use Rattle.pfr_packet.specs.Plan.{Plan, done, found_in, has_room_in, outcome_of, purged_at}
+use Rattle.pfr_packet.specs.Steps.{by_connection, by_told, opened, packet_plan, passed_over, plan, step_of, subject_plan}
+use Rattle.pfr_packet.specs.Verdicts.{lets_pass}
+use Rattle.pfr_packet.proofs.FreeLemmas.{AreApart, made_free, removed_free, touched_free}
+use Rattle.pfr_packet.proofs.Members.{found_there, from_filter}
+
+-- both keys of a state are free, and there is room for it
+pub record IsFree (table : StateTable) (state : State) : Type 0 where
+  pub wire : found_in table Wire state.wire ≡ None
+  pub stack : found_in table Stack state.stack ≡ None
+  pub room : has_room_in table ≡ true
+
+-- what a table says of a change beyond whose it is
+abbrev pub IsPlaced : StateTable → TableChange → Type 0
+IsPlaced table (Made state) = IsFree table state
+IsPlaced table (Touched state) = Unit {0}
+IsPlaced table (Removed number) = Unit {0}
+
+abbrev pub Comes : ℕ → Clock → StateTable → Outcome → Option TableChange → Type 0
+Comes number clock table outcome None = Unit {0}
+Comes number clock table outcome (Some change) = IsOwnChange number clock table.states outcome change × IsPlaced table change
+
+-- the outcome's change is the packet's own, and there is a place for it
+abbrev pub Stands : ℕ → Clock → StateTable → Outcome → Type 0
+Stands number clock table outcome = Comes number clock table outcome outcome.change
+
+-- what a packet of a connection leaves of its state
+abbrev pub Leaves : Type 0
+Leaves = (state next : State) (packet : Packet) (direction : Direction) (clock : Clock) (timeouts : Timeouts) → touched state packet direction clock timeouts ≡ touch.Touched next → IsLeftBy state packet direction clock timeouts next
+
+-- ---- without a state
+
+blocked_stands : (number : ℕ) (clock : Clock) (table : StateTable) (test : Bool) (why : Reason) (outcome : Outcome) → Stands number clock table outcome → Stands number clock table (cond test (blocked why outcome) outcome)
+blocked_stands number clock table true why outcome h = tt
+blocked_stands number clock table false why outcome h = h
+
+leave_stands : (number : ℕ) (clock : Clock) (table : StateTable) (packet : Packet) (allowed : Bool) (outcome : Outcome) → Stands number clock table outcome → Stands number clock table (without_leave packet allowed outcome)
+leave_stands number clock table packet allowed outcome h = blocked_stands number clock table (lets_pass outcome.verdict && (has_options packet && not allowed)) reason.IpOption outcome h
+
+filtered_stands : (number : ℕ) (clock : Clock) (table : StateTable) (rules : Ruleset) (packet : Packet) (direction : Direction) → Stands number clock table (filtered rules packet direction)
+unfolding filtered
+filtered_stands number clock table rules packet direction =
+    leave_stands number clock table packet (conduct_of rules.filter.rules (decision_of rules packet direction).rule).allows_options
+    (decided direction (decision_of rules packet direction) (visited rules packet direction)) tt
+
+-- ---- a state that is found
+
+found_in_states : (table : StateTable) (side : Side) (key : Key) (state : State) → found_in table side key ≡ Some state → Contains table.states state
+unfolding found_in
+found_in_states table side key state is = found_there (λ (s : State). is_same_key (key_on side s) key) table.states state is
+
+-- the outcome of a packet that passes by a state, before its IP options are looked at
+abbrev passing : Direction → Packet → State → Reason → Option TableChange → Outcome
+passing direction packet state why change = record (by_state direction state verdict.Pass why) { bytes = written_by direction packet state.wire state.stack; change = change }
+
+passed_stands : (number : ℕ) (clock : Clock) (table : StateTable) (direction : Direction) (packet : Packet) (state : State) (why : Reason) (change : Option TableChange)
+    → Comes number clock table (passing direction packet state why change) change → Stands number clock table (passed direction packet state why change)
+passed_stands number clock table direction packet state why change h = leave_stands number clock table packet state.rules.allows_options (passing direction packet state why change) h
+
+told_stands : (number : ℕ) (clock : Clock) (table : StateTable) (direction : Direction) (packet : Packet) (state : State) → Stands number clock table (told direction packet state)
+told_stands number clock table direction packet state = passed_stands number clock table direction packet state reason.StateError None tt
+
+tracked_stands : Leaves → (number : ℕ) (clock : Clock) (table : StateTable) (packet : Packet) (direction : Direction) (timeouts : Timeouts) (state : State) → Contains table.states state
+    → (t : Touch) → touched state packet direction clock timeouts ≡ t → Stands number clock table (tracked direction packet state t)
+tracked_stands leaves number clock table packet direction timeouts state is_there (touch.Touched next) is =
+    let left = leaves state next packet direction clock timeouts is in
+    passed_stands number clock table direction packet state reason.State (Some (Touched next)) (
+      record {
+        before = state;
+        is_there = is_there;
+        number_is = left.number;
+        wire_is = left.wire;
+        stack_is = left.stack;
+        rules_are = left.rules;
+        direction_is = left.direction;
+        made_is = left.made;
+        passes = refl;
+        named = ap (λ n. Some n) (sym left.number);
+      },
+      tt,
+    )
+tracked_stands leaves number clock table packet direction timeouts state is_there touch.Mismatch is = tt
+tracked_stands leaves number clock table packet direction timeouts state is_there touch.Removed is =
+    (record { before = state; is_there = is_there; number_is = refl; stops = refl; named = refl }, tt)
+
+-- ---- a state that is made
+
+passes_by : (v : Verdict) → lets_pass v ≡ true → v ≡ verdict.Pass
+passes_by verdict.Pass is = refl
+passes_by verdict.Block is = absurd (cc is)
+passes_by verdict.Return is = absurd (cc is)
+passes_by verdict.Skip is = absurd (cc is)
+
+-- a new state of the packet, which passes so far
+record IsNewOf (number : ℕ) (clock : Clock) (outcome : Outcome) (state : State) : Type 0 where
+  pub number_is : state.number.0 ≡ number
+  pub made_is : state.made ≡ clock
+  pub passes : outcome.verdict ≡ verdict.Pass
+
+room_stands : (number : ℕ) (clock : Clock) (table : StateTable) (packet : Packet) (state : State) (outcome : Outcome) → IsNewOf number clock outcome state
+    → found_in table Wire state.wire ≡ None → found_in table Stack state.stack ≡ None
+    → (room : Bool) → has_room_in table ≡ room → Stands number clock table (outcome_of table (with_room packet state outcome room))
+room_stands number clock table packet state outcome new wire stack true is =
+    (record { number_is = new.number_is; made_is = new.made_is; passes = new.passes; named = refl }, record { wire = wire; stack = stack; room = is })
+room_stands number clock table packet state outcome new wire stack false is = tt
+
+keys_stand : (number : ℕ) (clock : Clock) (table : StateTable) (packet : Packet) (state : State) (outcome : Outcome) → IsNewOf number clock outcome state
+    → (wire stack : Option State) → found_in table Wire state.wire ≡ wire → found_in table Stack state.stack ≡ stack
+    → Stands number clock table (outcome_of table (with_keys packet state outcome wire stack))
+keys_stand number clock table packet state outcome new None None wire stack = room_stands number clock table packet state outcome new wire stack (has_room_in table) refl
+keys_stand number clock table packet state outcome new None (Some other) wire stack = tt
+keys_stand number clock table packet state outcome new (Some other) _ wire stack = tt
+
+making_stands : (number : ℕ) (clock : Clock) (table : StateTable) (packet : Packet) (state : State) (outcome : Outcome) → IsNewOf number clock outcome state
+    → Stands number clock table (outcome_of table (making packet state outcome))
+making_stands number clock table packet state outcome new =
+    keys_stand number clock table packet state outcome new (found_in table Wire state.wire) (found_in table Stack state.stack) refl refl
+
+-- where the packet passes so far
+passing_stands : (job : RunJob) (number : ℕ) (clock : Clock) (table : StateTable) (packet : Packet) (direction : Direction) (passage : Passage) (outcome : Outcome) (rules : StateRules)
+    → Stands number clock table outcome → (test : Bool) → lets_pass outcome.verdict ≡ test
+    → Stands number clock table (outcome_of table (cond test (making packet (made (record { 0 = number }) packet direction passage.wire passage.stack rules clock (timeouts_of job)) outcome) (done outcome)))
+passing_stands job number clock table packet direction passage outcome rules h true is =
+    making_stands number clock table packet (made (record { 0 = number }) packet direction passage.wire passage.stack rules clock (timeouts_of job)) outcome
+    (record { number_is = refl; made_is = refl; passes = passes_by outcome.verdict is })
+passing_stands job number clock table packet direction passage outcome rules h false is = h
+
+opened_stands : (job : RunJob) (number : ℕ) (clock : Clock) (table : StateTable) (packet : Packet) (direction : Direction) (passage : Passage) (outcome : Outcome)
+    → Stands number clock table outcome → (kept : Option StateRules) → Stands number clock table (outcome_of table (opened job number clock packet direction passage outcome kept))
+opened_stands job number clock table packet direction passage outcome h None = h
+opened_stands job number clock table packet direction passage outcome h (Some rules) =
+    passing_stands job number clock table packet direction passage outcome rules h (lets_pass outcome.verdict) refl
+
+-- ---- a packet
+
+by_told_stands : (job : RunJob) (number : ℕ) (clock : Clock) (table : StateTable) (packet : Packet) (direction : Direction) (found : Option State) → Stands number clock table (outcome_of table (by_told job packet direction found))
+by_told_stands job number clock table packet direction None = filtered_stands number clock table job.rules packet direction
+by_told_stands job number clock table packet direction (Some state) = told_stands number clock table direction packet state
+
+by_connection_stands : Leaves → (job : RunJob) (number : ℕ) (clock : Clock) (table : StateTable) (packet : Packet) (direction : Direction) (key : Key)
+    → (found : Option State) → found_in table (side_of direction) key ≡ found → Stands number clock table (outcome_of table (by_connection job number clock packet direction key found))
+by_connection_stands leaves job number clock table packet direction key None is =
+    opened_stands job number clock table packet direction (untranslated key) (filtered job.rules packet direction)
+    (filtered_stands number clock table job.rules packet direction) (kept job.rules packet direction)
+by_connection_stands leaves job number clock table packet direction key (Some state) is =
+    tracked_stands leaves number clock table packet direction (timeouts_of job) state (found_in_states table (side_of direction) key state is)
+    (touched state packet direction clock (timeouts_of job)) refl
+
+subject_stands : Leaves → (job : RunJob) (number : ℕ) (clock : Clock) (table : StateTable) (packet : Packet) (direction : Direction) (subject : Subject)
+    → Stands number clock table (outcome_of table (subject_plan job number clock packet direction subject))
+subject_stands leaves job number clock table packet direction Alone = filtered_stands number clock table job.rules packet direction
+subject_stands leaves job number clock table packet direction (Told key) = by_told_stands job number clock table packet direction (found_in table (side_of direction) key)
+subject_stands leaves job number clock table packet direction (Connection key) =
+    by_connection_stands leaves job number clock table packet direction key (found_in table (side_of direction) key) refl
+
+packet_stands : Leaves → (job : RunJob) (number : ℕ) (clock : Clock) (table : StateTable) (packet : Packet) (direction : Direction)
+    → Stands number clock table (outcome_of table (packet_plan job number clock packet direction))
+unfolding packet_plan
+packet_stands leaves job number clock table packet direction = subject_stands leaves job number clock table packet direction (subject_of direction packet)
+
+-- ---- a frame
+
+-- packets of an interface that isn't filtered change nothing
+skipped_stands : (number : ℕ) (clock : Clock) (table : StateTable) (skipped : Bool) (other : Plan) → Stands number clock table (outcome_of table other)
+    → Stands number clock table (outcome_of table (cond skipped (done passed_over) other))
+skipped_stands number clock table true other h = tt
+skipped_stands number clock table false other h = h
+
+pub plan_stands : Leaves → (job : RunJob) (number : ℕ) (clock : Clock) (table : StateTable) (view : View) → Stands number clock table (outcome_of table (plan job number clock view))
+unfolding plan
+plan_stands leaves job number clock table Skip = tt
+plan_stands leaves job number clock table Short = skipped_stands number clock table (is_skipped job) _ tt
+plan_stands leaves job number clock table (Ipv4 packet) =
+    skipped_stands number clock table (is_skipped job) (packet_plan job number clock packet (direction_of job.inside packet))
+    (packet_stands leaves job number clock table packet (direction_of job.inside packet))
+
+-- ---- the laws
+
+-- the table that a packet is evaluated over
+pub step_stands : Leaves → (job : RunJob) (number : ℕ) (clock : Clock) (view : View) (table : StateTable) → Stands number clock (purged_at clock table) (step_of job number clock view table)
+unfolding step_of
+step_stands leaves job number clock view table = plan_stands leaves job number clock (purged_at clock table) view
+
+comes_own : (number : ℕ) (clock : Clock) (table : StateTable) (outcome : Outcome) (is : Option TableChange) (change : TableChange) → is ≡ Some change → Comes number clock table outcome is
+    → IsOwnChange number clock table.states outcome change × IsPlaced table change
+comes_own number clock table outcome None change same h = absurd (cc same)
+comes_own number clock table outcome (Some other) change same h =
+    subst (λ (c : TableChange). IsOwnChange number clock table.states outcome c × IsPlaced table c) (cc same) h
+
+pub own_change : Leaves → (job : RunJob) (number : ℕ) (clock : Clock) (view : View) (table : StateTable) (change : TableChange) → (step_of job number clock view table).change ≡ Some change
+    → IsOwnChange number clock (purged clock table.states) (step_of job number clock view table) change
+unfolding purged_at
+own_change leaves job number clock view table change is =
+    (comes_own number clock (purged_at clock table) (step_of job number clock view table) (step_of job number clock view table).change change is (step_stands leaves job number clock view table)).0
+
+-- a change that has its place in a table isn't refused by it
+placed_free : (number : ℕ) (clock : Clock) (table : StateTable) (outcome : Outcome) (change : TableChange) → AreApart table.states → IsOwnChange number clock table.states outcome change → IsPlaced table change
+    → refusal change table.limit table.states ≡ None
+unfolding found_in has_room_in
+placed_free number clock table outcome (Made state) apart own placed = made_free state table.limit table.states placed.wire placed.stack placed.room
+placed_free number clock table outcome (Touched state) apart own placed = touched_free table.limit table.states outcome state apart own
+placed_free number clock table outcome (Removed old) apart own placed = removed_free old table.limit table.states
+
+pub not_refused : Leaves → (job : RunJob) (number : ℕ) (clock : Clock) (view : View) (table : StateTable) (change : TableChange) → AreApart table.states
+    → (step_of job number clock view table).change ≡ Some change → refusal change table.limit (purged clock table.states) ≡ None
+unfolding purged_at
+not_refused leaves job number clock view table change apart is =
+    let own = comes_own number clock (purged_at clock table) (step_of job number clock view table) (step_of job number clock view table).change change is (step_stands leaves job number clock view table) in
+    placed_free number clock (purged_at clock table) (step_of job number clock view table) change
+    (λ a b has_a has_b. apart a b (from_filter (lives clock) table.states a has_a) (from_filter (lives clock) table.states b has_b)) own.0 own.1
+
+comes_removes : (number : ℕ) (clock : Clock) (table : StateTable) (outcome : Outcome) (change : Option TableChange) → lets_pass outcome.verdict ≡ false → Comes number clock table outcome change → only_removes change ≡ true
+comes_removes number clock table outcome None stops h = refl
+comes_removes number clock table outcome (Some (Made state)) stops h = (let passes : true ≡ false = ap lets_pass (sym h.0.passes) ∙ stops in absurd (cc passes))
+comes_removes number clock table outcome (Some (Touched state)) stops h = (let passes : true ≡ false = ap lets_pass (sym h.0.passes) ∙ stops in absurd (cc passes))
+comes_removes number clock table outcome (Some (Removed old)) stops h = refl
+
+pub blocked_removes : Leaves → (job : RunJob) (number : ℕ) (clock : Clock) (view : View) (table : StateTable) → lets_pass (step_of job number clock view table).verdict ≡ false
+    → only_removes (step_of job number clock view table).change ≡ true
+blocked_removes leaves job number clock view table stops =
+    comes_removes number clock (purged_at clock table) (step_of job number clock view table) (step_of job number clock view table).change stops (step_stands leaves job number clock view table)

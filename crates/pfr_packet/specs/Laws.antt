@@ -1,0 +1,62 @@
+-- Words of the laws: what becomes of the one state that a packet makes, touches or ends.
+use Rattle.std.specs.Prelude.{◌≡◌, ℕ, Bool, true, false, List, Option, Some, None}
+use Rattle.std.specs.List.{Contains}
+use Rattle.pfr_track.specs.declared.state.State.{State}
+use Rattle.pfr_track.specs.declared.state.StateNumber.{StateNumber}
+use Rattle.pfr_track.specs.declared.time.Clock.{Clock}
+use Rattle.pfr_states.specs.declared.change.TableChange.{TableChange}
+use Rattle.pfr_states.specs.declared.change.TableChange.TheVariants.{Made, Touched, Removed}
+use Rattle.pfr_packet.specs.declared.outcome.Outcome.{Outcome}
+use Rattle.pfr_packet.specs.declared.verdict.Verdict.TheVariants.{Pass, Block}
+
+-- the state that packet `number` makes
+pub record IsMadeBy (number : ℕ) (clock : Clock) (outcome : Outcome) (state : State) : Type 0 where
+  -- it has the packet's number
+  pub number_is : state.number.0 ≡ number
+  -- it is made at the packet's clock
+  pub made_is : state.made ≡ clock
+  -- the packet passes
+  pub passes : outcome.verdict ≡ Pass
+  -- and names it
+  pub named : outcome.state ≡ Some state.number
+
+-- a state as a packet of its connection leaves it
+pub record IsTouchedOf (states : List State) (outcome : Outcome) (state : State) : Type 0 where
+  -- the state as it was
+  pub before : State
+  pub is_there : Contains states before
+  -- what stays of it
+  pub number_is : state.number ≡ before.number
+  pub wire_is : state.wire ≡ before.wire
+  pub stack_is : state.stack ≡ before.stack
+  pub rules_are : state.rules ≡ before.rules
+  pub direction_is : state.direction ≡ before.direction
+  pub made_is : state.made ≡ before.made
+  -- the packet passes
+  pub passes : outcome.verdict ≡ Pass
+  -- and names it
+  pub named : outcome.state ≡ Some state.number
+
+-- the number of a state that a packet ends
+pub record IsRemovedOf (states : List State) (outcome : Outcome) (number : StateNumber) : Type 0 where
+  -- the state as it was
+  pub before : State
+  pub is_there : Contains states before
+  pub number_is : number ≡ before.number
+  -- the packet doesn't pass
+  pub stops : outcome.verdict ≡ Block
+  -- and names it
+  pub named : outcome.state ≡ Some number
+
+-- what packet `number` may change at a clock, over these states
+abbrev pub IsOwnChange : ℕ → Clock → List State → Outcome → TableChange → Type 0
+IsOwnChange number clock states outcome (Made state) = IsMadeBy number clock outcome state
+IsOwnChange number clock states outcome (Touched state) = IsTouchedOf states outcome state
+IsOwnChange number clock states outcome (Removed old) = IsRemovedOf states outcome old
+
+-- nothing changes, or a state is taken out
+abbrev pub only_removes : Option TableChange → Bool
+only_removes None = true
+only_removes (Some (Made state)) = false
+only_removes (Some (Touched state)) = false
+only_removes (Some (Removed number)) = true
