@@ -15,8 +15,6 @@ pub mod segment;
 pub mod sequence;
 pub mod state;
 pub mod tcp;
-#[cfg(test)]
-mod tests;
 pub mod time;
 pub mod timeout;
 pub mod touching;

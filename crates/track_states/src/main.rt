@@ -10,6 +10,9 @@
 //! and the length of the payload (2). The greatest byte of a number comes first.
 #![tactic(auto)]
 
+#[cfg(test)]
+mod tests;
+
 use bitflags::Flags;
 use pfr_headers::{
     Direction, IcmpHeader, IcmpMessage, IcmpType, Inner, Ipv4Address, Packet, Port, Protocol,

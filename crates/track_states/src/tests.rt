@@ -1,17 +1,10 @@
 //! Connections whose numbers are written out.
-use crate::datagram::DatagramPeer;
-use crate::key::{Endpoint, Key};
-use crate::making::make;
-use crate::outcome::Touch;
-use crate::peers::Peers;
-use crate::sequence::Sequence;
-use crate::state::{RuleNumber, State, StateNumber, StateRules, Traffic};
-use crate::tcp::{TcpPeer, TcpPeerState};
-use crate::time::{Clock, Deadline};
-use crate::timeout::{Timeout, Timeouts};
-use crate::touching::touch;
 use pfr_headers::{
     Direction, Ipv4Address, Packet, Port, Protocol, TcpFlags, TcpHeader, Transport, UdpHeader,
+};
+use pfr_track::{
+    Clock, DatagramPeer, Deadline, Endpoint, Key, Peers, RuleNumber, Sequence, State, StateNumber,
+    StateRules, TcpPeer, TcpPeerState, Timeout, Timeouts, Touch, Traffic, make, touch,
 };
 
 const TIMEOUTS: Timeouts = Timeouts {
