@@ -7,8 +7,6 @@
 
 pub mod hosts;
 pub mod packets;
-#[cfg(test)]
-mod tests;
 pub mod transports;
 
 pub use hosts::host_holds;

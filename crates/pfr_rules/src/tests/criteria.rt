@@ -1,10 +1,10 @@
 //! Packets, and what is asked of them, written out by hand as in pf.conf(5).
-use crate::hosts::host_holds;
-use crate::packets::{anchor_holds, match_holds, rule_holds};
-use crate::transports::{
+use pfr_conf::Direction as WrittenDirection;
+use pfr_criteria::hosts::host_holds;
+use pfr_criteria::packets::{anchor_holds, match_holds, rule_holds};
+use pfr_criteria::transports::{
     destination_port_holds, flags_hold, icmp_holds, port_holds, source_port_holds,
 };
-use pfr_conf::Direction as WrittenDirection;
 use pfr_elements::{HostCriterion, HostSet, IfName, InterfaceCriterion};
 use pfr_flat::flat::{FilterAction, FlagsCriterion, FlatAnchor, FlatRule, NO_MATCH, PacketMatch};
 use pfr_headers::{
