@@ -1,16 +1,17 @@
 #!/usr/bin/env python3
-"""Builds the program beside it, which steps through runs packet by packet, and compares it with the model of the run in
-replay_model.py.
+"""Builds the program beside it, which steps through runs packet by packet, compares it with the model of the run in
+replay_model.py, and refuses it each allocation in turn.
 
     steps.py [FOLDER]
 
 Compared are runs that are written out, cases of what one packet comes to, whose outcomes are written out too, and random
 runs. The program is a crate of its own on pfr_packet, in the folder, or in a temporary one. Where the crates under it were
-checked before, it takes two minutes.
+checked before, it takes five minutes.
 """
 
 import subprocess
 import sys
+import tempfile
 from collections import Counter
 from pathlib import Path
 
@@ -20,11 +21,13 @@ import building
 import step_cases
 import step_random
 import step_rows
-from expand_model import dotted
-from replay_model import Refused, dashed, replay
+from replay_model import Refused, replay
 from step_runs import words_of
 
+HERE = Path(__file__).resolve().parent
 RANDOM_PACKETS = 20000
+# of the cases each such one is run with each allocation refused
+REFUSED_STEP = 9
 # how many packets that differ are shown
 SHOWN = 5
 USED = ["pfr_headers", "pfr_conf", "pfr_expand", "pfr_rules", "pfr_track", "pfr_states", "pfr_packet"]
@@ -117,7 +120,8 @@ def texts_of(expected, done):
     """The texts that are written out, and beside them the model's."""
     passed = [step.number for step in done.steps if step.outcome.verdict in ("pass", "skip")]
     records = done.texts.packets[24:]
-    written = [(expected.states, done.texts.states), (expected.counters, done.texts.counters), (expected.passed, passed)]
+    written = [(expected.verdicts, done.texts.verdicts), (expected.counters, done.texts.counters),
+               (expected.states, done.texts.states), (expected.passed, passed)]
     if records != b"".join(done.steps[number - 1].record.header + done.steps[number - 1].record.frame
                            for number in passed):
         raise SystemExit(f"{expected.run.name}: the model writes other packets than those that pass")
@@ -151,12 +155,22 @@ def compare_random(program):
     return count
 
 
+def refuse_memory(program, written):
+    """Whether the program answers these runs as it has to where an allocation is refused, each in turn."""
+    with tempfile.TemporaryFile() as given:
+        given.write(b"".join(run_bytes(each.run) for each in written))
+        given.seek(0)
+        words = [HERE / "faults" / "run.py", "--judge", "expansions", program]
+        return subprocess.run(words, stdin=given, check=False).returncode == 0
+
+
 def main():
+    rows, cases = list(step_rows.rows()), list(step_cases.cases())
     with building.folder_of(sys.argv[1:]) as name:
         program = build(Path(name))
-        sys.exit(bool(compare_written("whole runs", program, list(step_rows.rows()))
-                      + compare_written("cases", program, list(step_cases.cases()))
-                      + compare_random(program)))
+        wrong = compare_written("whole runs", program, rows) + compare_written("cases", program, cases)
+        wrong += compare_random(program)
+        sys.exit(bool(wrong) or not refuse_memory(program, cases[::REFUSED_STEP]))
 
 
 if __name__ == "__main__":
