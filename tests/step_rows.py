@@ -4,7 +4,8 @@ The packets are of raw IP, H is inside and P outside; UDP datagrams have 28 byte
 said otherwise.
 """
 
-from packets import ACK, MORE_FRAGMENTS, SYN, TCP, UDP, ipv4, tcp, udp
+from packets import ACK, MORE_FRAGMENTS, NANOSECONDS, SYN, TCP, UDP, capture_header, ipv4, record, tcp, udp
+from replay_model import Texts
 from step_runs import Expected, Run
 
 H, P, HERE = "10.0.0.5", "198.51.100.7", "192.0.2.1"
@@ -99,7 +100,8 @@ def time_rows():
                "out pass rule r=0 s=3; 0; made 3"],
               f"3 17 out {third} r=0 t=- 1/0/0/0/- 0/0/0/0/- 60 120 1 28 0 0\n",
               counters="filter 0 3 2 56\ntotal 3 2 1 0 0\n", passed=[1, 3],
-              verdicts="1 0 out pass rule r=0 t=- s=1\n2 30 out block state-limit r=0 t=- s=-\n3 60 out pass rule r=0 t=- s=3\n")
+              verdicts="1 0 out pass rule r=0 t=- s=1\n2 30 out block state-limit r=0 t=- s=-\n"
+                       "3 60 out pass rule r=0 t=- s=3\n")
     yield row("a state for no time", "set timeout udp.first 0\npass out\nblock in", [asked, udp(OTHER, 9, HERE, 9)],
               ["out pass rule r=0 s=1; 0,1; made 1", "in block rule r=1 s=-; 0,1; -"], "",
               counters="filter 0 2 1 28\nfilter 1 2 1 28\ntotal 2 1 1 0 0\n", passed=[1],
@@ -128,6 +130,24 @@ def filter_rows():
     yield row("seconds that go back", "block in", [(10, from_p), (5, from_p), (11, from_p)],
               ["in block rule r=0 s=-; 0; -"] * 3, counters="filter 0 3 3 84\ntotal 3 0 3 0 0\n", passed=[],
               verdicts="1 10 in block rule r=0 t=- s=-\n2 10 in block rule r=0 t=- s=-\n3 11 in block rule r=0 t=- s=-\n")
+
+
+def ends():
+    """Captures by their ends, each with a name, the bytes, the texts that `block in` leaves, and the tail."""
+    packet = udp(P, 9, HERE, 9)
+    line = "in block rule r=0 t=- s=-\n"
+    skipped = record(3, 0, b"", order=">")
+    header = capture_header(">", NANOSECONDS)
+    two = capture_header() + record(1, 0, packet) + record(2, 0, packet)
+    verdicts, counters = f"1 1 {line}2 2 {line}", "filter 0 2 2 56\ntotal 2 0 2 0 0\n"
+    yield ("no record", capture_header(), Texts("", capture_header(), "filter 0 0 0 0\ntotal 0 0 0 0 0\n", ""), "clean")
+    yield ("headers of the other byte order", header + skipped + record(2, 0, packet, order=">"),
+           Texts(f"1 3 - skip not-ip r=- t=- s=-\n2 3 {line}", header + skipped,
+                 "filter 0 1 1 28\ntotal 2 0 1 0 1\n", ""), "clean")
+    yield ("the end in a record's bytes", two + record(3, 0, packet)[:-1], Texts(verdicts, two[:24], counters, ""), "cut")
+    yield ("the end in a record's header", two + record(3, 0, packet)[:15], Texts(verdicts, two[:24], counters, ""), "cut")
+    yield ("a record that is too long", two + record(3, 0, packet, captured=262145), Texts(verdicts, two[:24], None, None),
+           "record too long 262145")
 
 
 def rows():

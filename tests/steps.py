@@ -22,7 +22,7 @@ import step_cases
 import step_random
 import step_rows
 from replay_model import Refused, replay
-from step_runs import words_of
+from step_runs import INSIDE, INTERFACE, words_of
 
 HERE = Path(__file__).resolve().parent
 RANDOM_PACKETS = 20000
@@ -143,6 +143,15 @@ def compare_written(title, program, written):
     return by_model + by_texts + by_program
 
 
+def compare_ends():
+    """How many captures the model ends otherwise than is written out; the program reads none."""
+    found = [(name, replay(b"block in", INTERFACE, INSIDE, capture), texts, tail)
+             for name, capture, texts, tail in step_rows.ends()]
+    wrong = [name for name, done, texts, tail in found if (done.texts, done.tail) != (texts, tail)]
+    print(f"ends of captures: {len(wrong)} of {len(found)} differ from the model", *wrong, sep="\n  ")
+    return len(wrong)
+
+
 def compare_random(program):
     """How many random runs differ."""
     runs = list(step_random.runs(RANDOM_PACKETS))
@@ -169,7 +178,7 @@ def main():
     with building.folder_of(sys.argv[1:]) as name:
         program = build(Path(name))
         wrong = compare_written("whole runs", program, rows) + compare_written("cases", program, cases)
-        wrong += compare_random(program)
+        wrong += compare_ends() + compare_random(program)
         sys.exit(bool(wrong) or not refuse_memory(program, cases[::REFUSED_STEP]))
 
 
