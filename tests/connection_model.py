@@ -58,8 +58,8 @@ def key_in(datagram, direction, ports):
 
 
 def connection(packet, datagram, direction):
-    """The key that a packet's own state is looked up by; None for one that has no state of its own, which is a fragment or an
-    ICMP message that is no echo."""
+    """The key that a packet's own state is looked up by; None for one that has no state of its own, which is a fragment or
+    an ICMP message that is no echo."""
     if packet.is_fragment:
         return None
     if packet.protocol not in KINDS:

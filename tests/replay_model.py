@@ -9,8 +9,8 @@ round it:
 - The verdicts hold a line for each packet, `N CLOCK DIR VERDICT REASON r=R t=T s=S`.
 - The packets are the capture's header and the records, as read, of the packets that pass or are skipped.
 - The counters hold a line for each filter rule, `filter N EVALUATIONS PACKETS BYTES`, and `total RECORDS PASS BLOCK RETURN
-  SKIP`. A rule is evaluated by each packet whose filtering visits it, whatever becomes of the packet then. Packets and bytes
-  (IP total lengths) count for the rule on the packet's line where the reason is `rule`, `state` or `state-error`.
+  SKIP`. A rule is evaluated by each packet whose filtering visits it, whatever becomes of the packet then. Packets and
+  bytes (IP total lengths) count for the rule on the packet's line where the reason is `rule`, `state` or `state-error`.
 - The states hold a line for each that is left, by number.
 
 Counters and states are written only where the run comes to the capture's end, cut or not.

@@ -1,8 +1,8 @@
-"""Cases of what one packet comes to, with the outcomes written out: each thing that can become of a packet, and for each two
-that come after one another which of them goes first.
+"""Cases of what one packet comes to, with the outcomes written out: each thing that can become of a packet, and for each
+two that come after one another which of them goes first.
 
-The reason `state-insert` isn't among them: without translation both keys of a state are one, and the key that a packet would
-make a state with was just looked for in vain, so no state has it on either side.
+The reason `state-insert` isn't among them: without translation both keys of a state are one, and the key that a packet
+would make a state with was just looked for in vain, so no state has it on either side.
 """
 
 import step_error_cases
@@ -16,6 +16,9 @@ GRE, IGMP = 47, 2
 FOUR_OPTION_BYTES = bytes([1, 1, 1, 1])
 OPTIONS = {"ip_options": FOUR_OPTION_BYTES}
 
+# both keys of the states that packets from H make
+UDP_KEYS = "198.51.100.7:53,10.0.0.5:1000 198.51.100.7:53,10.0.0.5:1000"
+TCP_KEYS = "198.51.100.7:80,10.0.0.5:1000 198.51.100.7:80,10.0.0.5:1000"
 # what is asked, and the answer to it
 UDP_OUT, UDP_BACK = udp(H, 1000, P, 53), udp(P, 53, H, 1000)
 UDP_OUT_OPTIONS, UDP_BACK_OPTIONS = udp(H, 1000, P, 53, **OPTIONS), udp(P, 53, H, 1000, **OPTIONS)
@@ -64,7 +67,8 @@ def unseen_cases():
                (ethernet(ETHER_IPV4, UDP_IN, [7]), "in block rule r=0 s=-; 0; -"),
                (ethernet(ETHER_IPV4, UDP_IN, [7, 8]), NOT_IP), link=LINKTYPE_ETHERNET)
     yield case("frames of a loopback device", "block all",
-               (loopback(UDP_IN), "in block rule r=0 s=-; 0; -"), (loopback(UDP_IN, order=">"), "in block rule r=0 s=-; 0; -"),
+               (loopback(UDP_IN), "in block rule r=0 s=-; 0; -"),
+               (loopback(UDP_IN, order=">"), "in block rule r=0 s=-; 0; -"),
                (loopback(IPV6, 30), NOT_IP), (loopback(b""), SHORT), link=LINKTYPE_LOOPBACK)
     yield case("too short a packet of a connection", "pass out",
                (UDP_OUT, MADE), (UDP_BACK[:27], SHORT), (UDP_BACK, TOUCHED_IN))
@@ -88,8 +92,8 @@ def fragment_cases():
     with_options = ipv4(P, HERE, UDP, bytes(8), fragment=1, **OPTIONS)
     yield case("a fragment with IP options that are allowed", "pass in allow-opts", (with_options, in_by_first))
     yield case("a fragment with IP options", "pass in", (with_options, "in block ip-option r=0 s=-; 0; -"))
-    yield case("a fragment with IP options by default", "block out", (with_options, "in block ip-option r=-"
-                                                                      " s=-; 0; -"))
+    yield case("a fragment with IP options by default", "block out",
+               (with_options, "in block ip-option r=- s=-; 0; -"))
     yield case("a blocked fragment with IP options", "block return in",
                (with_options, "in return rule r=0 s=-; 0; -"))
 
@@ -106,7 +110,8 @@ def tracked_cases():
                (tcp(P, 80, H, 1000, ACK, 5001, 2**30, payload=bytes(8)), MISMATCH_IN),
                counters="filter 0 1 2 80\ntotal 4 2 2 0 0\n", passed=[1, 2])
     yield case("a SYN behind an ended connection removes it, and the next makes one", "pass out",
-               (SYN_OUT, MADE), (RST_BACK, TOUCHED_IN), (SYN_OUT, REMOVED_OUT), (SYN_OUT, "out pass rule r=0 s=4; 0; made 4"),
+               (SYN_OUT, MADE), (RST_BACK, TOUCHED_IN), (SYN_OUT, REMOVED_OUT),
+               (SYN_OUT, "out pass rule r=0 s=4; 0; made 4"),
                counters="filter 0 2 3 120\ntotal 4 3 1 0 0\n")
     yield case("a SYN of the other end removes it too", "pass out",
                (SYN_OUT, MADE), (RST_BACK, TOUCHED_IN), (tcp(P, 80, H, 1000, SYN, 7), REMOVED_IN), states="")
@@ -152,8 +157,7 @@ def first_segment(options, window, offer, flags=SYN, reach=1002, length=None, pa
     length = length or len(segment)
     return case(f"a first packet with the TCP options {octets.hex()}", "pass out flags any",
                 (segment[:2] + length.to_bytes(2) + segment[4:], MADE),
-                states="1 6 out 198.51.100.7:80,10.0.0.5:1000 198.51.100.7:80,10.0.0.5:1000 r=0 t=- "
-                       f"2/1000/{reach}/{window}/{offer} 0/0/1/1/- 0 120 1 {length} 0 0\n")
+                states=f"1 6 out {TCP_KEYS} r=0 t=- 2/1000/{reach}/{window}/{offer} 0/0/1/1/- 0 120 1 {length} 0 0\n")
 
 
 def segment_cases():
@@ -182,8 +186,7 @@ def segment_cases():
     yield first_segment([], 1000, "-", flags=SYN | FIN, reach=1003)
     yield case("a total length that isn't that of a datagram counts as it stands", "pass out",
                (UDP_OUT[:2] + (1500).to_bytes(2) + UDP_OUT[4:], MADE), counters="filter 0 1 1 1500\ntotal 1 1 0 0 0\n",
-               states="1 17 out 198.51.100.7:53,10.0.0.5:1000 198.51.100.7:53,10.0.0.5:1000 r=0 t=- 1/0/0/0/- 0/0/0/0/- 0 60 "
-                      "1 1500 0 0\n")
+               states=f"1 17 out {UDP_KEYS} r=0 t=- 1/0/0/0/- 0/0/0/0/- 0 60 1 1500 0 0\n")
 
 
 def filter_cases():
@@ -232,15 +235,15 @@ def option_cases():
     yield case("IP options in a connection whose rule doesn't", "pass in allow-opts\npass out",
                (UDP_OUT, "out pass rule r=1 s=1; 0,1; made 1"), (UDP_BACK_OPTIONS, "in block ip-option r=1 s=1; -; -"),
                (UDP_OUT_OPTIONS, "out block ip-option r=1 s=1; -; -"),
-               states="1 17 out 198.51.100.7:53,10.0.0.5:1000 198.51.100.7:53,10.0.0.5:1000 r=1 t=- 1/0/0/0/- 0/0/0/0/- 0 60 "
-                      "1 28 0 0\n", counters="filter 0 1 0 0\nfilter 1 1 1 28\ntotal 3 1 2 0 0\n")
+               states=f"1 17 out {UDP_KEYS} r=1 t=- 1/0/0/0/- 0/0/0/0/- 0 60 1 28 0 0\n",
+               counters="filter 0 1 0 0\nfilter 1 1 1 28\ntotal 3 1 2 0 0\n")
     yield case("IP options of a packet that doesn't fit", "pass",
                (SYN_OUT, MADE), (tcp(P, 80, H, 1000, SYN | ACK, 5000, 1001), TOUCHED_IN),
                (tcp(H, 1000, P, 80, ACK, 2**31, 5001, payload=bytes(8), **OPTIONS), MISMATCH_OUT))
     yield case("IP options of a SYN that removes a state", "pass",
                (SYN_OUT, MADE), (RST_BACK, TOUCHED_IN), (SYN_OPTIONS, REMOVED_OUT), states="")
-    yield case("a packet that only has no options allowed goes on", "pass", (SYN_OPTIONS, "out block ip-option r=0 s=-; 0; -"),
-               (SYN_OUT, "out pass rule r=0 s=2; 0; made 2"))
+    yield case("a packet with IP options leaves no state behind", "pass",
+               (SYN_OPTIONS, "out block ip-option r=0 s=-; 0; -"), (SYN_OUT, "out pass rule r=0 s=2; 0; made 2"))
 
 
 def limit_cases():
@@ -248,9 +251,11 @@ def limit_cases():
     second = udp(H, 1001, P, 53)
     limited = "set limit states 1\npass"
     yield case("a full table", limited, (UDP_OUT, MADE), (second, full), (UDP_IN, "in block state-limit r=0 s=-; 0; -"),
-               (UDP_OUT, TOUCHED_OUT), (UDP_BACK, TOUCHED_IN), counters="filter 0 3 3 84\ntotal 5 3 2 0 0\n", passed=[1, 4, 5])
+               (UDP_OUT, TOUCHED_OUT), (UDP_BACK, TOUCHED_IN), passed=[1, 4, 5],
+               counters="filter 0 3 3 84\ntotal 5 3 2 0 0\n")
     yield case("a table of two", "set limit states 2\npass",
-               (UDP_OUT, MADE), (second, "out pass rule r=0 s=2; 0; made 2"), (UDP_IN, "in block state-limit r=0 s=-; 0; -"))
+               (UDP_OUT, MADE), (second, "out pass rule r=0 s=2; 0; made 2"),
+               (UDP_IN, "in block state-limit r=0 s=-; 0; -"))
     yield case("IP options and a full table", limited + "\npass out proto tcp allow-opts",
                (UDP_OUT, "out pass rule r=0 s=1; 0,1; made 1"), (UDP_IN_OPTIONS, "in block ip-option r=0 s=-; 0,1; -"),
                (SYN_OPTIONS, "out block state-limit r=1 s=-; 0,1; -"))

@@ -1,7 +1,7 @@
 """Cases of ICMP errors, with the outcomes written out: those that tell of a connection with a state, those that don't quote
 enough of a packet, and those that tell of no connection with a state."""
 
-from packets import (ACK, DONT_FRAGMENT, ICMP, MORE_FRAGMENTS, SYN, UDP, echo, icmp_error, ipv4, summed_message, tcp, udp)
+from packets import (ACK, DONT_FRAGMENT, ICMP, MORE_FRAGMENTS, SYN, echo, icmp_error, ipv4, summed_message, tcp, udp)
 
 H, P, ROUTER = "10.0.0.5", "198.51.100.7", "203.0.113.1"
 GRE = 47
@@ -36,7 +36,8 @@ def known_cases(case):
     yield case("an error of an echo request", RULES, (request, MADE), (icmp_error(ROUTER, PROBLEM, 0, request), TOLD))
     reply = echo(H, P, False, 7, 1)
     yield case("an error of an echo reply", "pass in\nblock out",
-               (echo(P, H, True, 7, 1), "in pass rule r=0 s=1; 0,1; made 1"), (reply, "out pass state r=0 s=1; -; touched 1"),
+               (echo(P, H, True, 7, 1), "in pass rule r=0 s=1; 0,1; made 1"),
+               (reply, "out pass state r=0 s=1; -; touched 1"),
                (icmp_error(ROUTER, UNREACHABLE, 1, reply), "in pass state-error r=0 s=1; -; -"))
     yield case("the kinds of errors", RULES, (UDP_OUT, MADE), (error(UDP_OUT, EXCEEDED, 1), TOLD),
                (error(UDP_OUT, PROBLEM, 9), TOLD), (error(UDP_OUT, UNREACHABLE, 255), TOLD),
@@ -84,7 +85,8 @@ def quoted_cases(case):
     # the ports that would stand at 16 and at 0 bytes, if so short a header were taken
     yield case("a quoted header that is too short and has ports in it", RULES,
                (udp(H, 0xC633, P, 0x6407), MADE), (error(changed(UDP_OUT, 0, b"\x44")), FILTERED),
-               (udp(H, 0x4000, P, 0x1C), "out pass rule r=1 s=3; 0,1; made 3"), (error(changed(UDP_OUT, 0, b"\x40")), FILTERED))
+               (udp(H, 0x4000, P, 0x1C), "out pass rule r=1 s=3; 0,1; made 3"),
+               (error(changed(UDP_OUT, 0, b"\x40")), FILTERED))
     tunnel = ipv4(H, P, GRE, bytes(8))
     yield case("a quoted packet of another protocol", RULES, (tunnel, MADE), (error(tunnel), FILTERED))
     request = echo(H, P, True, 0, 0)

@@ -7,10 +7,10 @@ A packet goes through these steps, in this order, until one of them says what be
 3. One that is too short is blocked (`short`).
 4. A fragment, and an ICMP message that is no echo, is filtered and makes no state. But an ICMP error that tells of the
    connection of a state passes (`state-error`), and leaves the state as it is.
-5. One of the connection of a state does to the state what tracking says: where it is accepted it passes (`state`), else it is
-   blocked (`state-mismatch`), and maybe the state is removed.
-6. Any other is filtered. Where a rule decides that keeps state, and the packet passes, a state is made, unless there are as
-   many as there may be (`state-limit`).
+5. One of the connection of a state does to the state what tracking says: where it is accepted it passes (`state`), else it
+   is blocked (`state-mismatch`), and maybe the state is removed.
+6. Any other is filtered. Where a rule decides that keeps state, and the packet passes, a state is made, unless there are
+   as many as there may be (`state-limit`).
 
 A packet with IP options that would pass by 4, 5 or 6 is blocked (`ip-option`), and changes nothing, where the rule that
 decides, or by which the state was made, doesn't allow them, and where no rule decides.
@@ -46,8 +46,8 @@ class Job(NamedTuple):
 
 
 class Outcome(NamedTuple):
-    """What a packet comes to: the words of its line, the places of the filter rules that are visited, and what it changes in
-    the table: None, or a pair of `made` or `touched` and a state, or of `removed` and a number."""
+    """What a packet comes to: the words of its line, the places of the filter rules that are visited, and what it changes
+    in the table: None, or a pair of `made` or `touched` and a state, or of `removed` and a number."""
     direction: str
     verdict: str
     reason: str
@@ -107,8 +107,8 @@ class Arrival(NamedTuple):
         return self.unless_options(outcome, entry.allows_options)
 
     def opened(self, key, table):
-        """As the first packet of its connection. Both keys of the state that it makes are the one that no state has on
-        the side where it was looked up; without translation no state has it on the other side then, so none is in the way."""
+        """As the first packet of its connection. Both keys of the state that it makes are the one that no state has on the
+        side where it was looked up. Without translation none has it on the other side then, so none is in the way."""
         outcome = self.filtered()
         place, rule = self.deciding_rule()
         if outcome.verdict != "pass" or rule is None or rule.binding is None:

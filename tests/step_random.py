@@ -22,13 +22,17 @@ IPV6 = bytes([0x60]) + bytes(39)
 # frames that carry no IPv4 packet
 STRANGE_FRAMES = {
     LINKTYPE_RAW: (IPV6, b"", b"\x35"),
-    LINKTYPE_ETHERNET: (ethernet(ETHER_ARP, bytes(28)), ethernet(ETHER_IPV6, IPV6), ethernet(ETHER_IPV4, IPV6, (1, 2)), bytes(13)),
+    LINKTYPE_ETHERNET: (ethernet(ETHER_ARP, bytes(28)), ethernet(ETHER_IPV6, IPV6), ethernet(ETHER_IPV4, IPV6, (1, 2)),
+                        bytes(13)),
     LINKTYPE_LOOPBACK: (loopback(IPV6, 30), b"\2\0\0", b"\0\0\2\0" + IPV6),
 }
 FRAGMENT_FIELDS = (0x2000, 1, 0x2001, 0x1FFF, 185)
 IP_OPTIONS = (bytes([1, 1, 1, 1]), bytes([148, 4, 0, 0]), bytes([0, 0, 0, 0]))
 # windows are scaled by option 3; the others are read over, or end the reading
 SCALE_PREFIXES = (b"", b"", b"\1", b"\2\4\5\xb4", b"\4\2", b"\3\4\7\7", b"\3\3\5", b"\0", b"\0\2", b"\2\1", b"\5\x30")
+# places and bytes by which the packet that an error quotes is spoilt
+QUOTED_CHANGES = ((0, b"\x65"), (0, b"\x44"), (0, b"\x46"), (2, b"\0\0"), (6, b"\0\1"), (6, b"\x20\0"), (9, b"\x2f"),
+                  (20, b"\x0d"))
 ERROR_TYPES = (3, 3, 3, 11, 11, 12, 4, 5)
 MESSAGES = (3, 4, 5, 9, 11, 12, 13, 14)
 PROTOCOLS = (TCP,) * 5 + (UDP,) * 4 + (ICMP,) * 2 + (47, IGMP)
@@ -134,20 +138,23 @@ class Packets:
             packet = polite(draw, *(ends if direction == entry.state.direction else reversed(ends)), packet)
         return datagram_of(draw, entry.wire.protocol, source, destination, packet)
 
-    def error(self):
-        """An ICMP error that quotes a packet, mostly one of a connection, and mostly to its sender."""
+    def quoted(self):
+        """What an ICMP error quotes of a packet, mostly of one of a connection: the header and 8 bytes, or more or less."""
         draw = self.draw
         quoted = draw.choice(self.earlier) if self.earlier and draw.random() < 0.3 else self.following()
         if draw.random() < 0.1:
             quoted = with_options(draw, quoted)
         if draw.random() < 0.15:
-            place, octets = draw.choice(((0, b"\x65"), (0, b"\x44"), (0, b"\x46"), (6, b"\0\1"), (6, b"\x20\0"), (9, b"\x2f"),
-                                         (2, b"\0\0"), (20, b"\x0d")))
+            place, octets = draw.choice(QUOTED_CHANGES)
             quoted = quoted[:place] + octets + quoted[place + len(octets):]
         if draw.random() < 0.3:
-            quoted = quoted[:draw.randint(0, 40)]
-        else:
-            quoted = quoted[:4 * (quoted[0] & 15) + 8]
+            return quoted[:draw.randint(0, 40)]
+        return quoted[:4 * (quoted[0] & 15) + 8]
+
+    def error(self):
+        """An ICMP error, mostly to the side from which the packet came that it quotes."""
+        draw = self.draw
+        quoted = self.quoted()
         was_out = quoted[12:13] == b"\x0a"
         if draw.random() < 0.1:
             was_out = not was_out
@@ -221,7 +228,8 @@ def some_run(draw, number, most):
         records = [step.record for step in steps_of(job, link, Packets(draw, link, table).records(count), table)]
     except Refused:
         records = []
-    return Run(f"random run {number}", rules, [(record.seconds, record.frame) for record in records], link, interface, inside)
+    timed = [(record.seconds, record.frame) for record in records]
+    return Run(f"random run {number}", rules, timed, link, interface, inside)
 
 
 def runs(packets):

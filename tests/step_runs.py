@@ -26,11 +26,12 @@ class Run(NamedTuple):
 
 class Expected(NamedTuple):
     """A run and what is written out of it: words for each packet as `words_of` gives them; and where they are written, the
-    texts of the counters and of the states, and the numbers of the packets that are written."""
+    texts of the states, the counters and the verdicts, and the numbers of the packets that are written."""
     run: Run
     words: list
     states: str | None = None
     counters: str | None = None
+    verdicts: str | None = None
     passed: list | None = None
 
 

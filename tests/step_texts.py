@@ -4,8 +4,8 @@ tables and short timeouts."""
 from expand_options import TIMEOUT_SECONDS
 from filter_texts import HOSTS, NETWORKS, PORTS, some_ruleset
 
-FIRST_RULES = ("pass",) * 4 + ("pass out", "pass out", "pass allow-opts", "pass allow-opts", "pass flags any", "block", "block in",
-                               "block return", "pass no state")
+FIRST_RULES = ("pass",) * 4 + ("pass out",) * 2 + ("pass allow-opts",) * 2 + (
+    "pass flags any", "block", "block in", "block return", "pass no state")
 ACTIONS = ("pass",) * 6 + ("block", "block drop", "block return")
 WAYS = ("", "", "in", "out")
 PLACES = ("on em0", "on !em1", "on em1", "on { em0, em1 }")

@@ -1,6 +1,6 @@
 #!/usr/bin/env python3
 """Compares the program of the crate packet_steps, which steps through runs packet by packet, with the model of the run in
-replay_model.py.
+replay_model.py, and refuses it each allocation in turn.
 
     steps.py
 
@@ -10,7 +10,9 @@ runs. The program is the one that the gate left, or is built before.
 
 import subprocess
 import sys
+import tempfile
 from collections import Counter
+from pathlib import Path
 
 sys.dont_write_bytecode = True
 
@@ -18,11 +20,13 @@ import building
 import step_cases
 import step_random
 import step_rows
-from expand_model import dotted
-from replay_model import Refused, dashed, replay
-from step_runs import words_of
+from replay_model import Refused, replay
+from step_runs import INSIDE, INTERFACE, words_of
 
+HERE = Path(__file__).resolve().parent
 RANDOM_PACKETS = 20000
+# of the cases each such one is run with each allocation refused
+REFUSED_STEP = 9
 # how many packets that differ are shown
 SHOWN = 5
 
@@ -109,7 +113,8 @@ def texts_of(expected, done):
     """The texts that are written out, and beside them the model's."""
     passed = [step.number for step in done.steps if step.outcome.verdict in ("pass", "skip")]
     records = done.texts.packets[24:]
-    written = [(expected.states, done.texts.states), (expected.counters, done.texts.counters), (expected.passed, passed)]
+    written = [(expected.verdicts, done.texts.verdicts), (expected.counters, done.texts.counters),
+               (expected.states, done.texts.states), (expected.passed, passed)]
     if records != b"".join(done.steps[number - 1].record.header + done.steps[number - 1].record.frame
                            for number in passed):
         raise SystemExit(f"{expected.run.name}: the model writes other packets than those that pass")
@@ -131,6 +136,15 @@ def compare_written(title, program, written):
     return by_model + by_texts + by_program
 
 
+def compare_ends():
+    """How many captures the model ends otherwise than is written out; the program reads none."""
+    found = [(name, replay(b"block in", INTERFACE, INSIDE, capture), texts, tail)
+             for name, capture, texts, tail in step_rows.ends()]
+    wrong = [name for name, done, texts, tail in found if (done.texts, done.tail) != (texts, tail)]
+    print(f"ends of captures: {len(wrong)} of {len(found)} differ from the model", *wrong, sep="\n  ")
+    return len(wrong)
+
+
 def compare_random(program):
     """How many random runs differ."""
     runs = list(step_random.runs(RANDOM_PACKETS))
@@ -143,11 +157,21 @@ def compare_random(program):
     return count
 
 
+def refuse_memory(program, written):
+    """Whether the program answers these runs as it has to where an allocation is refused, each in turn."""
+    with tempfile.TemporaryFile() as given:
+        given.write(b"".join(run_bytes(each.run) for each in written))
+        given.seek(0)
+        words = [HERE / "faults" / "run.py", "--judge", "expansions", program]
+        return subprocess.run(words, stdin=given, check=False).returncode == 0
+
+
 def main():
+    rows, cases = list(step_rows.rows()), list(step_cases.cases())
     program = building.program_of("packet_steps")
-    sys.exit(bool(compare_written("whole runs", program, list(step_rows.rows()))
-                  + compare_written("cases", program, list(step_cases.cases()))
-                  + compare_random(program)))
+    wrong = compare_written("whole runs", program, rows) + compare_written("cases", program, cases)
+    wrong += compare_ends() + compare_random(program)
+    sys.exit(bool(wrong) or not refuse_memory(program, cases[::REFUSED_STEP]))
 
 
 if __name__ == "__main__":

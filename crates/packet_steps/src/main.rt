@@ -18,7 +18,7 @@ use pfr_expand::{IfName, Interface};
 use pfr_headers::{Change, Direction, End, Ipv4Address, Net, view};
 use pfr_packet::{Direct, Job, Outcome, step};
 use pfr_rules::Visits;
-use pfr_states::{Table, TableChange};
+use pfr_states::{Table, TableChange, TableError};
 use pfr_track::{
     Clock, DatagramPeer, Endpoint, Key, Peers, RuleNumber, State, StateNumber, TcpPeer, Traffic,
 };
@@ -310,10 +310,12 @@ fn take(
     outcome: &Outcome,
 ) -> Result<(), AllocError> {
     table.purge(clock);
-    if let Some(change) = outcome.change
-        && table.apply(change).is_err()
-    {
-        out.push_str(" refused")?;
+    if let Some(change) = outcome.change {
+        match table.apply(change) {
+            Ok(()) => {}
+            Err(TableError::KeyTaken | TableError::Full) => out.push_str(" refused")?,
+            Err(TableError::Memory) => return Err(AllocError),
+        }
     }
     out.push('\n')
 }
