@@ -1,0 +1,54 @@
+-- The lines of the outputs.
+use Rattle.std.specs.Prelude.{ℕ, List, [], ◌∷◌, ◌++◌, Option, Some, None, codes}
+use Rattle.std.specs.Fmt.{decimal}
+use Rattle.pfr_track.specs.declared.datagram.DatagramPeer.{DatagramPeer}
+use Rattle.pfr_track.specs.declared.peers.Peers.{Peers}
+use Rattle.pfr_track.specs.declared.peers.Peers.TheVariants as peers
+use Rattle.pfr_track.specs.declared.state.State.{State}
+use Rattle.pfr_track.specs.declared.tcp.TcpPeer.{TcpPeer}
+use Rattle.pfr_track.specs.declared.time.Clock.{Clock}
+use Rattle.pfr_track.specs.Datagrams as datagram
+use Rattle.pfr_track.specs.Tcp as tcp
+use Rattle.pfr_packet.specs.declared.outcome.Outcome.{Outcome}
+use Rattle.pfr_packet.specs.Verdicts.{reason_text, verdict_text}
+use Rattle.pfr_commit.specs.Texts.{direction_text, key_text, rule_text, state_text, traffic_text}
+
+-- N CLOCK DIR VERDICT REASON r=R t=T s=S
+unfoldable pub verdict_line : ℕ → Clock → Outcome → List ℕ
+verdict_line number clock outcome =
+    decimal number ++ (codes " " ++ (decimal clock.0 ++ (codes " " ++ (direction_text outcome.direction
+    ++ (codes " " ++ (verdict_text outcome.verdict ++ (codes " " ++ (reason_text outcome.reason
+    ++ (codes " r=" ++ (rule_text outcome.rule ++ (codes " t=" ++ (rule_text outcome.translation
+    ++ (codes " s=" ++ (state_text outcome.state ++ 10 ∷ []))))))))))))))
+
+-- ---- states
+
+abbrev pub offer_text : Option ℕ → List ℕ
+offer_text (Some shift) = decimal shift
+offer_text None = codes "-"
+
+-- what was seen of an end of a TCP connection: its code, behind what it has sent, behind what it may send, its greatest window, the
+-- shift that it offered
+unfoldable pub tcp_end_text : TcpPeer → List ℕ
+tcp_end_text end =
+    decimal (tcp.code_of end.state) ++ (codes "/" ++ (decimal end.low.0 ++ (codes "/" ++ (decimal end.high.0 ++ (codes "/"
+    ++ (decimal end.greatest_window ++ (codes "/" ++ offer_text end.scale)))))))
+
+unfoldable pub datagram_end_text : DatagramPeer → List ℕ
+datagram_end_text end = decimal (datagram.code_of end) ++ codes "/0/0/0/-"
+
+-- the maker's end first
+abbrev pub ends_text : Peers → List ℕ
+ends_text (peers.Tcp maker other) = tcp_end_text maker ++ (codes " " ++ tcp_end_text other)
+ends_text (peers.Udp maker other) = datagram_end_text maker ++ (codes " " ++ datagram_end_text other)
+ends_text peers.Icmp = codes "0/0/0/0/- 0/0/0/0/-"
+ends_text (peers.Other maker other) = datagram_end_text maker ++ (codes " " ++ datagram_end_text other)
+
+-- N PROTO DIR WIRE STACK r=R t=T PEER PEER MADE DEADLINE P0 B0 P1 B1
+unfoldable pub state_line : State → List ℕ
+state_line state =
+    decimal state.number.0 ++ (codes " " ++ (decimal state.wire.protocol.0 ++ (codes " " ++ (direction_text (Some state.direction)
+    ++ (codes " " ++ (key_text state.wire ++ (codes " " ++ (key_text state.stack
+    ++ (codes " r=" ++ (rule_text state.rules.filter ++ (codes " t=" ++ (rule_text state.rules.translation
+    ++ (codes " " ++ (ends_text state.peers ++ (codes " " ++ (decimal state.made.0 ++ (codes " " ++ (decimal state.deadline.0
+    ++ (codes " " ++ (traffic_text state.forth ++ (codes " " ++ (traffic_text state.back ++ 10 ∷ []))))))))))))))))))))))
