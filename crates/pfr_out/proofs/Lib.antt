@@ -1,2 +1,0 @@
-pub mod PlainLemmas
-pub mod WritingLemmas
