@@ -1,0 +1,3 @@
+pub mod ReadingLemmas
+pub mod RunLemmas
+pub mod WritingLemmas
