@@ -1,7 +1,7 @@
 -- Worlds, and what comes before them.
-use Rattle.std.proofs.Common.{◌≡◌, ◌<◌, max, ◌+◌, ℕ, suc, List, [], ◌∷◌, ◌++◌, length, map, take, fold, get_or, refl, sym, ap, ◌∙◌, arith}
+use Rattle.std.proofs.Common.{◌≡◌, ◌<◌, max, ◌+◌, ◌-◌, ℕ, suc, List, [], ◌∷◌, ◌++◌, length, map, take, fold, get_or, refl, sym, ap, ◌∙◌, arith}
 use Rattle.std.proofs.lemmas.Grind.{fold-append}
-use Rattle.std.proofs.lemmas.List.{append_assoc, append-nil, map-append}
+use Rattle.std.proofs.lemmas.List.{append_assoc, append-nil, map-append, take-map}
 use Rattle.std.proofs.Math.Seq.{take-suc}
 use Rattle.pfr_headers.specs.declared.packet.View.{View}
 use Rattle.pfr_track.specs.declared.time.Clock.{Clock}
@@ -69,3 +69,16 @@ world_count job world [] = (let same : world.count ≡ world.count + 0 = omega a
 world_count job world (frame ∷ frames) =
     let step : world.count + 1 + length frames ≡ world.count + suc (length frames) = omega arith in
     world_count job (after job world frame) frames ∙ step
+
+-- none of the packets was taken
+pub nothing_taken : (job : RunJob) (world : World) (count : ℕ) (frames : List Frame) → world.texts ≡ (world_after job world (take (count - count) frames)).texts
+nothing_taken job world count frames =
+    let none : count - count ≡ 0 = omega arith in
+    rw none (ap (λ (w : World). w.texts) (sym (world_none job world)))
+
+-- so many of them were taken
+pub part_taken : {X : Type 0} (job : RunJob) (world : World) (g : X → Frame) (xs : List X) (start count index : ℕ) → count ≡ start + index
+    → world_after job world (map g (take index xs)) ≡ world_after job world (take (count - start) (map g xs))
+part_taken job world g xs start count index is =
+    let taken : count - start ≡ index = omega arith in
+    rw taken (ap (λ (frames : List Frame). world_after job world frames) (sym (take-map g index xs)))

@@ -29,6 +29,7 @@ impl Book {
         requires few { self.old.count + length packets.now ≤ 2 ^ 43 }
         ensures world { OnOk result (world_in self.new (texts_of out.new) ≡ spec.world_after (job_of self.old) (world_in self.old (texts_of out.old)) (map (λ packet. frame_of packet.0) packets.now)) }
         ensures part { OnErr result (texts_of out.new ≡ (spec.world_after (job_of self.old) (world_in self.old (texts_of out.old)) (take (self.new.count - self.old.count) (map (λ packet. frame_of packet.0) packets.now))).texts) }
+        ensures counted { OnOk result (self.new.count ≡ self.old.count + length packets.now) }
         ensures job { self.new.job ≡ self.old.job }
         ensures within { (self.old.count ≤ self.new.count) × (self.new.count ≤ self.old.count + length packets.now) }
         ensures ok { OnOk result ((self.old.is_over ≡ false) × (self.new.is_over ≡ false)) }

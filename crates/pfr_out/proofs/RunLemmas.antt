@@ -1,6 +1,7 @@
 -- How far a run has come, and how it stops.
-use Rattle.std.proofs.Common.{◌≡◌, ℕ, ◌+◌, ◌*◌, ◌<◌, ◌≤◌, Bool, true, false, List, [], ◌++◌, length, map, take, drop, Option, Some, None, Result, Ok, Err, inl, inr, refl, sym, ◌∙◌, ap, arith}
+use Rattle.std.proofs.Common.{◌≡◌, ℕ, suc, ◌+◌, ◌*◌, ◌<◌, ◌≤◌, Bool, true, false, List, [], ◌++◌, length, map, take, drop, Option, Some, None, Result, Ok, Err, inl, inr, refl, sym, ◌∙◌, ap, arith}
 use Rattle.std.specs.List.{All}
+use Rattle.std.proofs.Math.Nat.{suc-mul}
 use Rattle.std.proofs.lemmas.List.{append-nil, append_assoc, length-append, length-map, map-append, take-take, take_at}
 use Rattle.pfr_capture.specs.declared.capture.CaptureError.{CaptureError}
 use Rattle.pfr_capture.specs.declared.capture.CaptureError.TheVariants as capture
@@ -289,7 +290,9 @@ next_head job batch capture capture' text left left' old mid new world world' pa
 }
   where
     more_batches : (batch before after : ℕ) → IsBoundary batch before → after ≡ before + batch → IsBoundary batch after
-    more_batches batch before after boundary is = (boundary.0 + 1, is ∙ (rw boundary.1 (sym (mul_suc_left boundary.0 batch))))
+    more_batches batch before after boundary is =
+        let next : boundary.0 + 1 ≡ suc boundary.0 = omega arith in
+        (boundary.0 + 1, is ∙ ap (λ (n : ℕ). n + batch) boundary.1 ∙ (rw next (sym (suc-mul boundary.0 batch))))
 
 -- the reading ended with a refusal, and the packets before it are written
 pub reading_stopped : (job : RunJob) (batch : ℕ) (capture capture' : Reading) (text left left' : List ℕ) (old mid new : Outputs) (world world' : World) (packets : List (Record × View)) (e : CaptureError) → AtHead job batch capture text left old mid world

@@ -1,0 +1,49 @@
+use Rattle.std.proofs.Common.{◌≡◌, ◌+◌, ◌<◌, ◌∙◌, refl, sym, ap, length, map, take, rules, arith}
+use Rattle.pfr_capture.specs.declared.capture.Record.{Record}
+use Rattle.pfr_headers.specs.declared.packet.View.{View}
+use Rattle.pfr_packet.specs.Job.{RunJob}
+use Rattle.pfr_commit.specs.Books.{job_of, world_in}
+use Rattle.pfr_commit.specs.Emissions.{frame_of, texts_of}
+use Rattle.pfr_commit.specs.World.{World, after, world_after}
+use Rattle.pfr_commit.proofs.BookLemmas.{on_err, same_job}
+use Rattle.pfr_commit.proofs.WorldLemmas.{nothing_taken, part_taken, world_next, world_none}
+use Rattle.pfr_commit.proofs.book.Book.commit_batch.Goals as goal
+
+pub returns-then-self-clause-part : goal.returns-then-self-clause-part
+returns-then-self-clause-part c = nothing_taken (job_of c.args.self.now) (world_in c.args.self.now (texts_of c.args.out.now)) c.args.self.now.count _
+
+pub returns-in-Err-clause-part : goal.returns-in-Err-clause-part
+returns-in-Err-clause-part c = nothing_taken (job_of c.args.self.now) (world_in c.args.self.now (texts_of c.args.out.now)) c.args.self.now.count _
+
+pub loop-index-init : goal.loop-index-init
+loop-index-init c = record {
+  job = refl;
+  counted = omega arith;
+  is_open = c.if-self.false;
+  world = sym (world_none (job_of c.args.self.now) (world_in c.args.self.now (texts_of c.args.out.now)));
+}
+
+pub returns-in_err-take-clause-part : goal.returns-in_err-take-clause-part
+returns-in_err-take-clause-part c =
+    on_err c.from_residual.result _ (
+    c.in_err-take.ensures.kept.1
+    ∙ ap (λ (w : World). w.texts) c.loop-index.invariant.world
+    ∙ ap (λ (w : World). w.texts) (part_taken (job_of c.args.self.now) (world_in c.args.self.now (texts_of c.args.out.now)) (λ packet. frame_of packet.0) c.args.packets.now c.args.self.now.count c.take.new.self.count c.loop-index.index (c.in_err-take.ensures.kept.0 ∙ c.loop-index.invariant.counted)))
+
+pub loop-index-preserved : goal.loop-index-preserved
+loop-index-preserved c =
+    let i = c.loop-index.invariant in
+    let test = c.loop-index-test.true in
+    let below : c.loop-index.index < length c.args.packets.now = search rules in
+    let count = c.in_ok-take.ensures.counted in
+    let before = i.counted in
+    record {
+      job = c.take.ensures.job ∙ i.job;
+      counted = omega arith;
+      is_open = c.in_ok-take.ensures.ok.1;
+      world = c.in_ok-take.ensures.world
+          ∙ ap (λ (w : World). after (job_of c.loop-index.self) w (frame_of c.index-packets-index.result.0)) i.world
+          ∙ ap (λ (j : RunJob). after j (world_after (job_of c.args.self.now) (world_in c.args.self.now (texts_of c.args.out.now)) (map (λ packet. frame_of packet.0) (take c.loop-index.index c.args.packets.now))) (frame_of c.index-packets-index.result.0)) (same_job c.loop-index.self c.args.self.now i.job)
+          ∙ ap (λ (p : Record × View). after (job_of c.args.self.now) (world_after (job_of c.args.self.now) (world_in c.args.self.now (texts_of c.args.out.now)) (map (λ packet. frame_of packet.0) (take c.loop-index.index c.args.packets.now))) (frame_of p.0)) c.index-packets-index.is
+          ∙ sym (world_next (job_of c.args.self.now) (world_in c.args.self.now (texts_of c.args.out.now)) (λ packet. frame_of packet.0) c.args.packets.now c.loop-index.index c.index-packets-index.result below);
+    }
