@@ -2,7 +2,7 @@
 use Rattle.std.proofs.Common.{◌≡◌, ℕ, ◌+◌, ◌≤◌, List, [], ◌∷◌, ◌++◌, length, map, take, drop, Option, Some, None, Result, Ok, Err, refl, sym, ◌∙◌, ap, arith}
 use Rattle.std.specs.List.{All, flat_map}
 use Rattle.std.proofs.lemmas.List.{append_assoc, append-nil, length-append, take_at}
-use Rattle.std.proofs.lemmas.List.Quantifiers.{All-head, All-tail}
+use Rattle.std.proofs.lemmas.List.Elements.{All-head, All-tail, All-weaker}
 use Rattle.pfr_capture.specs.declared.capture.CaptureError.{CaptureError}
 use Rattle.pfr_capture.specs.declared.capture.Form.{Form}
 use Rattle.pfr_capture.specs.declared.capture.Record.{Record}
@@ -25,7 +25,7 @@ same_frames form (packet ∷ packets) all =
     rw (is.fields.link, is.fields.seconds, same_frames form packets (All-tail (IsPacket form) packet packets all)) refl
 
 pub all_viewed : (form : Form) (packets : List (Record × View)) → All (IsPacket form) packets → All (λ packet. packet.1 ≡ view_of packet.0.link packet.0.bytes.items) packets
-all_viewed form packets all = All-weaker (IsPacket form) _ packets (λ packet is. is.view_is) all
+all_viewed form packets all = All-weaker (IsPacket form) (λ packet. packet.1 ≡ view_of packet.0.link packet.0.bytes.items) (λ packet is. is.view_is) packets all
 
 -- ---- the reader
 

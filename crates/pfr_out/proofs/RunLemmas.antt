@@ -1,10 +1,10 @@
 -- How far a run has come, and how it stops.
 use Rattle.std.proofs.Common.{◌≡◌, ℕ, suc, ◌+◌, ◌*◌, ◌<◌, ◌≤◌, Bool, true, false, List, [], ◌++◌, length, map, take, drop, Option, Some, None, Result, Ok, Err, inl, inr, refl, sym, ◌∙◌, ap, arith}
 use Rattle.std.specs.List.{All}
-use Rattle.std.proofs.Math.Nat.{suc-mul}
+use Rattle.std.proofs.Math.Nat.{suc-mul, zero-mul}
 use Rattle.std.proofs.lemmas.List.{append-nil, append_assoc, length-append, length-map, map-append, take-take, take_at}
 use Rattle.pfr_capture.specs.declared.capture.CaptureError.{CaptureError}
-use Rattle.pfr_capture.specs.declared.capture.CaptureError.TheVariants as capture
+use Rattle.pfr_capture.specs.declared.capture.CaptureError.TheVariants as refusal
 use Rattle.pfr_capture.specs.declared.capture.Form.{Form}
 use Rattle.pfr_capture.specs.declared.capture.Record.{Record}
 use Rattle.pfr_capture.specs.declared.capture.Tail.{Tail}
@@ -88,7 +88,7 @@ at_start job batch capture read left old new world given world_is grew = record 
     grew = header_is_online old new capture.header (run_of job capture.form []) (ap (λ (w : World). w.texts) (run_none job capture.form) ∙ opening_bare job) grew;
     world_is = world_is ∙ sym (ap bare (run_none job capture.form) ∙ bare_opening job);
   };
-  boundary = (0, refl);
+  boundary = (0, sym (zero-mul batch));
 }
 
 -- ---- a batch
@@ -188,7 +188,7 @@ pub counted_by : (job : RunJob) (capture : Reading) (text left : List ℕ) (old 
 unfolding run_of world_of opening
 counted_by job capture text left old new world records s =
     let count : (run_of job capture.form records).count ≡ 0 + length (map (frame_in capture.form) records) = world_count job (opening job) (map (frame_in capture.form) records) in
-    let same : length (map (frame_in capture.form) records) ≡ length records = length-map (frame_in capture.form) records in
+    let same : length (map (frame_in capture.form) records) ≡ length records = length-map records (frame_in capture.form) in
     let ours : world.count ≡ (run_of job capture.form records).count = ap (λ (w : World). w.count) s.world_is in
     omega arith
 
@@ -210,7 +210,7 @@ holds_all job capture text left old new world records end s is = record {
   grew = rw (text_header job capture text left old new world records s) s.grew;
 }
 
-pub holds_all_read : (job : RunJob) (capture : Reading) (text left : List ℕ) (old new : Outputs) (world : World) (records : List RecordBytes) → SoFar job capture text left old new world records → LacksRecord capture capture.Read
+pub holds_all_read : (job : RunJob) (capture : Reading) (text left : List ℕ) (old new : Outputs) (world : World) (records : List RecordBytes) → SoFar job capture text left old new world records → LacksRecord capture refusal.Read
     → HoldsAllRead job text left old new world.count
 holds_all_read job capture text left old new world records s lacks =
     let is = read_is_capture capture s.read records s.given lacks in
@@ -273,7 +273,7 @@ pub batch_stopped : (job : RunJob) (batch : ℕ) (capture capture' : Reading) (t
 batch_stopped job batch capture capture' text left left' old mid new world packets (stop.Memory committed) h b few stops =
     rw (stops.0, stops.1) (memory_stopped job batch capture text left left' old mid world h (record { came = b.on.came; gave = b.on.gave }))
 batch_stopped job batch capture capture' text left left' old mid new world packets (stop.Write output committed) h b few stops =
-    rw stops.0 (holds_part_of_batch job batch capture capture' text left left' old mid new world h.records packets output world.count h.so_far b (rw (length-map _ packets) few) h.boundary
+    rw stops.0 (holds_part_of_batch job batch capture capture' text left left' old mid new world h.records packets output world.count h.so_far b (rw (length-map packets _) few) h.boundary
     (counted_by job capture text left old mid world h.records h.so_far) stops.1)
 batch_stopped job batch capture capture' text left left' old mid new world packets (stop.Ruleset fault) h b few stops = absurd stops
 batch_stopped job batch capture capture' text left left' old mid new world packets (stop.Capture e committed) h b few stops = absurd stops
@@ -286,7 +286,7 @@ pub next_head : (job : RunJob) (batch : ℕ) (capture capture' : Reading) (text 
 next_head job batch capture capture' text left left' old mid new world world' packets h b full left_is grew = record {
   records = h.records ++ records_of packets;
   so_far = batch_taken job capture capture' text left left' old mid new world world' h.records packets h.so_far b left_is grew;
-  boundary = more_batches batch (length h.records) (length (h.records ++ records_of packets)) h.boundary (length-append h.records (records_of packets) ∙ ap (λ (n : ℕ). length h.records + n) (length-map _ packets ∙ full));
+  boundary = more_batches batch (length h.records) (length (h.records ++ records_of packets)) h.boundary (length-append h.records (records_of packets) ∙ ap (λ (n : ℕ). length h.records + n) (length-map packets _ ∙ full));
 }
   where
     more_batches : (batch before after : ℕ) → IsBoundary batch before → after ≡ before + batch → IsBoundary batch after
@@ -300,27 +300,27 @@ pub reading_stopped : (job : RunJob) (batch : ℕ) (capture capture' : Reading) 
     → (capture'.form ≡ capture.form) × (capture'.header ≡ capture.header) → All (IsPacket capture.form) packets
     → world' ≡ bare (world_after job world (frames_of packets)) → Grew mid new (batch_alone (world_after job world (frames_of packets)).texts)
     → Stopped job batch text left' old new (stop_for e world'.count)
-reading_stopped job batch capture capture' text left left' old mid new world world' packets capture.Read h other says same all left_is grew =
+reading_stopped job batch capture capture' text left left' old mid new world world' packets refusal.Read h other says same all left_is grew =
     inr (holds_all_read job capture' text left' old new world' (h.records ++ records_of packets)
     (batch_taken job capture capture' text left left' old mid new world world' h.records packets h.so_far (record { on = says.0; same = same; packets_are = all }) left_is grew) says.1)
-reading_stopped job batch capture capture' text left left' old mid new world world' packets capture.Memory h other says same all left_is grew = absurd (cc other)
-reading_stopped job batch capture capture' text left left' old mid new world world' packets (capture.RecordTooLong asked) h other says same all left_is grew =
-    holds_all job capture' text left' old new world' (h.records ++ records_of packets) (Err (capture.RecordTooLong asked))
+reading_stopped job batch capture capture' text left left' old mid new world world' packets refusal.Memory h other says same all left_is grew = absurd (cc other)
+reading_stopped job batch capture capture' text left left' old mid new world world' packets (refusal.RecordTooLong asked) h other says same all left_is grew =
+    holds_all job capture' text left' old new world' (h.records ++ records_of packets) (Err (refusal.RecordTooLong asked))
     (batch_taken job capture capture' text left left' old mid new world world' h.records packets h.so_far (record { on = says.0; same = same; packets_are = all }) left_is grew)
-    (rw same.0 (capture_is job capture text left old mid world h.records (records_of packets) (Err (capture.RecordTooLong asked)) h.so_far says.1))
-reading_stopped job batch capture capture' text left left' old mid new world world' packets capture.HeaderCut h other says same all left_is grew = absurd says
-reading_stopped job batch capture capture' text left left' old mid new world world' packets capture.BadMagic h other says same all left_is grew = absurd says
-reading_stopped job batch capture capture' text left left' old mid new world world' packets capture.BadVersion h other says same all left_is grew = absurd says
-reading_stopped job batch capture capture' text left left' old mid new world world' packets (capture.LinkType link) h other says same all left_is grew = absurd says
+    (rw same.0 (capture_is job capture text left old mid world h.records (records_of packets) (Err (refusal.RecordTooLong asked)) h.so_far says.1))
+reading_stopped job batch capture capture' text left left' old mid new world world' packets refusal.HeaderCut h other says same all left_is grew = absurd says
+reading_stopped job batch capture capture' text left left' old mid new world world' packets refusal.BadMagic h other says same all left_is grew = absurd says
+reading_stopped job batch capture capture' text left left' old mid new world world' packets refusal.BadVersion h other says same all left_is grew = absurd says
+reading_stopped job batch capture capture' text left left' old mid new world world' packets (refusal.LinkType link) h other says same all left_is grew = absurd says
 
 -- ---- before the loop
 
 -- the capture was not opened
 pub refused_opening : (job : RunJob) (batch : ℕ) (text left : List ℕ) (old : Outputs) (e : CaptureError) (before after : ℕ) → RefusesHeader text e → StopsEarly text left e → OpenFails e before after → Stopped job batch text left old old (stop_for e 0)
-refused_opening job batch text left old capture.Read before after refuses early fails = inl (record { none = refl; early = early; same = refl })
-refused_opening job batch text left old capture.Memory before after refuses early fails = inl (record { none = refl; same = refl })
-refused_opening job batch text left old (capture.RecordTooLong asked) before after refuses early fails = absurd fails
-refused_opening job batch text left old capture.HeaderCut before after refuses early fails = (refuses, refl, refl)
-refused_opening job batch text left old capture.BadMagic before after refuses early fails = (refuses, refl, refl)
-refused_opening job batch text left old capture.BadVersion before after refuses early fails = (refuses, refl, refl)
-refused_opening job batch text left old (capture.LinkType link) before after refuses early fails = (refuses, refl, refl)
+refused_opening job batch text left old refusal.Read before after refuses early fails = inl (record { none = refl; early = early; same = refl })
+refused_opening job batch text left old refusal.Memory before after refuses early fails = inl (record { none = refl; same = refl })
+refused_opening job batch text left old (refusal.RecordTooLong asked) before after refuses early fails = absurd fails
+refused_opening job batch text left old refusal.HeaderCut before after refuses early fails = (refuses, refl, refl)
+refused_opening job batch text left old refusal.BadMagic before after refuses early fails = (refuses, refl, refl)
+refused_opening job batch text left old refusal.BadVersion before after refuses early fails = (refuses, refl, refl)
+refused_opening job batch text left old (refusal.LinkType link) before after refuses early fails = (refuses, refl, refl)

@@ -1,5 +1,5 @@
 -- The five outputs of a run, and how they grow.
-use Rattle.std.specs.Prelude.{◌≡◌, ◌×◌, ℕ, Bool, List, [], ◌++◌, IsTrue}
+use Rattle.std.specs.Prelude.{◌≡◌, ℕ, Bool, List, [], ◌++◌, IsTrue}
 use Rattle.pfr_capture.specs.Device.{GrewByPart, Rose}
 use Rattle.pfr_commit.specs.World.{Texts}
 use Rattle.pfr_out.specs.declared.report.Output.{Output}

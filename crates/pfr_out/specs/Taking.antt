@@ -1,5 +1,5 @@
 -- One batch of packets on its way into the outputs, and the end of a run.
-use Rattle.std.specs.Prelude.{◌≡◌, ◌×◌, ℕ, ⊥, List, map}
+use Rattle.std.specs.Prelude.{◌≡◌, ℕ, List, map}
 use Rattle.pfr_capture.specs.declared.capture.Record.{Record}
 use Rattle.pfr_capture.specs.declared.capture.Tail.{Tail}
 use Rattle.pfr_headers.specs.declared.packet.View.{View}

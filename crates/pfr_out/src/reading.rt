@@ -1,15 +1,20 @@
 //! Records from a capture, a batch at a time.
-ghost use Rattle.std.specs.Prelude.{◌≡◌, ◌≤◌, ◌+◌, ◌^◌, None, IsTrue, length};
+ghost use Rattle.std.specs.Prelude.{◌≡◌, ◌≤◌, ◌+◌, ◌^◌, ◌++◌, [], ◌∷◌, None, IsTrue, OnOk, OnErr, length};
 ghost use Rattle.std.specs.List.{All};
+ghost use Rattle.pfr_headers.specs.View.{view_of};
 ghost use Rattle.pfr_out.specs.Reading.{BatchFails, BatchSays, IsPacket, records_of, wants_memory};
 
 use pfr_capture::{Capture, CaptureError, Record, Source, Tail};
 use pfr_headers::{View, view};
+use std::alloc::AllocError;
 
-/// Puts a record behind others, with its view.
-fn put_packet(packets: &mut Vec<(Record, View)>, record: Record) -> Result<(), CaptureError> {
-    let view = view(record.link, record.bytes.as_slice());
-    packets.push((record, view))?;
+/// Puts a record behind others, with its view. Where memory is refused they are as before.
+fn put_packet(packets: &mut Vec<(Record, View)>, packet: Record) -> Result<(), AllocError>
+    ensures done { OnOk result (packets.new.items ≡ packets.old.items ++ (packet, view_of packet.link packet.bytes.items) ∷ []) }
+    ensures kept { OnErr result (packets.new.items ≡ packets.old.items) }
+{
+    let view = view(packet.link, packet.bytes.as_slice());
+    packets.push((packet, view))?;
     Ok(())
 }
 

@@ -1,5 +1,5 @@
 //! The replay of a capture.
-ghost use Rattle.std.specs.Prelude.{◌≡◌, ◌≤◌, ℕ, List, [], false, None, IsTrue, IfErr, IfOk, OnOk};
+ghost use Rattle.std.specs.Prelude.{◌≡◌, ◌≤◌, ℕ, List, [], ◌++◌, false, None, IsTrue, IfErr, IfOk, OnOk};
 ghost use Rattle.pfr_capture.specs.Reading.{HasGiven};
 ghost use Rattle.pfr_commit.specs.Books.{job_of, world_in};
 ghost use Rattle.pfr_commit.specs.World.{no_texts, opening};

@@ -1,0 +1,24 @@
+use Rattle.std.proofs.Common.{◌≡◌, ◌≤◌, ◌+◌, ◌-◌, ◌^◌, ◌++◌, List, ℕ, [], None, IsTrue}
+use Rattle.pfr_capture.specs.Reading.{HasGiven}
+use Rattle.pfr_commit.specs.Books.{job_of, world_in}
+use Rattle.pfr_commit.specs.World.{no_texts}
+use Rattle.pfr_out.specs.Outputs.{AllTold, each_of}
+use Rattle.pfr_out.proofs.RunLemmas.{AtHead}
+use Rattle.pfr_out.proofs.run.replay_capture.Given as goal
+
+abbrev pub invariant-loop : goal.invariant-loop
+invariant-loop g l = record {
+  reading : l.capture.over ≡ None;
+  job : l.book.job ≡ l.fn.book.job;
+  counted : l.capture.count ≡ l.book.count;
+  few : l.capture.count ≤ 2 ^ 40;
+  source_told : g.R.Source.told l.source ≡ g.R.Source.told l.fn.source;
+  source_failures : g.R.Source.failures l.source ≡ g.R.Source.failures l.fn.source;
+  sinks_told : each_of g.S.Sink.told l.sinks ≡ each_of g.S.Sink.told l.fn.sinks;
+  sinks_failures : each_of g.S.Sink.failures l.sinks ≡ each_of g.S.Sink.failures l.fn.sinks;
+  at_head : IsTrue (g.R.Source.told l.fn.source) → AllTold (each_of g.S.Sink.told l.fn.sinks) → (read : List ℕ) → HasGiven l.fn.capture read []
+      → AtHead (job_of l.fn.book) l.batch l.capture (read ++ g.R.Source.unread l.fn.source) (g.R.Source.unread l.source) (each_of g.S.Sink.written l.fn.sinks) (each_of g.S.Sink.written l.sinks) (world_in l.book no_texts);
+}
+
+abbrev pub decreases-loop : goal.decreases-loop
+decreases-loop g l = 2 ^ 40 - l.capture.count
