@@ -3,6 +3,7 @@
 A command stands in an indented block behind `$ `, and what it prints below it; a line of two dots stands for the rest.
 """
 
+import os
 import subprocess
 from typing import NamedTuple
 
@@ -11,7 +12,7 @@ from cases import EXAMPLES
 DOCUMENT = EXAMPLES / "README.md"
 INDENT, PROMPT, REST = "    ", "    $ ", "    .."
 # first words of commands that are run; others are for the reader alone
-RUN = ("./pfreplay", "cat", "sed", "head", "tail", "grep", "wc", "cmp")
+RUN = ("./pfreplay", "cat", "sed", "head", "tail", "grep", "wc", "cut")
 TIME_LIMIT = 10
 
 
@@ -51,7 +52,7 @@ def commands(text):
 def printed_by(command, folder):
     """What a command prints on both streams, in lines."""
     done = subprocess.run(["bash", "-c", command.text], cwd=folder, stdin=subprocess.DEVNULL, stdout=subprocess.PIPE,
-                          stderr=subprocess.STDOUT, timeout=TIME_LIMIT, check=False)
+                          stderr=subprocess.STDOUT, timeout=TIME_LIMIT, env={**os.environ, "LC_ALL": "C"}, check=False)
     return done.stdout.decode(errors="replace").splitlines()
 
 
