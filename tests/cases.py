@@ -9,6 +9,9 @@ from typing import NamedTuple
 from packets import MICROSECONDS, NANOSECONDS, capture_header, ipv4, record, udp
 
 EXAMPLES = Path(__file__).resolve().parent.parent / "examples"
+# the inside networks of the examples that don't have those of most cases
+EXAMPLE_INSIDES = {"gateway": "198.51.100.64/27,192.0.2.1", "server": "192.0.2.1",
+                   "router": "198.51.100.0/24,203.0.113.0/26"}
 FIRST_RULES = (b"block in all\npass in quick from 198.51.100.0/24 to any no state\n"
                b"block in from 198.51.100.7 to any\n")
 INSIDE = "10.0.0.0/8"
@@ -91,10 +94,11 @@ def rows():
 
 
 def examples():
-    """Every ruleset of the examples on every capture."""
+    """Every ruleset of the examples on every capture, with the networks that belong to one of both and with others."""
     for rules in sorted(EXAMPLES.glob("*.conf")):
         for capture in sorted(EXAMPLES.glob("*.pcap")):
-            for inside in (INSIDE, "198.51.100.0/24,192.0.2.1", "0.0.0.0/0"):
+            insides = {EXAMPLE_INSIDES.get(rules.stem, INSIDE), EXAMPLE_INSIDES.get(capture.stem, INSIDE), "0.0.0.0/0"}
+            for inside in sorted(insides):
                 yield Case(f"{rules.name} {inside} {capture.name}", rules.read_bytes(), inside,
                            capture.read_bytes())
 
