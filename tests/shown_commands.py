@@ -1,4 +1,4 @@
-"""Runs the commands that the document of the examples shows, and compares what they print with what is shown.
+"""Runs the commands that the documents show, and compares what they print with what is shown.
 
 A command stands in an indented block behind `$ `, and what it prints below it; a line of two dots stands for the rest.
 """
@@ -9,7 +9,8 @@ from typing import NamedTuple
 
 from cases import EXAMPLES
 
-DOCUMENT = EXAMPLES / "README.md"
+ROOT = EXAMPLES.parent
+DOCUMENTS = (ROOT / "README.md", EXAMPLES / "README.md")
 INDENT, PROMPT, REST = "    ", "    $ ", "    .."
 # first words of commands that are run; others are for the reader alone
 RUN = ("./pfreplay", "cat", "sed", "head", "tail", "grep", "wc", "cut")
@@ -57,15 +58,20 @@ def printed_by(command, folder):
 
 
 def compare(comparison):
-    """All commands, in a folder in which the examples and the program stand as the document has them."""
-    folder = comparison.folder / "shown"
-    folder.mkdir()
-    (folder / "examples").symlink_to(EXAMPLES)
-    (folder / "pfreplay").symlink_to(comparison.program)
-    shown = [command for command in commands(DOCUMENT.read_text()) if command.text.split()[0] in RUN]
+    """The commands of each document, in a folder in which the examples and the program stand as the documents have them."""
+    for number, document in enumerate(DOCUMENTS):
+        folder = comparison.folder / f"shown{number}"
+        folder.mkdir()
+        (folder / "examples").symlink_to(EXAMPLES)
+        (folder / "pfreplay").symlink_to(comparison.program)
+        compare_document(comparison, document, folder)
+
+
+def compare_document(comparison, document, folder):
+    name = document.relative_to(ROOT)
+    shown = [command for command in commands(document.read_text()) if command.text.split()[0] in RUN]
+    comparison.expect(f"{name} shows commands", True, bool(shown))
     for command in shown:
         seen = printed_by(command, folder)
-        if command.agrees(seen):
-            seen = command.printed
-        comparison.expect(f"{DOCUMENT.name}, line {command.line}: {command.text}", command.printed, seen)
-    comparison.expect(f"{DOCUMENT.name} shows commands", True, bool(shown))
+        comparison.expect(f"{name}, line {command.line}: {command.text}", command.printed,
+                          command.printed if command.agrees(seen) else seen)
