@@ -75,6 +75,14 @@ def rows():
     yield refused(Case("a header of 23 bytes", b"", INSIDE, capture_header()[:23]), b"capture: header cut", **EMPTIED)
     yield refused(Case("the magic number of pcapng", b"", INSIDE, bytes.fromhex("0a0d0d0a") + bytes(200)),
                   b"capture: bad magic", **EMPTIED)
+    yield refused(Case("another magic number", b"", INSIDE, capture_header(magic=0xA1B2C3D5) + one), b"capture: bad magic",
+                  **EMPTIED)
+    for order in "<>":
+        yield refused(Case("the major version 3", b"", INSIDE, capture_header(order, major=3, network=12)),
+                      b"capture: bad version", **EMPTIED)
+        for link in (12, 100, 276, 65535):
+            yield refused(Case(f"link type {link}", b"", INSIDE, capture_header(order, network=0xFC000000 | link)),
+                          b"capture: link type %d" % link, **EMPTIED)
     seconds = [record(second, 0, PACKETS[0]) for second in (10, 5, 11)]
     yield wholly(Case("a clock that is set back", b"", INSIDE, opening + b"".join(seconds)),
                  b"1 10 in pass default r=- t=- s=-\n2 10 in pass default r=- t=- s=-\n3 11 in pass default r=- t=- s=-\n",

@@ -45,12 +45,12 @@ def count_calls(trial, targets):
 
 def has_calls(trial, target):
     """Whether a run without a fault can't do without a call of the target: each allocates, what stands in a file was
-    written, and what is done in the end was read."""
+    written, and what is answered was read."""
     if target.call == "allocation":
         return True
     if target.file in trial.outputs:
         return bool(trial.clean.files[trial.outputs.index(target.file)])
-    return bool(target.file) and trial.clean.status == 0
+    return bool(target.file) and bool(trial.clean.out)
 
 
 def judged(trial, judge, fault):
