@@ -12,7 +12,8 @@ import struct
 import sys
 from pathlib import Path
 
-sys.path.insert(0, str(Path(__file__).resolve().parent.parent / "tests"))
+# behind the benches, of which some have the names of modules there
+sys.path.append(str(Path(__file__).resolve().parent.parent / "tests"))
 sys.dont_write_bytecode = True
 
 from packets import ACK, capture_header, tcp, udp

@@ -19,7 +19,7 @@ from pathlib import Path
 sys.dont_write_bytecode = True
 
 from make_capture import write_capture
-from run import INSIDE, PROGRAM, RUNS, count_records, print_row
+from run import PROGRAM, RUNS, count_records, print_row, replay_command
 
 COUNTS = [1, 10, 100, 1000, 10000]
 MOST_PACKETS = 10**5
@@ -65,19 +65,22 @@ class Contest:
         self.count = count
         self.packets = min(MOST_PACKETS, MOST_QUESTIONS // count)
         self.folder = folder
+        self.program = program
         self.capture = self.written_capture("capture.pcap", self.packets)
         pairs = list(vain_pairs(count - 1, self.capture.read_bytes()))
-        rules, self.filter = folder / "rules", folder / "filter"
-        rules.write_text("".join(f"{rule}\n" for rule, _ in pairs) + "pass all no state\n")
+        self.rules, self.filter = folder / "rules", folder / "filter"
+        self.rules.write_text("".join(f"{rule}\n" for rule, _ in pairs) + "pass all no state\n")
         terms = " or ".join(term for _, term in pairs)
         self.filter.write_text(f"ip and not ({terms})\n" if terms else "ip\n")
-        self.program = [str(program), str(rules), INSIDE]
 
     def written_capture(self, name, packets):
         path = self.folder / name
         with open(path, "wb") as file:
             write_capture(packets, file)
         return path
+
+    def replay(self, capture, verdicts=os.devnull):
+        return replay_command(self.program, capture, self.rules, verdicts=verdicts)
 
     def tcpdump(self, capture, passed=os.devnull):
         # as root, tcpdump would give up the right to write into this folder
@@ -88,20 +91,19 @@ class Contest:
         """The best times of the program and of tcpdump, of each the whole run and the run on a capture without
         packets, all in turn. One that is given up isn't run again, and has its reason for a time."""
         empty = self.written_capture("empty.pcap", 0)
-        runs = [(self.program, self.capture), (self.program, empty),
-                (self.tcpdump(self.capture), self.capture), (self.tcpdump(empty), empty)]
+        runs = [make(capture) for make in (self.replay, self.tcpdump) for capture in (self.capture, empty)]
         best = [PATIENCE] * len(runs)
         for _ in range(RUNS):
-            for place, (command, capture) in enumerate(runs):
+            for place, command in enumerate(runs):
                 # what is given up on a capture needn't be tried on none
                 if not any(isinstance(found, str) for found in best[place // 2 * 2:place + 1]):
-                    best[place] = better(best[place], command, capture)
+                    best[place] = better(best[place], command)
         return best[:2], best[2:]
 
     def check_program(self, few):
         """The last rule decides on each packet of a short capture."""
         lines = self.folder / "lines"
-        seconds(self.program, few, lines)
+        seconds(self.replay(few, lines))
         found = lines.read_bytes()
         decided = f" pass rule r={self.count - 1} t=- s=-\n".encode()
         if found.count(decided) != CHECKED_PACKETS or found.count(b"\n") != CHECKED_PACKETS:
@@ -110,29 +112,29 @@ class Contest:
     def check_tcpdump(self, few):
         """The filter passes each packet of a short capture."""
         passed = self.folder / "passed.pcap"
-        seconds(self.tcpdump(few, passed), few)
+        seconds(self.tcpdump(few, passed))
         if count_records(passed.read_bytes()) != CHECKED_PACKETS:
             sys.exit(f"tcpdump's filter of {self.count - 1} terms doesn't pass each packet")
 
 
-def seconds(command, capture, out=os.devnull):
+def seconds(command):
     """The time of one run from its start to its end, or GivenUp."""
-    with open(capture, "rb") as source, open(out, "wb") as out_file:
-        start = time.perf_counter()
-        try:
-            subprocess.run(command, stdin=source, stdout=out_file, stderr=subprocess.PIPE, check=True, timeout=PATIENCE)
-        except subprocess.TimeoutExpired:
-            raise GivenUp(f"none in {PATIENCE} s") from None
-        except subprocess.CalledProcessError as failure:
-            said = failure.stderr.decode(errors="replace").strip().splitlines()
-            raise GivenUp(f"failed: {said[-1] if said else failure.returncode}") from None
-        return time.perf_counter() - start
+    start = time.perf_counter()
+    try:
+        subprocess.run(command, stdin=subprocess.DEVNULL, stdout=subprocess.DEVNULL, stderr=subprocess.PIPE, check=True,
+                       timeout=PATIENCE)
+    except subprocess.TimeoutExpired:
+        raise GivenUp(f"none in {PATIENCE} s") from None
+    except subprocess.CalledProcessError as failure:
+        said = failure.stderr.decode(errors="replace").strip().splitlines()
+        raise GivenUp(f"failed: {said[-1] if said else failure.returncode}") from None
+    return time.perf_counter() - start
 
 
-def better(best, command, capture):
+def better(best, command):
     """The better of a time and that of one more run, or why there is none."""
     try:
-        return min(best, seconds(command, capture))
+        return min(best, seconds(command))
     except GivenUp as why:
         return str(why)
 

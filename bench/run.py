@@ -20,7 +20,8 @@ from make_capture import write_capture
 
 ROOT = Path(__file__).resolve().parent.parent
 PROGRAM = ROOT / "crates" / "pfr_cli" / "out" / "pfr_cli"
-INSIDE = "10.0.0.0/8"
+FLAGS = ("--interface", "em0", "--address", "192.0.2.1/24", "--inside", "10.0.0.0/8")
+OUTPUTS = ("verdicts", "packets", "counters", "states")
 # the ruleset and the filter pass the same packets
 RULES = "block in all\npass in from 198.51.100.0/24 to any no state\npass out all no state\n"
 FILTER = "src net 10.0.0.0/8 or src net 198.51.100.0/24"
@@ -40,21 +41,21 @@ class Contest:
         rules.write_text(RULES)
         with open(self.capture, "wb") as file:
             write_capture(count, file)
-        self.program = [str(program), str(rules), INSIDE, str(folder / "written.pcap")]
+        self.program = replay_command(program, self.capture, rules, verdicts=self.lines, packets=folder / "written.pcap",
+                                      counters=folder / "counters", states=folder / "states")
         # as root, tcpdump would give up the right to write into this folder
         user = ["-Z", "root"] if os.geteuid() == 0 else []
         self.tcpdump = ["tcpdump", *user, "-r", str(self.capture), "-w", str(self.passed), FILTER]
 
-    def seconds(self, command, out=os.devnull):
+    def seconds(self, command):
         """The time of one run from its start to its end."""
-        with open(self.capture, "rb") as source, open(out, "wb") as out_file:
-            start = time.perf_counter()
-            subprocess.run(command, stdin=source, stdout=out_file, stderr=subprocess.PIPE, check=True)
-            return time.perf_counter() - start
+        start = time.perf_counter()
+        subprocess.run(command, stdin=subprocess.DEVNULL, stdout=subprocess.DEVNULL, stderr=subprocess.PIPE, check=True)
+        return time.perf_counter() - start
 
     def best_seconds(self):
         """The best times of the program and of tcpdump, run in turn."""
-        times = [(self.seconds(self.program, self.lines), self.seconds(self.tcpdump)) for _ in range(RUNS)]
+        times = [(self.seconds(self.program), self.seconds(self.tcpdump)) for _ in range(RUNS)]
         return map(min, zip(*times))
 
     def peak_memory(self, command):
@@ -74,6 +75,12 @@ class Contest:
         kept = count_records(self.passed.read_bytes())
         if verdicts.count(b"\n") != self.count or passed != kept:
             sys.exit(f"of {self.count} packets the program passes {passed}, tcpdump {kept}")
+
+
+def replay_command(program, capture, rules, **files):
+    """The words that replay a capture; an output that isn't named goes nowhere."""
+    outputs = [str(word) for name in OUTPUTS for word in (f"--{name}", files.get(name, os.devnull))]
+    return [str(program), "run", str(capture), str(rules), *FLAGS, *outputs]
 
 
 def count_records(capture):

@@ -1,4 +1,5 @@
-"""The cases on which the program is compared with the model, the same ones on every run."""
+"""The cases of the command `run` on which the program is compared with the model, the same ones on every run: captures and
+their ends, packets, and single lines of rulesets."""
 
 import random
 import struct
@@ -8,6 +9,9 @@ from typing import NamedTuple
 from packets import MICROSECONDS, NANOSECONDS, capture_header, ipv4, record, udp
 
 EXAMPLES = Path(__file__).resolve().parent.parent / "examples"
+# the inside networks of the examples that don't have those of most cases
+EXAMPLE_INSIDES = {"gateway": "198.51.100.64/27,192.0.2.1", "server": "192.0.2.1",
+                   "router": "198.51.100.0/24,203.0.113.0/26"}
 FIRST_RULES = (b"block in all\npass in quick from 198.51.100.0/24 to any no state\n"
                b"block in from 198.51.100.7 to any\n")
 INSIDE = "10.0.0.0/8"
@@ -18,10 +22,35 @@ FORMS = [(order, magic) for order in "<>" for magic in (MICROSECONDS, NANOSECOND
 
 
 class Case(NamedTuple):
+    """A run of the program: what its files and its words hold."""
     name: str
     rules: bytes
     inside: str
     capture: bytes
+    interface: str = "em0"
+    address: str = "192.0.2.1/24"
+
+
+class Written(NamedTuple):
+    """A case, and what is written out of its outcome by hand: parts of it by their names. A file that is left as it was is
+    None."""
+    case: Case
+    parts: dict
+
+
+def wholly(case, verdicts, packets, count):
+    """What is written out of a case whose capture is read to a clean end."""
+    return Written(case, {"verdicts": verdicts, "packets": packets, "out": b"committed %d\n" % count, "err": b"",
+                          "status": 0})
+
+
+def refused(case, text, **files):
+    """What is written out of a case that is refused, with the files that aren't as they were."""
+    untouched = dict.fromkeys(("verdicts", "packets", "counters", "states"))
+    return Written(case, {"out": b"", "err": b"pfreplay: %s\n" % text, "status": 1, **untouched, **files})
+
+
+EMPTIED = {"verdicts": b"", "packets": b"", "counters": b"", "states": b""}
 
 
 def capture_of(packets, order="<", **header):
@@ -31,37 +60,53 @@ def capture_of(packets, order="<", **header):
 
 
 def rows():
-    """Cases with the outcome written out: standard output, standard error, status and the packets that are
-    written, None where a file for them is left alone."""
+    """Cases of which something is written out."""
     first = capture_of(PACKETS)
     opening = capture_header()
     one, two, three = (record(0, 0, packet) for packet in PACKETS)
-    yield (Case("three packets", FIRST_RULES, INSIDE, first),
-           b"1 0 in pass rule r=1 t=- s=-\n2 0 in block rule r=0 t=- s=-\n3 0 out pass default r=- t=- s=-\n",
-           b"", 0, opening + one + three)
-    yield (Case("a pass rule that keeps state", b"block in all\npass in all\n", INSIDE, first),
-           b"1 0 in pass rule r=1 t=- s=-\n2 0 in pass rule r=1 t=- s=-\n3 0 out pass default r=- t=- s=-\n",
-           b"", 0, first)
-    yield Case("no packet", b"", INSIDE, capture_header()), b"", b"", 0, opening
-    yield (Case("a header of 23 bytes", b"", INSIDE, capture_header()[:23]),
-           b"", b"pfreplay: capture: header cut\n", 1, None)
+    by_default = b"1 0 in pass default r=- t=- s=-\n2 0 in pass default r=- t=- s=-\n"
+    yield wholly(Case("three packets", FIRST_RULES, INSIDE, first),
+                 b"1 0 in pass rule r=1 t=- s=-\n2 0 in block rule r=0 t=- s=-\n3 0 out pass default r=- t=- s=-\n",
+                 opening + one + three, 3)
+    yield wholly(Case("a pass rule that keeps state", b"block in all\npass in all\n", INSIDE, first),
+                 b"1 0 in pass rule r=1 t=- s=1\n2 0 in pass rule r=1 t=- s=2\n3 0 out pass default r=- t=- s=-\n",
+                 first, 3)
+    yield wholly(Case("no packet", b"", INSIDE, capture_header()), b"", opening, 0)
+    yield refused(Case("a header of 23 bytes", b"", INSIDE, capture_header()[:23]), b"capture: header cut", **EMPTIED)
+    yield refused(Case("the magic number of pcapng", b"", INSIDE, bytes.fromhex("0a0d0d0a") + bytes(200)),
+                  b"capture: bad magic", **EMPTIED)
+    yield refused(Case("another magic number", b"", INSIDE, capture_header(magic=0xA1B2C3D5) + one), b"capture: bad magic",
+                  **EMPTIED)
+    for order in "<>":
+        yield refused(Case("the major version 3", b"", INSIDE, capture_header(order, major=3, network=12)),
+                      b"capture: bad version", **EMPTIED)
+        for link in (12, 100, 276, 65535):
+            yield refused(Case(f"link type {link}", b"", INSIDE, capture_header(order, network=0xFC000000 | link)),
+                          b"capture: link type %d" % link, **EMPTIED)
     seconds = [record(second, 0, PACKETS[0]) for second in (10, 5, 11)]
-    yield (Case("a clock that is set back", b"", INSIDE, opening + b"".join(seconds)),
-           b"1 10 in pass default r=- t=- s=-\n2 10 in pass default r=- t=- s=-\n"
-           b"3 11 in pass default r=- t=- s=-\n", b"", 0, opening + b"".join(seconds))
-    yield (Case("the third record cut", b"", INSIDE, first[:-1]),
-           b"1 0 in pass default r=- t=- s=-\n2 0 in pass default r=- t=- s=-\n", b"", 2, opening + one + two)
-    yield (Case("a record too long", b"", INSIDE, first + record(0, 0, b"", captured=262145)),
-           b"1 0 in pass default r=- t=- s=-\n2 0 in pass default r=- t=- s=-\n"
-           b"3 0 out pass default r=- t=- s=-\n",
-           b"pfreplay: capture: record too long 262145, committed 3\n", 1, opening + one + two + three)
+    yield wholly(Case("a clock that is set back", b"", INSIDE, opening + b"".join(seconds)),
+                 b"1 10 in pass default r=- t=- s=-\n2 10 in pass default r=- t=- s=-\n3 11 in pass default r=- t=- s=-\n",
+                 opening + b"".join(seconds), 3)
+    yield Written(Case("the third record cut", b"", INSIDE, first[:-1]),
+                  {"verdicts": by_default, "packets": opening + one + two, "counters": b"total 2 2 0 0 0\n", "states": b"",
+                   "out": b"committed 2, cut\n", "err": b"", "status": 2})
+    too_long = record(0, 0, b"", captured=262145)
+    yield refused(Case("the first record too long", b"", INSIDE, opening + too_long),
+                  b"capture: record too long 262145, committed 0", **{**EMPTIED, "packets": opening})
+    yield refused(Case("the third record too long", b"", INSIDE, opening + one + two + too_long + three),
+                  b"capture: record too long 262145, committed 2",
+                  **{**EMPTIED, "verdicts": by_default, "packets": opening + one + two})
+    yield refused(Case("a record too long behind all others", b"", INSIDE, first + too_long),
+                  b"capture: record too long 262145, committed 3",
+                  **{**EMPTIED, "verdicts": by_default + b"3 0 out pass default r=- t=- s=-\n", "packets": first})
 
 
 def examples():
+    """Every ruleset of the examples on every capture, with the networks that belong to one of both and with others."""
     for rules in sorted(EXAMPLES.glob("*.conf")):
         for capture in sorted(EXAMPLES.glob("*.pcap")):
-            for inside in (INSIDE, "10.0.0.0/8,192.0.2.1", "198.51.100.0/24,203.0.113.9", "192.168.0.0/16",
-                           "0.0.0.0/0"):
+            insides = {EXAMPLE_INSIDES.get(rules.stem, INSIDE), EXAMPLE_INSIDES.get(capture.stem, INSIDE), "0.0.0.0/0"}
+            for inside in sorted(insides):
                 yield Case(f"{rules.name} {inside} {capture.name}", rules.read_bytes(), inside,
                            capture.read_bytes())
 

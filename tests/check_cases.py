@@ -9,6 +9,11 @@ from filter_cases import MANY_RULES, stored
 MOST_TEXT = 1048576
 # of the stored texts each such one, and all those about how many rules there may be
 STORED_STEP = {"rulesets": 11, "expansions": 3}
+# values of flags that aren't of their form
+BAD_INTERFACES = ("", "a_name_of_16_byt", "x" * 1000)
+BAD_ADDRESSES = ("", "192.0.2.1", "192.0.2.1/", "/24", "192.0.2.1/33", "192.0.2.1/256", "192.0.2.1/4294967320", "192.0.2.1/-1",
+                 "192.0.2.256/24", "256.0.2.1/24", "192.0.2/24", "192.0.2.1.1/24", "192.0.2.1/24/24", "192.0.2.1/2x",
+                 "192.0.2.x/24", "192..2.1/24", "em0/24", "192.0.2.1 /24")
 # a command line that fits, but for the word that is named
 RULES, FITTING = "rules", ("--interface", "em0", "--address", "192.0.2.1/24")
 
@@ -88,9 +93,7 @@ def bad_command_lines():
     yield (RULES, *FITTING, "10.0.0.0/8")
     yield ("missing", *FITTING, "packets")
     yield ("missing", *interface)
-    for name in ("", "a_name_of_16_byt", "x" * 1000):
+    for name in BAD_INTERFACES:
         yield (RULES, "--interface", name, *address)
-    for network in ("", "192.0.2.1", "192.0.2.1/", "/24", "192.0.2.1/33", "192.0.2.1/256", "192.0.2.1/4294967320",
-                    "192.0.2.1/-1", "192.0.2.256/24", "256.0.2.1/24", "192.0.2/24", "192.0.2.1.1/24", "192.0.2.1/24/24",
-                    "192.0.2.1/2x", "192.0.2.x/24", "192..2.1/24", "em0/24", "192.0.2.1 /24"):
+    for network in BAD_ADDRESSES:
         yield (RULES, *interface, "--address", network)

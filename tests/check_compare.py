@@ -1,13 +1,17 @@
 """Runs the program's command `check` on many rulesets and compares each run with the model."""
 
 import check_cases
-import check_model
 import model
 from check_cases import FITTING, RULES
+from comparison import a_line
 from model import Outcome
 
-# what a fault of the command line is shown as where the program says something else
-ONE_LINE = b"pfreplay: (one line)\n"
+
+def compare_model(comparison):
+    """What the model says to the cases with a written outcome, which shows that it is right too."""
+    for case, *written in check_cases.rows():
+        comparison.expect(f"model: check: {case.name}", Outcome(*written),
+                          model.check(case.text, case.interface, case.network))
 
 
 def compare(comparison):
@@ -15,7 +19,7 @@ def compare(comparison):
     for case, *written in check_cases.rows():
         compare_case(comparison, case, Outcome(*written))
     for case in check_cases.all_cases():
-        compare_case(comparison, case, check_model.check(case.text, case.interface, case.network))
+        compare_case(comparison, case, model.check(case.text, case.interface, case.network))
     orders(comparison)
     files(comparison)
     command_lines(comparison)
@@ -31,7 +35,7 @@ def compare_case(comparison, case, expected):
 def orders(comparison):
     """The flags in another order, and before the ruleset's name."""
     comparison.rules.write_bytes(b"pass from em0:network")
-    expected = check_model.check(b"pass from em0:network", "em0", "192.0.2.1/24")
+    expected = model.check(b"pass from em0:network", "em0", "192.0.2.1/24")
     rules = [comparison.rules]
     for words in ([*rules, *FITTING[2:], *FITTING[:2]], [*FITTING, *rules], [*FITTING[:2], *rules, *FITTING[2:]]):
         comparison.expect(f"check: words {words}", expected, comparison.execute(["check", *words]))
@@ -46,13 +50,6 @@ def files(comparison):
     with open("/dev/full", "wb") as full:
         seen = comparison.execute(["check", comparison.rules, *FITTING], out=full)
         comparison.expect("check: a full disk", Outcome(b"", a_line(seen, b"pfreplay: write failed"), 3), seen)
-
-
-def a_line(seen, beginning):
-    """What was said where it is one line with this beginning, else what stands for such a line."""
-    if seen is not None and seen.err.startswith(beginning) and seen.err.find(b"\n") == len(seen.err) - 1:
-        return seen.err
-    return ONE_LINE
 
 
 def command_lines(comparison):

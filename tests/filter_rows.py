@@ -1,12 +1,13 @@
-"""Cases on rules and anchors with the outcome written out: what each criterion holds of, and which rule decides.
+"""Cases on rules and anchors with the words of lines written out: what each criterion holds of, and which rule decides.
 
 The packets come in unless it is said otherwise, and most rulesets block what they don't name, so that a packet is `in`
-by the verdict `pass` alone.
+by the verdict `pass` alone. What is written out of a packet holds where it comes alone, since some make states for others.
 """
 
-from cases import INSIDE, Case, capture_of
-from packets import (ACK, FIN, MORE_FRAGMENTS, PSH, RST, SYN, TCP, UDP, capture_header, echo, ipv4, record,
-                     summed_message, tcp, udp)
+from typing import NamedTuple
+
+from cases import INSIDE, Case, capture_of, refused
+from packets import (ACK, FIN, MORE_FRAGMENTS, PSH, RST, SYN, TCP, UDP, echo, ipv4, summed_message, tcp, udp)
 
 OUTSIDE, HERE = "198.51.100.7", "192.0.2.1"
 ICMP, GRE = 1, 47
@@ -16,13 +17,20 @@ FOUR_OPTION_BYTES = bytes([1, 1, 1, 1])
 BLOCKED = "in block rule r=0"
 
 
+class Row(NamedTuple):
+    """A case, and of each packet of its capture the words of its line, from the direction to the rule, where it comes
+    alone."""
+    case: Case
+    judged: tuple
+
+    def alone(self):
+        """A case for each packet, with these words."""
+        for packet, words in self.judged:
+            yield self.case._replace(capture=capture_of([packet])), words
+
+
 def row(name, rules, *judged, inside=INSIDE):
-    """A row of packets, each with the words of its line between the clock and the last two fields."""
-    packets = [packet for packet, _ in judged]
-    lines = [f"{number} 0 {words} t=- s=-\n" for number, (_, words) in enumerate(judged, 1)]
-    written = [record(0, 0, packet) for packet, words in judged if words.split()[1] == "pass"]
-    return (Case(name, rules.encode(), inside, capture_of(packets)), "".join(lines).encode(), b"", 0,
-            capture_header() + b"".join(written))
+    return Row(Case(name, rules.encode(), inside, capture_of([packet for packet, _ in judged])), judged)
 
 
 def passing(name, rule, *judged):
@@ -82,7 +90,7 @@ def verdict_rows():
               (UDP_NINE, "in return rule r=0"), (SYN_PACKET, "in block rule r=1"))
     yield row("a policy of dropping", "set block-policy drop\nblock in\nblock return in proto tcp",
               (UDP_NINE, "in block rule r=0"), (SYN_PACKET, "in return rule r=1"))
-    yield row("a skipped interface", "set skip on em0\nblock in", (UDP_NINE, "in block rule r=0"))
+    yield row("a skipped interface", "set skip on em0\nblock in", (UDP_NINE, "- pass skip-on r=-"))
     yield row("directions", "block in\npass out", (UDP_NINE, "in block rule r=0"),
               (udp("10.0.0.5", 9, OUTSIDE, 9), "out pass rule r=1"))
     yield row("the last of several", "block\npass\nblock proto tcp\nblock proto icmp", (UDP_NINE, "in pass rule r=1"),
@@ -94,9 +102,9 @@ def verdict_rows():
     # the rules that are visited have a gap at each anchor
     yield row("300 anchors that don't hold", "anchor proto tcp {\nblock quick\n}\npass in\n" * 300,
               (UDP_NINE, "in pass rule r=599"), (PING, "in pass rule r=599"))
-    # each packet is judged by itself, so the answer to one that a stateful rule has let out stays outside
-    yield row("no states", "block\npass out keep state", (udp("10.0.0.5", 9, OUTSIDE, 9), "out pass rule r=1"),
-              (udp(OUTSIDE, 9, "10.0.0.5", 9), "in block rule r=0"))
+    # behind the first the second would be of its state
+    yield row("an answer that nobody asked for", "block\npass out keep state",
+              (udp("10.0.0.5", 9, OUTSIDE, 9), "out pass rule r=1"), (udp(OUTSIDE, 9, "10.0.0.5", 9), "in block rule r=0"))
 
 
 # Criteria
@@ -304,18 +312,19 @@ FAULTS = (
 )
 
 
-def fault_rows():
-    capture = capture_of([UDP_NINE])
-    for text, line, kind in FAULTS:
-        yield (Case(f"{kind} on line {line} of {text[:30]!r}", text.encode("latin-1"), INSIDE, capture), b"",
-               f"pfreplay: rules line {line}: {kind}\n".encode(), 1, None)
-    yield (Case("a fault of the rules before one of the capture", b"scrub all", INSIDE, b""), b"",
-           b"pfreplay: rules line 1: left out: scrub\n", 1, None)
+def length_rows():
     yield row("a text of 1 MiB", "block in #".ljust(1048576, "x"), (UDP_NINE, BLOCKED))
 
 
+def faults():
+    """Rulesets with a fault, as the rows of `cases`."""
+    capture = capture_of([UDP_NINE])
+    for text, line, kind in FAULTS:
+        yield refused(Case(f"{kind} on line {line} of {text[:30]!r}", text.encode("latin-1"), INSIDE, capture),
+                      f"rules line {line}: {kind}".encode())
+
+
 def rows():
-    """Cases with the outcome written out, as those of `cases`."""
     for make in (verdict_rows, port_rows, flag_rows, icmp_rows, protocol_rows, address_rows, table_rows, interface_rows,
-                 fragment_rows, anchor_rows, fault_rows):
+                 fragment_rows, anchor_rows, length_rows):
         yield from make()

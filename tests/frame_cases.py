@@ -3,7 +3,7 @@
 import random
 import struct
 
-from cases import FORMS, INSIDE, Case, capture_of
+from cases import EMPTIED, FORMS, INSIDE, Case, capture_of, refused, wholly
 from packets import (ACK, DONT_FRAGMENT, ETHER_ARP, ETHER_IPV4, ETHER_IPV6, ETHER_VLAN, LINKTYPE_ETHERNET,
                      LINKTYPE_LOOPBACK, LINKTYPE_RAW, MORE_FRAGMENTS, SYN, TCP, UDP, UNREACHABLE, capture_header,
                      echo, ethernet, icmp_error, ipv4, loopback, record, tcp, udp)
@@ -45,15 +45,15 @@ def link_capture(link, frames, order="<", **header):
     return capture_of(frames, order, network=link, **header)
 
 
-def one_frame(name, link, frame, line, written, rules=b""):
+def one_frame(name, link, frame, line, is_written, rules=b""):
     """A row of a single frame: its line, and whether it is written."""
     capture = link_capture(link, [frame])
-    return (Case(name, rules, INSIDE, capture), line, b"", 0,
-            capture_header(network=link) + (record(0, 0, frame) if written else b""))
+    return wholly(Case(name, rules, INSIDE, capture), line,
+                  capture_header(network=link) + (record(0, 0, frame) if is_written else b""), 1)
 
 
 def frame_rows():
-    """What is seen of a frame of each link."""
+    """What is seen of a frame of each link. What no rule matches makes no state."""
     for count in (2, 3):
         yield one_frame(f"{count} tags", LINKTYPE_ETHERNET, ethernet(ETHER_IPV4, KINDS["TCP"], [20] * count),
                         b"1 0 - skip not-ip r=- t=- s=-\n", True)
@@ -85,15 +85,14 @@ def packet_rows():
 
 
 def rows():
-    """Cases with the outcome written out, as those of `cases`."""
+    """Cases of which something is written out, as those of `cases`."""
     yield from frame_rows()
     yield from packet_rows()
     for link in LINKS:
         opening = capture_header(network=link)
-        yield Case(f"24 bytes of link type {link}", b"block all\n", INSIDE, opening), b"", b"", 0, opening
+        yield wholly(Case(f"24 bytes of link type {link}", b"block all\n", INSIDE, opening), b"", opening, 0)
         yield one_frame(f"no bytes of link type {link}", link, b"", b"1 0 - skip not-ip r=- t=- s=-\n", True)
-    yield (Case("link type 12", b"", INSIDE, link_capture(12, [KINDS["TCP"]])), b"",
-           b"pfreplay: capture: link type 12\n", 1, None)
+    yield refused(Case("link type 12", b"", INSIDE, link_capture(12, [KINDS["TCP"]])), b"capture: link type 12", **EMPTIED)
 
 
 def truncations():

@@ -16,32 +16,28 @@ round it:
 Counters and states are written only where the run comes to the capture's end, cut or not.
 """
 
-import struct
+from functools import lru_cache
 from typing import NamedTuple
 
+from capture_model import Record, Refused, read_header, records_of
 from expand_model import Ruleset, expand
 from expand_values import TOO_MANY
 from frame_model import Packet, datagram_of, view
-from model import MOST_CAPTURED, MOST_TEXT, PASSED, Refused, read_header
 from ruleset_model import READS_TRANSLATION, worded
 from step_model import Job, Outcome, step
 from states_model import StateTable
 
 COUNTED = ("rule", "state", "state-error")
-RECORD_HEADER = 16
+# verdicts of packets that are written
+PASSED = ("pass", "skip")
+# bytes of a ruleset's text
+MOST_TEXT = 1048576
 
 
 class Interface(NamedTuple):
     name: str
     address: str
     bits: int
-
-
-class Record(NamedTuple):
-    """A record of a capture: its header as read, the seconds, and the captured bytes."""
-    header: bytes
-    seconds: int
-    frame: bytes
 
 
 class Step(NamedTuple):
@@ -79,30 +75,26 @@ def dashed(number):
     return "-" if number is None else number
 
 
+@lru_cache
+def meaning(text, interface):
+    """The Ruleset of a text for an interface, or its first fault in words."""
+    if len(text) > MOST_TEXT:
+        return f"line 1: {TOO_MANY}"
+    answer = expand(text, *interface, READS_TRANSLATION)
+    return answer if isinstance(answer, Ruleset) else worded(answer)
+
+
+def ruleset_of(text, interface):
+    """The Ruleset of a text; a fault refuses it."""
+    answer = meaning(text, interface)
+    if not isinstance(answer, Ruleset):
+        raise Refused(answer)
+    return answer
+
+
 def job_of(text, interface, inside):
     """The job of a run; a fault of the ruleset refuses it."""
-    if len(text) > MOST_TEXT:
-        raise Refused(f"line 1: {TOO_MANY}")
-    answer = expand(text, *interface, READS_TRANSLATION)
-    if not isinstance(answer, Ruleset):
-        raise Refused(worded(answer))
-    return Job(answer, inside)
-
-
-def records_of(capture, order):
-    """The records of a capture whose header was accepted, and its tail."""
-    records, place = [], 24
-    while place + RECORD_HEADER <= len(capture):
-        header = capture[place:place + RECORD_HEADER]
-        seconds, _, captured, _ = struct.unpack(order + "IIII", header)
-        if captured > MOST_CAPTURED:
-            return records, f"record too long {captured}"
-        frame = capture[place + RECORD_HEADER:place + RECORD_HEADER + captured]
-        if len(frame) < captured:
-            return records, "cut"
-        records.append(Record(header, seconds, frame))
-        place += RECORD_HEADER + captured
-    return records, "clean" if place == len(capture) else "cut"
+    return Job(ruleset_of(text, interface), inside)
 
 
 def steps_of(job, link, records, table):
@@ -134,9 +126,8 @@ def counters(ruleset, steps):
     return "".join(lines) + f"total {len(steps)} {' '.join(map(str, totals.values()))}\n"
 
 
-def replay(text, interface, inside, capture):
-    """The whole run: the ruleset's text as bytes, an Interface, the inside networks, the capture as bytes."""
-    job = job_of(text, interface, inside)
+def replay_of(job, capture):
+    """The whole run of a job over a capture's bytes."""
     header = read_header(capture)
     records, tail = records_of(capture, header.order)
     table = StateTable(job.ruleset.options.values["states"])
@@ -147,3 +138,8 @@ def replay(text, interface, inside, capture):
         texts = texts._replace(counters=counters(job.ruleset, steps),
                                states="".join(entry.text() + "\n" for entry in table.by_number()))
     return Replay(steps, texts, tail)
+
+
+def replay(text, interface, inside, capture):
+    """The whole run: the ruleset's text as bytes, an Interface, the inside networks, the capture as bytes."""
+    return replay_of(job_of(text, interface, inside), capture)

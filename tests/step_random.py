@@ -5,18 +5,21 @@ import random
 
 import conversation_random
 import track_model
+from capture_model import Record, Refused
 from expand_model import dotted
 from filter_texts import INSIDE_HOSTS, OUTSIDE_HOSTS, PORTS
 from frame_model import ICMP, TCP, UDP
 from packets import (ACK, ETHER_ARP, ETHER_IPV4, ETHER_IPV6, FIN, IGMP, LINKTYPE_ETHERNET, LINKTYPE_LOOPBACK, LINKTYPE_RAW,
                      RST, SYN, echo, ethernet, ipv4, loopback, summed_message, tcp, udp)
-from replay_model import Interface, Record, Refused, job_of, steps_of
+from replay_model import Interface, job_of, steps_of
 from ruleset_tree import Network
 from step_runs import INSIDE, INTERFACE, Run
 from step_texts import some_text
 from states_model import StateTable
 
 SEED = 20261123
+# packets of a run
+COUNTS = (20, 60)
 LINKS = (LINKTYPE_RAW,) * 4 + (LINKTYPE_ETHERNET, LINKTYPE_LOOPBACK)
 IPV6 = bytes([0x60]) + bytes(39)
 # frames that carry no IPv4 packet
@@ -216,10 +219,10 @@ class Packets:
             yield Record(b"", second, self.frame())
 
 
-def some_run(draw, number, most):
-    """A run of at most so many packets."""
+def some_run(draw, number, most, counts=COUNTS):
+    """A run of some number of packets and at most so many, or of none where the ruleset has a fault."""
     rules, link = some_text(draw), draw.choice(LINKS)
-    count = min(draw.randint(20, 60), most)
+    count = min(draw.randint(*counts), most)
     interface = INTERFACE if draw.random() < 0.9 else draw.choice(OTHER_INTERFACES)
     inside = INSIDE if draw.random() < 0.8 else draw.choice(OTHER_INSIDES)
     try:

@@ -20,7 +20,8 @@ import building
 import step_cases
 import step_random
 import step_rows
-from replay_model import Refused, replay
+from capture_model import Refused
+from replay_model import replay
 from step_runs import INSIDE, INTERFACE, words_of
 
 HERE = Path(__file__).resolve().parent

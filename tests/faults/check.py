@@ -6,7 +6,7 @@ output and standard error are written.
 
 import re
 
-from plain import MEMORY, MESSAGES, TRANSFER, judge_lost
+from replay import MEMORY, MESSAGES, TRANSFER, judge_lost
 from trial import Target, Unlawful
 
 RULES = Target("read", "", TRANSFER)

@@ -11,6 +11,7 @@
 #include <stdlib.h>
 #include <string.h>
 #include <sys/mman.h>
+#include <sys/stat.h>
 #include <sys/uio.h>
 #include <unistd.h>
 
@@ -40,11 +41,22 @@ static enum deed wanted_deed;
 static uint64_t wanted_number;
 static bool active;
 
+// The file whose reads and writes count alone, where one is named. It may be made only later.
+static const char *wanted_file;
+
+static bool is_wanted_file(int descriptor)
+{
+    struct stat named, open_file;
+    return wanted_file == NULL
+        || (stat(wanted_file, &named) == 0 && fstat(descriptor, &open_file) == 0 && named.st_dev == open_file.st_dev
+            && named.st_ino == open_file.st_ino);
+}
+
 static bool counts(enum call call, int descriptor)
 {
     const struct filter *filter = &filters[call];
     bool named = descriptor >= 0 && descriptor < 64 && (filter->named >> descriptor & 1);
-    return active && named != filter->others;
+    return active && named != filter->others && (call == ALLOCATION || is_wanted_file(descriptor));
 }
 
 // Counts a call and answers what is to happen to it.
@@ -244,6 +256,7 @@ __attribute__((constructor)) static void start(void)
     wanted_number = number == NULL ? 0 : strtoull(number, NULL, 10);
     read_filter("FAULT_READS", &filters[READ]);
     read_filter("FAULT_WRITES", &filters[WRITE]);
+    wanted_file = getenv("FAULT_FILE");
     if (getenv("FAULT_REPORT") != NULL)
         open_report(getenv("FAULT_REPORT"));
     // programs that this one starts run without faults

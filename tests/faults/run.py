@@ -1,10 +1,11 @@
 #!/usr/bin/env python3
 """Runs a command once for each fault at each of its allocations, reads and writes, and judges each run.
 
-    run.py [--judge MODULE] [--calls] COMMAND WORDS.. < INPUT
+    run.py [--judge MODULE] [--calls] COMMAND WORDS.. [< INPUT]
 
-It prints how many runs ended each way, and exits with 1 where one ended in an unlawful way. A word for a file that
-the command writes, as the judge tells, stands for a new file in each run; no file of that name is made.
+It prints how many runs ended each way, and exits with 1 where one ended in an unlawful way, and with 2 where no fault was
+reached. A word for a file that the command writes, as the judge tells, stands for a new file in each run; no file of that
+name is made.
 """
 
 import argparse
@@ -34,10 +35,22 @@ def count_calls(trial, targets):
         if seen != trial.clean:
             raise OSError("two runs without a fault differ")
         calls[target] = counts.calls
+        if counts.calls == 0 and has_calls(trial, target):
+            raise OSError(f"no call of this kind is seen, though there must be some: {target}")
     writes = [calls[target] for target in targets if target.call == "write"]
     if trial.clean.out and writes and not any(writes):
         raise OSError("the command writes, but by no call that the library counts")
     return calls
+
+
+def has_calls(trial, target):
+    """Whether a run without a fault can't do without a call of the target: each allocates, what stands in a file was
+    written, and what is answered was read."""
+    if target.call == "allocation":
+        return True
+    if target.file in trial.outputs:
+        return bool(trial.clean.files[trial.outputs.index(target.file)])
+    return bool(target.file) and bool(trial.clean.out)
 
 
 def judged(trial, judge, fault):
@@ -69,7 +82,8 @@ def shown_files(files):
 def run(command, source, judge):
     """Runs all faults: the calls of each target, the number of runs by ending, the unlawful ones in words."""
     with tempfile.TemporaryDirectory() as folder:
-        trial = Trial(command, source, folder, getattr(judge, "OUTPUTS", ()))
+        places = judge.places(command) if hasattr(judge, "places") else {}
+        trial = Trial(command, source, folder, places, getattr(judge, "OUTPUTS", ()))
         calls = count_calls(trial, judge.TARGETS)
         faults = [Fault(target, deed, number) for target in judge.TARGETS for deed in target.deeds
                   for number in range(1, calls[target] + 1)]
@@ -80,7 +94,7 @@ def run(command, source, judge):
 
 def main():
     parser = argparse.ArgumentParser(description="Runs a command with a fault at each call.")
-    parser.add_argument("--judge", default="plain", help="the module that judges the runs")
+    parser.add_argument("--judge", default="replay", help="the module that judges the runs")
     parser.add_argument("--calls", action="store_true", help="print the number of calls of each kind")
     parser.add_argument("command", nargs=argparse.REMAINDER, help="the command and its words")
     words = parser.parse_args()
@@ -102,6 +116,8 @@ def main():
         print(text)
     names = [*judge.ENDINGS, NOT_REACHED, "unlawful"]
     print(f"{endings.total()} runs: " + ", ".join(f"{endings[name]} {name}" for name in names if endings[name]))
+    if endings[NOT_REACHED] == endings.total():
+        parser.exit(2, "no fault was reached\n")
     return 1 if unlawful else 0
 
 

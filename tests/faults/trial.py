@@ -16,18 +16,24 @@ CALLS = ("allocation", "read", "write")
 class Target(NamedTuple):
     """A kind of call, each of which is to meet each of the deeds.
 
-    Reads and writes count on these descriptors alone: `!0,1` is all but 0 and 1, no text is all.
+    Reads and writes count on these descriptors alone: `!0,1` is all but 0 and 1, no text is all. Where `file` says which
+    word of the command it is, they count on the file of that name alone.
     """
     call: str
     descriptors: str
     deeds: tuple
+    file: str = ""
 
-    def variables(self):
-        names = {"read": "FAULT_READS", "write": "FAULT_WRITES"}
-        return {names[self.call]: self.descriptors} if self.descriptors else {}
+    def variables(self, names):
+        """The variables that steer the library, where the command's files have these names."""
+        variables = {"FAULT_FILE": names[self.file]} if self.file else {}
+        if self.descriptors:
+            variables[{"read": "FAULT_READS", "write": "FAULT_WRITES"}[self.call]] = self.descriptors
+        return variables
 
     def __str__(self):
-        return f"{self.call} on {self.descriptors}" if self.descriptors else self.call
+        place = self.file or self.descriptors
+        return f"{self.call} on {place}" if place else self.call
 
 
 class Fault(NamedTuple):
@@ -69,14 +75,15 @@ class Unlawful(Exception):
 class Trial:
     """A command with its standard input, and the library built for it.
 
-    `outputs` are the places of words, the program at 0, that name files which the command writes. Each run has
-    names of its own for them, in a folder that is new and empty.
+    `places` says by names which words of the command, the program at 0, name files. Those in `outputs` are files that the
+    command writes: each run has names of its own for them, in a folder that is new and empty.
     """
 
-    def __init__(self, command, source, folder, outputs=()):
+    def __init__(self, command, source, folder, places=None, outputs=()):
         self.command = command
         self.source = source
-        self.outputs = [place for place in outputs if place < len(command)]
+        self.places = places or {}
+        self.outputs = outputs
         self.folder = folder
         self.library = Path(folder) / "faults.so"
         code = Path(__file__).with_name("faults.c")
@@ -85,23 +92,34 @@ class Trial:
         if self.clean.status is None:
             raise OSError(f"{command[0]} takes too long without any fault")
 
-    def without_fault(self, command=None, source=None, environment=None):
-        """The command as it ends by itself, or another command or input."""
+    def name_of(self, file):
+        """The name of one of the command's files."""
+        return self.command[self.places[file]]
+
+    def with_name(self, file, name):
+        """The command, but that one of its files has another name."""
+        words = list(self.command)
+        words[self.places[file]] = name
+        return words
+
+    def without_fault(self, command=None, source=None, environment=lambda names: None):
+        """The command as it ends by itself, or another command or input; the environment may depend on the files' names."""
         with (open(source or self.source, "rb") as file, tempfile.TemporaryFile() as out,
               tempfile.TemporaryFile() as err, tempfile.TemporaryDirectory(dir=self.folder) as fresh):
             words = list(command or self.command)
-            files = [Path(fresh) / f"word{place}" for place in self.outputs]
-            for place, name in zip(self.outputs, files):
-                words[place] = str(name)
+            written = [Path(fresh) / name for name in self.outputs]
+            for name in written:
+                words[self.places[name.name]] = str(name)
+            names = {name: words[place] for name, place in self.places.items()}
             try:
-                status = subprocess.run(words, stdin=file, stdout=out, stderr=err,
-                                        timeout=TIME_LIMIT, env=environment, check=False).returncode
+                status = subprocess.run(words, stdin=file, stdout=out, stderr=err, timeout=TIME_LIMIT,
+                                        env=environment(names), check=False).returncode
             except subprocess.TimeoutExpired:
                 status = None
             out.seek(0)
             err.seek(0)
             return Seen(status, out.read(), err.read(),
-                        tuple(name.read_bytes() if name.exists() else None for name in files))
+                        tuple(name.read_bytes() if name.exists() else None for name in written))
 
     def beginning(self, name, length):
         """A file, open in a `with`, that holds so many bytes of the one named."""
@@ -115,8 +133,8 @@ class Trial:
         with tempfile.NamedTemporaryFile(dir=self.folder) as report:
             report.write(bytes(REPORT.size))
             report.flush()
-            seen = self.without_fault(environment={
-                **os.environ, **target.variables(), **(fault.variables() if fault else {}),
+            seen = self.without_fault(environment=lambda names: {
+                **os.environ, **target.variables(names), **(fault.variables() if fault else {}),
                 "LD_PRELOAD": str(self.library), "FAULT_REPORT": report.name})
             loaded, fired, *numbers = REPORT.unpack(Path(report.name).read_bytes())
         if not loaded:
