@@ -1,19 +1,20 @@
 -- Batches of records, and the captures that they come from.
 use Rattle.std.proofs.Common.{◌≡◌, ℕ, ◌+◌, ◌≤◌, List, [], ◌∷◌, ◌++◌, length, map, take, drop, Option, Some, None, Result, Ok, Err, refl, sym, ◌∙◌, ap, arith}
 use Rattle.std.specs.List.{All, flat_map}
-use Rattle.std.proofs.lemmas.List.{append_assoc, append-nil, length-append, take_at}
-use Rattle.std.proofs.lemmas.List.Elements.{All-head, All-tail, All-weaker}
+use Rattle.std.proofs.lemmas.List.{append_assoc, append-nil, map-append, take_at}
+use Rattle.std.proofs.lemmas.List.Elements.{All-head, All-push, All-tail, All-weaker}
 use Rattle.pfr_capture.specs.declared.capture.CaptureError.{CaptureError}
+use Rattle.pfr_capture.specs.declared.capture.CaptureError.TheVariants as refusal
 use Rattle.pfr_capture.specs.declared.capture.Form.{Form}
 use Rattle.pfr_capture.specs.declared.capture.Record.{Record}
 use Rattle.pfr_capture.specs.declared.capture.Tail.{Tail}
-use Rattle.pfr_capture.specs.Reading.{Gave, HasGiven, Reading, ReadsOn, bytes_of}
+use Rattle.pfr_capture.specs.Reading.{EndsCapture, Gave, HasGiven, LacksRecord, NextFails, Reading, ReadsOn, Refuses, bytes_of}
 use Rattle.pfr_capture.specs.Records.{IsCapture, RecordBytes, text_of}
 use Rattle.pfr_capture.proofs.CaptureLemmas.{IsFront, given_first}
 use Rattle.pfr_headers.specs.declared.packet.View.{View}
 use Rattle.pfr_headers.specs.View.{view_of}
 use Rattle.pfr_commit.specs.World.{Frame}
-use Rattle.pfr_out.specs.Reading.{IsPacket, records_of}
+use Rattle.pfr_out.specs.Reading.{BatchSays, End, EndsBehind, IsPacket, records_of}
 use Rattle.pfr_out.specs.Replay.{OfEvery, frame_in}
 use Rattle.pfr_out.specs.Taking.{frames_of}
 
@@ -47,6 +48,35 @@ reads_nothing reading before = record {
 
 pub gave_of : (old new : Reading) (before left : List ℕ) (given : List RecordBytes) → ReadsOn old new before left given → Gave before left
 gave_of old new before left given on = record { came = on.came; gave = on.gave }
+
+-- the reader read on, and gave nothing more
+pub reads_and_nothing : (old mid new : Reading) (before between left : List ℕ) (given : List RecordBytes) → ReadsOn old mid before between given → ReadsOn mid new between left [] → ReadsOn old new before left given
+reads_and_nothing old mid new before between left given first second =
+    rw (← append-nil given) (reads_twice old mid new before between left given [] first second)
+
+-- the capture ends behind what was given
+pub ends_twice : (old mid : Reading) (before between : List ℕ) (given : List RecordBytes) (end : End) → ReadsOn old mid before between given → mid.form ≡ old.form → EndsCapture mid between end → EndsBehind old before given end
+ends_twice old mid before between given end on form ends read records h =
+    rw (on.gave, ← append_assoc read on.came between, ← form) (ends (read ++ on.came) (records ++ given) (on.on read records h))
+
+-- the reader refused
+pub batch_refused : (old mid new : Reading) (before between left : List ℕ) (given : List RecordBytes) (e : CaptureError) (count count' : ℕ) → ReadsOn old mid before between given → mid.form ≡ old.form → ReadsOn mid new between left []
+    → Refuses mid between e → LacksRecord new e → NextFails e count count' → BatchSays old new before left given (Some (Err e))
+batch_refused old mid new before between left given refusal.Read count count' on form nothing refuses lacks fails = (reads_and_nothing old mid new before between left given on nothing, lacks)
+batch_refused old mid new before between left given refusal.Memory count count' on form nothing refuses lacks fails = gave_of old new before left given (reads_and_nothing old mid new before between left given on nothing)
+batch_refused old mid new before between left given (refusal.RecordTooLong asked) count count' on form nothing refuses lacks fails =
+    (reads_and_nothing old mid new before between left given on nothing, ends_twice old mid before between given (Err (refusal.RecordTooLong asked)) on form refuses)
+batch_refused old mid new before between left given refusal.HeaderCut count count' on form nothing refuses lacks fails = absurd fails
+batch_refused old mid new before between left given refusal.BadMagic count count' on form nothing refuses lacks fails = absurd fails
+batch_refused old mid new before between left given refusal.BadVersion count count' on form nothing refuses lacks fails = absurd fails
+batch_refused old mid new before between left given (refusal.LinkType link) count count' on form nothing refuses lacks fails = absurd fails
+
+-- one packet more
+pub one_packet : (form : Form) (packets : List (Record × View)) (packet : Record × View) → All (IsPacket form) packets → IsPacket form packet → All (IsPacket form) (packets ++ packet ∷ [])
+one_packet form packets packet all is = All-push (IsPacket form) packets packet all is
+
+pub one_record : (packets : List (Record × View)) (packet : Record × View) → records_of (packets ++ packet ∷ []) ≡ records_of packets ++ bytes_of packet.0 ∷ []
+one_record packets packet = map-append (λ (p : Record × View). bytes_of p.0) packets (packet ∷ [])
 
 -- the header of every text that begins with what was read
 pub header_is : (capture : Reading) (read more : List ℕ) (given : List RecordBytes) → HasGiven capture read given → take 24 (read ++ more) ≡ capture.header

@@ -19,9 +19,11 @@ use Rattle.pfr_out.specs.declared.report.Output.{Output}
 use Rattle.pfr_out.specs.declared.report.Report.{Report}
 use Rattle.pfr_out.specs.declared.report.Stop.{Stop}
 use Rattle.pfr_out.specs.declared.report.Stop.TheVariants as stop
+use Rattle.pfr_out.specs.declared.settings.Settings.{Settings}
+use Rattle.pfr_out.specs.declared.sinks.Sinks.{Sinks}
 use Rattle.pfr_out.specs.Outputs.{Grew, Outputs, PartWritten, batch_alone, header_alone}
 use Rattle.pfr_out.specs.Reading.{BatchFails, BatchSays, End, EndsBehind, IsPacket, records_of, wants_memory}
-use Rattle.pfr_out.specs.Replay.{Failing, Holds, HoldsAllRead, HoldsAll, HoldsPartOfBatch, HoldsPartOfEnding, IsBoundary, OfEvery, Replayed, Stopped, Wanting, closing, frame_in, online, run_of, StopFails, stop_for, whole}
+use Rattle.pfr_out.specs.Replay.{Failing, Holds, HoldsAllRead, HoldsAll, HoldsPartOfBatch, HoldsPartOfEnding, IsBoundary, IsJob, OfEvery, Replayed, StopOf, Stopped, Wanting, closing, frame_in, online, run_of, StopFails, stop_for, whole}
 use Rattle.pfr_out.specs.Taking.{BatchStops, EndStops, SinksFail, frames_of}
 use Rattle.pfr_out.proofs.ReadingLemmas.{header_is, of_every, same_frames}
 use Rattle.pfr_out.proofs.WritingLemmas.{grew_twice, header_is_online, online_behind, whole_is}
@@ -324,3 +326,74 @@ refused_opening job batch text left old refusal.HeaderCut before after refuses e
 refused_opening job batch text left old refusal.BadMagic before after refuses early fails = (refuses, refl, refl)
 refused_opening job batch text left old refusal.BadVersion before after refuses early fails = (refuses, refl, refl)
 refused_opening job batch text left old (refusal.LinkType link) before after refuses early fails = (refuses, refl, refl)
+
+-- the header was not written whole
+pub header_stopped : (job : RunJob) (batch : ℕ) (capture : Reading) (read left : List ℕ) (old new : Outputs) (output : Output) → HasGiven capture read [] → PartWritten old new (header_alone capture.header) output
+    → Stopped job batch (read ++ left) left old new (stop.Write output 0)
+header_stopped job batch capture read left old new output h part =
+    inl (of_every capture (read ++ left) left read left [] _ refl (record { came = []; gave = refl }) h (λ all front. inl (record { none = refl; part = part })))
+
+pub opening_count : (job : RunJob) (world : World) → world ≡ opening job → world.count ≡ 0
+unfolding opening
+opening_count job world is = ap (λ (w : World). w.count) is
+
+-- ---- how a batch of records ends
+
+pub says_on : (old new : Reading) (before left : List ℕ) (given : List RecordBytes) (end : Option End) → wants_memory end ≡ false → BatchSays old new before left given end → ReadsOn old new before left given
+says_on old new before left given None other says = says
+says_on old new before left given (Some (Ok tail)) other says = says.0
+says_on old new before left given (Some (Err refusal.Read)) other says = says.0
+says_on old new before left given (Some (Err refusal.Memory)) other says = absurd (cc other)
+says_on old new before left given (Some (Err (refusal.RecordTooLong asked))) other says = says.0
+says_on old new before left given (Some (Err refusal.HeaderCut)) other says = absurd says
+says_on old new before left given (Some (Err refusal.BadMagic)) other says = absurd says
+says_on old new before left given (Some (Err refusal.BadVersion)) other says = absurd says
+says_on old new before left given (Some (Err (refusal.LinkType link))) other says = absurd says
+
+pub wanted_gave : (old new : Reading) (before left : List ℕ) (given : List RecordBytes) (end : Option End) → wants_memory end ≡ true → BatchSays old new before left given end → Gave before left
+wanted_gave old new before left given None wants says = absurd (cc wants)
+wanted_gave old new before left given (Some (Ok tail)) wants says = absurd (cc wants)
+wanted_gave old new before left given (Some (Err refusal.Read)) wants says = absurd (cc wants)
+wanted_gave old new before left given (Some (Err refusal.Memory)) wants says = says
+wanted_gave old new before left given (Some (Err (refusal.RecordTooLong asked))) wants says = absurd (cc wants)
+wanted_gave old new before left given (Some (Err refusal.HeaderCut)) wants says = absurd says
+wanted_gave old new before left given (Some (Err refusal.BadMagic)) wants says = absurd says
+wanted_gave old new before left given (Some (Err refusal.BadVersion)) wants says = absurd says
+wanted_gave old new before left given (Some (Err (refusal.LinkType link))) wants says = absurd says
+
+-- ---- failures
+
+pub refusal_fails : (e : CaptureError) (committed source source' : ℕ) (sinks sinks' : Sinks ℕ) → BatchFails (Some (Err e)) source source' → sinks' ≡ sinks → StopFails (stop_for e committed) source source' sinks sinks'
+refusal_fails refusal.Read committed source source' sinks sinks' fails same = (fails, same)
+refusal_fails refusal.Memory committed source source' sinks sinks' fails same = same
+refusal_fails (refusal.RecordTooLong asked) committed source source' sinks sinks' fails same = (fails, same)
+refusal_fails refusal.HeaderCut committed source source' sinks sinks' fails same = (fails, same)
+refusal_fails refusal.BadMagic committed source source' sinks sinks' fails same = (fails, same)
+refusal_fails refusal.BadVersion committed source source' sinks sinks' fails same = (fails, same)
+refusal_fails (refusal.LinkType link) committed source source' sinks sinks' fails same = (fails, same)
+
+pub sinks_fail : (s : Stop) (source source' : ℕ) (sinks sinks' : Sinks ℕ) → SinksFail s sinks sinks' → StopFails s source source' sinks sinks'
+sinks_fail (stop.Write output committed) source source' sinks sinks' fails = fails
+sinks_fail (stop.Memory committed) source source' sinks sinks' fails = fails
+sinks_fail (stop.Ruleset fault) source source' sinks sinks' fails = absurd fails
+sinks_fail (stop.Capture e committed) source source' sinks sinks' fails = absurd fails
+sinks_fail (stop.Read committed) source source' sinks sinks' fails = absurd fails
+
+-- the opening of a capture
+pub opening_fails : (e : CaptureError) (source source' : ℕ) (sinks : Sinks ℕ) → OpenFails e source source' → StopFails (stop_for e 0) source source' sinks sinks
+opening_fails refusal.Read source source' sinks fails = (fails, refl)
+opening_fails refusal.Memory source source' sinks fails = refl
+opening_fails (refusal.RecordTooLong asked) source source' sinks fails = absurd fails
+opening_fails refusal.HeaderCut source source' sinks fails = (fails, refl)
+opening_fails refusal.BadMagic source source' sinks fails = (fails, refl)
+opening_fails refusal.BadVersion source source' sinks fails = (fails, refl)
+opening_fails (refusal.LinkType link) source source' sinks fails = (fails, refl)
+
+-- ---- under the text's rules
+
+pub under_job : (text seed : List ℕ) (settings : Settings) (job : RunJob) (before left : List ℕ) (old new : Outputs) (s : Stop) → IsJob text seed settings job → Stopped job settings.batch before left old new s → StopOf text seed settings before left old new s
+under_job text seed settings job before left old new (stop.Ruleset fault) is stopped = absurd stopped
+under_job text seed settings job before left old new (stop.Capture e committed) is stopped = record { job = job; is = is; hold = stopped }
+under_job text seed settings job before left old new (stop.Read committed) is stopped = record { job = job; is = is; hold = stopped }
+under_job text seed settings job before left old new (stop.Write output committed) is stopped = record { job = job; is = is; hold = stopped }
+under_job text seed settings job before left old new (stop.Memory committed) is stopped = record { job = job; is = is; hold = stopped }

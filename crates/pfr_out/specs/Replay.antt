@@ -170,10 +170,12 @@ stop_for e committed = stop.Capture e committed
 
 -- ---- failures of devices
 
--- a device stops a run only where its count of failures rose; the other counts stay, and any other stop leaves all
+-- A device stops a run only where its count of failures rose, and no other sink's rose then. Where packets can't be written or taken,
+-- the source may have failed just before, behind them.
 abbrev pub StopFails : Stop → (source source' : ℕ) → (sinks sinks' : Sinks ℕ) → Type 0
 StopFails (stop.Read committed) source source' sinks sinks' = Rose source source' × (sinks' ≡ sinks)
-StopFails (stop.Write output committed) source source' sinks sinks' = (source' ≡ source) × RoseAt output sinks sinks'
+StopFails (stop.Write output committed) source source' sinks sinks' = RoseAt output sinks sinks'
+StopFails (stop.Memory committed) source source' sinks sinks' = sinks' ≡ sinks
 StopFails _ source source' sinks sinks' = (source' ≡ source) × (sinks' ≡ sinks)
 
 -- ---- the job of a run

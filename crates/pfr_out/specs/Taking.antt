@@ -32,7 +32,8 @@ EndStops world old new (stop.Memory committed) = (committed ≡ world.count) × 
 EndStops world old new (stop.Write output committed) = (committed ≡ world.count) × PartWritten old new (closing world) output
 EndStops world old new _ = ⊥
 
--- what a stop says of the counts of failures of the sinks
+-- what such a stop says of the counts of failures of the sinks
 abbrev pub SinksFail : Stop → Sinks ℕ → Sinks ℕ → Type 0
 SinksFail (stop.Write output committed) old new = RoseAt output old new
-SinksFail _ old new = new ≡ old
+SinksFail (stop.Memory committed) old new = new ≡ old
+SinksFail _ old new = ⊥

@@ -41,11 +41,10 @@ pub(crate) fn read_batch<R: Source>(
     packets.clear();
     while packets.len() < most {
         match capture.next(source) {
-            Ok(Some(record)) => {
-                if put_packet(packets, record).is_err() {
-                    return Some(Err(CaptureError::Memory));
-                }
-            }
+            Ok(Some(packet)) => match put_packet(packets, packet) {
+                Ok(()) => {}
+                Err(_) => return Some(Err(CaptureError::Memory)),
+            },
             Ok(None) => return Some(Ok(capture.tail())),
             Err(refusal) => return Some(Err(refusal)),
         }

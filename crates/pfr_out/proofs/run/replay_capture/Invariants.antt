@@ -6,8 +6,8 @@ use Rattle.pfr_out.specs.Outputs.{AllTold, each_of}
 use Rattle.pfr_out.proofs.RunLemmas.{AtHead}
 use Rattle.pfr_out.proofs.run.replay_capture.Given as goal
 
-abbrev pub invariant-loop : goal.invariant-loop
-invariant-loop g l = record {
+abbrev pub invariant-loop-alloc : goal.invariant-loop-alloc
+invariant-loop-alloc g l = record {
   reading : l.capture.over ≡ None;
   job : l.book.job ≡ l.fn.book.job;
   counted : l.capture.count ≡ l.book.count;
@@ -20,5 +20,5 @@ invariant-loop g l = record {
       → AtHead (job_of l.fn.book) l.batch l.capture (read ++ g.R.Source.unread l.fn.source) (g.R.Source.unread l.source) (each_of g.S.Sink.written l.fn.sinks) (each_of g.S.Sink.written l.sinks) (world_in l.book no_texts);
 }
 
-abbrev pub decreases-loop : goal.decreases-loop
-decreases-loop g l = 2 ^ 40 - l.capture.count
+abbrev pub decreases-loop-alloc : goal.decreases-loop-alloc
+decreases-loop-alloc g l = 2 ^ 40 - l.capture.count
