@@ -1,5 +1,6 @@
-use Rattle.std.proofs.Common.{◌≡◌, ◌+◌, ◌∙◌, ◌≤◌, ◌^◌, IsTrue, length, sym, ap, arith, rules}
+use Rattle.std.proofs.Common.{◌≡◌, ◌+◌, ◌∙◌, ◌≤◌, ◌^◌, IsTrue, length, refl, arith}
 use Rattle.std.proofs.lemmas.List.{length_push}
+use Rattle.pfr_headers.specs.View.{view_of}
 use Rattle.pfr_out.proofs.ReadingLemmas.{batch_refused, ends_twice, gave_of, one_packet, one_record, reads_and_nothing, reads_twice}
 use Rattle.pfr_out.proofs.reading.read_batch.Goals as goal
 
@@ -14,20 +15,20 @@ pub loop-capture-preserved : goal.loop-capture-preserved
 loop-capture-preserved g c =
     let i = c.loop-capture.invariant in
     let answers = rw c.in-Ok-Some.field-0-is at (c.in-Ok-Some.ensures.answers i.reading) in
-    let done = c.in-Ok-put_packet.ensures.done in
+    let done = c.in-Ok.ensures.done in
     let more = answers.2 in
     let below = answers.1 in
     let before = i.counted in
-    let long = length_push c.loop-capture.packets.items (c.in-Ok-Some.packet, c.view-view.result) in
+    let long = length_push c.loop-capture.packets.items (c.in-Ok-Some.packet, view_of c.in-Ok-Some.packet.link c.in-Ok-Some.packet.bytes.items) in
     let test = c.loop-capture-test.true in
     record {
       reading = answers.0;
       told = c.next.ensures.told ∙ i.told;
       failures = c.in-Ok-Some.ensures.ok i.reading ∙ i.failures;
       same = (c.next.ensures.same.0 ∙ i.same.0, c.next.ensures.same.1 ∙ i.same.1);
-      counted = search rules;
+      counted = (let all : length c.put_packet.new.packets.items ≡ length c.loop-capture.packets.items + 1 = rw done long in omega arith);
       few = λ few. omega arith;
-      at_most = search rules;
+      at_most = (let all : length c.put_packet.new.packets.items ≡ length c.loop-capture.packets.items + 1 = rw done long in let held = c.len.ensures in omega arith);
       packets_are = rw done (one_packet _ _ _ i.packets_are (record { fields = rw i.same.0 at answers.3; view_is = refl }));
       on = λ told.
           let mid : IsTrue (g.R.Source.told c.loop-capture.source) = rw i.told told in
@@ -46,10 +47,10 @@ returns-in-Ok-None-clause-says g c =
     let tail : c.tail.result ≡ over.0 = rw over.1 at c.tail.ensures in
     (reads_and_nothing _ _ _ _ _ _ _ (i.on told) on, ends_twice _ _ _ _ _ _ (i.on told) i.same.0 (rw tail ends))
 
-pub returns-in-Err-next-clause-says : goal.returns-in-Err-next-clause-says
-returns-in-Err-next-clause-says g c =
+pub returns-in-Err-clause-says : goal.returns-in-Err-clause-says
+returns-in-Err-clause-says g c =
     λ told.
     let i = c.loop-capture.invariant in
     let mid : IsTrue (g.R.Source.told c.loop-capture.source) = rw i.told told in
-    batch_refused _ _ _ _ _ _ _ c.in-Err-next.refusal _ _ (i.on told) i.same.0 (c.in-Err-next.ensures.reads_on i.reading mid) (c.in-Err-next.ensures.refused i.reading mid)
-    (c.in-Err-next.ensures.lacks i.reading) (c.in-Err-next.ensures.failed i.reading)
+    batch_refused _ _ _ _ _ _ _ c.in-Err.refusal _ _ (i.on told) i.same.0 (c.in-Err.ensures.reads_on i.reading mid) (c.in-Err.ensures.refused i.reading mid)
+    (c.in-Err.ensures.lacks i.reading) (c.in-Err.ensures.failed i.reading)
