@@ -67,10 +67,18 @@ fn replay_capture<R: Source, S: Sink>(
         if wants_memory(&end) {
             return Err(Stop::Memory(book.committed()));
         }
-        take_batch(alloc, &mut book, packets.as_slice(), &mut out, sinks)?;
+        match take_batch(alloc, &mut book, packets.as_slice(), &mut out, sinks) {
+            Ok(()) => {}
+            Err(stop) => return Err(stop),
+        }
         match end {
             None => {}
-            Some(Ok(tail)) => return close(book, tail, sinks),
+            Some(Ok(tail)) => {
+                return match close(book, tail, sinks) {
+                    Ok(report) => Ok(report),
+                    Err(stop) => Err(stop),
+                };
+            }
             Some(Err(refusal)) => return Err(stop_for(refusal, book.committed())),
         }
     }

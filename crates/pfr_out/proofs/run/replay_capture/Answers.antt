@@ -1,0 +1,128 @@
+use Rattle.std.proofs.Common.{◌≡◌, ◌+◌, ◌∙◌, ◌≤◌, ◌^◌, false, true, IsTrue, length, refl, sym, ap, arith}
+use Rattle.pfr_commit.specs.Books.{job_of, world_in}
+use Rattle.pfr_commit.specs.World.{no_texts, world_after}
+use Rattle.pfr_commit.proofs.BookLemmas.{same_job}
+use Rattle.pfr_out.specs.Outputs.{AllTold, each_of}
+use Rattle.pfr_out.specs.Reading.{wants_memory}
+use Rattle.pfr_out.specs.Taking.{frames_of}
+use Rattle.pfr_out.proofs.ReadingLemmas.{all_viewed}
+use Rattle.pfr_out.proofs.RunLemmas.{at_start, bare, batch_stopped, batch_taken, capture_is, end_stopped, header_stopped, memory_stopped, next_head, opening_count, reading_stopped, replayed, says_on, wanted_gave}
+use Rattle.pfr_out.proofs.run.replay_capture.Goals as goal
+
+pub returns-in-Err-clause-stopped : goal.returns-in-Err-clause-stopped
+returns-in-Err-clause-stopped g c = λ t u read h. header_stopped (job_of c.args.book) c.args.batch _ read _ _ _ c.in-Err.output h (rw c.header.ensures at (c.in-Err.ensures.fails u))
+
+pub loop-alloc-init : goal.loop-alloc-init
+loop-alloc-init g c =
+    let start = c.requires.start in
+    record {
+      reading = c.requires.reading;
+      job = refl;
+      counted = c.requires.start ∙ sym (opening_count (job_of c.args.book) (world_in c.args.book no_texts) c.requires.world);
+      few = omega arith;
+      source_told = refl;
+      source_failures = refl;
+      sinks_told = c.write_header.ensures.told;
+      sinks_failures = c.in-Ok.ensures.no_failure;
+      at_head = λ t u read h. at_start (job_of c.args.book) c.args.batch _ read _ _ _ _ h c.requires.world (rw c.header.ensures at (c.in-Ok.ensures.ok u));
+    }
+
+pub returns-then-wants_memory-clause-stopped : goal.returns-then-wants_memory-clause-stopped
+returns-then-wants_memory-clause-stopped g c =
+    λ t u read h.
+    let i = c.loop-alloc.invariant in
+    let head = i.at_head t u read h in
+    let told : IsTrue (g.R.Source.told c.loop-alloc.source) = rw i.source_told t in
+    rw c.committed.ensures
+    (memory_stopped (job_of c.args.book) c.args.batch _ _ _ _ _ _ (world_in c.loop-alloc.book no_texts) head
+    (wanted_gave _ _ _ _ _ c.read_batch-end.result (sym c.wants_memory.ensures ∙ c.if-wants_memory.true) (c.read_batch-end.ensures.says told)))
+
+pub take_batch-requires-clause-views : goal.take_batch-requires-clause-views
+take_batch-requires-clause-views g c = rw c.as_slice.ensures.value (all_viewed _ _ c.read_batch-end.ensures.packets)
+
+pub returns-in-Err-take_batch-clause-stopped : goal.returns-in-Err-take_batch-clause-stopped
+returns-in-Err-take_batch-clause-stopped g c =
+    λ t u read h.
+    let i = c.loop-alloc.invariant in
+    let head = i.at_head t u read h in
+    let told : IsTrue (g.R.Source.told c.loop-alloc.source) = rw i.source_told t in
+    let sinks : AllTold (each_of g.S.Sink.told c.loop-alloc.sinks) = rw i.sinks_told u in
+    let other : wants_memory c.read_batch-end.result ≡ false = sym c.wants_memory.ensures ∙ c.if-wants_memory.false in
+    batch_stopped (job_of c.args.book) c.args.batch _ _ _ _ _ _ _ _ (world_in c.loop-alloc.book no_texts) c.read_batch-end.new.packets.items c.in-Err-take_batch.stop head
+    (record { on = says_on _ _ _ _ _ c.read_batch-end.result other (c.read_batch-end.ensures.says told); same = c.read_batch-end.ensures.same; packets_are = c.read_batch-end.ensures.packets })
+    c.read_batch-end.ensures.at_most
+    (rw (same_job c.loop-alloc.book c.args.book i.job, c.as_slice.ensures.value) at (c.in-Err-take_batch.ensures.stops sinks))
+
+pub loop-alloc-preserved : goal.loop-alloc-preserved
+loop-alloc-preserved g c =
+    let i = c.loop-alloc.invariant in
+    let full = c.read_batch-end.ensures.full c.in-None.is in
+    let read = full.2 in
+    let taken = rw c.as_slice.ensures.value at c.in-Ok-take_batch.ensures.counted in
+    let before = i.counted in
+    record {
+      reading = full.1;
+      job = c.take_batch.ensures.job ∙ i.job;
+      counted = omega arith;
+      few = c.read_batch-end.ensures.few i.few;
+      source_told = c.read_batch-end.ensures.told ∙ i.source_told;
+      source_failures = (rw c.in-None.is at c.read_batch-end.ensures.failures) ∙ i.source_failures;
+      sinks_told = c.take_batch.ensures.told ∙ i.sinks_told;
+      sinks_failures = c.in-Ok-take_batch.ensures.no_failure ∙ i.sinks_failures;
+      at_head = λ t u read h.
+          let head = i.at_head t u read h in
+          let told : IsTrue (g.R.Source.told c.loop-alloc.source) = rw i.source_told t in
+          let sinks : AllTold (each_of g.S.Sink.told c.loop-alloc.sinks) = rw i.sinks_told u in
+          next_head (job_of c.args.book) c.args.batch _ _ _ _ _ _ _ _ (world_in c.loop-alloc.book no_texts) (world_in c.take_batch.new.book no_texts) c.read_batch-end.new.packets.items head
+          (record { on = rw c.in-None.is at (c.read_batch-end.ensures.says told); same = c.read_batch-end.ensures.same; packets_are = c.read_batch-end.ensures.packets })
+          full.0
+          (ap bare (rw (same_job c.loop-alloc.book c.args.book i.job, c.as_slice.ensures.value) at c.in-Ok-take_batch.ensures.world))
+          (rw (same_job c.loop-alloc.book c.args.book i.job, c.as_slice.ensures.value) at (c.in-Ok-take_batch.ensures.written sinks));
+    }
+
+pub returns-in-Some-Ok-in-Ok-clause-ok : goal.returns-in-Some-Ok-in-Ok-clause-ok
+returns-in-Some-Ok-in-Ok-clause-ok g c =
+    λ t u read h.
+    let i = c.loop-alloc.invariant in
+    let head = i.at_head t u read h in
+    let told : IsTrue (g.R.Source.told c.loop-alloc.source) = rw i.source_told t in
+    let sinks : AllTold (each_of g.S.Sink.told c.loop-alloc.sinks) = rw i.sinks_told u in
+    let mid : AllTold (each_of g.S.Sink.told c.take_batch.new.sinks) = rw c.take_batch.ensures.told sinks in
+    let says = rw c.in-Some-Ok.is at (c.read_batch-end.ensures.says told) in
+    let left = ap bare (rw (same_job c.loop-alloc.book c.args.book i.job, c.as_slice.ensures.value) at c.in-Ok-take_batch.ensures.world) in
+    let grew = rw (same_job c.loop-alloc.book c.args.book i.job, c.as_slice.ensures.value) at (c.in-Ok-take_batch.ensures.written sinks) in
+    let so_far = batch_taken (job_of c.args.book) _ _ _ _ _ _ _ _ (world_in c.loop-alloc.book no_texts) (world_in c.take_batch.new.book no_texts) head.records c.read_batch-end.new.packets.items head.so_far
+    (record { on = says.0; same = c.read_batch-end.ensures.same; packets_are = c.read_batch-end.ensures.packets }) left grew in
+    let is = capture_is (job_of c.args.book) _ _ _ _ _ _ head.records _ _ head.so_far says.1 in
+    replayed (job_of c.args.book) _ _ _ _ _ _ (world_in c.take_batch.new.book no_texts) _ c.in-Some-Ok.tail c.in-Ok-close.report so_far (rw c.read_batch-end.ensures.same.0 is) (c.in-Ok-close.ensures.written mid)
+    c.in-Ok-close.ensures.report.0 c.in-Ok-close.ensures.report.1
+
+pub returns-in-Some-Ok-in-Err-clause-stopped : goal.returns-in-Some-Ok-in-Err-clause-stopped
+returns-in-Some-Ok-in-Err-clause-stopped g c =
+    λ t u read h.
+    let i = c.loop-alloc.invariant in
+    let head = i.at_head t u read h in
+    let told : IsTrue (g.R.Source.told c.loop-alloc.source) = rw i.source_told t in
+    let sinks : AllTold (each_of g.S.Sink.told c.loop-alloc.sinks) = rw i.sinks_told u in
+    let mid : AllTold (each_of g.S.Sink.told c.take_batch.new.sinks) = rw c.take_batch.ensures.told sinks in
+    let says = rw c.in-Some-Ok.is at (c.read_batch-end.ensures.says told) in
+    let left = ap bare (rw (same_job c.loop-alloc.book c.args.book i.job, c.as_slice.ensures.value) at c.in-Ok-take_batch.ensures.world) in
+    let grew = rw (same_job c.loop-alloc.book c.args.book i.job, c.as_slice.ensures.value) at (c.in-Ok-take_batch.ensures.written sinks) in
+    let so_far = batch_taken (job_of c.args.book) _ _ _ _ _ _ _ _ (world_in c.loop-alloc.book no_texts) (world_in c.take_batch.new.book no_texts) head.records c.read_batch-end.new.packets.items head.so_far
+    (record { on = says.0; same = c.read_batch-end.ensures.same; packets_are = c.read_batch-end.ensures.packets }) left grew in
+    let is = capture_is (job_of c.args.book) _ _ _ _ _ _ head.records _ _ head.so_far says.1 in
+    end_stopped (job_of c.args.book) c.args.batch _ _ _ _ _ _ (world_in c.take_batch.new.book no_texts) _ c.in-Some-Ok.tail c.in-Err-close.stop so_far (rw c.read_batch-end.ensures.same.0 is) (c.in-Err-close.ensures.stops mid)
+
+pub returns-in-Some-Err-clause-stopped : goal.returns-in-Some-Err-clause-stopped
+returns-in-Some-Err-clause-stopped g c =
+    λ t u read h.
+    let i = c.loop-alloc.invariant in
+    let head = i.at_head t u read h in
+    let told : IsTrue (g.R.Source.told c.loop-alloc.source) = rw i.source_told t in
+    let sinks : AllTold (each_of g.S.Sink.told c.loop-alloc.sinks) = rw i.sinks_told u in
+    let other : wants_memory c.read_batch-end.result ≡ false = sym c.wants_memory.ensures ∙ c.if-wants_memory.false in
+    let left = ap bare (rw (same_job c.loop-alloc.book c.args.book i.job, c.as_slice.ensures.value) at c.in-Ok-take_batch.ensures.world) in
+    let grew = rw (same_job c.loop-alloc.book c.args.book i.job, c.as_slice.ensures.value) at (c.in-Ok-take_batch.ensures.written sinks) in
+    rw (c.stop_for.ensures, c.committed-2.ensures)
+    (reading_stopped (job_of c.args.book) c.args.batch _ _ _ _ _ _ _ _ (world_in c.loop-alloc.book no_texts) (world_in c.take_batch.new.book no_texts) c.read_batch-end.new.packets.items c.in-Some-Err.refusal head
+    (rw c.in-Some-Err.is at other) (rw c.in-Some-Err.is at (c.read_batch-end.ensures.says told)) c.read_batch-end.ensures.same c.read_batch-end.ensures.packets left grew)
