@@ -1,10 +1,15 @@
 -- Outputs that grow by pieces.
-use Rattle.std.proofs.Common.{◌≡◌, ℕ, List, [], ◌∷◌, ◌++◌, refl, sym, ◌∙◌, ap}
+use Rattle.std.proofs.Common.{◌≡◌, ℕ, Bool, List, [], ◌∷◌, ◌++◌, refl, sym, ◌∙◌, subst}
 use Rattle.std.proofs.lemmas.List.{append_assoc, append-nil}
 use Rattle.pfr_commit.specs.World.{Texts, World, no_texts}
 use Rattle.pfr_commit.proofs.WorldLemmas.{behind}
-use Rattle.pfr_out.specs.Outputs.{Grew, Outputs, batch_alone, header_alone}
+use Rattle.pfr_out.specs.declared.sinks.Sinks.{Sinks}
+use Rattle.pfr_out.specs.Outputs.{AllTold, Grew, Outputs, batch_alone, header_alone}
 use Rattle.pfr_out.specs.Replay.{closing, online, whole}
+
+-- contracts speak of the bytes of the same sinks as before
+pub still_told : (now before : Sinks Bool) → now ≡ before → AllTold before → AllTold now
+still_told now before is told = subst (λ (t : Sinks Bool). AllTold t) (sym is) told
 
 -- one text behind another
 grew_by : (old mid new a b whole : List ℕ) → mid ≡ old ++ a → new ≡ mid ++ b → whole ≡ a ++ b → new ≡ old ++ whole

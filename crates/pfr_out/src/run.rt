@@ -73,12 +73,7 @@ fn replay_capture<R: Source, S: Sink>(
         }
         match end {
             None => {}
-            Some(Ok(tail)) => {
-                return match close(book, tail, sinks) {
-                    Ok(report) => Ok(report),
-                    Err(stop) => Err(stop),
-                };
-            }
+            Some(Ok(tail)) => return close(book, tail, sinks),
             Some(Err(refusal)) => return Err(stop_for(refusal, book.committed())),
         }
     }

@@ -53,8 +53,7 @@ pub(crate) fn close<S: Sink>(
     sinks: &mut Sinks<S>,
 ) -> Result<Report, Stop>
     ensures told { each_of S.told sinks.new ≡ each_of S.told sinks.old }
-    ensures report { IfOk result (λ report. (report.committed ≡ book.count) × (report.tail ≡ tail)) }
-    ensures written { OnOk result (AllTold (each_of S.told sinks.old) → Grew (each_of S.written sinks.old) (each_of S.written sinks.new) (closing (world_in book no_texts))) }
+    ensures closed { IfOk result (λ report. (report.committed ≡ book.count) × (report.tail ≡ tail) × (AllTold (each_of S.told sinks.old) → Grew (each_of S.written sinks.old) (each_of S.written sinks.new) (closing (world_in book no_texts)))) }
     ensures stops { IfErr result (λ stop. AllTold (each_of S.told sinks.old) → EndStops (world_in book no_texts) (each_of S.written sinks.old) (each_of S.written sinks.new) stop) }
     ensures no_failure { OnOk result (each_of S.failures sinks.new ≡ each_of S.failures sinks.old) }
     ensures failure { IfErr result (λ stop. SinksFail stop (each_of S.failures sinks.old) (each_of S.failures sinks.new)) }

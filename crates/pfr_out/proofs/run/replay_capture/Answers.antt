@@ -1,12 +1,16 @@
 use Rattle.std.proofs.Common.{◌≡◌, ◌+◌, ◌∙◌, ◌≤◌, ◌^◌, false, true, IsTrue, length, refl, sym, ap, arith}
+use Rattle.std.proofs.lemmas.Result.{IfErr-weaker, IfOk-weaker}
 use Rattle.pfr_commit.specs.Books.{job_of, world_in}
 use Rattle.pfr_commit.specs.World.{no_texts, world_after}
 use Rattle.pfr_commit.proofs.BookLemmas.{same_job}
+use Rattle.pfr_out.specs.declared.report.Report.{Report}
+use Rattle.pfr_out.specs.declared.report.Stop.{Stop}
 use Rattle.pfr_out.specs.Outputs.{AllTold, each_of}
 use Rattle.pfr_out.specs.Reading.{wants_memory}
 use Rattle.pfr_out.specs.Taking.{frames_of}
 use Rattle.pfr_out.proofs.ReadingLemmas.{all_viewed}
 use Rattle.pfr_out.proofs.RunLemmas.{at_start, bare, batch_stopped, batch_taken, capture_is, end_stopped, header_stopped, memory_stopped, next_head, opening_count, reading_stopped, replayed, says_on, wanted_gave}
+use Rattle.pfr_out.proofs.WritingLemmas.{still_told}
 use Rattle.pfr_out.proofs.run.replay_capture.Goals as goal
 
 pub returns-in-Err-clause-stopped : goal.returns-in-Err-clause-stopped
@@ -46,7 +50,7 @@ returns-in-Err-take_batch-clause-stopped g c =
     let i = c.loop-alloc.invariant in
     let head = i.at_head t u read h in
     let told : IsTrue (g.R.Source.told c.loop-alloc.source) = rw i.source_told t in
-    let sinks : AllTold (each_of g.S.Sink.told c.loop-alloc.sinks) = rw i.sinks_told u in
+    let sinks : AllTold (each_of g.S.Sink.told c.loop-alloc.sinks) = still_told _ _ i.sinks_told u in
     let other : wants_memory c.read_batch-end.result ≡ false = sym c.wants_memory.ensures ∙ c.if-wants_memory.false in
     batch_stopped (job_of c.args.book) c.args.batch _ _ _ _ _ _ _ _ (world_in c.loop-alloc.book no_texts) c.read_batch-end.new.packets.items c.in-Err-take_batch.stop head
     (record { on = says_on _ _ _ _ _ c.read_batch-end.result other (c.read_batch-end.ensures.says told); same = c.read_batch-end.ensures.same; packets_are = c.read_batch-end.ensures.packets })
@@ -72,7 +76,7 @@ loop-alloc-preserved g c =
       at_head = λ t u read h.
           let head = i.at_head t u read h in
           let told : IsTrue (g.R.Source.told c.loop-alloc.source) = rw i.source_told t in
-          let sinks : AllTold (each_of g.S.Sink.told c.loop-alloc.sinks) = rw i.sinks_told u in
+          let sinks : AllTold (each_of g.S.Sink.told c.loop-alloc.sinks) = still_told _ _ i.sinks_told u in
           next_head (job_of c.args.book) c.args.batch _ _ _ _ _ _ _ _ (world_in c.loop-alloc.book no_texts) (world_in c.take_batch.new.book no_texts) c.read_batch-end.new.packets.items head
           (record { on = rw c.in-None.is at (c.read_batch-end.ensures.says told); same = c.read_batch-end.ensures.same; packets_are = c.read_batch-end.ensures.packets })
           full.0
@@ -80,38 +84,39 @@ loop-alloc-preserved g c =
           (rw (same_job c.loop-alloc.book c.args.book i.job, c.as_slice.ensures.value) at (c.in-Ok-take_batch.ensures.written sinks));
     }
 
-pub returns-in-Some-Ok-in-Ok-clause-ok : goal.returns-in-Some-Ok-in-Ok-clause-ok
-returns-in-Some-Ok-in-Ok-clause-ok g c =
-    λ t u read h.
+pub returns-in-Some-Ok-clause-ok : goal.returns-in-Some-Ok-clause-ok
+returns-in-Some-Ok-clause-ok g c =
+    IfOk-weaker c.close.result _ _ (λ (report : Report) closed t u read h.
     let i = c.loop-alloc.invariant in
     let head = i.at_head t u read h in
     let told : IsTrue (g.R.Source.told c.loop-alloc.source) = rw i.source_told t in
-    let sinks : AllTold (each_of g.S.Sink.told c.loop-alloc.sinks) = rw i.sinks_told u in
-    let mid : AllTold (each_of g.S.Sink.told c.take_batch.new.sinks) = rw c.take_batch.ensures.told sinks in
+    let sinks : AllTold (each_of g.S.Sink.told c.loop-alloc.sinks) = still_told _ _ i.sinks_told u in
+    let mid : AllTold (each_of g.S.Sink.told c.take_batch.new.sinks) = still_told _ _ c.take_batch.ensures.told sinks in
     let says = rw c.in-Some-Ok.is at (c.read_batch-end.ensures.says told) in
     let left = ap bare (rw (same_job c.loop-alloc.book c.args.book i.job, c.as_slice.ensures.value) at c.in-Ok-take_batch.ensures.world) in
     let grew = rw (same_job c.loop-alloc.book c.args.book i.job, c.as_slice.ensures.value) at (c.in-Ok-take_batch.ensures.written sinks) in
     let so_far = batch_taken (job_of c.args.book) _ _ _ _ _ _ _ _ (world_in c.loop-alloc.book no_texts) (world_in c.take_batch.new.book no_texts) head.records c.read_batch-end.new.packets.items head.so_far
     (record { on = says.0; same = c.read_batch-end.ensures.same; packets_are = c.read_batch-end.ensures.packets }) left grew in
     let is = capture_is (job_of c.args.book) _ _ _ _ _ _ head.records _ _ head.so_far says.1 in
-    replayed (job_of c.args.book) _ _ _ _ _ _ (world_in c.take_batch.new.book no_texts) _ c.in-Some-Ok.tail c.in-Ok-close.report so_far (rw c.read_batch-end.ensures.same.0 is) (c.in-Ok-close.ensures.written mid)
-    c.in-Ok-close.ensures.report.0 c.in-Ok-close.ensures.report.1
+    replayed (job_of c.args.book) _ _ _ _ _ _ (world_in c.take_batch.new.book no_texts) _ c.in-Some-Ok.tail report so_far (rw c.read_batch-end.ensures.same.0 is) (closed.2 mid) closed.0 closed.1)
+    c.close.ensures.closed
 
-pub returns-in-Some-Ok-in-Err-clause-stopped : goal.returns-in-Some-Ok-in-Err-clause-stopped
-returns-in-Some-Ok-in-Err-clause-stopped g c =
-    λ t u read h.
+pub returns-in-Some-Ok-clause-stopped : goal.returns-in-Some-Ok-clause-stopped
+returns-in-Some-Ok-clause-stopped g c =
+    IfErr-weaker c.close.result _ _ (λ (stop : Stop) stops t u read h.
     let i = c.loop-alloc.invariant in
     let head = i.at_head t u read h in
     let told : IsTrue (g.R.Source.told c.loop-alloc.source) = rw i.source_told t in
-    let sinks : AllTold (each_of g.S.Sink.told c.loop-alloc.sinks) = rw i.sinks_told u in
-    let mid : AllTold (each_of g.S.Sink.told c.take_batch.new.sinks) = rw c.take_batch.ensures.told sinks in
+    let sinks : AllTold (each_of g.S.Sink.told c.loop-alloc.sinks) = still_told _ _ i.sinks_told u in
+    let mid : AllTold (each_of g.S.Sink.told c.take_batch.new.sinks) = still_told _ _ c.take_batch.ensures.told sinks in
     let says = rw c.in-Some-Ok.is at (c.read_batch-end.ensures.says told) in
     let left = ap bare (rw (same_job c.loop-alloc.book c.args.book i.job, c.as_slice.ensures.value) at c.in-Ok-take_batch.ensures.world) in
     let grew = rw (same_job c.loop-alloc.book c.args.book i.job, c.as_slice.ensures.value) at (c.in-Ok-take_batch.ensures.written sinks) in
     let so_far = batch_taken (job_of c.args.book) _ _ _ _ _ _ _ _ (world_in c.loop-alloc.book no_texts) (world_in c.take_batch.new.book no_texts) head.records c.read_batch-end.new.packets.items head.so_far
     (record { on = says.0; same = c.read_batch-end.ensures.same; packets_are = c.read_batch-end.ensures.packets }) left grew in
     let is = capture_is (job_of c.args.book) _ _ _ _ _ _ head.records _ _ head.so_far says.1 in
-    end_stopped (job_of c.args.book) c.args.batch _ _ _ _ _ _ (world_in c.take_batch.new.book no_texts) _ c.in-Some-Ok.tail c.in-Err-close.stop so_far (rw c.read_batch-end.ensures.same.0 is) (c.in-Err-close.ensures.stops mid)
+    end_stopped (job_of c.args.book) c.args.batch _ _ _ _ _ _ (world_in c.take_batch.new.book no_texts) _ c.in-Some-Ok.tail stop so_far (rw c.read_batch-end.ensures.same.0 is) (stops mid))
+    c.close.ensures.stops
 
 pub returns-in-Some-Err-clause-stopped : goal.returns-in-Some-Err-clause-stopped
 returns-in-Some-Err-clause-stopped g c =
@@ -119,10 +124,10 @@ returns-in-Some-Err-clause-stopped g c =
     let i = c.loop-alloc.invariant in
     let head = i.at_head t u read h in
     let told : IsTrue (g.R.Source.told c.loop-alloc.source) = rw i.source_told t in
-    let sinks : AllTold (each_of g.S.Sink.told c.loop-alloc.sinks) = rw i.sinks_told u in
+    let sinks : AllTold (each_of g.S.Sink.told c.loop-alloc.sinks) = still_told _ _ i.sinks_told u in
     let other : wants_memory c.read_batch-end.result ≡ false = sym c.wants_memory.ensures ∙ c.if-wants_memory.false in
     let left = ap bare (rw (same_job c.loop-alloc.book c.args.book i.job, c.as_slice.ensures.value) at c.in-Ok-take_batch.ensures.world) in
     let grew = rw (same_job c.loop-alloc.book c.args.book i.job, c.as_slice.ensures.value) at (c.in-Ok-take_batch.ensures.written sinks) in
-    rw (c.stop_for.ensures, c.committed-2.ensures)
+    rw (c.stop_for.ensures, c.committed-in-Some-Err.ensures)
     (reading_stopped (job_of c.args.book) c.args.batch _ _ _ _ _ _ _ _ (world_in c.loop-alloc.book no_texts) (world_in c.take_batch.new.book no_texts) c.read_batch-end.new.packets.items c.in-Some-Err.refusal head
     (rw c.in-Some-Err.is at other) (rw c.in-Some-Err.is at (c.read_batch-end.ensures.says told)) c.read_batch-end.ensures.same c.read_batch-end.ensures.packets left grew)
