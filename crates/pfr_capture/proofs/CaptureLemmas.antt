@@ -11,7 +11,7 @@ use Rattle.pfr_capture.specs.declared.capture.CaptureError.{CaptureError}
 use Rattle.pfr_capture.specs.declared.capture.CaptureError.TheVariants.{HeaderCut, BadMagic, BadVersion, LinkType, RecordTooLong, Read, Memory}
 use Rattle.pfr_capture.specs.Header.{form_of, opening_of}
 use Rattle.pfr_capture.specs.Records.{RecordBytes, EndsAs, IsCapture, IsRecord, captured_of, text_of}
-use Rattle.pfr_capture.specs.Reading.{Reading, HasGiven, Opens}
+use Rattle.pfr_capture.specs.Reading.{Reading, HasGiven, LacksRecord, Opens}
 use Rattle.pfr_capture.proofs.RecordLemmas.{captured_of-append}
 
 -- two fronts of one text that are equally long are the same
@@ -150,3 +150,19 @@ opening_is_form text left reading o =
     let long = h.header_length in
     let enough : ltb (length text) 24 ≡ false = le-ltb _ _ (rw whole (omega (arith, length-append reading.header (reading.ahead ++ left)))) in
     rw (enough, header) h.says
+
+-- where reading failed, what was read is a capture of just the records given
+pub read_is_capture : (reading : Reading) (read : List ℕ) (given : List RecordBytes) → HasGiven reading read given → LacksRecord reading Read → (tail : Tail) × IsCapture read reading.form given (Ok tail)
+read_is_capture reading read given h (tail, ends) = (
+  tail,
+  record {
+    header = reading.header;
+    rest = reading.ahead;
+    whole = h.read_is;
+    header_length = h.header_length;
+    says = h.says;
+    each = h.each;
+    at_most = rw h.counted h.at_most;
+    ends = subst (λ (n : ℕ). EndsAs reading.form.order n reading.ahead (Ok tail)) (sym h.counted) ends;
+  },
+)

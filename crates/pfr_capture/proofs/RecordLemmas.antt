@@ -1,11 +1,15 @@
 -- Where a capture ends, and what a reader has given.
-use Rattle.std.proofs.Common.{◌≡◌, ℕ, ◌^◌, ◌<◌, ◌≤◌, List, [], ◌++◌, length, drop, refl, sym, ◌∙◌, arith}
+use Rattle.std.proofs.Common.{◌≡◌, ℕ, ◌+◌, ◌^◌, ◌<◌, ◌≤◌, List, [], ◌++◌, length, drop, refl, sym, ◌∙◌, arith}
 use Rattle.std.proofs.lemmas.List.{append_assoc, append-nil, drop-append-le, length-append, length-drop, get_or_append_left}
 use Rattle.pfr_capture.specs.declared.order.ByteOrder.{ByteOrder}
 use Rattle.pfr_capture.specs.declared.order.ByteOrder.TheVariants.{Big, Little}
+use Rattle.pfr_capture.specs.declared.capture.Tail.TheVariants.{Cut}
+use Rattle.pfr_capture.specs.declared.capture.CaptureError.{CaptureError}
+use Rattle.pfr_capture.specs.declared.capture.CaptureError.TheVariants.{HeaderCut, BadMagic, BadVersion, LinkType, RecordTooLong, Read, Memory}
 use Rattle.pfr_capture.specs.Ahead.{CameBehind, Extends}
 use Rattle.pfr_capture.specs.Header.{number}
-use Rattle.pfr_capture.specs.Records.{IsTooLong, captured_of}
+use Rattle.pfr_capture.specs.Records.{IsCut, IsTooLong, captured_of}
+use Rattle.pfr_capture.specs.Stepping.{HasHeader, StepLacks}
 
 -- a number reads the first four bytes alone
 pub number-append : (order : ByteOrder) (xs ys : List ℕ) → 4 ≤ length xs → number order (xs ++ ys) ≡ number order xs
@@ -58,3 +62,25 @@ too_long_from order count old new before left asked c may header asks above =
       asks = captured_of-append order new left header ∙ sym asks;
       above = above;
     })
+
+-- a header and fewer bytes than it asks for hold no record
+ends_part : (order : ByteOrder) (count : ℕ) (old new : List ℕ) (captured : ℕ) → HasHeader order count old captured → Extends old new → length new < 16 + captured → IsCut order count new
+ends_part order count old new captured h x short =
+    let header = h.header in
+    let long : 16 ≤ length new = rw x.is (omega (arith, length-append old x.more)) in
+    let asks : captured_of order new ≡ captured = rw x.is (captured_of-append order old x.more header) ∙ h.asks in
+    record {
+      some = omega arith;
+      allowed = λ may header. rw asks h.within;
+      part = λ may header. rw asks short;
+    }
+
+-- where a record's bytes were asked for and reading failed
+pub lacks_record : (order : ByteOrder) (count : ℕ) (old new : List ℕ) (captured : ℕ) (e : CaptureError) → HasHeader order count old captured → Extends old new → length new < 16 + captured → StepLacks order count new e
+lacks_record order count old new captured Read h x short = (Cut, ends_part order count old new captured h x short)
+lacks_record order count old new captured HeaderCut h x short = tt
+lacks_record order count old new captured BadMagic h x short = tt
+lacks_record order count old new captured BadVersion h x short = tt
+lacks_record order count old new captured (LinkType link) h x short = tt
+lacks_record order count old new captured (RecordTooLong asked) h x short = tt
+lacks_record order count old new captured Memory h x short = tt

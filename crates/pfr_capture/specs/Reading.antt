@@ -9,7 +9,7 @@ use Rattle.pfr_capture.specs.declared.capture.CaptureError.{CaptureError}
 use Rattle.pfr_capture.specs.declared.capture.CaptureError.TheVariants.{RecordTooLong, Read, Memory}
 use Rattle.pfr_capture.specs.Device.{Rose}
 use Rattle.pfr_capture.specs.Header.{form_of, opening_of}
-use Rattle.pfr_capture.specs.Records.{RecordBytes, text_of, IsRecord, IsCapture, seconds_of, fraction_of}
+use Rattle.pfr_capture.specs.Records.{RecordBytes, text_of, IsRecord, IsCapture, EndsAs, seconds_of, fraction_of}
 
 pub record Reading : Type 0 where
   pub form : Form
@@ -101,6 +101,11 @@ StopsEarly before left e = ⊤
 abbrev pub Refuses : Reading → List ℕ → CaptureError → Type 0
 Refuses reading before (RecordTooLong asked) = EndsCapture reading before (Err (RecordTooLong asked))
 Refuses reading before e = ⊤
+
+-- where reading failed, the bytes that came hold no further record: there are none, or a beginning of one
+abbrev pub LacksRecord : Reading → CaptureError → Type 0
+LacksRecord reading Read = (tail : Tail) × EndsAs reading.form.order reading.count reading.ahead (Ok tail)
+LacksRecord reading e = ⊤
 
 -- which refusals `open` gives, and what the source's count of failures says of them
 abbrev pub OpenFails : CaptureError → ℕ → ℕ → Type 0

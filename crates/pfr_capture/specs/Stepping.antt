@@ -2,8 +2,9 @@
 use Rattle.std.specs.Prelude.{◌≡◌, ℕ, ◌+◌, ◌^◌, ◌<◌, ◌≤◌, List, [], ◌++◌, length, Result, Ok, Err, ⊤}
 use Rattle.pfr_capture.specs.declared.order.ByteOrder.{ByteOrder}
 use Rattle.pfr_capture.specs.declared.capture.Form.{Form}
+use Rattle.pfr_capture.specs.declared.capture.Tail.{Tail}
 use Rattle.pfr_capture.specs.declared.capture.CaptureError.{CaptureError}
-use Rattle.pfr_capture.specs.declared.capture.CaptureError.TheVariants.{BadMagic, BadVersion, LinkType, RecordTooLong}
+use Rattle.pfr_capture.specs.declared.capture.CaptureError.TheVariants.{BadMagic, BadVersion, LinkType, RecordTooLong, Read}
 use Rattle.pfr_capture.specs.declared.reader.Look.{Look}
 use Rattle.pfr_capture.specs.declared.reader.Look.TheVariants.{Captured, End}
 use Rattle.pfr_capture.specs.declared.reader.Step.{Step}
@@ -59,6 +60,11 @@ StepEnds order count rest (Ended tail) = EndsAs order count rest (Ok tail)
 abbrev pub StepRefuses : ByteOrder → ℕ → List ℕ → CaptureError → Type 0
 StepRefuses order count rest (RecordTooLong asked) = IsTooLong order count rest asked
 StepRefuses order count rest e = ⊤
+
+-- where reading failed, the bytes ahead hold no record
+abbrev pub StepLacks : ByteOrder → ℕ → List ℕ → CaptureError → Type 0
+StepLacks order count ahead Read = (tail : Tail) × EndsAs order count ahead (Ok tail)
+StepLacks order count ahead e = ⊤
 
 -- the faults of a header's text
 abbrev pub IsHeaderFault : CaptureError → Type 0

@@ -2,8 +2,8 @@
 ghost use Rattle.std.specs.Prelude.{◌≡◌, ◌≤◌, ◌+◌, ◌^◌, ◌++◌, take, drop, length, None, IsTrue, IfOk, IfErr, IfNone, IfSome, OnOk, OnErr};
 ghost use Rattle.pfr_capture.specs.Ahead.{CameBehind};
 ghost use Rattle.pfr_capture.specs.Header.{form_of, is_known_link, link_of, magic_of, resolution_of, version_of};
-ghost use Rattle.pfr_capture.specs.Reading.{Answers, EndsCapture, FieldsOf, Gave, NextFails, OpenFails, Opens, ReadsOn, Refuses, RefusesHeader, StopsEarly, answer_again, given_by, tail_of};
-ghost use Rattle.pfr_capture.specs.Stepping.{IsHeaderFault, IsWhole, LookEnds, LookSays, StepSays, StepEnds, StepRefuses, Takes, taken_by};
+ghost use Rattle.pfr_capture.specs.Reading.{Answers, EndsCapture, FieldsOf, Gave, LacksRecord, NextFails, OpenFails, Opens, ReadsOn, Refuses, RefusesHeader, StopsEarly, answer_again, given_by, tail_of};
+ghost use Rattle.pfr_capture.specs.Stepping.{IsHeaderFault, IsWhole, LookEnds, LookSays, StepSays, StepEnds, StepLacks, StepRefuses, Takes, taken_by};
 
 use crate::capture::{CaptureError, Form, Record, Resolution, Tail};
 use crate::device::Source;
@@ -103,6 +103,7 @@ impl Capture {
         ensures reads_on { self.old.over ≡ None → IsTrue (S.told source.old) → ReadsOn self.old self.new (S.unread source.old) (S.unread source.new) (given_by result) }
         ensures end { self.old.over ≡ None → IsTrue (S.told source.old) → IfOk result (λ found. IfNone found (IfSome self.new.over (EndsCapture self.old (S.unread source.old)))) }
         ensures refused { self.old.over ≡ None → IsTrue (S.told source.old) → IfErr result (Refuses self.old (S.unread source.old)) }
+        ensures lacks { self.old.over ≡ None → IfErr result (LacksRecord self.new) }
         ensures ok { self.old.over ≡ None → OnOk result (S.failures source.new ≡ S.failures source.old) }
         ensures failed { self.old.over ≡ None → IfErr result (λ e. NextFails e (S.failures source.old) (S.failures source.new)) }
     {
@@ -250,6 +251,7 @@ fn look_for_header<S: Source>(
     ensures ends { IsTrue (S.told source.old) → IfOk result (LookEnds order count (ahead.old ++ S.unread source.old)) }
     ensures ok { OnOk result (S.failures source.new ≡ S.failures source.old) }
     ensures refused { IsTrue (S.told source.old) → IfErr result (StepRefuses order count (ahead.old ++ S.unread source.old)) }
+    ensures lacks { IfErr result (StepLacks order count ahead.new) }
     ensures failed { IfErr result (λ e. NextFails e (S.failures source.old) (S.failures source.new)) }
 {
     if !ahead.fill(source, RECORD_HEADER)? {
@@ -283,6 +285,7 @@ fn look_for_record<S: Source>(
     ensures ends { IsTrue (S.told source.old) → IfOk result (LookEnds order count (ahead.old ++ S.unread source.old)) }
     ensures ok { OnOk result (S.failures source.new ≡ S.failures source.old) }
     ensures refused { IsTrue (S.told source.old) → IfErr result (StepRefuses order count (ahead.old ++ S.unread source.old)) }
+    ensures lacks { IfErr result (StepLacks order count ahead.new) }
     ensures failed { IfErr result (λ e. NextFails e (S.failures source.old) (S.failures source.new)) }
 {
     match look_for_header(order, count, ahead, source)? {
@@ -312,6 +315,7 @@ fn find_next<S: Source>(
     ensures ends { IsTrue (S.told source.old) → IfOk result (StepEnds form.order count (ahead.old ++ S.unread source.old)) }
     ensures ok { OnOk result (S.failures source.new ≡ S.failures source.old) }
     ensures refused { IsTrue (S.told source.old) → IfErr result (StepRefuses form.order count (ahead.old ++ S.unread source.old)) }
+    ensures lacks { IfErr result (StepLacks form.order count ahead.new) }
     ensures failed { IfErr result (λ e. NextFails e (S.failures source.old) (S.failures source.new)) }
 {
     match look_for_record(form.order, count, ahead, source)? {

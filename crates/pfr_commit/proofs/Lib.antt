@@ -1,0 +1,4 @@
+pub mod BookLemmas
+pub mod EndingLemmas
+pub mod ResultLemmas
+pub mod WorldLemmas

@@ -1,9 +1,23 @@
-//! The lines of a run with states: of what each packet comes to, and of the states that are left.
+//! Packets in the order of their capture: what they leave, and what they add to the outputs of a run.
+//!
+//! A [`Book`] takes one packet after the other, each with what was found out about it ahead, or without. Whatever it is given,
+//! it comes to the world of the packets one by one: the same states, counters, lines and bytes.
 #![tactic(auto)]
 
+mod batch;
+pub mod book;
+mod counter_line;
+pub mod counters;
+pub mod emitted;
+pub mod ending;
+mod results;
 pub mod state_line;
 mod texts;
 pub mod verdict_line;
 
+pub use book::Book;
+pub use counters::{Counters, RuleCounters, Totals};
+pub use emitted::Emitted;
+pub use ending::Ending;
 pub use state_line::StateLine;
 pub use verdict_line::VerdictLine;

@@ -1,2 +1,3 @@
-pub mod PlainLemmas
+pub mod ReadingLemmas
+pub mod RunLemmas
 pub mod WritingLemmas

@@ -1,62 +1,51 @@
--- Texts that grow by pieces.
+-- Outputs that grow by pieces.
 use Rattle.std.proofs.Common.{◌≡◌, ℕ, List, [], ◌∷◌, ◌++◌, refl, sym, ◌∙◌, ap}
 use Rattle.std.proofs.lemmas.List.{append_assoc, append-nil}
-use Rattle.pfr_capture.specs.Device.{GrewByBeginning, GrewByPart}
+use Rattle.pfr_commit.specs.World.{Texts, World, no_texts}
+use Rattle.pfr_commit.proofs.WorldLemmas.{behind}
+use Rattle.pfr_out.specs.Outputs.{Grew, Outputs, batch_alone, header_alone}
+use Rattle.pfr_out.specs.Replay.{closing, online, whole}
 
--- a part of the front of a text is a part of the text
-pub part_of_front : (old new a b : List ℕ) → GrewByPart old new a → GrewByPart old new (a ++ b)
-part_of_front old new a b p = record {
-  last = p.last;
-  missing = p.missing ++ b;
-  grew = record {
-    added = p.grew.added;
-    text_is = ap (λ (t : List ℕ). t ++ b) p.grew.text_is ∙ append_assoc p.grew.added (p.last ∷ p.missing) b;
-    new_is = p.grew.new_is;
-  };
+-- one text behind another
+grew_by : (old mid new a b whole : List ℕ) → mid ≡ old ++ a → new ≡ mid ++ b → whole ≡ a ++ b → new ≡ old ++ whole
+grew_by old mid new a b whole first second is = second ∙ (rw (first, is) (append_assoc old a b))
+
+-- two pieces are one
+pub grew_twice : (old mid new a b both : Outputs) → Grew old mid a → Grew mid new b → Grew a both b → Grew old new both
+grew_twice old mid new a b both first second is = record {
+  verdicts = grew_by old.verdicts mid.verdicts new.verdicts a.verdicts b.verdicts both.verdicts first.verdicts second.verdicts is.verdicts;
+  packets = grew_by old.packets mid.packets new.packets a.packets b.packets both.packets first.packets second.packets is.packets;
+  counters = grew_by old.counters mid.counters new.counters a.counters b.counters both.counters first.counters second.counters is.counters;
+  states = grew_by old.states mid.states new.states a.states b.states both.states first.states second.states is.states;
+  messages = grew_by old.messages mid.messages new.messages a.messages b.messages both.messages first.messages second.messages is.messages;
 }
 
--- and so is its front and a part of the rest
-pub part_behind : (old mid new a b : List ℕ) → mid ≡ old ++ a → GrewByPart mid new b → GrewByPart old new (a ++ b)
-part_behind old mid new a b was p = record {
-  last = p.last;
-  missing = p.missing;
-  grew = record {
-    added = a ++ p.grew.added;
-    text_is = ap (λ (t : List ℕ). a ++ t) p.grew.text_is ∙ sym (append_assoc a p.grew.added (p.last ∷ p.missing));
-    new_is = p.grew.new_is ∙ (rw was (append_assoc old a p.grew.added));
-  };
+-- what a world writes, and one that comes behind it
+pub online_behind : (header : List ℕ) (texts : Texts) (world before : World) → before.texts ≡ texts → Grew (online header before) (online header (behind texts world)) (batch_alone world.texts)
+online_behind header texts world before is = rw is (record {
+  verdicts = refl;
+  packets = sym (append_assoc header texts.packets world.texts.packets);
+  counters = refl;
+  states = refl;
+  messages = refl;
+})
+
+-- the end of a run behind its packets
+pub whole_is : (header : List ℕ) (world : World) → Grew (online header world) (whole header world) (closing world)
+whole_is header world = record {
+  verdicts = sym (append-nil world.texts.verdicts);
+  packets = sym (append-nil (header ++ world.texts.packets));
+  counters = refl;
+  states = refl;
+  messages = refl;
 }
 
--- the whole of a text is a beginning of it
-pub whole_begins : (old new a : List ℕ) → new ≡ old ++ a → GrewByBeginning old new a
-whole_begins old new a grew = ([], record { added = a; text_is = sym (append-nil a); new_is = grew })
-
--- and so is a part of it
-pub part_begins : (old new a : List ℕ) → GrewByPart old new a → GrewByBeginning old new a
-part_begins old new a p = (p.last ∷ p.missing, p.grew)
-
--- and so is nothing of it
-pub nothing_begins : (old a : List ℕ) → GrewByBeginning old old a
-nothing_begins old a = (a, record { added = []; text_is = refl; new_is = sym (append-nil old) })
-
--- a beginning of a text begins each longer one
-pub begins_longer : (old new a more b : List ℕ) → b ≡ a ++ more → GrewByBeginning old new a → GrewByBeginning old new b
-begins_longer old new a more b longer g = (
-  g.0 ++ more,
-  record {
-    added = g.1.added;
-    text_is = longer ∙ ap (λ (t : List ℕ). t ++ more) g.1.text_is ∙ append_assoc g.1.added g.0 more;
-    new_is = g.1.new_is;
-  },
-)
-
--- a text, and a beginning of another behind it
-pub begins_behind : (old mid new a b : List ℕ) → mid ≡ old ++ a → GrewByBeginning mid new b → GrewByBeginning old new (a ++ b)
-begins_behind old mid new a b was g = (
-  g.0,
-  record {
-    added = a ++ g.1.added;
-    text_is = ap (λ (t : List ℕ). a ++ t) g.1.text_is ∙ sym (append_assoc a g.1.added g.0);
-    new_is = g.1.new_is ∙ (rw was (append_assoc old a g.1.added));
-  },
-)
+-- the header alone is what no packets write
+pub header_is_online : (old new : Outputs) (header : List ℕ) (world : World) → world.texts ≡ no_texts → Grew old new (header_alone header) → Grew old new (online header world)
+header_is_online old new header world none grew = rw none (record {
+  verdicts = grew.verdicts;
+  packets = rw (append-nil header) grew.packets;
+  counters = grew.counters;
+  states = grew.states;
+  messages = grew.messages;
+})

@@ -1,4 +1,4 @@
-pub mod Lines
-pub mod Plain
-pub mod Rulesets
-pub mod Writing
+pub mod Outputs
+pub mod Reading
+pub mod Replay
+pub mod Taking

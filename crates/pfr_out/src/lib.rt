@@ -1,18 +1,20 @@
-//! A capture through a ruleset: the lines that say what becomes of each packet, and the packets that are not
-//! blocked.
+//! A capture through a ruleset: the lines that say what becomes of each packet, the packets that aren't blocked, the counters
+//! of the rules, and the states that are left.
 //!
-//! [`replay_plain`] is the whole run, over any source and any two sinks. Its contract is the theorem of this
-//! crate: at a run to the end the sinks have grown by exactly what all packets of the source's bytes say;
-//! however it ends, by a beginning of that; and they hold whole just what the packets say that a stop reports
-//! as committed.
+//! [`replay`] is the whole run, over any source and any sinks. Its contract is the theorem of this crate: at a run to the end
+//! the sinks have grown by exactly what one thread writes that takes the packets in the order of the capture; and where a
+//! device fails, by a beginning of that, which holds at least the packets that the stop reports as committed.
 #![tactic(auto)]
 
-mod plain;
+mod reading;
 pub mod report;
-pub mod ruleset;
-pub mod verdict;
+mod run;
+pub mod settings;
+pub mod sinks;
+mod taking;
 
 pub use pfr_conf::{ConfError, ConfErrorKind};
-pub use plain::replay_plain;
 pub use report::{Output, Report, Stop};
-pub use verdict::{Judgement, Reason, Verdict, VerdictLine};
+pub use run::replay;
+pub use settings::Settings;
+pub use sinks::Sinks;

@@ -13,14 +13,22 @@ pub struct Report {
 }
 
 /// The outputs of a run.
-#[derive(Clone, Copy, Debug, PartialEq, Eq)]
+#[derive(Clone, Copy, Debug, PartialEq, Eq, Error)]
 pub enum Output {
+    #[error("verdicts")]
     Verdicts,
+    #[error("packets")]
     Packets,
+    #[error("counters")]
+    Counters,
+    #[error("states")]
+    States,
+    #[error("messages")]
+    Messages,
 }
 
-/// Why a run ended before that. The number is that of the packets committed: of those of which the sinks hold
-/// all that is to be written.
+/// Why a run ended before that. The number is that of the packets committed: of those of which the outputs hold all that is
+/// to be written.
 #[derive(Debug, Drop, Error)]
 pub enum Stop {
     #[error("{0}")]
@@ -29,7 +37,7 @@ pub enum Stop {
     Capture(CaptureError, u64),
     #[error("read failed, committed {0}")]
     Read(u64),
-    #[error("write failed, committed {1}")]
+    #[error("write failed: {0}, committed {1}")]
     Write(Output, u64),
     #[error("no memory, committed {0}")]
     Memory(u64),

@@ -90,7 +90,7 @@ unfolding found_in
 found_in_states table side key state is = found_there (λ (s : State). is_same_key (key_on side s) key) table.states state is
 
 -- the outcome of a packet that passes by a state, before its IP options are looked at
-abbrev passing : Direction → Packet → State → Reason → Option TableChange → Outcome
+abbrev pub passing : Direction → Packet → State → Reason → Option TableChange → Outcome
 passing direction packet state why change = record (by_state direction state verdict.Pass why) { bytes = written_by direction packet state.wire state.stack; change = change }
 
 passed_stands : (number : ℕ) (clock : Clock) (table : StateTable) (direction : Direction) (packet : Packet) (state : State) (why : Reason) (change : Option TableChange)

@@ -1,3 +1,4 @@
+pub mod BytesLemmas
 pub mod ChangeLemmas
 pub mod FreeLemmas
 pub mod Local

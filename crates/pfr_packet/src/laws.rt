@@ -1,7 +1,9 @@
 //! Laws of the definitions, each the contract of a function that does nothing.
 ghost use Rattle.std.specs.Prelude.{◌≡◌, ℕ, true, false, Some, None};
 ghost use Rattle.std.specs.List.{All};
+ghost use Rattle.pfr_headers.specs.declared.change.Change.{Change};
 ghost use Rattle.pfr_headers.specs.declared.packet.View.{View};
+ghost use Rattle.pfr_headers.specs.declared.packet.View.TheVariants.{Ipv4};
 ghost use Rattle.pfr_track.specs.declared.time.Clock.{Clock};
 ghost use Rattle.pfr_states.specs.declared.change.TableChange.{TableChange};
 ghost use Rattle.pfr_states.specs.States.{IsTable, StateTable, purged, refusal};
@@ -43,6 +45,12 @@ pub fn every_change_is_of_the_named_state()
 {
     what_a_packet_leaves();
 }
+
+/// What is written into a packet's bytes is made for that packet.
+pub fn what_is_written_is_of_the_packet()
+    ensures { (job : RunJob) (number : ℕ) (clock : Clock) (view : View) (table : StateTable) (change : Change)
+        → (step_of job number clock view table).bytes ≡ Some change → view ≡ Ipv4 change.packet }
+{}
 
 /// A packet that doesn't pass changes nothing, but that a state may be taken out.
 pub fn what_is_blocked_only_removes()

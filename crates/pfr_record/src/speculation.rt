@@ -54,6 +54,13 @@ fn is_same_view(first: &View, second: &View) -> bool
 impl Speculation {
     ghost use Rattle.pfr_record.specs.Speculations.{Fits};
 
+    /// The number of the packet that was evaluated.
+    pub fn number(&self) -> u64
+        ensures { result ≡ self.now.number }
+    {
+        self.number
+    }
+
     /// Whether a table gives at a clock the answer that stands at a place of the record.
     #[tactic(auto, using(crate::proofs::RecordLemmas::answered_at, crate::proofs::RecordLemmas::answered_of_all))]
     fn is_answered_at(&self, index: usize, table: &Table, clock: Clock) -> bool

@@ -1,2 +1,3 @@
+pub mod Counts
 pub mod Filter
 pub mod Numbers

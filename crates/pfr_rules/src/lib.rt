@@ -5,6 +5,7 @@
 //! rules were visited on the way.
 #![tactic(auto)]
 
+pub mod counts;
 pub mod decision;
 #[cfg(test)]
 mod tests;

@@ -1,7 +1,9 @@
 //! The rules that a walk visits.
-ghost use Rattle.std.specs.Prelude.{◌≡◌, ◌<◌, ◌≤◌, ◌+◌, [], ◌∷◌, ◌++◌, OnOk, OnErr, IfOk};
+ghost use Rattle.std.specs.Prelude.{◌≡◌, ◌<◌, ◌≤◌, ◌+◌, [], ◌∷◌, ◌++◌, fold, OnOk, OnErr, IfOk};
+ghost use Rattle.pfr_rules.specs.Counts.{raised};
 ghost use Rattle.pfr_rules.specs.Numbers.{follows, numbers_from};
 
+use crate::counts::add;
 use pfr_words::Items;
 use std::alloc::{AllocError, Global};
 use std::marker::Model;
@@ -56,6 +58,15 @@ impl Run {
         Ok(())
     }
 
+    /// Counts the numbers, each at its place.
+    fn count_in(self, counts: &mut [u64])
+        ensures { counts.new ≡ fold raised counts.old (numbers_from self.first self.count) }
+    {
+        for index in 0..self.count {
+            add(counts, self.first + index, 1);
+        }
+    }
+
     /// Whether a number follows the last one, and may still be counted.
     fn is_followed_by(&self, number: usize) -> bool
         ensures { result ≡ follows self.now.first self.now.count number }
@@ -91,6 +102,17 @@ impl Visits {
             count: 1,
         };
         Ok(())
+    }
+
+    /// Counts the numbers, each at its place. A count at its last value stays there.
+    pub fn count_in(&self, counts: &mut [u64])
+        ensures { counts.new ≡ fold raised counts.old self.now }
+    {
+        let before = self.before.as_slice();
+        for run in before {
+            run.count_in(counts);
+        }
+        self.last.count_in(counts);
     }
 
     /// A copy of the numbers.

@@ -1,5 +1,5 @@
 -- What the indexes of a table answer is what the states answer.
-use Rattle.std.proofs.Common.{◌≡◌, ◌≤◌, ◌&&◌, ◌==◌, ◌∙◌, ℕ, Bool, true, false, is_some, nat_lt, nat_le, List, [], ◌∷◌, Option, Some, None, sym, refl, ap, inl, inr, arith}
+use Rattle.std.proofs.Common.{◌≡◌, ◌≤◌, ◌<◌, ◌&&◌, ◌==◌, ◌∙◌, ℕ, Bool, true, false, is_some, nat_lt, nat_le, List, [], ◌∷◌, length, slice_get, Option, Some, None, sym, refl, ap, inl, inr, arith}
 use Rattle.std.specs.List.{Contains, filter, find}
 use Rattle.std.specs.Map.{values_of}
 use Rattle.std.specs.Option.{option_map, unwrap_or}
@@ -15,7 +15,7 @@ use Rattle.pfr_track.specs.declared.time.Deadline.{Deadline}
 use Rattle.pfr_states.specs.declared.change.Side.{Side}
 use Rattle.pfr_states.specs.Indexed.{due_at, due_cmp, number_at, number_cmp, numbered, state_of}
 use Rattle.pfr_states.specs.Laws.{AnswersDue, IsFirstDue}
-use Rattle.pfr_states.specs.States.{after, at, due, have_own_keys, is_number, is_same_key, key_on, lives, rise}
+use Rattle.pfr_states.specs.States.{after, at, due, first, have_own_keys, is_number, is_same_key, key_on, lives, rise}
 use Rattle.pfr_states.proofs.ChangeLemmas.{Awaits, Due, has_key, is_due, one_due, one_key}
 use Rattle.pfr_states.proofs.DueLemmas.{Before, due_first, no_before, not_before}
 use Rattle.pfr_states.proofs.FindLemmas.{Answer, answer, found, found_there, one_number, one_of_number}
@@ -96,6 +96,15 @@ after_some n xs es rest e by_number is =
 pub after_none : (n : StateNumber) (xs : List State) (es : List (StateNumber × State)) → es ≡ numbered xs → entries_between number_cmp (Excluded n) Unbounded es ≡ [] → None ≡ after n xs
 after_none n xs es by_number is =
     sym (empty_found (above n) xs (sym (ranged n xs) ∙ ap (λ (es : List (StateNumber × State)). values_of (entries_between number_cmp (Excluded n) Unbounded es)) (sym by_number) ∙ ap (λ (es : List (StateNumber × State)). values_of es) is))
+
+-- the first entry of the map, and a map without one
+pub first_some : (es : List (StateNumber × State)) (number : StateNumber) (state : State) → slice_get es 0 ≡ Some (number, state) → Some state ≡ first (values_of es)
+first_some [] number state is = absurd (cc is)
+first_some (e ∷ es) number state is = ap (λ (e : Option (StateNumber × State)). option_map (λ e. e.1) e) (sym is)
+
+pub first_none : (es : List (StateNumber × State)) → (0 < length es → ⊥) → None ≡ first (values_of es)
+first_none [] none = refl
+first_none (e ∷ es) none = absurd (none (omega arith))
 
 -- ---- by deadline
 

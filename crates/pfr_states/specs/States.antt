@@ -95,6 +95,11 @@ first_of states = fold earlier None states
 abbrev pub due : Clock → List State → Option State
 due clock states = first_of (filter (λ state. not (lives clock state)) states)
 
+-- the state of the least number
+abbrev pub first : List State → Option State
+first [] = None
+first (state ∷ states) = Some state
+
 -- the state of the least number above another one
 abbrev pub after : StateNumber → List State → Option State
 after number states = find (λ state. nat_lt number.0 state.number.0) states

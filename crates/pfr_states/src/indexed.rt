@@ -99,6 +99,17 @@ impl IndexedStates {
         }
     }
 
+    /// The state of the least number.
+    #[tactic(auto, using(crate::proofs::QuestionLemmas::first_some, crate::proofs::QuestionLemmas::first_none))]
+    pub(crate) fn first(&self) -> Option<State>
+        ensures { result ≡ spec.first self.now }
+    {
+        match self.states.first_key_value() {
+            Some((_, state)) => Some(*state),
+            None => None,
+        }
+    }
+
     /// The state of the least number above this one.
     pub(crate) fn after(&self, number: StateNumber) -> Option<State>
         ensures { result ≡ spec.after number self.now }

@@ -79,6 +79,13 @@ impl Table {
         self.states.due(clock)
     }
 
+    /// The state of the least number.
+    pub fn first(&self) -> Option<State>
+        ensures { result ≡ spec.first self.now.states }
+    {
+        self.states.first()
+    }
+
     /// The state of the least number above this one.
     pub fn after(&self, number: StateNumber) -> Option<State>
         ensures { result ≡ spec.after number self.now.states }

@@ -1,0 +1,13 @@
+use Rattle.std.proofs.Common.{◌≡◌, ◌+◌, false, map, take, length}
+use Rattle.pfr_commit.specs.Books.{job_of, world_in}
+use Rattle.pfr_commit.specs.Emissions.{frame_of, texts_of}
+use Rattle.pfr_commit.specs.World.{world_after}
+use Rattle.pfr_commit.proofs.book.Book.commit_batch.Given as goal
+
+abbrev pub invariant-loop-index : goal.invariant-loop-index
+invariant-loop-index l = record {
+  job : l.self.job ≡ l.fn.self.job;
+  counted : l.self.count ≡ l.fn.self.count + l.index;
+  is_open : l.self.is_over ≡ false;
+  world : world_in l.self (texts_of l.out) ≡ world_after (job_of l.fn.self) (world_in l.fn.self (texts_of l.fn.out)) (map (λ packet. frame_of packet.0) (take l.index l.packets));
+}

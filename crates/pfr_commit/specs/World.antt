@@ -1,0 +1,100 @@
+-- What a run has come to: the fold of its packets in the order of the capture, one after the other.
+use Rattle.std.specs.Prelude.{ℕ, ◌+◌, max, if◌then◌else◌, List, [], ◌++◌, Option, Some, None, fold, length, min}
+use Rattle.pfr_headers.specs.declared.change.Change.{Change}
+use Rattle.pfr_headers.specs.Rewriting.{rewritten}
+use Rattle.pfr_headers.specs.View.{view_of}
+use Rattle.pfr_expand.specs.declared.ruleset.Ruleset.{Ruleset}
+use Rattle.pfr_track.specs.declared.time.Clock.{Clock}
+use Rattle.pfr_states.specs.declared.change.TableChange.{TableChange}
+use Rattle.pfr_states.specs.States.{StateTable, empty, with_change}
+use Rattle.pfr_packet.specs.declared.outcome.Outcome.{Outcome}
+use Rattle.pfr_packet.specs.Job.{RunJob}
+use Rattle.pfr_packet.specs.Plan.{purged_at}
+use Rattle.pfr_packet.specs.Steps.{step_of}
+use Rattle.pfr_packet.specs.Verdicts.{is_written}
+use Rattle.pfr_expand.specs.Rulesets.{counts}
+use Rattle.pfr_commit.specs.declared.counters.Counters.{Counters}
+use Rattle.pfr_commit.specs.Counters.{counted, nothing_counted}
+use Rattle.pfr_commit.specs.Lines.{verdict_line}
+
+-- a packet as its capture has it: the link type, the seconds, the 16 bytes of the record's header, the captured bytes
+pub record Frame : Type 0 where
+  pub link : ℕ
+  pub seconds : ℕ
+  pub header : List ℕ
+  pub bytes : List ℕ
+
+-- the verdict lines, and the passed packets behind the capture's header
+pub record Texts : Type 0 where
+  pub verdicts : List ℕ
+  pub packets : List ℕ
+
+abbrev pub no_texts : Texts
+no_texts = record { verdicts = []; packets = [] }
+
+pub record World : Type 0 where
+  -- how many packets there were
+  pub count : ℕ
+  -- the greatest second of their records
+  pub clock : Clock
+  -- the states that they left
+  pub table : StateTable
+  pub counters : Counters
+  pub texts : Texts
+
+-- ---- one packet
+
+abbrev pub clock_at : Clock → Frame → Clock
+clock_at clock frame = record { 0 = max clock.0 frame.seconds }
+
+abbrev pub changed : Option TableChange → StateTable → StateTable
+changed None table = table
+changed (Some change) table = record { states = with_change change table.states; limit = table.limit }
+
+-- the bytes of a frame with what is written into them
+abbrev pub with_bytes : ℕ → Option Change → List ℕ → List ℕ
+with_bytes link None bytes = bytes
+with_bytes link (Some change) bytes = rewritten link change bytes
+
+-- what a packet adds to the packets: its record, unless it is blocked
+unfoldable pub packet_text : Frame → Outcome → List ℕ
+packet_text frame outcome = if is_written outcome.verdict then frame.header ++ with_bytes frame.link outcome.bytes frame.bytes else []
+
+unfoldable pub with_texts : ℕ → Clock → Frame → Outcome → Texts → Texts
+with_texts number clock frame outcome texts =
+    record { verdicts = texts.verdicts ++ verdict_line number clock outcome; packets = texts.packets ++ packet_text frame outcome }
+
+-- the next packet came to an outcome at a clock
+unfoldable pub with_outcome : World → Frame → Clock → Outcome → World
+with_outcome world frame clock outcome = record {
+  count = world.count + 1;
+  clock = clock;
+  table = changed outcome.change (purged_at clock world.table);
+  counters = counted (view_of frame.link frame.bytes) outcome world.counters;
+  texts = with_texts (world.count + 1) clock frame outcome world.texts;
+}
+
+-- a world, and then one packet
+unfoldable pub after : RunJob → World → Frame → World
+after job world frame =
+    with_outcome world frame (clock_at world.clock frame)
+    (step_of job (world.count + 1) (clock_at world.clock frame) (view_of frame.link frame.bytes) world.table)
+
+-- ---- a run
+
+-- before its first packet
+unfoldable pub opening : RunJob → World
+opening job = record {
+  count = 0;
+  clock = record { 0 = 0 };
+  table = empty job.rules.options.state_limit;
+  counters = nothing_counted (counts job.rules).0 (counts job.rules).1;
+  texts = no_texts;
+}
+
+-- after these packets, which follow others
+unfoldable pub world_after : RunJob → World → List Frame → World
+world_after job world frames = fold (after job) world frames
+
+unfoldable pub world_of : RunJob → List Frame → World
+world_of job frames = world_after job (opening job) frames

@@ -1,0 +1,53 @@
+//! Packets that are taken together.
+ghost use Rattle.std.specs.Prelude.{◌≡◌, ◌≤◌, ◌+◌, ◌-◌, ◌^◌, false, true, length, map, take, OnOk, OnErr};
+ghost use Rattle.std.specs.List.{All};
+ghost use Rattle.pfr_headers.specs.View.{view_of};
+ghost use Rattle.pfr_commit.specs.Emissions.{frame_of, texts_of};
+ghost use Rattle.pfr_commit.specs.World as spec;
+
+use crate::book::Book;
+use crate::emitted::Emitted;
+use crate::results::{in_places, take_at};
+use pfr_capture::Record;
+use pfr_headers::View;
+use pfr_record::Speculation;
+use std::alloc::AllocError;
+
+impl Book {
+    ghost use Rattle.pfr_commit.specs.Books.{job_of, world_in};
+
+    /// Takes the next packets, and puts what they add behind what was emitted. Each has its record's view. The results may be
+    /// in any order; some may be missing, and some of other packets or other jobs. Of several of one packet the first is
+    /// tried. Where memory is refused, what was emitted grows by what those packets add that were taken.
+    pub fn commit_batch(
+        &mut self,
+        packets: &[(Record, View)],
+        results: Vec<Speculation>,
+        out: &mut Emitted,
+    ) -> Result<(), AllocError>
+        requires views { All (λ packet. packet.1 ≡ view_of packet.0.link packet.0.bytes.items) packets.now }
+        requires few { self.old.count + length packets.now ≤ 2 ^ 43 }
+        ensures world { OnOk result (world_in self.new (texts_of out.new) ≡ spec.world_after (job_of self.old) (world_in self.old (texts_of out.old)) (map (λ packet. frame_of packet.0) packets.now)) }
+        ensures part { OnErr result (texts_of out.new ≡ (spec.world_after (job_of self.old) (world_in self.old (texts_of out.old)) (take (self.new.count - self.old.count) (map (λ packet. frame_of packet.0) packets.now))).texts) }
+        ensures job { self.new.job ≡ self.old.job }
+        ensures within { (self.old.count ≤ self.new.count) × (self.new.count ≤ self.old.count + length packets.now) }
+        ensures ok { OnOk result ((self.old.is_over ≡ false) × (self.new.is_over ≡ false)) }
+        ensures err { OnErr result (self.new.is_over ≡ true) }
+    {
+        if self.is_over {
+            return Err(AllocError);
+        }
+        let mut places = match in_places(self.alloc, results, self.count + 1, packets.len()) {
+            Ok(places) => places,
+            Err(refused) => {
+                self.is_over = true;
+                return Err(refused);
+            }
+        };
+        for index in 0..packets.len() {
+            let (record, view) = &packets[index];
+            self.take(record, view, take_at(&mut places, index), out)?;
+        }
+        Ok(())
+    }
+}

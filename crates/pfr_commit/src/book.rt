@@ -1,0 +1,277 @@
+//! The committer.
+ghost use Rattle.std.specs.Prelude.{◌≡◌, ◌<◌, ◌≤◌, ◌+◌, ◌^◌, false, true, max, IfOk, IfSome, IsSome, ◌↔◌, OnOk, OnErr, None};
+ghost use Rattle.std.specs.Arc.{arc_value};
+ghost use Rattle.std.specs.String.{string_bytes};
+ghost use Rattle.pfr_headers.specs.View.{view_of};
+ghost use Rattle.pfr_packet.specs.Plan.{purged_at};
+ghost use Rattle.pfr_packet.specs.Steps.{step_of};
+ghost use Rattle.pfr_states.specs.States.{IsTable, purged, refusal};
+ghost use Rattle.pfr_commit.specs.Emissions.{frame_of, texts_of};
+ghost use Rattle.pfr_commit.specs.Endings.{counters_text, states_text};
+ghost use Rattle.pfr_commit.specs.Lines.{verdict_line};
+ghost use Rattle.pfr_commit.specs.World as spec;
+
+use crate::counters::Counters;
+use crate::emitted::Emitted;
+use crate::ending::Ending;
+use crate::verdict_line::VerdictLine;
+use pfr_capture::Record;
+use pfr_headers::View;
+use pfr_packet::laws::{no_change_is_refused, what_is_written_is_of_the_packet};
+use pfr_packet::{Direct, Job, Outcome, step};
+use pfr_record::Speculation;
+use pfr_states::{Table, TableChange, TableError};
+use pfr_track::Clock;
+use std::alloc::{AllocError, Global};
+use std::fmt::Write;
+use std::sync::Arc;
+
+/// Takes the packets of a run in the order of the capture, one after the other, with what was found out about them before
+/// or without. It has the states and counters that the packets so far have left, and not what they have emitted.
+///
+/// Once memory was refused it answers so for good.
+#[derive(Drop)]
+pub struct Book {
+    pub(crate) alloc: Global,
+    pub(crate) job: Arc<Job>,
+    /// How many packets it has taken, and how many of them it has evaluated itself.
+    pub(crate) count: u64,
+    pub(crate) own: u64,
+    pub(crate) clock: Clock,
+    pub(crate) table: Table,
+    pub(crate) counters: Counters,
+    /// Whether memory was refused.
+    pub(crate) is_over: bool,
+    /// The line of the packet that is taken.
+    line: String,
+    ghost few: { own ≤ count },
+}
+
+/// The later of a clock and a record's second.
+fn later(clock: Clock, seconds: u32) -> Clock
+    ensures { result.0 ≡ max clock.0 seconds }
+{
+    Clock(clock.0.max(seconds))
+}
+
+/// Takes out the states whose deadline has come, and then takes over what a packet changes.
+#[tactic(auto, unfolding(pfr_packet::specs::Plan::purged_at))]
+fn change_table(
+    table: &mut Table,
+    clock: Clock,
+    change: Option<TableChange>,
+) -> Result<(), AllocError>
+    requires { IfSome change (λ change. refusal change table.old.limit (purged clock table.old.states) ≡ None) }
+    ensures { OnOk result (table.new ≡ spec.changed change (purged_at clock table.old)) }
+{
+    table.purge(clock);
+    let Some(change) = change else {
+        return Ok(());
+    };
+    match table.apply(change) {
+        Ok(()) => Ok(()),
+        Err(TableError::Memory) => Err(AllocError),
+        Err(TableError::KeyTaken) => unreachable!(),
+        Err(TableError::Full) => unreachable!(),
+    }
+}
+
+/// The line of a packet, in a text that is kept.
+fn put_line(
+    number: u64,
+    clock: Clock,
+    outcome: &Outcome,
+    text: &mut String,
+) -> Result<(), AllocError>
+    ensures { OnOk result (string_bytes text.new ≡ verdict_line number clock outcome.now) }
+{
+    let line = VerdictLine {
+        number,
+        clock,
+        outcome,
+    };
+    text.clear();
+    write!(text, "{line}")
+}
+
+impl Book {
+    ghost use Rattle.pfr_commit.specs.Books.{Holds, job_of, world_in};
+
+    /// A book that has taken no packet of a job.
+    #[tactic(auto, unfolding(crate::specs::World::opening))]
+    pub fn new(alloc: Global, job: Arc<Job>) -> Result<Book, AllocError>
+        ensures world { IfOk result (λ book. world_in book spec.no_texts ≡ spec.opening (arc_value job)) }
+        ensures job { IfOk result (λ book. job_of book ≡ arc_value job) }
+        ensures own { IfOk result (λ book. book.own ≡ 0) }
+        ensures over { IfOk result (λ book. book.is_over ≡ false) }
+    {
+        let rules = job.rules();
+        let limit = rules.options.state_limit as usize;
+        let counters = Counters::new(alloc, rules.counts())?;
+        Ok(Book {
+            alloc,
+            job,
+            count: 0,
+            own: 0,
+            clock: Clock(0),
+            table: Table::new(alloc, limit),
+            counters,
+            is_over: false,
+            line: String::new(alloc),
+        })
+    }
+
+    /// The job whose packets it takes.
+    pub fn job(&self) -> &Arc<Job>
+        ensures { result.now ≡ self.now.job }
+    {
+        &self.job
+    }
+
+    /// How many packets it has evaluated itself: those that came without a speculation, or with one that was dropped.
+    pub fn own(&self) -> u64
+        ensures { result ≡ self.now.own }
+    {
+        self.own
+    }
+
+    /// How many packets it has taken.
+    pub fn committed(&self) -> u64
+        ensures { result ≡ self.now.count }
+    {
+        self.count
+    }
+
+    /// The states that the packets have left, as long as memory wasn't refused.
+    pub fn table(&self) -> &Table
+        ensures { result.now ≡ self.now.table }
+    {
+        &self.table
+    }
+
+    /// The outcome of a speculation that holds for a packet.
+    fn held(
+        &self,
+        number: u64,
+        clock: Clock,
+        view: &View,
+        speculation: Option<Speculation>,
+    ) -> Option<Outcome>
+        ensures some { IsSome result ↔ Holds speculation (job_of self.now) number clock view.now self.now.table }
+        ensures outcome { IfSome result (λ outcome. outcome ≡ step_of (job_of self.now) number clock view.now self.now.table) }
+    {
+        match speculation {
+            Some(speculation) => {
+                speculation.outcome_for(&self.job, number, clock, view, &self.table)
+            }
+            None => None,
+        }
+    }
+
+    /// Evaluates a packet.
+    #[tactic(auto, unfolding(pfr_packet::specs::Steps::step_of))]
+    fn run(&self, number: u64, clock: Clock, view: &View) -> Result<Outcome, AllocError>
+        ensures { IfOk result (λ outcome. outcome ≡ step_of (job_of self.now) number clock view.now self.now.table) }
+    {
+        let mut answers = Direct {
+            table: &self.table,
+            clock,
+        };
+        step(self.alloc, &self.job, number, clock, view, &mut answers)
+    }
+
+    /// What a packet comes to, and by how much the number of those that were evaluated here rises.
+    fn next(
+        &self,
+        number: u64,
+        clock: Clock,
+        view: &View,
+        speculation: Option<Speculation>,
+    ) -> Result<(Outcome, u64), AllocError>
+        ensures outcome { IfOk result (λ next. next.0 ≡ step_of (job_of self.now) number clock view.now self.now.table) }
+        ensures kept { IfOk result (λ next. Holds speculation (job_of self.now) number clock view.now self.now.table → next.1 ≡ 0) }
+        ensures own { IfOk result (λ next. (Holds speculation (job_of self.now) number clock view.now self.now.table → ⊥) → next.1 ≡ 1) }
+        ensures few { IfOk result (λ next. next.1 ≤ 1) }
+    {
+        match self.held(number, clock, view, speculation) {
+            Some(outcome) => Ok((outcome, 0)),
+            None => Ok((self.run(number, clock, view)?, 1)),
+        }
+    }
+
+    /// Takes the next packet, and puts what it adds behind what was emitted. Where memory is refused that stays as it was.
+    pub(crate) fn take(
+        &mut self,
+        packet: &Record,
+        view: &View,
+        speculation: Option<Speculation>,
+        out: &mut Emitted,
+    ) -> Result<(), AllocError>
+        requires view { view.now ≡ view_of packet.now.link packet.now.bytes.items }
+        requires few { self.old.count < 2 ^ 43 }
+        ensures world { OnOk result (world_in self.new (texts_of out.new) ≡ spec.after (job_of self.old) (world_in self.old (texts_of out.old)) (frame_of packet.now)) }
+        ensures job { self.new.job ≡ self.old.job }
+        ensures counted { OnOk result (self.new.count ≡ self.old.count + 1) }
+        ensures kept { OnErr result ((self.new.count ≡ self.old.count) × (texts_of out.new ≡ texts_of out.old)) }
+        ensures held { OnOk result (Holds speculation (job_of self.old) (self.old.count + 1) (spec.clock_at self.old.clock (frame_of packet.now)) view.now self.old.table → self.new.own ≡ self.old.own) }
+        ensures own { OnOk result ((Holds speculation (job_of self.old) (self.old.count + 1) (spec.clock_at self.old.clock (frame_of packet.now)) view.now self.old.table → ⊥) → self.new.own ≡ self.old.own + 1) }
+        ensures ok { OnOk result ((self.old.is_over ≡ false) × (self.new.is_over ≡ false)) }
+        ensures err { OnErr result (self.new.is_over ≡ true) }
+    {
+        if self.is_over {
+            return Err(AllocError);
+        }
+        self.is_over = true;
+        let number = self.count + 1;
+        let clock = later(self.clock, packet.seconds);
+        let (outcome, own) = self.next(number, clock, view, speculation)?;
+        no_change_is_refused();
+        what_is_written_is_of_the_packet();
+        let _ = self.table.len();
+        change_table(&mut self.table, clock, outcome.change)?;
+        put_line(number, clock, &outcome, &mut self.line)?;
+        out.put(self.line.as_str(), packet, &outcome)?;
+        self.counters.count(view, &outcome);
+        self.count = number;
+        self.own += own;
+        self.clock = clock;
+        self.is_over = false;
+        Ok(())
+    }
+
+    /// Takes the next packet, with a speculation of it or without, and answers what it adds to the outputs. The view must be
+    /// the record's. A speculation that isn't of just this packet at its clock under the book's job, or whose record doesn't
+    /// hold in the table, is dropped, and the packet is evaluated here.
+    pub fn commit(
+        &mut self,
+        packet: &Record,
+        view: View,
+        speculation: Option<Speculation>,
+    ) -> Result<Emitted, AllocError>
+        requires view { view ≡ view_of packet.now.link packet.now.bytes.items }
+        requires few { self.old.count < 2 ^ 43 }
+        ensures world { IfOk result (λ emitted. world_in self.new (texts_of emitted) ≡ spec.after (job_of self.old) (world_in self.old spec.no_texts) (frame_of packet.now)) }
+        ensures job { self.new.job ≡ self.old.job }
+        ensures kept { OnErr result (self.new.count ≡ self.old.count) }
+        ensures held { OnOk result (Holds speculation (job_of self.old) (self.old.count + 1) (spec.clock_at self.old.clock (frame_of packet.now)) view self.old.table → self.new.own ≡ self.old.own) }
+        ensures own { OnOk result ((Holds speculation (job_of self.old) (self.old.count + 1) (spec.clock_at self.old.clock (frame_of packet.now)) view self.old.table → ⊥) → self.new.own ≡ self.old.own + 1) }
+        ensures ok { OnOk result ((self.old.is_over ≡ false) × (self.new.is_over ≡ false)) }
+        ensures err { OnErr result (self.new.is_over ≡ true) }
+    {
+        let mut out = Emitted::new(self.alloc);
+        self.take(packet, &view, speculation, &mut out)?;
+        Ok(out)
+    }
+
+    /// The counters and the states at the end of a run.
+    pub fn finish(self) -> Result<Ending, AllocError>
+        ensures counters { IfOk result (λ ending. ending.counters.items ≡ counters_text self.count self.counters) }
+        ensures states { IfOk result (λ ending. ending.states.items ≡ states_text self.table.states) }
+        ensures ok { OnOk result (self.is_over ≡ false) }
+    {
+        if self.is_over {
+            return Err(AllocError);
+        }
+        Ending::new(self.alloc, self.count, &self.counters, &self.table)
+    }
+}

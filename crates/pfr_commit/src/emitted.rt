@@ -1,0 +1,111 @@
+//! What packets add to the outputs of a run.
+ghost use Rattle.std.specs.Prelude.{◌≡◌, ◌≤◌, ◌+◌, ◌++◌, length, take, drop, IfSome, OnOk, OnErr};
+ghost use Rattle.pfr_headers.specs.declared.packet.View.TheVariants.{Ipv4};
+ghost use Rattle.pfr_headers.specs.View.{view_of};
+ghost use Rattle.pfr_commit.specs.Emissions.{frame_of, texts_of};
+ghost use Rattle.pfr_commit.specs.World as spec;
+
+use pfr_capture::Record;
+use pfr_headers::{Change, rewrite};
+use pfr_packet::Outcome;
+use std::alloc::{AllocError, Global};
+
+/// What packets add to the outputs: their verdict lines, and the records of those that aren't blocked.
+#[derive(Debug, Drop)]
+pub struct Emitted {
+    pub verdicts: Vec<u8>,
+    pub packets: Vec<u8>,
+}
+
+/// The length of a record's header.
+const HEADER: usize = 16;
+
+/// Writes into the packet of the record that begins at a place.
+fn write_into(packets: &mut Vec<u8>, start: usize, link: u16, change: &Option<Change>)
+    requires room { start + 16 ≤ length packets.old.items }
+    requires change { IfSome change.now (λ change. view_of link (drop (start + 16) packets.old.items) ≡ Ipv4 change.packet) }
+    ensures { packets.new.items ≡ take (start + 16) packets.old.items ++ spec.with_bytes link change.now (drop (start + 16) packets.old.items) }
+{
+    if let Some(change) = change {
+        rewrite(&mut packets[start + HEADER..], link, change);
+    }
+}
+
+/// Puts a record behind others, with what is written into its packet. Where memory is refused nothing changes.
+fn put_record(
+    packets: &mut Vec<u8>,
+    packet: &Record,
+    change: &Option<Change>,
+) -> Result<(), AllocError>
+    requires { IfSome change.now (λ change. view_of packet.now.link packet.now.bytes.items ≡ Ipv4 change.packet) }
+    ensures done { OnOk result (packets.new.items ≡ packets.old.items ++ (packet.now.header ++ spec.with_bytes packet.now.link change.now packet.now.bytes.items)) }
+    ensures kept { OnErr result (packets.new.items ≡ packets.old.items) }
+{
+    let start = packets.len();
+    packets.extend_from_slice(&packet.header)?;
+    if let Err(refused) = packets.extend_from_slice(packet.bytes.as_slice()) {
+        packets.truncate(start);
+        return Err(refused);
+    }
+    write_into(packets, start, packet.link, change);
+    Ok(())
+}
+
+/// Puts the record of a packet behind others, unless the packet is blocked. Where memory is refused nothing changes.
+#[tactic(auto, unfolding(crate::specs::World::packet_text))]
+fn put_packet(
+    packets: &mut Vec<u8>,
+    packet: &Record,
+    outcome: &Outcome,
+) -> Result<(), AllocError>
+    requires { IfSome outcome.now.bytes (λ change. view_of packet.now.link packet.now.bytes.items ≡ Ipv4 change.packet) }
+    ensures done { OnOk result (packets.new.items ≡ packets.old.items ++ spec.packet_text (frame_of packet.now) outcome.now) }
+    ensures kept { OnErr result (packets.new.items ≡ packets.old.items) }
+{
+    if outcome.verdict.is_written() {
+        put_record(packets, packet, &outcome.bytes)
+    } else {
+        Ok(())
+    }
+}
+
+impl Emitted {
+    /// Nothing yet.
+    pub fn new(alloc: Global) -> Emitted
+        ensures { texts_of result ≡ spec.no_texts }
+    {
+        Emitted {
+            verdicts: Vec::new(alloc),
+            packets: Vec::new(alloc),
+        }
+    }
+
+    /// Forgets all, and keeps the room.
+    pub fn clear(&mut self)
+        ensures { texts_of self.new ≡ spec.no_texts }
+    {
+        self.verdicts.clear();
+        self.packets.clear();
+    }
+
+    /// Puts what a packet adds behind all else: its line, and its record. Where memory is refused nothing changes.
+    pub(crate) fn put(
+        &mut self,
+        line: &str,
+        packet: &Record,
+        outcome: &Outcome,
+    ) -> Result<(), AllocError>
+        requires { IfSome outcome.now.bytes (λ change. view_of packet.now.link packet.now.bytes.items ≡ Ipv4 change.packet) }
+        ensures verdicts { OnOk result (self.new.verdicts.items ≡ self.old.verdicts.items ++ line.now) }
+        ensures packets { OnOk result (self.new.packets.items ≡ self.old.packets.items ++ spec.packet_text (frame_of packet.now) outcome.now) }
+        ensures kept { OnErr result (texts_of self.new ≡ texts_of self.old) }
+    {
+        let start = self.packets.len();
+        put_packet(&mut self.packets, packet, outcome)?;
+        if let Err(refused) = self.verdicts.extend_from_slice(line.as_bytes()) {
+            self.packets.truncate(start);
+            return Err(refused);
+        }
+        Ok(())
+    }
+}

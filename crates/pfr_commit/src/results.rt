@@ -1,0 +1,67 @@
+//! What was found out ahead about the packets of a batch, each at its packet's place.
+ghost use Rattle.std.specs.Prelude.{◌≡◌, None, IfOk, length, replicate};
+ghost use Rattle.pfr_commit.specs.Results as spec;
+
+use pfr_record::Speculation;
+use std::alloc::{AllocError, Global};
+
+/// A place for each packet of a batch, with what was found out about it.
+type Places = Vec<Option<Speculation>>;
+
+/// So many places, with nothing in them.
+fn empty_places(alloc: Global, count: usize) -> Result<Places, AllocError>
+    ensures { IfOk result (λ places. places.items ≡ replicate count None) }
+{
+    let mut places = Vec::with_capacity(alloc, count)?;
+    for _place in 0..count {
+        places.push(None)?;
+    }
+    Ok(places)
+}
+
+/// Whether there is such a place, with nothing in it.
+fn is_free(places: &Places, place: usize) -> bool
+    ensures { result ≡ spec.is_free places.now.items place }
+{
+    place < places.len() && places[place].is_none()
+}
+
+/// Puts a result at its packet's place, unless there is one before it. One of no packet of these is dropped.
+fn put_result(places: &mut Places, first: u64, found: Speculation)
+    ensures { places.new.items ≡ spec.with_result first found places.old.items }
+{
+    let number = found.number();
+    if number < first {
+        return;
+    }
+    let place = (number - first) as usize;
+    if is_free(places, place) {
+        places[place] = Some(found);
+    }
+}
+
+/// The results for so many packets from a number on: of several of one packet the first.
+#[tactic(auto, using(crate::proofs::ResultLemmas::none_placed, crate::proofs::ResultLemmas::one_placed, crate::proofs::ResultLemmas::same_length))]
+pub(crate) fn in_places(
+    alloc: Global,
+    results: Vec<Speculation>,
+    first: u64,
+    count: usize,
+) -> Result<Places, AllocError>
+    ensures length { IfOk result (λ places. length places.items ≡ count) }
+    ensures placed { IfOk result (λ places. spec.ArePlaced results.items first places.items) }
+{
+    let mut places = empty_places(alloc, count)?;
+    for found in results {
+        put_result(&mut places, first, found);
+    }
+    Ok(places)
+}
+
+/// Takes out what is at a place.
+pub(crate) fn take_at(places: &mut Places, place: usize) -> Option<Speculation> {
+    match places.get_mut(place) {
+        Some(held) => held.take(),
+        None => None,
+    }
+}

@@ -1,0 +1,49 @@
+-- A batch of records on its way from the source.
+use Rattle.std.specs.Prelude.{◌≡◌, ◌×◌, ℕ, Bool, true, false, List, ◌++◌, map, Option, Some, None, Result, Ok, Err, ⊤}
+use Rattle.std.specs.List.{All}
+use Rattle.pfr_capture.specs.declared.capture.CaptureError.{CaptureError}
+use Rattle.pfr_capture.specs.declared.capture.CaptureError.TheVariants as capture
+use Rattle.pfr_capture.specs.declared.capture.Form.{Form}
+use Rattle.pfr_capture.specs.declared.capture.Record.{Record}
+use Rattle.pfr_capture.specs.declared.capture.Tail.{Tail}
+use Rattle.pfr_capture.specs.Device.{Rose}
+use Rattle.pfr_capture.specs.Reading.{FieldsOf, Gave, HasGiven, LacksRecord, ReadsOn, Reading, bytes_of}
+use Rattle.pfr_capture.specs.Records.{IsCapture, RecordBytes}
+use Rattle.pfr_headers.specs.declared.packet.View.{View}
+use Rattle.pfr_headers.specs.View.{view_of}
+
+-- the records of packets
+abbrev pub records_of : List (Record × View) → List RecordBytes
+records_of packets = map (λ packet. bytes_of packet.0) packets
+
+-- a packet is one of a capture of this form, with its view
+pub record IsPacket (form : Form) (packet : Record × View) : Type 0 where
+  pub fields : FieldsOf form packet.0
+  pub view_is : packet.1 ≡ view_of packet.0.link packet.0.bytes.items
+
+-- how the reading of records ends: at the capture's end, or with a refusal
+abbrev pub End : Type 0
+End = Result Tail CaptureError
+
+-- Whatever the reader had given, the text is a capture of that and these records, which ends so.
+abbrev pub EndsBehind : Reading → List ℕ → List RecordBytes → End → Type 0
+EndsBehind old before given end = (read : List ℕ) (records : List RecordBytes) → HasGiven old read records → IsCapture (read ++ before) old.form (records ++ given) end
+
+-- what a batch of records says of the source
+abbrev pub BatchSays : Reading → Reading → (before left : List ℕ) → List RecordBytes → Option End → Type 0
+BatchSays old new before left given None = ReadsOn old new before left given
+BatchSays old new before left given (Some (Ok tail)) = ReadsOn old new before left given × EndsBehind old before given (Ok tail)
+BatchSays old new before left given (Some (Err capture.Read)) = ReadsOn old new before left given × LacksRecord new capture.Read
+BatchSays old new before left given (Some (Err capture.Memory)) = Gave before left
+BatchSays old new before left given (Some (Err (capture.RecordTooLong asked))) = ReadsOn old new before left given × EndsBehind old before given (Err (capture.RecordTooLong asked))
+BatchSays old new before left given (Some (Err e)) = ⊥
+
+-- the reading ends since memory was refused
+abbrev pub wants_memory : Option End → Bool
+wants_memory (Some (Err capture.Memory)) = true
+wants_memory end = false
+
+-- and of its count of failures
+abbrev pub BatchFails : Option End → ℕ → ℕ → Type 0
+BatchFails (Some (Err capture.Read)) old new = Rose old new
+BatchFails end old new = new ≡ old

@@ -1,0 +1,123 @@
+//! The replay of a capture.
+ghost use Rattle.std.specs.Prelude.{◌≡◌, ◌≤◌, ℕ, List, [], false, None, IsTrue, IfErr, IfOk, OnOk};
+ghost use Rattle.pfr_capture.specs.Reading.{HasGiven};
+ghost use Rattle.pfr_commit.specs.Books.{job_of, world_in};
+ghost use Rattle.pfr_commit.specs.World.{no_texts, opening};
+ghost use Rattle.pfr_out.specs.Outputs.{AllTold, each_of};
+ghost use Rattle.pfr_out.specs.Replay.{Replayed, StopFails, StopOf, Stopped, UnderJob, stop_for};
+
+use crate::reading::{read_batch, wants_memory};
+use crate::report::{Report, Stop};
+use crate::settings::Settings;
+use crate::sinks::Sinks;
+use crate::taking::{close, take_batch};
+use pfr_capture::{Capture, CaptureError, Sink, Source};
+use pfr_commit::{Book, Emitted};
+use pfr_packet::Job;
+use std::alloc::{AllocError, Global};
+use std::sync::Arc;
+
+/// A book that has taken no packet of a job.
+fn book_of(alloc: Global, job: Job) -> Result<Book, AllocError>
+    ensures world { IfOk result (λ book. world_in book no_texts ≡ opening job) }
+    ensures job { IfOk result (λ book. job_of book ≡ job) }
+{
+    let job = Arc::new(alloc, job)?;
+    Book::new(alloc, job)
+}
+
+/// The stop for a refusal of the capture's reader.
+fn stop_for(refusal: CaptureError, committed: u64) -> Stop
+    ensures { result ≡ stop_for refusal committed }
+{
+    match refusal {
+        CaptureError::Read => Stop::Read(committed),
+        CaptureError::Memory => Stop::Memory(committed),
+        refusal => Stop::Capture(refusal, committed),
+    }
+}
+
+/// Writes the header of a capture, and then takes and writes its packets, a batch at a time. Its reader has given none of them.
+fn replay_capture<R: Source, S: Sink>(
+    alloc: Global,
+    mut book: Book,
+    capture: &mut Capture,
+    source: &mut R,
+    batch: usize,
+    sinks: &mut Sinks<S>,
+) -> Result<Report, Stop>
+    requires reading { capture.old.over ≡ None }
+    requires start { capture.old.count ≡ 0 }
+    requires world { world_in book no_texts ≡ opening (job_of book) }
+    requires batch { (1 ≤ batch) × (batch ≤ 4096) }
+    ensures told { (R.told source.new ≡ R.told source.old) × (each_of S.told sinks.new ≡ each_of S.told sinks.old) }
+    ensures ok { IfOk result (λ report. IsTrue (R.told source.old) → AllTold (each_of S.told sinks.old) → (read : List ℕ) → HasGiven capture.old read [] → Replayed (job_of book) (read ++ R.unread source.old) (each_of S.written sinks.old) (each_of S.written sinks.new) report) }
+    ensures stopped { IfErr result (λ stop. IsTrue (R.told source.old) → AllTold (each_of S.told sinks.old) → (read : List ℕ) → HasGiven capture.old read [] → Stopped (job_of book) batch (read ++ R.unread source.old) (R.unread source.new) (each_of S.written sinks.old) (each_of S.written sinks.new) stop) }
+    ensures no_failure { OnOk result ((R.failures source.new ≡ R.failures source.old) × (each_of S.failures sinks.new ≡ each_of S.failures sinks.old)) }
+    ensures failure { IfErr result (λ stop. StopFails stop (R.failures source.old) (R.failures source.new) (each_of S.failures sinks.old) (each_of S.failures sinks.new)) }
+{
+    match sinks.write_header(&capture.header()) {
+        Ok(()) => {}
+        Err(output) => return Err(Stop::Write(output, 0)),
+    }
+    let mut packets = Vec::new(alloc);
+    let mut out = Emitted::new(alloc);
+    loop {
+        let end = read_batch(capture, source, batch, &mut packets);
+        if wants_memory(&end) {
+            return Err(Stop::Memory(book.committed()));
+        }
+        take_batch(alloc, &mut book, packets.as_slice(), &mut out, sinks)?;
+        match end {
+            None => {}
+            Some(Ok(tail)) => return close(book, tail, sinks),
+            Some(Err(refusal)) => return Err(stop_for(refusal, book.committed())),
+        }
+    }
+}
+
+/// Replays a capture through a ruleset, as the firewall's interface would see its packets. One thread takes them in the order
+/// of the capture, a batch at a time. A packet whose source lies in an inside network goes out.
+///
+/// The text is read first, and a fault of it leaves the source unread. The capture's header goes to the packets, in a write of
+/// its own. Then each batch adds a line for each packet to the verdicts, and the packets that aren't blocked to the packets,
+/// in one write each. At the end the counters are written, and then the states. A read that fails, and a record that is too
+/// long, end the run as soon as the packets before it are written; counters and states are left out then.
+///
+/// Ok comes where the capture was read to its end; the sinks have then grown by just what its packets write, one after the
+/// other. At every stop they have grown by a beginning of that, and hold all that the packets write that the stop reports as
+/// committed. The clauses on bytes hold where the source and all sinks tell them.
+pub fn replay<H: AllocGlobal, R: Source, S: Sink>(
+    rt: &H,
+    source: &mut R,
+    text: &[u8],
+    seed: [u8; 32],
+    settings: &Settings<'_>,
+    sinks: &mut Sinks<S>,
+) -> Result<Report, Stop>
+    requires batch { (1 ≤ settings.now.batch) × (settings.now.batch ≤ 4096) }
+    ensures told { (R.told source.new ≡ R.told source.old) × (each_of S.told sinks.new ≡ each_of S.told sinks.old) }
+
+    // A run to the end.
+    ensures ok { IfOk result (λ report. IsTrue (R.told source.old) → AllTold (each_of S.told sinks.old) → UnderJob text.now seed settings.now (λ job. Replayed job (R.unread source.old) (each_of S.written sinks.old) (each_of S.written sinks.new) report)) }
+    ensures no_failure { OnOk result ((R.failures source.new ≡ R.failures source.old) × (each_of S.failures sinks.new ≡ each_of S.failures sinks.old)) }
+
+    // A stop.
+    ensures stopped { IfErr result (λ stop. IsTrue (R.told source.old) → AllTold (each_of S.told sinks.old) → StopOf text.now seed settings.now (R.unread source.old) (R.unread source.new) (each_of S.written sinks.old) (each_of S.written sinks.new) stop) }
+    ensures failure { IfErr result (λ stop. StopFails stop (R.failures source.old) (R.failures source.new) (each_of S.failures sinks.old) (each_of S.failures sinks.new)) }
+{
+    let alloc = rt.alloc();
+    let job = match Job::new(alloc, text, settings.interface, settings.inside, seed) {
+        Ok(job) => job,
+        Err(fault) => return Err(Stop::Ruleset(fault)),
+    };
+    let mut capture = match Capture::open(alloc, source) {
+        Ok(capture) => capture,
+        Err(refusal) => return Err(stop_for(refusal, 0)),
+    };
+    let book = match book_of(alloc, job) {
+        Ok(book) => book,
+        Err(_) => return Err(Stop::Memory(0)),
+    };
+    replay_capture(alloc, book, &mut capture, source, settings.batch, sinks)
+}

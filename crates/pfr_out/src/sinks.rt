@@ -1,0 +1,61 @@
+//! Where the outputs go.
+ghost use Rattle.std.specs.Prelude.{◌≡◌, IfErr, OnOk};
+
+use crate::report::Output;
+use pfr_capture::{Sink, write_all};
+use pfr_commit::{Emitted, Ending};
+
+/// Where the outputs go.
+#[derive(Drop)]
+pub struct Sinks<S> {
+    /// A line for each packet.
+    pub verdicts: S,
+    /// The capture's header, and the packets that aren't blocked.
+    pub packets: S,
+    /// A line for each rule, and the totals.
+    pub counters: S,
+    /// A line for each state that is left.
+    pub states: S,
+    /// What another firewall is told of the states.
+    pub messages: S,
+}
+
+impl<S: Sink> Sinks<S> {
+    ghost use Rattle.pfr_commit.specs.Emissions.{texts_of};
+    ghost use Rattle.pfr_out.specs.Outputs.{AllTold, Grew, PartWritten, RoseAt, batch_alone, each_of, ending_alone, header_alone};
+
+    /// Writes the header of a capture.
+    pub(crate) fn write_header(&mut self, header: &[u8]) -> Result<(), Output>
+        ensures told { each_of S.told self.new ≡ each_of S.told self.old }
+        ensures ok { OnOk result (AllTold (each_of S.told self.old) → Grew (each_of S.written self.old) (each_of S.written self.new) (header_alone header.now)) }
+        ensures fails { IfErr result (λ output. AllTold (each_of S.told self.old) → PartWritten (each_of S.written self.old) (each_of S.written self.new) (header_alone header.now) output) }
+        ensures no_failure { OnOk result (each_of S.failures self.new ≡ each_of S.failures self.old) }
+        ensures failure { IfErr result (λ output. RoseAt output (each_of S.failures self.old) (each_of S.failures self.new)) }
+    {
+        write_all(&mut self.packets, header).map_err(|_| Output::Packets)
+    }
+
+    /// Writes what packets add: their lines, and then those that aren't blocked.
+    pub(crate) fn write_batch(&mut self, batch: &Emitted) -> Result<(), Output>
+        ensures told { each_of S.told self.new ≡ each_of S.told self.old }
+        ensures ok { OnOk result (AllTold (each_of S.told self.old) → Grew (each_of S.written self.old) (each_of S.written self.new) (batch_alone (texts_of batch.now))) }
+        ensures fails { IfErr result (λ output. AllTold (each_of S.told self.old) → PartWritten (each_of S.written self.old) (each_of S.written self.new) (batch_alone (texts_of batch.now)) output) }
+        ensures no_failure { OnOk result (each_of S.failures self.new ≡ each_of S.failures self.old) }
+        ensures failure { IfErr result (λ output. RoseAt output (each_of S.failures self.old) (each_of S.failures self.new)) }
+    {
+        write_all(&mut self.verdicts, batch.verdicts.as_slice()).map_err(|_| Output::Verdicts)?;
+        write_all(&mut self.packets, batch.packets.as_slice()).map_err(|_| Output::Packets)
+    }
+
+    /// Writes what stands at the end of a run: the counters, and then the states.
+    pub(crate) fn write_ending(&mut self, ending: &Ending) -> Result<(), Output>
+        ensures told { each_of S.told self.new ≡ each_of S.told self.old }
+        ensures ok { OnOk result (AllTold (each_of S.told self.old) → Grew (each_of S.written self.old) (each_of S.written self.new) (ending_alone ending.now.counters.items ending.now.states.items)) }
+        ensures fails { IfErr result (λ output. AllTold (each_of S.told self.old) → PartWritten (each_of S.written self.old) (each_of S.written self.new) (ending_alone ending.now.counters.items ending.now.states.items) output) }
+        ensures no_failure { OnOk result (each_of S.failures self.new ≡ each_of S.failures self.old) }
+        ensures failure { IfErr result (λ output. RoseAt output (each_of S.failures self.old) (each_of S.failures self.new)) }
+    {
+        write_all(&mut self.counters, ending.counters.as_slice()).map_err(|_| Output::Counters)?;
+        write_all(&mut self.states, ending.states.as_slice()).map_err(|_| Output::States)
+    }
+}

@@ -1,0 +1,71 @@
+//! Packets into the outputs, a batch at a time, and the end of a run.
+ghost use Rattle.std.specs.Prelude.{◌≡◌, ◌≤◌, ◌+◌, ◌^◌, false, length, IfErr, IfOk, OnOk};
+ghost use Rattle.std.specs.List.{All};
+ghost use Rattle.pfr_headers.specs.View.{view_of};
+ghost use Rattle.pfr_commit.specs.Books.{job_of, world_in};
+ghost use Rattle.pfr_commit.specs.World.{no_texts, world_after};
+ghost use Rattle.pfr_out.specs.Outputs.{AllTold, Grew, batch_alone, each_of};
+ghost use Rattle.pfr_out.specs.Replay.{closing};
+ghost use Rattle.pfr_out.specs.Taking.{BatchStops, EndStops, SinksFail, added_by, frames_of};
+
+use crate::report::{Report, Stop};
+use crate::sinks::Sinks;
+use pfr_capture::{Record, Sink, Tail};
+use pfr_commit::{Book, Emitted};
+use pfr_headers::View;
+use std::alloc::Global;
+
+/// Takes the next packets, and writes what they add.
+pub(crate) fn take_batch<S: Sink>(
+    alloc: Global,
+    book: &mut Book,
+    packets: &[(Record, View)],
+    out: &mut Emitted,
+    sinks: &mut Sinks<S>,
+) -> Result<(), Stop>
+    requires views { All (λ packet. packet.1 ≡ view_of packet.0.link packet.0.bytes.items) packets.now }
+    requires few { book.old.count + length packets.now ≤ 2 ^ 43 }
+    ensures told { each_of S.told sinks.new ≡ each_of S.told sinks.old }
+    ensures job { book.new.job ≡ book.old.job }
+    ensures world { OnOk result (world_in book.new (added_by (job_of book.old) (world_in book.old no_texts) (frames_of packets.now)) ≡ world_after (job_of book.old) (world_in book.old no_texts) (frames_of packets.now)) }
+    ensures counted { OnOk result (book.new.count ≡ book.old.count + length packets.now) }
+    ensures written { OnOk result (AllTold (each_of S.told sinks.old) → Grew (each_of S.written sinks.old) (each_of S.written sinks.new) (batch_alone (added_by (job_of book.old) (world_in book.old no_texts) (frames_of packets.now)))) }
+    ensures stops { IfErr result (λ stop. AllTold (each_of S.told sinks.old) → BatchStops (added_by (job_of book.old) (world_in book.old no_texts) (frames_of packets.now)) book.old.count (each_of S.written sinks.old) (each_of S.written sinks.new) stop) }
+    ensures no_failure { OnOk result (each_of S.failures sinks.new ≡ each_of S.failures sinks.old) }
+    ensures failure { IfErr result (λ stop. SinksFail stop (each_of S.failures sinks.old) (each_of S.failures sinks.new)) }
+{
+    let committed = book.committed();
+    out.clear();
+    match book.commit_batch(packets, Vec::new(alloc), out) {
+        Ok(()) => {}
+        Err(_) => return Err(Stop::Memory(committed)),
+    }
+    match sinks.write_batch(out) {
+        Ok(()) => Ok(()),
+        Err(output) => Err(Stop::Write(output, committed)),
+    }
+}
+
+/// Writes what stands at the end of a run.
+pub(crate) fn close<S: Sink>(
+    book: Book,
+    tail: Tail,
+    sinks: &mut Sinks<S>,
+) -> Result<Report, Stop>
+    ensures told { each_of S.told sinks.new ≡ each_of S.told sinks.old }
+    ensures report { IfOk result (λ report. (report.committed ≡ book.count) × (report.tail ≡ tail)) }
+    ensures written { OnOk result (AllTold (each_of S.told sinks.old) → Grew (each_of S.written sinks.old) (each_of S.written sinks.new) (closing (world_in book no_texts))) }
+    ensures stops { IfErr result (λ stop. AllTold (each_of S.told sinks.old) → EndStops (world_in book no_texts) (each_of S.written sinks.old) (each_of S.written sinks.new) stop) }
+    ensures no_failure { OnOk result (each_of S.failures sinks.new ≡ each_of S.failures sinks.old) }
+    ensures failure { IfErr result (λ stop. SinksFail stop (each_of S.failures sinks.old) (each_of S.failures sinks.new)) }
+{
+    let committed = book.committed();
+    let ending = match book.finish() {
+        Ok(ending) => ending,
+        Err(_) => return Err(Stop::Memory(committed)),
+    };
+    match sinks.write_ending(&ending) {
+        Ok(()) => Ok(Report { committed, tail }),
+        Err(output) => Err(Stop::Write(output, committed)),
+    }
+}

@@ -1,0 +1,154 @@
+-- Where what is written into a packet comes from, along the plan of the packet.
+use Rattle.std.proofs.Common.{◌≡◌, ℕ, Bool, true, false, not, ◌&&◌, Option, Some, None, cond, refl, sym, ap, ◌∙◌}
+use Rattle.pfr_headers.specs.declared.change.Change.{Change}
+use Rattle.pfr_headers.specs.declared.packet.Direction.{Direction}
+use Rattle.pfr_headers.specs.declared.packet.Packet.{Packet}
+use Rattle.pfr_headers.specs.declared.packet.View.{View}
+use Rattle.pfr_headers.specs.declared.packet.View.TheVariants.{Ipv4, Skip, Short}
+use Rattle.pfr_headers.specs.Address.{direction_of}
+use Rattle.pfr_headers.specs.View.{has_options}
+use Rattle.pfr_expand.specs.declared.ruleset.Ruleset.{Ruleset}
+use Rattle.pfr_rules.specs.Filter.{decision_of, visited}
+use Rattle.pfr_track.specs.declared.key.Key.{Key}
+use Rattle.pfr_track.specs.declared.outcome.Touch.{Touch}
+use Rattle.pfr_track.specs.declared.outcome.Touch.TheVariants as touch
+use Rattle.pfr_track.specs.declared.state.State.{State}
+use Rattle.pfr_track.specs.declared.state.StateRules.{StateRules}
+use Rattle.pfr_track.specs.declared.time.Clock.{Clock}
+use Rattle.pfr_track.specs.Tracking.{made, touched}
+use Rattle.pfr_states.specs.declared.change.Side.TheVariants.{Wire, Stack}
+use Rattle.pfr_states.specs.declared.change.TableChange.{TableChange}
+use Rattle.pfr_states.specs.declared.change.TableChange.TheVariants.{Touched}
+use Rattle.pfr_states.specs.States.{StateTable}
+use Rattle.pfr_packet.specs.declared.keys.Subject.{Subject}
+use Rattle.pfr_packet.specs.declared.keys.Subject.TheVariants.{Alone, Told, Connection}
+use Rattle.pfr_packet.specs.declared.making.Passage.{Passage}
+use Rattle.pfr_packet.specs.declared.outcome.Outcome.{Outcome}
+use Rattle.pfr_packet.specs.declared.verdict.Reason.{Reason}
+use Rattle.pfr_packet.specs.declared.verdict.Reason.TheVariants as reason
+use Rattle.pfr_packet.specs.Filtering.{conduct_of, decided, filtered, kept}
+use Rattle.pfr_packet.specs.Found.{passed, tracked}
+use Rattle.pfr_packet.specs.Job.{RunJob, is_skipped, timeouts_of}
+use Rattle.pfr_packet.specs.Keys.{is_same_end, side_of, subject_of, written_by}
+use Rattle.pfr_packet.specs.Making.{making, untranslated, with_keys, with_room}
+use Rattle.pfr_packet.specs.Outcomes.{blocked, without_leave}
+use Rattle.pfr_packet.specs.Plan.{Plan, done, found_in, has_room_in, outcome_of, purged_at}
+use Rattle.pfr_packet.specs.Steps.{by_connection, by_told, opened, packet_plan, passed_over, plan, step_of, subject_plan}
+use Rattle.pfr_packet.specs.Verdicts.{lets_pass}
+use Rattle.pfr_packet.proofs.ChangeLemmas.{passing}
+
+-- what is written is of this packet
+abbrev IsOf : Packet → Option Change → Type 0
+IsOf packet None = Unit {0}
+IsOf packet (Some change) = change.packet ≡ packet
+
+abbrev Writes : Packet → Outcome → Type 0
+Writes packet outcome = IsOf packet outcome.bytes
+
+blocked_writes : (packet : Packet) (test : Bool) (why : Reason) (outcome : Outcome) → Writes packet outcome → Writes packet (cond test (blocked why outcome) outcome)
+blocked_writes packet true why outcome h = tt
+blocked_writes packet false why outcome h = h
+
+leave_writes : (packet : Packet) (allowed : Bool) (outcome : Outcome) → Writes packet outcome → Writes packet (without_leave packet allowed outcome)
+leave_writes packet allowed outcome h = blocked_writes packet (lets_pass outcome.verdict && (has_options packet && not allowed)) reason.IpOption outcome h
+
+filtered_writes : (rules : Ruleset) (packet : Packet) (direction : Direction) → Writes packet (filtered rules packet direction)
+unfolding filtered
+filtered_writes rules packet direction =
+    leave_writes packet (conduct_of rules.filter.rules (decision_of rules packet direction).rule).allows_options
+    (decided direction (decision_of rules packet direction) (visited rules packet direction)) tt
+
+translated_writes : (packet : Packet) (same : Bool) (change : Change) → change.packet ≡ packet → IsOf packet (cond same None (Some change))
+translated_writes packet true change is = tt
+translated_writes packet false change is = is
+
+written_is : (direction : Direction) (packet : Packet) (wire stack : Key) → IsOf packet (written_by direction packet wire stack)
+written_is direction packet wire stack = translated_writes packet (is_same_end wire.inside stack.inside) _ refl
+
+passed_writes : (direction : Direction) (packet : Packet) (state : State) (why : Reason) (change : Option TableChange) → Writes packet (passed direction packet state why change)
+passed_writes direction packet state why change =
+    leave_writes packet state.rules.allows_options (passing direction packet state why change) (written_is direction packet state.wire state.stack)
+
+tracked_writes : (direction : Direction) (packet : Packet) (state : State) (t : Touch) → Writes packet (tracked direction packet state t)
+tracked_writes direction packet state (touch.Touched next) = passed_writes direction packet state reason.State (Some (Touched next))
+tracked_writes direction packet state touch.Mismatch = tt
+tracked_writes direction packet state touch.Removed = tt
+
+room_writes : (table : StateTable) (packet : Packet) (state : State) (outcome : Outcome) (room : Bool) → Writes packet (outcome_of table (with_room packet state outcome room))
+room_writes table packet state outcome true = written_is state.direction packet state.wire state.stack
+room_writes table packet state outcome false = tt
+
+keys_write : (table : StateTable) (packet : Packet) (state : State) (outcome : Outcome) (wire stack : Option State) → Writes packet (outcome_of table (with_keys packet state outcome wire stack))
+keys_write table packet state outcome None None = room_writes table packet state outcome (has_room_in table)
+keys_write table packet state outcome None (Some other) = tt
+keys_write table packet state outcome (Some other) _ = tt
+
+passing_writes : (table : StateTable) (packet : Packet) (state : State) (outcome : Outcome) → Writes packet outcome → (test : Bool)
+    → Writes packet (outcome_of table (cond test (making packet state outcome) (done outcome)))
+passing_writes table packet state outcome h true = keys_write table packet state outcome (found_in table Wire state.wire) (found_in table Stack state.stack)
+passing_writes table packet state outcome h false = h
+
+opened_writes : (job : RunJob) (number : ℕ) (clock : Clock) (table : StateTable) (packet : Packet) (direction : Direction) (passage : Passage) (outcome : Outcome)
+    → Writes packet outcome → (kept : Option StateRules) → Writes packet (outcome_of table (opened job number clock packet direction passage outcome kept))
+opened_writes job number clock table packet direction passage outcome h None = h
+opened_writes job number clock table packet direction passage outcome h (Some rules) =
+    passing_writes table packet (made (record { 0 = number }) packet direction passage.wire passage.stack rules clock (timeouts_of job)) outcome h (lets_pass outcome.verdict)
+
+by_told_writes : (job : RunJob) (table : StateTable) (packet : Packet) (direction : Direction) (found : Option State) → Writes packet (outcome_of table (by_told job packet direction found))
+by_told_writes job table packet direction None = filtered_writes job.rules packet direction
+by_told_writes job table packet direction (Some state) = passed_writes direction packet state reason.StateError None
+
+by_connection_writes : (job : RunJob) (number : ℕ) (clock : Clock) (table : StateTable) (packet : Packet) (direction : Direction) (key : Key) (found : Option State)
+    → Writes packet (outcome_of table (by_connection job number clock packet direction key found))
+by_connection_writes job number clock table packet direction key None =
+    opened_writes job number clock table packet direction (untranslated key) (filtered job.rules packet direction)
+    (filtered_writes job.rules packet direction) (kept job.rules packet direction)
+by_connection_writes job number clock table packet direction key (Some state) = tracked_writes direction packet state (touched state packet direction clock (timeouts_of job))
+
+subject_writes : (job : RunJob) (number : ℕ) (clock : Clock) (table : StateTable) (packet : Packet) (direction : Direction) (subject : Subject)
+    → Writes packet (outcome_of table (subject_plan job number clock packet direction subject))
+subject_writes job number clock table packet direction Alone = filtered_writes job.rules packet direction
+subject_writes job number clock table packet direction (Told key) = by_told_writes job table packet direction (found_in table (side_of direction) key)
+subject_writes job number clock table packet direction (Connection key) = by_connection_writes job number clock table packet direction key (found_in table (side_of direction) key)
+
+packet_writes : (job : RunJob) (number : ℕ) (clock : Clock) (table : StateTable) (packet : Packet) (direction : Direction)
+    → Writes packet (outcome_of table (packet_plan job number clock packet direction))
+unfolding packet_plan
+packet_writes job number clock table packet direction = subject_writes job number clock table packet direction (subject_of direction packet)
+
+-- ---- a frame
+
+skipped_writes : (table : StateTable) (packet : Packet) (skipped : Bool) (other : Plan) → Writes packet (outcome_of table other)
+    → Writes packet (outcome_of table (cond skipped (done passed_over) other))
+skipped_writes table packet true other h = tt
+skipped_writes table packet false other h = h
+
+abbrev IsOfView : View → Option Change → Type 0
+IsOfView view None = Unit {0}
+IsOfView view (Some change) = view ≡ Ipv4 change.packet
+
+of_packet : (packet : Packet) (change : Option Change) → IsOf packet change → IsOfView (Ipv4 packet) change
+of_packet packet None h = tt
+of_packet packet (Some change) h = ap (λ p. Ipv4 p) (sym h)
+
+short_writes : (table : StateTable) (skipped : Bool) (other : Outcome) → other.bytes ≡ None → IsOfView Short (outcome_of table (cond skipped (done passed_over) (done other))).bytes
+short_writes table true other h = tt
+short_writes table false other h = rw h tt
+
+plan_writes : (job : RunJob) (number : ℕ) (clock : Clock) (table : StateTable) (view : View) → IsOfView view (outcome_of table (plan job number clock view)).bytes
+unfolding plan
+plan_writes job number clock table Skip = tt
+plan_writes job number clock table Short = short_writes table (is_skipped job) _ refl
+plan_writes job number clock table (Ipv4 packet) =
+    of_packet packet _ (skipped_writes table packet (is_skipped job) (packet_plan job number clock packet (direction_of job.inside packet))
+    (packet_writes job number clock table packet (direction_of job.inside packet)))
+
+of_view : (view : View) (is : Option Change) (change : Change) → is ≡ Some change → IsOfView view is → view ≡ Ipv4 change.packet
+of_view view None change same h = absurd (cc same)
+of_view view (Some other) change same h = (let is : other ≡ change = cc same in h ∙ ap (λ (c : Change). Ipv4 c.packet) is)
+
+pub written_of : (job : RunJob) (number : ℕ) (clock : Clock) (view : View) (table : StateTable) (change : Change)
+    → (step_of job number clock view table).bytes ≡ Some change → view ≡ Ipv4 change.packet
+unfolding step_of
+written_of job number clock view table change is =
+    of_view view (outcome_of (purged_at clock table) (plan job number clock view)).bytes change is (plan_writes job number clock (purged_at clock table) view)
