@@ -1,5 +1,5 @@
 -- Where the bytes of an output go.
-use Rattle.std.specs.Prelude.{ℕ, List, Option, Some, None}
+use Rattle.std.specs.Prelude.{ℕ, List, Option, None}
 use Rattle.pfr_cli.specs.declared.destination.Destination.{Destination}
 use Rattle.pfr_cli.specs.declared.destination.Destination.TheVariants.{File, Nowhere}
 

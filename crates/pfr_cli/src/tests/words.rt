@@ -105,7 +105,8 @@ fn a_run_is_read(rt: HostRuntime) -> Result<(), Fail> {
     let line = "pfreplay run --verdicts=v --packets p a.pcap --counters c pf.conf --states=s \
         --interface em0 --address=192.0.2.1/24 --inside 10.0.0.0/8";
     let words = words_of(alloc, line)?;
-    match parse(alloc, words.as_slice()) {
+    let read = parse(alloc, words.as_slice());
+    match &read {
         Ok(Asked::Run(asked)) => {
             assert_eq!(rt; (asked.capture, asked.rules), ("a.pcap", "pf.conf"));
             assert_eq!(rt; (asked.outputs.verdicts, asked.outputs.packets), ("v", "p"));
