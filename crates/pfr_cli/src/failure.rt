@@ -1,7 +1,8 @@
 //! What the program says when something is wrong, in one line, and the statuses that it ends with.
 use pfr_capture::CaptureError;
-use pfr_out::{ConfError, ConfErrorKind, Output, Stop};
-use std::fmt;
+use pfr_out::{ConfError, ConfErrorKind, Stop};
+use std::alloc::AllocError;
+use std::{fmt, io};
 
 /// All was done.
 pub const DONE: u8 = 0;
@@ -14,47 +15,54 @@ pub const DEVICE: u8 = 3;
 /// Memory was refused.
 pub const NO_MEMORY: u8 = 4;
 
-/// Why the program did not do what was asked. A number is that of the packets of which all is written.
+/// Why the program did not do what was asked.
 #[derive(Debug, Drop)]
 pub enum Failure<'a> {
     /// The words of the command line can't be read as text.
     NoWords,
     /// The words of the command line don't fit, as this text says.
     Usage(String),
-    /// A word is no network.
-    BadNetwork(&'a str),
+    /// No word was given where this one is asked for.
+    MissingWord(&'a str),
     /// A word isn't of the form that the flag asks for.
     BadValue {
         flag: &'a str,
         form: &'a str,
         word: &'a str,
     },
-    /// A file can't be opened or read.
+    /// A file can't be opened or created, or a ruleset's not be read.
     CannotOpen(&'a str),
-    Rules(ConfError),
-    Capture(CaptureError, u64),
-    ReadFailed(u64),
-    WriteFailed(Output, u64),
-    /// Standard output failed, with nothing replayed.
+    /// The ruleset was refused, or the run was stopped.
+    Stopped(Stop),
+    /// Standard output failed.
     PrintFailed,
-    NoMemory(u64),
 }
 
 impl From<ConfError> for Failure<'_> {
     fn from(fault: ConfError) -> Self {
-        Failure::Rules(fault)
+        Failure::Stopped(Stop::Ruleset(fault))
+    }
+}
+
+impl From<Stop> for Failure<'_> {
+    fn from(stop: Stop) -> Self {
+        Failure::Stopped(stop)
+    }
+}
+
+/// Memory was refused, with nothing replayed.
+impl From<AllocError> for Failure<'_> {
+    fn from(_refused: AllocError) -> Self {
+        Failure::Stopped(Stop::Memory(0))
     }
 }
 
 impl<'a> Failure<'a> {
-    /// The failure for a stop of the run, after which all is written of so many packets.
-    pub fn of(stop: Stop, committed: u64) -> Failure<'a> {
-        match stop {
-            Stop::Ruleset(fault) => Failure::Rules(fault),
-            Stop::Capture(refusal, _) => Failure::Capture(refusal, committed),
-            Stop::Read(_) => Failure::ReadFailed(committed),
-            Stop::Write(output, _) => Failure::WriteFailed(output, committed),
-            Stop::Memory(_) => Failure::NoMemory(committed),
+    /// The failure for a file that can't be opened or created.
+    pub fn of_opening(name: &'a str, error: &io::Error) -> Failure<'a> {
+        match error.kind() {
+            io::ErrorKind::OutOfMemory => Failure::from(AllocError),
+            _ => Failure::CannotOpen(name),
         }
     }
 
@@ -63,20 +71,32 @@ impl<'a> Failure<'a> {
         match self {
             Failure::NoWords
             | Failure::Usage(_)
-            | Failure::BadNetwork(_)
-            | Failure::BadValue { .. }
-            | Failure::Capture(_, _) => REFUSED,
-            Failure::CannotOpen(_)
-            | Failure::ReadFailed(_)
-            | Failure::WriteFailed(_, _)
-            | Failure::PrintFailed => DEVICE,
-            Failure::NoMemory(_) => NO_MEMORY,
-            Failure::Rules(fault) => match fault.kind {
-                ConfErrorKind::Memory => NO_MEMORY,
-                _ => REFUSED,
-            },
+            | Failure::MissingWord(_)
+            | Failure::BadValue { .. } => REFUSED,
+            Failure::CannotOpen(_) | Failure::PrintFailed => DEVICE,
+            Failure::Stopped(stop) => status_of(stop),
         }
     }
+}
+
+/// The status after a stop.
+fn status_of(stop: &Stop) -> u8 {
+    match stop {
+        Stop::Ruleset(fault) => match fault.kind {
+            ConfErrorKind::Memory => NO_MEMORY,
+            _ => REFUSED,
+        },
+        Stop::Capture(_, _) => REFUSED,
+        Stop::Read(_) | Stop::Write(_, _) => DEVICE,
+        Stop::Memory(_) => NO_MEMORY,
+    }
+}
+
+/// Says in one line what is wrong, and answers the status to end with.
+pub fn tell<E: io::Write>(failure: &Failure<'_>, err: &mut E) -> u8 {
+    // Where this can't be written either, the status alone says it.
+    let _ = writeln!(err, "pfreplay: {failure}");
+    failure.status()
 }
 
 impl fmt::Display for Failure<'_> {
@@ -84,28 +104,31 @@ impl fmt::Display for Failure<'_> {
         match self {
             Failure::NoWords => write!(f, "the command line is no text"),
             Failure::Usage(text) => f.write_str(text.as_str()),
-            Failure::BadNetwork(word) => write!(f, "no network: {word}"),
+            Failure::MissingWord(name) => write!(f, "'{name}' is missing"),
             Failure::BadValue { flag, form, word } => {
                 write!(f, "invalid value '{word}' for '{flag} <{form}>'")
             }
             Failure::CannotOpen(name) => write!(f, "cannot open: {name}"),
-            Failure::Rules(fault) => write!(f, "{fault}"),
-            Failure::Capture(refusal, lines) => match refusal {
-                CaptureError::RecordTooLong(_) => write!(
-                    f,
-                    "capture: {refusal}, committed {lines}"
-                ),
-                _ => write!(f, "capture: {refusal}"),
-            },
-            Failure::ReadFailed(lines) => write!(f, "read failed, committed {lines}"),
-            Failure::WriteFailed(Output::Verdicts, lines) => {
-                write!(f, "write failed: verdicts, committed {lines}")
-            }
-            Failure::WriteFailed(Output::Packets, lines) => {
-                write!(f, "write failed: packets, committed {lines}")
-            }
+            Failure::Stopped(stop) => write_stop(stop, f),
             Failure::PrintFailed => write!(f, "write failed: standard output"),
-            Failure::NoMemory(lines) => write!(f, "no memory, committed {lines}"),
         }
+    }
+}
+
+/// Writes why a run was stopped, with the number of the packets committed where some may be.
+fn write_stop<W: fmt::Write>(stop: &Stop, f: &mut fmt::Formatter<W>) -> fmt::Result {
+    match stop {
+        Stop::Ruleset(fault) => write!(f, "{fault}"),
+        Stop::Capture(refusal, committed) => match refusal {
+            CaptureError::RecordTooLong(_) => {
+                write!(f, "capture: {refusal}, committed {committed}")
+            }
+            _ => write!(f, "capture: {refusal}"),
+        },
+        Stop::Read(committed) => write!(f, "read failed, committed {committed}"),
+        Stop::Write(output, committed) => {
+            write!(f, "write failed: {output}, committed {committed}")
+        }
+        Stop::Memory(committed) => write!(f, "no memory, committed {committed}"),
     }
 }

@@ -1,3 +1,3 @@
-//! Tests of the program, and of captures, since a crate with tests is proved once more for them.
+//! Tests of the program's words, and of captures, since a crate with tests is proved once more for them.
 mod capture;
-mod run;
+mod words;

@@ -1,9 +1,10 @@
 //! The words of the command line.
+use crate::commands::command_line;
 use crate::failure::Failure;
+use crate::values::{interface, networks, seed};
+use clap::ArgMatches;
 use clap::error::ErrorKind;
-use clap::{Arg, ArgAction, ArgMatches, Command};
-use pfr_conf::Ipv4Address;
-use pfr_expand::{IfName, Interface};
+use pfr_expand::Interface;
 use pfr_headers::Net;
 use std::alloc::{AllocError, Global};
 use std::rt::Env;
@@ -12,25 +13,35 @@ use std::{env, io};
 /// What the command line asks for.
 #[derive(Debug, Drop)]
 pub enum Asked<'a> {
-    /// To replay standard input through the ruleset in this file, and to write the packets to another.
-    Replay {
-        rules: &'a str,
-        inside: Vec<Net>,
-        packets: Option<&'a str>,
-    },
+    /// To replay a capture.
+    Run(RunWords<'a>),
     /// To say how many rules the ruleset in this file makes for an interface.
     Check {
         rules: &'a str,
         interface: Interface,
     },
     /// To print this text and no more.
-    Help(String),
+    Text(String),
 }
 
-impl From<AllocError> for Failure<'_> {
-    fn from(_refused: AllocError) -> Self {
-        Failure::NoMemory(0)
-    }
+/// What the words behind `run` say: which capture is replayed through which ruleset, and how.
+#[derive(Debug, Drop)]
+pub struct RunWords<'a> {
+    pub capture: &'a str,
+    pub rules: &'a str,
+    pub interface: Interface,
+    pub inside: Vec<Net>,
+    pub seed: [u8; 32],
+    pub outputs: OutputNames<'a>,
+}
+
+/// The files that a run writes.
+#[derive(Clone, Copy, Debug)]
+pub struct OutputNames<'a> {
+    pub verdicts: &'a str,
+    pub packets: &'a str,
+    pub counters: &'a str,
+    pub states: &'a str,
 }
 
 /// The words that the process was started with, the program's name first.
@@ -38,145 +49,74 @@ pub fn of_process<'a, R: Env + AllocGlobal>(rt: &R) -> Result<Vec<String>, Failu
     match env::args(rt) {
         Ok(words) => Ok(words.collect(rt.alloc())?),
         Err(error) => match error.kind() {
-            io::ErrorKind::OutOfMemory => Err(Failure::NoMemory(0)),
+            io::ErrorKind::OutOfMemory => Err(Failure::from(AllocError)),
             _ => Err(Failure::NoWords),
         },
     }
 }
 
-/// The form of the value behind `--address`.
-const ADDRESS: &str = "A.B.C.D/BITS";
-/// The form of the value behind `--interface`.
-const INTERFACE: &str = "NAME";
-
-/// The command that reads a ruleset alone.
-fn check_command<'a>(alloc: Global) -> Result<Command<'a>, AllocError> {
-    let rules = Arg::new(alloc, "RULES")
-        .help("The file with the ruleset")
-        .required(true)
-        .action(ArgAction::Set);
-    let interface = Arg::new(alloc, "interface")
-        .long("interface")
-        .value_name(INTERFACE)
-        .help("The interface on which packets are, of 1 to 15 bytes")
-        .required(true)
-        .action(ArgAction::Set);
-    let address = Arg::new(alloc, "address")
-        .long("address")
-        .value_name(ADDRESS)
-        .help("The interface's address and the length of its network's prefix")
-        .required(true)
-        .action(ArgAction::Set);
-    Command::new(alloc, "check")
-        .about("Reads a ruleset and prints how many rules it makes, and its checksum")
-        .after_help("Example: pfreplay check /etc/pf.conf --interface em0 --address 192.0.2.1/24")
-        .arg(rules)?
-        .arg(interface)?
-        .arg(address)
-}
-
-/// The whole command line.
-fn command<'a>(alloc: Global) -> Result<Command<'a>, AllocError> {
-    let rules = Arg::new(alloc, "RULES")
-        .help("The file with the ruleset")
-        .required(true)
-        .action(ArgAction::Set);
-    let inside = Arg::new(alloc, "INSIDE")
-        .help("The inside networks, as a.b.c.d or a.b.c.d/bits, separated by commas")
-        .required(true)
-        .action(ArgAction::Set);
-    let packets = Arg::new(alloc, "PACKETS")
-        .help("The file for the packets that are not blocked, as a capture")
-        .action(ArgAction::Set);
-    Command::new(alloc, "pfreplay")
-        .about("Replays a packet capture on standard input through a pf ruleset")
-        .args_conflicts_with_subcommands(true)
-        .subcommand_negates_reqs(true)
-        .disable_help_subcommand(true)
-        .arg(rules)?
-        .arg(inside)?
-        .arg(packets)?
-        .subcommand(check_command(alloc)?)
-}
-
 /// Reads the words of a command line, the program's name first.
 pub fn parse<'a>(alloc: Global, words: &'a [String]) -> Result<Asked<'a>, Failure<'a>> {
-    let matches = match command(alloc)?.try_get_matches_from(words) {
+    let matches = match command_line(alloc)?.try_get_matches_from(words) {
         Ok(matches) => matches,
-        Err(error) => {
-            return match error.kind() {
-                ErrorKind::OutOfMemory => Err(Failure::NoMemory(0)),
-                ErrorKind::DisplayHelp => Ok(Asked::Help(error.to_string(alloc)?)),
-                _ => Err(Failure::Usage(one_line(alloc, &error)?)),
-            };
-        }
+        Err(error) => return refused(alloc, &error),
     };
-    match matches.subcommand() {
-        Some((_, matches)) => checked(matches),
-        None => replayed(alloc, &matches),
+    if let Some(matches) = matches.subcommand_matches("run") {
+        return run_words(alloc, matches);
+    }
+    match matches.subcommand_matches("check") {
+        Some(matches) => check_words(matches),
+        None => Err(Failure::MissingWord("COMMAND")),
     }
 }
 
-/// What the words ask for where the first one is no command.
-fn replayed<'a>(alloc: Global, matches: &ArgMatches<'a>) -> Result<Asked<'a>, Failure<'a>> {
-    match (matches.get_str("RULES"), matches.get_str("INSIDE")) {
-        (Some(rules), Some(inside)) => Ok(Asked::Replay {
-            rules,
-            inside: networks(alloc, inside)?,
-            packets: matches.get_str("PACKETS"),
-        }),
-        _ => Err(Failure::NoMemory(0)),
+/// What becomes of words that are no command: a text where they ask for it, and else what is wrong with them.
+fn refused<'a>(alloc: Global, error: &clap::Error) -> Result<Asked<'a>, Failure<'a>> {
+    match error.kind() {
+        ErrorKind::OutOfMemory => Err(Failure::from(AllocError)),
+        ErrorKind::DisplayHelp | ErrorKind::DisplayVersion => {
+            Ok(Asked::Text(error.to_string(alloc)?))
+        }
+        _ => Err(Failure::Usage(one_line(alloc, error)?)),
     }
+}
+
+/// What the words behind `run` ask for.
+fn run_words<'a>(alloc: Global, matches: &ArgMatches<'a>) -> Result<Asked<'a>, Failure<'a>> {
+    Ok(Asked::Run(RunWords {
+        capture: given(matches, "CAPTURE")?,
+        rules: given(matches, "RULES")?,
+        interface: given_interface(matches)?,
+        inside: networks(alloc, given(matches, "inside")?)?,
+        seed: match matches.get_str("seed") {
+            Some(digits) => seed(digits)?,
+            None => [0; 32],
+        },
+        outputs: OutputNames {
+            verdicts: given(matches, "verdicts")?,
+            packets: given(matches, "packets")?,
+            counters: given(matches, "counters")?,
+            states: given(matches, "states")?,
+        },
+    }))
 }
 
 /// What the words behind `check` ask for.
-fn checked<'a>(matches: &ArgMatches<'a>) -> Result<Asked<'a>, Failure<'a>> {
-    match (
-        matches.get_str("RULES"),
-        matches.get_str("interface"),
-        matches.get_str("address"),
-    ) {
-        (Some(rules), Some(name), Some(address)) => Ok(Asked::Check {
-            rules,
-            interface: interface(name, address)?,
-        }),
-        _ => Err(Failure::NoMemory(0)),
-    }
+fn check_words<'a>(matches: &ArgMatches<'a>) -> Result<Asked<'a>, Failure<'a>> {
+    Ok(Asked::Check {
+        rules: given(matches, "RULES")?,
+        interface: given_interface(matches)?,
+    })
 }
 
-/// The interface of this name and address.
-fn interface<'a>(name: &'a str, address: &'a str) -> Result<Interface, Failure<'a>> {
-    if name.is_empty() || name.len() > 15 {
-        return Err(Failure::BadValue {
-            flag: "--interface",
-            form: INTERFACE,
-            word: name,
-        });
-    }
-    match Net::parse(address.as_bytes()) {
-        Some(network) if address.contains('/') => Ok(Interface {
-            name: IfName::new(name.as_bytes()),
-            address: Ipv4Address(network.address.0),
-            bits: network.bits,
-        }),
-        _ => Err(Failure::BadValue {
-            flag: "--address",
-            form: ADDRESS,
-            word: address,
-        }),
-    }
+/// The interface that the words say.
+fn given_interface<'a>(matches: &ArgMatches<'a>) -> Result<Interface, Failure<'a>> {
+    interface(given(matches, "interface")?, given(matches, "address")?)
 }
 
-/// The networks that a word lists.
-fn networks<'a>(alloc: Global, word: &'a str) -> Result<Vec<Net>, Failure<'a>> {
-    let mut networks = Vec::new(alloc);
-    for part in word.split(',') {
-        match Net::parse(part.as_bytes()) {
-            Some(net) => networks.push(net).map_err(AllocError::from)?,
-            None => return Err(Failure::BadNetwork(part)),
-        }
-    }
-    Ok(networks)
+/// The word for this place or flag, which was asked for.
+fn given<'a>(matches: &ArgMatches<'a>, name: &'a str) -> Result<&'a str, Failure<'a>> {
+    matches.get_str(name).ok_or(Failure::MissingWord(name))
 }
 
 /// What is wrong with the words, in one line: the text up to its first empty line.

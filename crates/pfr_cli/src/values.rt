@@ -1,0 +1,74 @@
+//! The values behind the flags of the command line, and their forms.
+use crate::failure::Failure;
+use hex::FromHex;
+use pfr_conf::Ipv4Address;
+use pfr_expand::{IfName, Interface};
+use pfr_headers::Net;
+use std::alloc::{AllocError, Global};
+
+/// The form of the value behind `--interface`.
+pub const INTERFACE: &str = "NAME";
+/// The form of the value behind `--address`.
+pub const ADDRESS: &str = "A.B.C.D/BITS";
+/// The form of the value behind `--inside`.
+pub const INSIDE: &str = "NETS";
+/// The form of the value behind `--seed`.
+pub const SEED: &str = "HEX";
+/// The form of the value behind the flags that name a file.
+pub const FILE: &str = "FILE";
+
+/// The longest name of an interface, in bytes.
+const LONGEST_NAME: usize = 15;
+
+/// The interface of this name, which has 1 to 15 bytes, and this address, with the length of its prefix.
+pub fn interface<'a>(name: &'a str, address: &'a str) -> Result<Interface, Failure<'a>> {
+    if name.is_empty() || name.len() > LONGEST_NAME {
+        return Err(Failure::BadValue {
+            flag: "--interface",
+            form: INTERFACE,
+            word: name,
+        });
+    }
+    match Net::parse(address.as_bytes()) {
+        Some(network) if address.contains('/') => Ok(Interface {
+            name: IfName::new(name.as_bytes()),
+            address: Ipv4Address(network.address.0),
+            bits: network.bits,
+        }),
+        _ => Err(Failure::BadValue {
+            flag: "--address",
+            form: ADDRESS,
+            word: address,
+        }),
+    }
+}
+
+/// The networks that a word lists, one or more, separated by commas; one without a prefix is a single address.
+pub fn networks<'a>(alloc: Global, word: &'a str) -> Result<Vec<Net>, Failure<'a>> {
+    let mut networks = Vec::new(alloc);
+    for part in word.split(',') {
+        match Net::parse(part.as_bytes()) {
+            Some(network) => networks.push(network).map_err(AllocError::from)?,
+            None => {
+                return Err(Failure::BadValue {
+                    flag: "--inside",
+                    form: INSIDE,
+                    word: part,
+                });
+            }
+        }
+    }
+    Ok(networks)
+}
+
+/// The seed that 64 hexadecimal digits write, first digits first.
+pub fn seed<'a>(word: &'a str) -> Result<[u8; 32], Failure<'a>> {
+    match <[u8; 32] as FromHex>::from_hex(word) {
+        Ok(seed) => Ok(seed),
+        Err(_) => Err(Failure::BadValue {
+            flag: "--seed",
+            form: SEED,
+            word,
+        }),
+    }
+}
