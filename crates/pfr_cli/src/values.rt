@@ -1,6 +1,7 @@
 //! The values behind the flags of the command line, and their forms.
+ghost use Rattle.std.specs.Prelude.{◌≤◌, IfSome};
+
 use crate::failure::Failure;
-use hex::FromHex;
 use pfr_conf::Ipv4Address;
 use pfr_expand::{IfName, Interface};
 use pfr_headers::Net;
@@ -63,12 +64,35 @@ pub fn networks<'a>(alloc: Global, word: &'a str) -> Result<Vec<Net>, Failure<'a
 
 /// The seed that 64 hexadecimal digits write, first digits first.
 pub fn seed<'a>(word: &'a str) -> Result<[u8; 32], Failure<'a>> {
-    match <[u8; 32] as FromHex>::from_hex(word) {
-        Ok(seed) => Ok(seed),
-        Err(_) => Err(Failure::BadValue {
-            flag: "--seed",
-            form: SEED,
-            word,
-        }),
+    seed_of(word.as_bytes()).ok_or(Failure::BadValue {
+        flag: "--seed",
+        form: SEED,
+        word,
+    })
+}
+
+/// The bytes that 64 hexadecimal digits write.
+fn seed_of(digits: &[u8]) -> Option<[u8; 32]> {
+    let mut seed = [0; 32];
+    if digits.len() != 2 * seed.len() {
+        return None;
+    }
+    for place in 0..seed.len() {
+        let high = digit(digits[2 * place])?;
+        let low = digit(digits[2 * place + 1])?;
+        seed[place] = 16 * high + low;
+    }
+    Some(seed)
+}
+
+/// What a hexadecimal digit of either case counts.
+fn digit(byte: u8) -> Option<u8>
+    ensures { IfSome result (λ digit. digit ≤ 15) }
+{
+    match byte {
+        b'0'..=b'9' => Some(byte - b'0'),
+        b'a'..=b'f' => Some(byte - b'a' + 10),
+        b'A'..=b'F' => Some(byte - b'A' + 10),
+        _ => None,
     }
 }
