@@ -24,7 +24,7 @@ use Rattle.pfr_out.specs.declared.sinks.Sinks.{Sinks}
 use Rattle.pfr_out.specs.Outputs.{Grew, Outputs, PartWritten, batch_alone, header_alone}
 use Rattle.pfr_out.specs.Reading.{BatchFails, BatchSays, End, EndsBehind, IsPacket, records_of, wants_memory}
 use Rattle.pfr_out.specs.Replay.{Failing, Holds, HoldsAllRead, HoldsAll, HoldsPartOfBatch, HoldsPartOfEnding, IsBoundary, IsJob, OfEvery, Replayed, StopOf, Stopped, Wanting, closing, frame_in, online, run_of, StopFails, stop_for, whole}
-use Rattle.pfr_out.specs.Taking.{BatchStops, EndStops, SinksFail, frames_of}
+use Rattle.pfr_out.specs.Taking.{BatchStops, ConcludeFails, Concludes, EndStops, SinksFail, frames_of}
 use Rattle.pfr_out.proofs.ReadingLemmas.{header_is, of_every, same_frames}
 use Rattle.pfr_out.proofs.WritingLemmas.{grew_twice, header_is_online, online_behind, whole_is}
 
@@ -397,3 +397,33 @@ under_job text seed settings job before left old new (stop.Capture e committed) 
 under_job text seed settings job before left old new (stop.Read committed) is stopped = record { job = job; is = is; hold = stopped }
 under_job text seed settings job before left old new (stop.Write output committed) is stopped = record { job = job; is = is; hold = stopped }
 under_job text seed settings job before left old new (stop.Memory committed) is stopped = record { job = job; is = is; hold = stopped }
+
+-- ---- the end of the reading
+
+pub concluded : (job : RunJob) (batch : ℕ) (capture capture' : Reading) (text left left' : List ℕ) (old mid mid' new : Outputs) (world world' : World) (packets : List (Record × View)) (end : End) (report : Report)
+    → AtHead job batch capture text left old mid world → BatchSays capture capture' left left' (records_of packets) (Some end)
+    → (capture'.form ≡ capture.form) × (capture'.header ≡ capture.header) → All (IsPacket capture.form) packets
+    → world' ≡ bare (world_after job world (frames_of packets)) → Grew mid mid' (batch_alone (world_after job world (frames_of packets)).texts)
+    → report.committed ≡ world'.count → end ≡ Ok report.tail → Grew mid' new (closing world') → Replayed job text old new report
+concluded job batch capture capture' text left left' old mid mid' new world world' packets (Ok tail) report h says same all left_is grew committed ends closes =
+    let is : tail ≡ report.tail = cc ends in
+    replayed job capture' text left' old mid' new world' (h.records ++ records_of packets) tail report
+    (batch_taken job capture capture' text left left' old mid mid' world world' h.records packets h.so_far (record { on = says.0; same = same; packets_are = all }) left_is grew)
+    (rw same.0 (capture_is job capture text left old mid world h.records (records_of packets) (Ok tail) h.so_far says.1)) closes committed (sym is)
+concluded job batch capture capture' text left left' old mid mid' new world world' packets (Err e) report h says same all left_is grew committed ends closes = absurd (cc ends)
+
+pub concluded_stop : (job : RunJob) (batch : ℕ) (capture capture' : Reading) (text left left' : List ℕ) (old mid mid' new : Outputs) (world world' : World) (packets : List (Record × View)) (end : End) (s : Stop)
+    → AtHead job batch capture text left old mid world → wants_memory (Some end) ≡ false → BatchSays capture capture' left left' (records_of packets) (Some end)
+    → (capture'.form ≡ capture.form) × (capture'.header ≡ capture.header) → All (IsPacket capture.form) packets
+    → world' ≡ bare (world_after job world (frames_of packets)) → Grew mid mid' (batch_alone (world_after job world (frames_of packets)).texts)
+    → Concludes end world' mid' new s → Stopped job batch text left' old new s
+concluded_stop job batch capture capture' text left left' old mid mid' new world world' packets (Ok tail) s h other says same all left_is grew concludes =
+    end_stopped job batch capture' text left' old mid' new world' (h.records ++ records_of packets) tail s
+    (batch_taken job capture capture' text left left' old mid mid' world world' h.records packets h.so_far (record { on = says.0; same = same; packets_are = all }) left_is grew)
+    (rw same.0 (capture_is job capture text left old mid world h.records (records_of packets) (Ok tail) h.so_far says.1)) concludes
+concluded_stop job batch capture capture' text left left' old mid mid' new world world' packets (Err e) s h other says same all left_is grew concludes =
+    rw (concludes.0, concludes.1) (reading_stopped job batch capture capture' text left left' old mid mid' world world' packets e h other says same all left_is grew)
+
+pub conclude_fails : (end : End) (count source source' : ℕ) (sinks mid sinks' : Sinks ℕ) (s : Stop) → BatchFails (Some end) source source' → mid ≡ sinks → ConcludeFails end count mid sinks' s → StopFails s source source' sinks sinks'
+conclude_fails (Ok tail) count source source' sinks mid sinks' s batch same fails = sinks_fail s source source' sinks sinks' (rw same at fails)
+conclude_fails (Err e) count source source' sinks mid sinks' s batch same fails = rw fails.0 (refusal_fails e count source source' sinks sinks' batch (fails.1 ∙ same))

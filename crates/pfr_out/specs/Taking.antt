@@ -1,5 +1,6 @@
 -- One batch of packets on its way into the outputs, and the end of a run.
-use Rattle.std.specs.Prelude.{◌≡◌, ℕ, List, map}
+use Rattle.std.specs.Prelude.{◌≡◌, ℕ, List, map, Result, Ok, Err}
+use Rattle.pfr_capture.specs.declared.capture.CaptureError.{CaptureError}
 use Rattle.pfr_capture.specs.declared.capture.Record.{Record}
 use Rattle.pfr_capture.specs.declared.capture.Tail.{Tail}
 use Rattle.pfr_headers.specs.declared.packet.View.{View}
@@ -11,7 +12,7 @@ use Rattle.pfr_out.specs.declared.report.Stop.{Stop}
 use Rattle.pfr_out.specs.declared.report.Stop.TheVariants as stop
 use Rattle.pfr_out.specs.declared.sinks.Sinks.{Sinks}
 use Rattle.pfr_out.specs.Outputs.{Grew, Outputs, PartWritten, RoseAt, batch_alone}
-use Rattle.pfr_out.specs.Replay.{closing}
+use Rattle.pfr_out.specs.Replay.{closing, stop_for}
 
 abbrev pub frames_of : List (Record × View) → List Frame
 frames_of packets = map (λ packet. frame_of packet.0) packets
@@ -37,3 +38,13 @@ abbrev pub SinksFail : Stop → Sinks ℕ → Sinks ℕ → Type 0
 SinksFail (stop.Write output committed) old new = RoseAt output old new
 SinksFail (stop.Memory committed) old new = new ≡ old
 SinksFail _ old new = ⊥
+
+-- the end of the reading: at the capture's, an end that was not written whole; else a stop for the refusal
+abbrev pub Concludes : Result Tail CaptureError → World → Outputs → Outputs → Stop → Type 0
+Concludes (Ok tail) world old new s = EndStops world old new s
+Concludes (Err e) world old new s = (s ≡ stop_for e world.count) × (new ≡ old)
+
+-- and of the counts of failures of the sinks
+abbrev pub ConcludeFails : Result Tail CaptureError → ℕ → Sinks ℕ → Sinks ℕ → Stop → Type 0
+ConcludeFails (Ok tail) count old new s = SinksFail s old new
+ConcludeFails (Err e) count old new s = (s ≡ stop_for e count) × (new ≡ old)

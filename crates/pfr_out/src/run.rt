@@ -4,14 +4,14 @@ ghost use Rattle.pfr_capture.specs.Reading.{HasGiven};
 ghost use Rattle.pfr_commit.specs.Books.{job_of, world_in};
 ghost use Rattle.pfr_commit.specs.World.{no_texts, opening};
 ghost use Rattle.pfr_out.specs.Outputs.{AllTold, each_of};
-ghost use Rattle.pfr_out.specs.Replay.{Replayed, StopFails, StopOf, Stopped, UnderJob, stop_for};
+ghost use Rattle.pfr_out.specs.Replay.{Replayed, StopFails, StopOf, Stopped, UnderJob};
 
 use crate::reading::{read_batch, wants_memory};
 use crate::report::{Report, Stop};
 use crate::settings::Settings;
 use crate::sinks::Sinks;
-use crate::taking::{close, take_batch};
-use pfr_capture::{Capture, CaptureError, Sink, Source};
+use crate::taking::{conclude, stop_for, take_batch};
+use pfr_capture::{Capture, Sink, Source};
 use pfr_commit::{Book, Emitted};
 use pfr_packet::Job;
 use std::alloc::{AllocError, Global};
@@ -24,17 +24,6 @@ fn book_of(alloc: Global, job: Job) -> Result<Book, AllocError>
 {
     let job = Arc::new(alloc, job)?;
     Book::new(alloc, job)
-}
-
-/// The stop for a refusal of the capture's reader.
-fn stop_for(refusal: CaptureError, committed: u64) -> Stop
-    ensures { result ≡ stop_for refusal committed }
-{
-    match refusal {
-        CaptureError::Read => Stop::Read(committed),
-        CaptureError::Memory => Stop::Memory(committed),
-        refusal => Stop::Capture(refusal, committed),
-    }
 }
 
 /// Writes the header of a capture, and then takes and writes its packets, a batch at a time. Its reader has given none of them.
@@ -73,8 +62,7 @@ fn replay_capture<R: Source, S: Sink>(
         }
         match end {
             None => {}
-            Some(Ok(tail)) => return close(book, tail, sinks),
-            Some(Err(refusal)) => return Err(stop_for(refusal, book.committed())),
+            Some(end) => return conclude(book, end, sinks),
         }
     }
 }

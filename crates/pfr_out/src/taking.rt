@@ -1,16 +1,16 @@
 //! Packets into the outputs, a batch at a time, and the end of a run.
-ghost use Rattle.std.specs.Prelude.{◌≡◌, ◌≤◌, ◌+◌, ◌^◌, false, length, IfErr, IfOk, OnOk};
+ghost use Rattle.std.specs.Prelude.{◌≡◌, ◌≤◌, ◌+◌, ◌^◌, false, length, IfErr, IfOk, OnOk, Ok};
 ghost use Rattle.std.specs.List.{All};
 ghost use Rattle.pfr_headers.specs.View.{view_of};
 ghost use Rattle.pfr_commit.specs.Books.{job_of, world_in};
 ghost use Rattle.pfr_commit.specs.World.{no_texts, world_after};
 ghost use Rattle.pfr_out.specs.Outputs.{AllTold, Grew, batch_alone, each_of};
-ghost use Rattle.pfr_out.specs.Replay.{closing};
-ghost use Rattle.pfr_out.specs.Taking.{BatchStops, EndStops, SinksFail, added_by, frames_of};
+ghost use Rattle.pfr_out.specs.Replay.{closing, stop_for};
+ghost use Rattle.pfr_out.specs.Taking.{BatchStops, ConcludeFails, Concludes, EndStops, SinksFail, added_by, frames_of};
 
 use crate::report::{Report, Stop};
 use crate::sinks::Sinks;
-use pfr_capture::{Record, Sink, Tail};
+use pfr_capture::{CaptureError, Record, Sink, Tail};
 use pfr_commit::{Book, Emitted};
 use pfr_headers::View;
 use std::alloc::Global;
@@ -66,5 +66,37 @@ pub(crate) fn close<S: Sink>(
     match sinks.write_ending(&ending) {
         Ok(()) => Ok(Report { committed, tail }),
         Err(output) => Err(Stop::Write(output, committed)),
+    }
+}
+
+/// The stop for a refusal of the capture's reader.
+pub(crate) fn stop_for(refusal: CaptureError, committed: u64) -> Stop
+    ensures { result ≡ stop_for refusal committed }
+{
+    match refusal {
+        CaptureError::Read => Stop::Read(committed),
+        CaptureError::Memory => Stop::Memory(committed),
+        refusal => Stop::Capture(refusal, committed),
+    }
+}
+
+/// Ends a run whose reading has ended: at the capture's end what stands there is written, and a refusal is told.
+pub(crate) fn conclude<S: Sink>(
+    book: Book,
+    end: Result<Tail, CaptureError>,
+    sinks: &mut Sinks<S>,
+) -> Result<Report, Stop>
+    ensures told { each_of S.told sinks.new ≡ each_of S.told sinks.old }
+    ensures closed { IfOk result (λ report. (report.committed ≡ book.count) × (end ≡ Ok report.tail) × (AllTold (each_of S.told sinks.old) → Grew (each_of S.written sinks.old) (each_of S.written sinks.new) (closing (world_in book no_texts)))) }
+    ensures stops { IfErr result (λ stop. AllTold (each_of S.told sinks.old) → Concludes end (world_in book no_texts) (each_of S.written sinks.old) (each_of S.written sinks.new) stop) }
+    ensures no_failure { OnOk result (each_of S.failures sinks.new ≡ each_of S.failures sinks.old) }
+    ensures failure { IfErr result (λ stop. ConcludeFails end book.count (each_of S.failures sinks.old) (each_of S.failures sinks.new) stop) }
+{
+    match end {
+        Ok(tail) => match close(book, tail, sinks) {
+            Ok(report) => Ok(report),
+            Err(stop) => Err(stop),
+        },
+        Err(refusal) => Err(stop_for(refusal, book.committed())),
     }
 }

@@ -9,7 +9,7 @@ use Rattle.pfr_out.specs.Outputs.{AllTold, each_of}
 use Rattle.pfr_out.specs.Reading.{wants_memory}
 use Rattle.pfr_out.specs.Taking.{frames_of}
 use Rattle.pfr_out.proofs.ReadingLemmas.{all_viewed}
-use Rattle.pfr_out.proofs.RunLemmas.{at_start, bare, batch_stopped, batch_taken, capture_is, end_stopped, header_stopped, memory_stopped, next_head, opening_count, reading_stopped, replayed, says_on, wanted_gave}
+use Rattle.pfr_out.proofs.RunLemmas.{at_start, bare, batch_stopped, conclude_fails, concluded, concluded_stop, header_stopped, memory_stopped, next_head, opening_count, says_on, wanted_gave}
 use Rattle.pfr_out.proofs.WritingLemmas.{still_told}
 use Rattle.pfr_out.proofs.run.replay_capture.Goals as goal
 
@@ -84,50 +84,40 @@ loop-alloc-preserved g c =
           (rw (same_job c.loop-alloc.book c.args.book i.job, c.as_slice.ensures.value) at (c.in-Ok-take_batch.ensures.written sinks));
     }
 
-pub returns-in-Some-Ok-clause-ok : goal.returns-in-Some-Ok-clause-ok
-returns-in-Some-Ok-clause-ok g c =
-    IfOk-weaker c.close.result _ _ (λ (report : Report) closed t u read h.
+pub returns-in-Some-clause-ok : goal.returns-in-Some-clause-ok
+returns-in-Some-clause-ok g c =
+    IfOk-weaker c.conclude.result _ _ (λ (report : Report) closed t u read h.
     let i = c.loop-alloc.invariant in
     let head = i.at_head t u read h in
     let told : IsTrue (g.R.Source.told c.loop-alloc.source) = rw i.source_told t in
     let sinks : AllTold (each_of g.S.Sink.told c.loop-alloc.sinks) = still_told _ _ i.sinks_told u in
     let mid : AllTold (each_of g.S.Sink.told c.take_batch.new.sinks) = still_told _ _ c.take_batch.ensures.told sinks in
-    let says = rw c.in-Some-Ok.is at (c.read_batch-end.ensures.says told) in
-    let left = ap bare (rw (same_job c.loop-alloc.book c.args.book i.job, c.as_slice.ensures.value) at c.in-Ok-take_batch.ensures.world) in
-    let grew = rw (same_job c.loop-alloc.book c.args.book i.job, c.as_slice.ensures.value) at (c.in-Ok-take_batch.ensures.written sinks) in
-    let so_far = batch_taken (job_of c.args.book) _ _ _ _ _ _ _ _ (world_in c.loop-alloc.book no_texts) (world_in c.take_batch.new.book no_texts) head.records c.read_batch-end.new.packets.items head.so_far
-    (record { on = says.0; same = c.read_batch-end.ensures.same; packets_are = c.read_batch-end.ensures.packets }) left grew in
-    let is = capture_is (job_of c.args.book) _ _ _ _ _ _ head.records _ _ head.so_far says.1 in
-    replayed (job_of c.args.book) _ _ _ _ _ _ (world_in c.take_batch.new.book no_texts) _ c.in-Some-Ok.tail report so_far (rw c.read_batch-end.ensures.same.0 is) (closed.2 mid) closed.0 closed.1)
-    c.close.ensures.closed
+    concluded (job_of c.args.book) c.args.batch _ _ _ _ _ _ _ _ _ (world_in c.loop-alloc.book no_texts) (world_in c.take_batch.new.book no_texts) c.read_batch-end.new.packets.items c.in-Some.end report head
+    (rw c.in-Some.is at (c.read_batch-end.ensures.says told)) c.read_batch-end.ensures.same c.read_batch-end.ensures.packets
+    (ap bare (rw (same_job c.loop-alloc.book c.args.book i.job, c.as_slice.ensures.value) at c.in-Ok-take_batch.ensures.world))
+    (rw (same_job c.loop-alloc.book c.args.book i.job, c.as_slice.ensures.value) at (c.in-Ok-take_batch.ensures.written sinks))
+    closed.0 closed.1 (closed.2 mid))
+    c.conclude.ensures.closed
 
-pub returns-in-Some-Ok-clause-stopped : goal.returns-in-Some-Ok-clause-stopped
-returns-in-Some-Ok-clause-stopped g c =
-    IfErr-weaker c.close.result _ _ (λ (stop : Stop) stops t u read h.
+pub returns-in-Some-clause-stopped : goal.returns-in-Some-clause-stopped
+returns-in-Some-clause-stopped g c =
+    IfErr-weaker c.conclude.result _ _ (λ (stop : Stop) stops t u read h.
     let i = c.loop-alloc.invariant in
     let head = i.at_head t u read h in
     let told : IsTrue (g.R.Source.told c.loop-alloc.source) = rw i.source_told t in
     let sinks : AllTold (each_of g.S.Sink.told c.loop-alloc.sinks) = still_told _ _ i.sinks_told u in
     let mid : AllTold (each_of g.S.Sink.told c.take_batch.new.sinks) = still_told _ _ c.take_batch.ensures.told sinks in
-    let says = rw c.in-Some-Ok.is at (c.read_batch-end.ensures.says told) in
-    let left = ap bare (rw (same_job c.loop-alloc.book c.args.book i.job, c.as_slice.ensures.value) at c.in-Ok-take_batch.ensures.world) in
-    let grew = rw (same_job c.loop-alloc.book c.args.book i.job, c.as_slice.ensures.value) at (c.in-Ok-take_batch.ensures.written sinks) in
-    let so_far = batch_taken (job_of c.args.book) _ _ _ _ _ _ _ _ (world_in c.loop-alloc.book no_texts) (world_in c.take_batch.new.book no_texts) head.records c.read_batch-end.new.packets.items head.so_far
-    (record { on = says.0; same = c.read_batch-end.ensures.same; packets_are = c.read_batch-end.ensures.packets }) left grew in
-    let is = capture_is (job_of c.args.book) _ _ _ _ _ _ head.records _ _ head.so_far says.1 in
-    end_stopped (job_of c.args.book) c.args.batch _ _ _ _ _ _ (world_in c.take_batch.new.book no_texts) _ c.in-Some-Ok.tail stop so_far (rw c.read_batch-end.ensures.same.0 is) (stops mid))
-    c.close.ensures.stops
-
-pub returns-in-Some-Err-clause-stopped : goal.returns-in-Some-Err-clause-stopped
-returns-in-Some-Err-clause-stopped g c =
-    λ t u read h.
-    let i = c.loop-alloc.invariant in
-    let head = i.at_head t u read h in
-    let told : IsTrue (g.R.Source.told c.loop-alloc.source) = rw i.source_told t in
-    let sinks : AllTold (each_of g.S.Sink.told c.loop-alloc.sinks) = still_told _ _ i.sinks_told u in
     let other : wants_memory c.read_batch-end.result ≡ false = sym c.wants_memory.ensures ∙ c.if-wants_memory.false in
-    let left = ap bare (rw (same_job c.loop-alloc.book c.args.book i.job, c.as_slice.ensures.value) at c.in-Ok-take_batch.ensures.world) in
-    let grew = rw (same_job c.loop-alloc.book c.args.book i.job, c.as_slice.ensures.value) at (c.in-Ok-take_batch.ensures.written sinks) in
-    rw (c.stop_for.ensures, c.committed-in-Some-Err.ensures)
-    (reading_stopped (job_of c.args.book) c.args.batch _ _ _ _ _ _ _ _ (world_in c.loop-alloc.book no_texts) (world_in c.take_batch.new.book no_texts) c.read_batch-end.new.packets.items c.in-Some-Err.refusal head
-    (rw c.in-Some-Err.is at other) (rw c.in-Some-Err.is at (c.read_batch-end.ensures.says told)) c.read_batch-end.ensures.same c.read_batch-end.ensures.packets left grew)
+    concluded_stop (job_of c.args.book) c.args.batch _ _ _ _ _ _ _ _ _ (world_in c.loop-alloc.book no_texts) (world_in c.take_batch.new.book no_texts) c.read_batch-end.new.packets.items c.in-Some.end stop head
+    (rw c.in-Some.is at other) (rw c.in-Some.is at (c.read_batch-end.ensures.says told)) c.read_batch-end.ensures.same c.read_batch-end.ensures.packets
+    (ap bare (rw (same_job c.loop-alloc.book c.args.book i.job, c.as_slice.ensures.value) at c.in-Ok-take_batch.ensures.world))
+    (rw (same_job c.loop-alloc.book c.args.book i.job, c.as_slice.ensures.value) at (c.in-Ok-take_batch.ensures.written sinks))
+    (stops mid))
+    c.conclude.ensures.stops
+
+pub returns-in-Some-clause-failure : goal.returns-in-Some-clause-failure
+returns-in-Some-clause-failure g c =
+    let i = c.loop-alloc.invariant in
+    IfErr-weaker c.conclude.result _ _ (λ (stop : Stop) fails.
+    conclude_fails c.in-Some.end _ _ _ _ _ _ stop (rw (c.in-Some.is, i.source_failures) at c.read_batch-end.ensures.failures) (c.in-Ok-take_batch.ensures.no_failure ∙ i.sinks_failures) fails)
+    c.conclude.ensures.failure
