@@ -1,3 +1,4 @@
+pub mod BeginningLemmas
 pub mod ReadingLemmas
 pub mod RunLemmas
 pub mod WritingLemmas

@@ -44,7 +44,7 @@ run_append job form xs ys =
     ∙ world_append job (opening job) (map (frame_in form) xs) (map (frame_in form) ys)
 
 -- records more, behind those that were taken
-run_behind : (job : RunJob) (form : Form) (xs ys : List RecordBytes) → run_of job form (xs ++ ys) ≡ behind (run_of job form xs).texts (world_after job (bare (run_of job form xs)) (map (frame_in form) ys))
+pub run_behind : (job : RunJob) (form : Form) (xs ys : List RecordBytes) → run_of job form (xs ++ ys) ≡ behind (run_of job form xs).texts (world_after job (bare (run_of job form xs)) (map (frame_in form) ys))
 run_behind job form xs ys =
     run_append job form xs ys
     ∙ ap (λ (w : World). world_after job w (map (frame_in form) ys)) (sym (behind_bare (run_of job form xs)))

@@ -4,7 +4,7 @@ use Rattle.pfr_capture.specs.declared.capture.CaptureError.{CaptureError}
 use Rattle.pfr_capture.specs.declared.capture.CaptureError.TheVariants as capture
 use Rattle.pfr_capture.specs.declared.capture.Form.{Form}
 use Rattle.pfr_capture.specs.declared.capture.Tail.{Tail}
-use Rattle.pfr_capture.specs.Device.{Rose}
+use Rattle.pfr_capture.specs.Device.{GrewByBeginning, Rose}
 use Rattle.pfr_capture.specs.Header.{opening_of}
 use Rattle.pfr_capture.specs.Records.{IsCapture, RecordBytes, seconds_of}
 use Rattle.pfr_terms.specs.declared.error.ConfError.{ConfError}
@@ -45,10 +45,18 @@ closing world = ending_alone (counters_text world.count world.counters) (states_
 abbrev pub whole : List ℕ → World → Outputs
 whole header world = record (online header world) { counters = (closing world).counters; states = (closing world).states }
 
--- what the replay of a capture writes, by how it ends
+-- what the replay of a capture with this header writes, by how it ends
 abbrev pub replay_of : List ℕ → World → Result Tail CaptureError → Outputs
 replay_of header world (Ok tail) = whole header world
 replay_of header world (Err refusal) = online header world
+
+-- each output grew by a beginning of what it would grow by
+pub record Begins (old new all : Outputs) : Type 0 where
+  pub verdicts : GrewByBeginning old.verdicts new.verdicts all.verdicts
+  pub packets : GrewByBeginning old.packets new.packets all.packets
+  pub counters : GrewByBeginning old.counters new.counters all.counters
+  pub states : GrewByBeginning old.states new.states all.states
+  pub messages : GrewByBeginning old.messages new.messages all.messages
 
 -- ---- a run to the end
 

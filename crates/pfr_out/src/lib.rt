@@ -6,6 +6,7 @@
 //! device fails, by a beginning of that, which holds at least the packets that the stop reports as committed.
 #![tactic(auto)]
 
+pub mod laws;
 mod reading;
 pub mod report;
 mod run;

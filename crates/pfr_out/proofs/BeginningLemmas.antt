@@ -1,0 +1,263 @@
+-- Whatever a stop leaves in the outputs is a beginning of what the replay of the capture writes.
+use Rattle.std.proofs.Common.{◌≡◌, ℕ, ◌+◌, ◌≤◌, List, [], ◌∷◌, ◌++◌, length, map, take, drop, None, Result, Ok, Err, ◌⊎◌, inl, inr, refl, sym, ◌∙◌, ap, arith}
+use Rattle.std.specs.List.{flat_map}
+use Rattle.std.proofs.lemmas.List.{append_assoc, append_cancel_right, append-nil, length-take-le, take-append-drop, take_at}
+use Rattle.pfr_capture.specs.declared.capture.CaptureError.{CaptureError}
+use Rattle.pfr_capture.specs.declared.capture.CaptureError.TheVariants as refusal
+use Rattle.pfr_capture.specs.declared.capture.Form.{Form}
+use Rattle.pfr_capture.specs.declared.capture.Tail.{Tail}
+use Rattle.pfr_capture.specs.Device.{GrewByBeginning, GrewByPart}
+use Rattle.pfr_capture.specs.Reading.{HasGiven, Reading}
+use Rattle.pfr_capture.specs.Records.{IsCapture, RecordBytes, text_of}
+use Rattle.pfr_capture.proofs.CaptureLemmas.{IsFront, given_first}
+use Rattle.pfr_capture.proofs.LawLemmas.{one_capture}
+use Rattle.pfr_packet.specs.Job.{RunJob}
+use Rattle.pfr_commit.specs.World.{World, world_after}
+use Rattle.pfr_out.specs.declared.report.Output.{Output}
+use Rattle.pfr_out.specs.declared.report.Output.TheVariants as output
+use Rattle.pfr_out.specs.declared.report.Stop.{Stop}
+use Rattle.pfr_out.specs.declared.report.Stop.TheVariants as stop
+use Rattle.pfr_out.specs.Outputs.{Grew, Outputs, PartWritten, batch_alone, header_alone}
+use Rattle.pfr_out.specs.Replay.{Begins, Holds, HoldsAll, HoldsAllRead, HoldsPartOfBatch, HoldsPartOfEnding, HoldsPartOfHeader, OfEvery, Refused, Stopped, closing, frame_in, online, replay_of, run_of, whole}
+use Rattle.pfr_out.proofs.RunLemmas.{bare, run_behind}
+use Rattle.pfr_out.proofs.WritingLemmas.{online_behind, whole_is}
+
+-- ---- texts
+
+whole_begins : (old new a : List ℕ) → new ≡ old ++ a → GrewByBeginning old new a
+whole_begins old new a grew = ([], record { added = a; text_is = sym (append-nil a); new_is = grew })
+
+part_begins : (old new a : List ℕ) → GrewByPart old new a → GrewByBeginning old new a
+part_begins old new a p = (p.last ∷ p.missing, p.grew)
+
+nothing_begins : (old new a : List ℕ) → new ≡ old → GrewByBeginning old new a
+nothing_begins old new a same = (a, record { added = []; text_is = refl; new_is = same ∙ sym (append-nil old) })
+
+begins_longer : (old new a more b : List ℕ) → b ≡ a ++ more → GrewByBeginning old new a → GrewByBeginning old new b
+begins_longer old new a more b longer g = (
+  g.0 ++ more,
+  record {
+    added = g.1.added;
+    text_is = longer ∙ ap (λ (t : List ℕ). t ++ more) g.1.text_is ∙ append_assoc g.1.added g.0 more;
+    new_is = g.1.new_is;
+  },
+)
+
+begins_behind : (old mid new a b both : List ℕ) → mid ≡ old ++ a → both ≡ a ++ b → GrewByBeginning mid new b → GrewByBeginning old new both
+begins_behind old mid new a b both was is g = (
+  g.0,
+  record {
+    added = a ++ g.1.added;
+    text_is = is ∙ ap (λ (t : List ℕ). a ++ t) g.1.text_is ∙ sym (append_assoc a g.1.added g.0);
+    new_is = g.1.new_is ∙ (rw was (append_assoc old a g.1.added));
+  },
+)
+
+-- ---- outputs
+
+all_whole : (old new a : Outputs) → Grew old new a → Begins old new a
+all_whole old new a g = record {
+  verdicts = whole_begins old.verdicts new.verdicts a.verdicts g.verdicts;
+  packets = whole_begins old.packets new.packets a.packets g.packets;
+  counters = whole_begins old.counters new.counters a.counters g.counters;
+  states = whole_begins old.states new.states a.states g.states;
+  messages = whole_begins old.messages new.messages a.messages g.messages;
+}
+
+all_nothing : (old new a : Outputs) → new ≡ old → Begins old new a
+all_nothing old new a same = record {
+  verdicts = nothing_begins old.verdicts new.verdicts a.verdicts (ap (λ (o : Outputs). o.verdicts) same);
+  packets = nothing_begins old.packets new.packets a.packets (ap (λ (o : Outputs). o.packets) same);
+  counters = nothing_begins old.counters new.counters a.counters (ap (λ (o : Outputs). o.counters) same);
+  states = nothing_begins old.states new.states a.states (ap (λ (o : Outputs). o.states) same);
+  messages = nothing_begins old.messages new.messages a.messages (ap (λ (o : Outputs). o.messages) same);
+}
+
+all_longer : (old new a more b : Outputs) → Grew a b more → Begins old new a → Begins old new b
+all_longer old new a more b longer g = record {
+  verdicts = begins_longer old.verdicts new.verdicts a.verdicts more.verdicts b.verdicts longer.verdicts g.verdicts;
+  packets = begins_longer old.packets new.packets a.packets more.packets b.packets longer.packets g.packets;
+  counters = begins_longer old.counters new.counters a.counters more.counters b.counters longer.counters g.counters;
+  states = begins_longer old.states new.states a.states more.states b.states longer.states g.states;
+  messages = begins_longer old.messages new.messages a.messages more.messages b.messages longer.messages g.messages;
+}
+
+all_behind : (old mid new a b both : Outputs) → Grew old mid a → Grew a both b → Begins mid new b → Begins old new both
+all_behind old mid new a b both was is g = record {
+  verdicts = begins_behind old.verdicts mid.verdicts new.verdicts a.verdicts b.verdicts both.verdicts was.verdicts is.verdicts g.verdicts;
+  packets = begins_behind old.packets mid.packets new.packets a.packets b.packets both.packets was.packets is.packets g.packets;
+  counters = begins_behind old.counters mid.counters new.counters a.counters b.counters both.counters was.counters is.counters g.counters;
+  states = begins_behind old.states mid.states new.states a.states b.states both.states was.states is.states g.states;
+  messages = begins_behind old.messages mid.messages new.messages a.messages b.messages both.messages was.messages is.messages g.messages;
+}
+
+-- a piece of which one output took a part
+part_begins_all : (old new a : Outputs) (at : Output) → PartWritten old new a at → Begins old new a
+part_begins_all old new a output.Messages p = record {
+  messages = part_begins old.messages new.messages a.messages p.0;
+  verdicts = nothing_begins old.verdicts new.verdicts a.verdicts p.1;
+  packets = nothing_begins old.packets new.packets a.packets p.2;
+  counters = nothing_begins old.counters new.counters a.counters p.3;
+  states = nothing_begins old.states new.states a.states p.4;
+}
+part_begins_all old new a output.Verdicts p = record {
+  messages = whole_begins old.messages new.messages a.messages p.0;
+  verdicts = part_begins old.verdicts new.verdicts a.verdicts p.1;
+  packets = nothing_begins old.packets new.packets a.packets p.2;
+  counters = nothing_begins old.counters new.counters a.counters p.3;
+  states = nothing_begins old.states new.states a.states p.4;
+}
+part_begins_all old new a output.Packets p = record {
+  messages = whole_begins old.messages new.messages a.messages p.0;
+  verdicts = whole_begins old.verdicts new.verdicts a.verdicts p.1;
+  packets = part_begins old.packets new.packets a.packets p.2;
+  counters = nothing_begins old.counters new.counters a.counters p.3;
+  states = nothing_begins old.states new.states a.states p.4;
+}
+part_begins_all old new a output.Counters p = record {
+  messages = whole_begins old.messages new.messages a.messages p.0;
+  verdicts = whole_begins old.verdicts new.verdicts a.verdicts p.1;
+  packets = whole_begins old.packets new.packets a.packets p.2;
+  counters = part_begins old.counters new.counters a.counters p.3;
+  states = nothing_begins old.states new.states a.states p.4;
+}
+part_begins_all old new a output.States p = record {
+  messages = whole_begins old.messages new.messages a.messages p.0;
+  verdicts = whole_begins old.verdicts new.verdicts a.verdicts p.1;
+  packets = whole_begins old.packets new.packets a.packets p.2;
+  counters = whole_begins old.counters new.counters a.counters p.3;
+  states = part_begins old.states new.states a.states p.4;
+}
+
+-- ---- what a replay writes
+
+-- what packets write begins what the replay writes, however the capture ends
+online_begins : (old new : Outputs) (header : List ℕ) (world : World) (end : Result Tail CaptureError) → Begins old new (online header world) → Begins old new (replay_of header world end)
+online_begins old new header world (Ok tail) b = all_longer old new (online header world) (closing world) (whole header world) (whole_is header world) b
+online_begins old new header world (Err e) b = b
+
+header_begins : (header : List ℕ) (world : World) → Grew (header_alone header) (online header world) (batch_alone world.texts)
+header_begins header world = record { verdicts = refl; packets = refl; counters = refl; states = refl; messages = refl }
+
+front_and_rest : (given records : List RecordBytes) → IsFront given records → records ≡ given ++ drop (length given) records
+front_and_rest given records f = sym (ap (λ (t : List RecordBytes). t ++ drop (length given) records) f.front ∙ take-append-drop (length given) records)
+
+-- and so does what the first of them write
+fewer_begin : (job : RunJob) (old new : Outputs) (header : List ℕ) (form : Form) (given records : List RecordBytes) → IsFront given records → Begins old new (online header (run_of job form given)) → Begins old new (online header (run_of job form records))
+fewer_begin job old new header form given records front b =
+    let rest = drop (length given) records in
+    let is : run_of job form records ≡ _ = ap (λ (rs : List RecordBytes). run_of job form rs) (front_and_rest given records front) ∙ run_behind job form given rest in
+    rw is (all_longer old new (online header (run_of job form given)) (batch_alone (world_after job (bare (run_of job form given)) (map (frame_in form) rest)).texts) _
+      (online_behind header (run_of job form given).texts (world_after job (bare (run_of job form given)) (map (frame_in form) rest)) (run_of job form given) refl) b)
+
+taken_front : (count : ℕ) (records : List RecordBytes) → count ≤ length records → IsFront (take count records) records
+taken_front count records within =
+    let long : length (take count records) ≡ count = length-take-le count records within in
+    record { within = omega (arith, long); front = rw long refl }
+
+-- ---- captures
+
+-- the records of a capture are the first of every capture that begins with its text
+capture_first : (read more : List ℕ) (form form' : Form) (records records' : List RecordBytes) (end end' : Result Tail CaptureError) → IsCapture read form records end → IsCapture (read ++ more) form' records' end'
+    → (form' ≡ form) × IsFront records records'
+capture_first read more form form' records records' end end' c c' =
+    let reading : Reading = record { form = form; header = c.header; count = length records; over = None; ahead = c.rest } in
+    let given : HasGiven reading read records = record { read_is = c.whole; header_length = c.header_length; says = c.says; each = c.each; counted = refl; at_most = c.at_most } in
+    let first = given_first reading read more records form' records' end' given c' in
+    (first.form_is, first.first)
+
+capture_header : (text : List ℕ) (form : Form) (records : List RecordBytes) (end : Result Tail CaptureError) (c : IsCapture text form records end) → take 24 text ≡ c.header
+capture_header text form records end c = rw c.whole (take_at c.header (flat_map text_of records ++ c.rest) 24 c.header_length)
+
+same_header : (read left : List ℕ) (form : Form) (records : List RecordBytes) (end : Result Tail CaptureError) → IsCapture read form records end → take 24 (read ++ left) ≡ take 24 read
+same_header read left form records end c =
+    let whole : read ++ left ≡ c.header ++ ((flat_map text_of records ++ c.rest) ++ left) = ap (λ (t : List ℕ). t ++ left) c.whole ∙ append_assoc c.header (flat_map text_of records ++ c.rest) left in
+    rw (whole, capture_header read form records end c) (take_at c.header ((flat_map text_of records ++ c.rest) ++ left) 24 c.header_length)
+
+-- ---- stops
+
+-- what every capture that begins with the bytes read says holds of the source's
+of_source : (text left : List ℕ) (P : List ℕ → Form → List RecordBytes → Type 0) (form : Form) (records : List RecordBytes) (end : Result Tail CaptureError) → OfEvery text left P → IsCapture text form records end → P (take 24 text) form records
+of_source text left P form records end o c =
+    let is : IsCapture (o.read ++ left) form records end = rw (← o.is) c in
+    rw o.is (o.every left form records end is)
+
+all_begins : (job : RunJob) (text : List ℕ) (old new : Outputs) (end : Result Tail CaptureError) (committed : ℕ) (form : Form) (records : List RecordBytes) (end' : Result Tail CaptureError) → HoldsAll job text old new end committed → IsCapture text form records end'
+    → Begins old new (replay_of (take 24 text) (run_of job form records) end')
+all_begins job text old new end committed form records end' h c =
+    let one = one_capture text h.form form h.records records end end' h.capture c in
+    online_begins old new (take 24 text) (run_of job form records) end' (rw (← one.0, ← one.1) (all_whole old new (online (take 24 text) (run_of job h.form h.records)) h.grew))
+
+read_begins : (job : RunJob) (text left : List ℕ) (old new : Outputs) (committed : ℕ) (form : Form) (records : List RecordBytes) (end : Result Tail CaptureError) → HoldsAllRead job text left old new committed → IsCapture text form records end
+    → Begins old new (replay_of (take 24 text) (run_of job form records) end)
+read_begins job text left old new committed form records end h c =
+    let first = capture_first h.read left h.form form h.records records (Ok h.tail) end h.capture (rw (← h.is) c) in
+    online_begins old new (take 24 text) (run_of job form records) end
+    (rw first.0 (fewer_begin job old new (take 24 text) h.form h.records records first.1 (all_whole old new (online (take 24 text) (run_of job h.form h.records)) h.grew)))
+
+holds_begins : (job : RunJob) (batch : ℕ) (old new : Outputs) (committed : ℕ) (header : List ℕ) (form : Form) (records : List RecordBytes) (end : Result Tail CaptureError) → Holds job batch old new committed header form records
+    → Begins old new (replay_of header (run_of job form records) end)
+holds_begins job batch old new committed header form records end h =
+    online_begins old new header (run_of job form records) end
+    (fewer_begin job old new header form (take committed records) records (taken_front committed records h.within) (all_whole old new (online header (run_of job form (take committed records))) h.grew))
+
+part_of_header_begins : (job : RunJob) (old new : Outputs) (at : Output) (committed : ℕ) (header : List ℕ) (form : Form) (records : List RecordBytes) (end : Result Tail CaptureError) → HoldsPartOfHeader old new at committed header
+    → Begins old new (replay_of header (run_of job form records) end)
+part_of_header_begins job old new at committed header form records end h =
+    online_begins old new header (run_of job form records) end
+    (all_longer old new (header_alone header) (batch_alone (run_of job form records).texts) (online header (run_of job form records)) (header_begins header (run_of job form records)) (part_begins_all old new (header_alone header) at h.part))
+
+part_of_batch_begins : (job : RunJob) (batch : ℕ) (old new : Outputs) (at : Output) (committed : ℕ) (header : List ℕ) (form : Form) (records : List RecordBytes) (end : Result Tail CaptureError) → HoldsPartOfBatch job batch old new at committed header form records
+    → Begins old new (replay_of header (run_of job form records) end)
+part_of_batch_begins job batch old new at committed header form records end h =
+    online_begins old new header (run_of job form records) end
+    (fewer_begin job old new header form (take h.next records) records (taken_front h.next records h.within)
+    (all_behind old h.mid new (online header (run_of job form (take committed records))) (batch_alone h.piece) (online header (run_of job form (take h.next records))) h.before h.piece_is (part_begins_all h.mid new (batch_alone h.piece) at h.part)))
+
+part_of_ending_begins : (job : RunJob) (text : List ℕ) (old new : Outputs) (at : Output) (committed : ℕ) (form : Form) (records : List RecordBytes) (end : Result Tail CaptureError) → HoldsPartOfEnding job text old new at committed → IsCapture text form records end
+    → Begins old new (replay_of (take 24 text) (run_of job form records) end)
+part_of_ending_begins job text old new at committed form records end h c =
+    let one = one_capture text h.form form h.records records (Ok h.tail) end h.capture c in
+    rw (← one.0, ← one.1, ← one.2)
+    (all_behind old h.mid new (online (take 24 text) (run_of job h.form h.records)) (closing (run_of job h.form h.records)) (whole (take 24 text) (run_of job h.form h.records)) h.before (whole_is (take 24 text) (run_of job h.form h.records))
+    (part_begins_all h.mid new (closing (run_of job h.form h.records)) at h.part))
+
+refused_begins : (job : RunJob) (text : List ℕ) (old new : Outputs) (e : CaptureError) (committed : ℕ) (form : Form) (records : List RecordBytes) (end : Result Tail CaptureError) → Refused job text old new e committed → IsCapture text form records end
+    → Begins old new (replay_of (take 24 text) (run_of job form records) end)
+refused_begins job text old new refusal.Read committed form records end r c = absurd r
+refused_begins job text old new refusal.Memory committed form records end r c = absurd r
+refused_begins job text old new (refusal.RecordTooLong asked) committed form records end r c = all_begins job text old new (Err (refusal.RecordTooLong asked)) committed form records end r c
+refused_begins job text old new refusal.HeaderCut committed form records end r c = all_nothing old new _ r.2
+refused_begins job text old new refusal.BadMagic committed form records end r c = all_nothing old new _ r.2
+refused_begins job text old new refusal.BadVersion committed form records end r c = all_nothing old new _ r.2
+refused_begins job text old new (refusal.LinkType link) committed form records end r c = all_nothing old new _ r.2
+
+pub stop_begins : (job : RunJob) (batch : ℕ) (text left : List ℕ) (old new : Outputs) (s : Stop) (form : Form) (records : List RecordBytes) (end : Result Tail CaptureError) → Stopped job batch text left old new s → IsCapture text form records end
+    → Begins old new (replay_of (take 24 text) (run_of job form records) end)
+stop_begins job batch text left old new (stop.Ruleset fault) form records end s c = absurd s
+stop_begins job batch text left old new (stop.Capture e committed) form records end s c = refused_begins job text old new e committed form records end s c
+stop_begins job batch text left old new (stop.Read committed) form records end (inl unopened) c = all_nothing old new _ unopened.same
+stop_begins job batch text left old new (stop.Read committed) form records end (inr holds) c = read_begins job text left old new committed form records end holds c
+stop_begins job batch text left old new (stop.Memory committed) form records end (inl unwritten) c = all_nothing old new _ unwritten.same
+stop_begins job batch text left old new (stop.Memory committed) form records end (inr (inl holds)) c =
+    holds_begins job batch old new committed (take 24 text) form records end (of_source text left (Holds job batch old new committed) form records end holds c)
+stop_begins job batch text left old new (stop.Memory committed) form records end (inr (inr holds)) c = all_begins job text old new (Ok holds.0) committed form records end holds.1 c
+stop_begins job batch text left old new (stop.Write at committed) form records end (inl holds) c =
+    by_part (of_source text left (λ header form records. HoldsPartOfHeader old new at committed header ⊎ HoldsPartOfBatch job batch old new at committed header form records) form records end holds c)
+  where
+    by_part : HoldsPartOfHeader old new at committed (take 24 text) ⊎ HoldsPartOfBatch job batch old new at committed (take 24 text) form records → Begins old new (replay_of (take 24 text) (run_of job form records) end)
+    by_part (inl h) = part_of_header_begins job old new at committed (take 24 text) form records end h
+    by_part (inr h) = part_of_batch_begins job batch old new at committed (take 24 text) form records end h
+stop_begins job batch text left old new (stop.Write at committed) form records end (inr holds) c = part_of_ending_begins job text old new at committed form records end holds c
+
+-- where reading failed, the outputs begin the replay of every capture that begins with what was read
+pub read_stop_begins : (job : RunJob) (batch : ℕ) (text left : List ℕ) (old new : Outputs) (committed : ℕ) (read more : List ℕ) (form : Form) (records : List RecordBytes) (end : Result Tail CaptureError) → Stopped job batch text left old new (stop.Read committed)
+    → text ≡ read ++ left → IsCapture (read ++ more) form records end → Begins old new (replay_of (take 24 (read ++ more)) (run_of job form records) end)
+read_stop_begins job batch text left old new committed read more form records end (inl unopened) is c = all_nothing old new _ unopened.same
+read_stop_begins job batch text left old new committed read more form records end (inr h) is c =
+    let same : h.read ≡ read = append_cancel_right h.read read left (sym h.is ∙ is) in
+    let whole_read : IsCapture read h.form h.records (Ok h.tail) = rw same at h.capture in
+    let first = capture_first read more h.form form h.records records (Ok h.tail) end whole_read c in
+    let grew = rw (is, same_header read left h.form h.records (Ok h.tail) whole_read) at h.grew in
+    online_begins old new (take 24 (read ++ more)) (run_of job form records) end
+    (rw (first.0, same_header read more h.form h.records (Ok h.tail) whole_read) (fewer_begin job old new (take 24 read) h.form h.records records first.1 (all_whole old new (online (take 24 read) (run_of job h.form h.records)) grew)))
