@@ -15,6 +15,7 @@ ENDINGS = ("whole", "no speculation", "no batch", "no ending", "no job", "ended"
 
 NO_MEMORY = "line 0: no memory"
 REFUSED, LOST = "refused", "lost"
+NOT_KEPT = "none"
 PASSED = ("pass", "skip")
 
 
@@ -72,6 +73,10 @@ class Judged:
         # what was refused, in the words of ENDINGS
         self.refusals = []
 
+    def is_without_book(self):
+        """Whether there is no book: it is asked in vain which records hold, and there are no texts at the end."""
+        return set(self.seen.lines) <= {NOT_KEPT}
+
     def is_over(self):
         return "no batch" in self.refusals
 
@@ -116,7 +121,7 @@ class Judged:
         if told.count(NO_MEMORY) != 1 or [line for line in told if line != NO_MEMORY and line not in right]:
             raise Unlawful("other faults of rulesets")
         self.refusals.append("no job")
-        if not self.seen.lines and told[0] != NO_MEMORY:
+        if self.is_without_book() and told[0] != NO_MEMORY:
             raise Unlawful("nothing is answered, and the first job wasn't refused")
 
     def judge_call(self, words, verdicts):
@@ -141,7 +146,7 @@ class Judged:
     def judge(self):
         """What was refused."""
         self.judge_jobs()
-        if not self.seen.lines:
+        if self.is_without_book():
             return self.refusals
         verdicts = [line for line in self.whole.lines if " t=" in line and "," not in line]
         for words in self.told:
