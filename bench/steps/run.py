@@ -14,7 +14,6 @@ import subprocess
 import sys
 import tempfile
 from pathlib import Path
-from shutil import copy, copytree
 from typing import NamedTuple
 
 HERE = Path(__file__).resolve().parent
@@ -22,13 +21,11 @@ ROOT = HERE.parent.parent
 sys.dont_write_bytecode = True
 sys.path[:0] = [str(ROOT / "bench"), str(ROOT / "tests"), str(ROOT / "tests" / "faults")]
 
-import building
+from programs import Program, program_at
 from rules import vain_pairs
 from trial import Target, Trial
 
-PROGRAM = "steps_bench"
-# the highest of the crates that the program uses
-HIGHEST = "pfr_packet"
+PROGRAM = Program("steps_bench", HERE / "main.rattle", "pfr_packet")
 STATES = 100000
 COUNTS = (10, 100, 1000)
 # the steps of a run, and the packets times rules where each packet is asked about every rule
@@ -52,45 +49,6 @@ MATCHED = Packets("matches a state", "pass all keep state", True, 0)
 PASSED = Packets("passes by a rule", "pass all no state", False, 1)
 MADE = Packets("makes a state", "pass all keep state", False, 2)
 KINDS = (MATCHED, PASSED, MADE)
-
-
-def rt(verb, folder):
-    done = subprocess.run(["rt", verb], cwd=folder, stdin=subprocess.DEVNULL, stdout=subprocess.PIPE,
-                          stderr=subprocess.STDOUT, text=True)
-    if done.returncode:
-        raise SystemExit(done.stdout)
-
-
-def build(folder):
-    """Makes a repository of the built crates and the program, and answers the program that is built of it."""
-    rt("lib", building.CRATES / HIGHEST)
-    lines = [line for line in (ROOT / "crates.txt").read_text().splitlines() if not line.startswith("#")]
-    below = {name: words.split() for name, _, words in (line.partition(":") for line in lines)}
-    used = [name for name in below if name in (HIGHEST, *below[HIGHEST])]
-    lines = [line for line in lines if line.partition(":")[0] in used]
-    (folder / "crates.txt").write_text("\n".join([*lines, f"{PROGRAM}: {' '.join(used)}\n"]))
-    copy(ROOT / "HANDLES", folder)
-    for name in used:
-        # all that a crate above needs, and not what a check of the crate itself would
-        for part in (*building.PARTS, "out/rlib"):
-            if (building.CRATES / name / part).is_dir():
-                copytree(building.CRATES / name / part, folder / "crates" / name / part)
-    crate = folder / "crates" / PROGRAM
-    (crate / "src").mkdir(parents=True)
-    # the gate lets no file end in .rt but those of the crates
-    copy(HERE / "main.rattle", crate / "src" / "main.rt")
-    rt("run", crate)
-    return crate / "out" / PROGRAM
-
-
-def program_at(path, folder):
-    """The program, which is built where it isn't at this path, and then put there if there is a path."""
-    if path is not None and path.exists():
-        return path.resolve()
-    program = build(folder)
-    if path is not None:
-        copy(program, path)
-    return program
 
 
 class Contest:
@@ -153,7 +111,7 @@ def main():
     words = parser.parse_args()
     with tempfile.TemporaryDirectory() as name:
         folder = Path(name)
-        measure(program_at(words.program, folder), folder, words.states)
+        measure(program_at(words.program, folder, PROGRAM), folder, words.states)
 
 
 if __name__ == "__main__":
