@@ -102,6 +102,7 @@ def right_endings(pieces):
     yield refusing("memory before a file is opened", 0, (None,) * 4)
     yield refusing("memory between two files", 0, (b"", b"", None, None))
     yield Ending("memory for the ruleset", replay.MEMORY, "rules line 0: no memory", 4, (None,) * 4)
+    yield Ending("memory for the ruleset in the run", replay.MEMORY, "rules line 0: no memory", 4, (b"",) * 4)
     for count in (0, 1, 255, BATCH, 257, COUNT):
         yield reading(f"a read behind {count} records", count, pieces.online(count), HEADER + count * RECORD + 20)
     yield reading("the first read", 0, (b"",) * 4, 0)

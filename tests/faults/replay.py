@@ -150,7 +150,8 @@ def check_ending(trial, ending, told, counts, seen):
         check(told == trial.name_of("rules").encode(), "standard error names another file")
         check(is_untouched(seen), "a file is opened before the ruleset was read")
     elif told is None:
-        check(is_untouched(seen), "a file is opened before the ruleset was read")
+        # the ruleset is read once before a file is opened, and once more by the run
+        check(not any(seen.files), "something is written, though the ruleset wasn't read")
     else:
         check_committed(trial, ending, int(told), counts, seen)
 

@@ -55,13 +55,13 @@ left_at : (yielded : List Speculation) (found : Speculation) (first place : ℕ)
     → place < length places → get_or places place None ≡ find (is_of (first + place)) (yielded ++ found ∷ [])
 left_at yielded found first place places are not_placed within = elim (cases_Bool (is_of (first + place) found)) [
   | inl it_is ↦
-    let number : found.number ≡ first + place = eqb-true found.number (first + place) it_is in
-    let at : found.number - first ≡ place = omega arith in
-    let taken : is_none (get_or places place None) ≡ false = elim (cases_Bool (is_none (get_or places place None))) [
-      | inl free ↦ absurd (false≢true (sym not_placed ∙ and_from _ _ (le-leb first found.number (omega arith)) (rw at (and_from _ _ (lt-ltb place (length places) within) free))))
-      | inr not_free ↦ not_free
-    ] in
-    sym (this_packet yielded found (first + place) it_is ∙ (rw (← are place within) (or_some (get_or places place None) (Some found) taken)))
+      let number : found.number ≡ first + place = eqb-true found.number (first + place) it_is in
+      let at : found.number - first ≡ place = omega arith in
+      let taken : is_none (get_or places place None) ≡ false = elim (cases_Bool (is_none (get_or places place None))) [
+        | inl free ↦ absurd (false≢true (sym not_placed ∙ and_from _ _ (le-leb first found.number (omega arith)) (rw at (and_from _ _ (lt-ltb place (length places) within) free))))
+        | inr not_free ↦ not_free
+      ] in
+      sym (this_packet yielded found (first + place) it_is ∙ (rw (← are place within) (or_some (get_or places place None) (Some found) taken)))
   | inr other ↦ are place within ∙ sym (other_packet yielded found (first + place) other)
 ]
 

@@ -49,10 +49,7 @@ impl fmt::Display for TotalLine {
         let blocked = self.totals.blocked;
         let returned = self.totals.returned;
         let skipped = self.totals.skipped;
-        writeln!(
-            f,
-            "total {records} {passed} {blocked} {returned} {skipped}"
-        )
+        writeln!(f, "total {records} {passed} {blocked} {returned} {skipped}")
     }
 }
 

@@ -165,7 +165,9 @@ impl Counters {
         ensures { self.new ≡ spec.with_evaluations outcome.now self.old }
     {
         self.filter.evaluations.add_visits(&outcome.visited.filter);
-        self.translation.evaluations.add_visits(&outcome.visited.translation);
+        self.translation
+            .evaluations
+            .add_visits(&outcome.visited.translation);
     }
 
     fn add_named(&mut self, outcome: &Outcome, length: u64)

@@ -53,11 +53,7 @@ fn put_record(
 
 /// Puts the record of a packet behind others, unless the packet is blocked. Where memory is refused nothing changes.
 #[tactic(auto, unfolding(crate::specs::World::packet_text))]
-fn put_packet(
-    packets: &mut Vec<u8>,
-    packet: &Record,
-    outcome: &Outcome,
-) -> Result<(), AllocError>
+fn put_packet(packets: &mut Vec<u8>, packet: &Record, outcome: &Outcome) -> Result<(), AllocError>
     requires { IfSome outcome.now.bytes (λ change. view_of packet.now.link packet.now.bytes.items ≡ Ipv4 change.packet) }
     ensures done { OnOk result (packets.new.items ≡ packets.old.items ++ spec.packet_text (frame_of packet.now) outcome.now) }
     ensures kept { OnErr result (packets.new.items ≡ packets.old.items) }

@@ -21,11 +21,7 @@ pub struct Ending {
 }
 
 /// The text of the counters after so many packets.
-fn counters_text(
-    alloc: Global,
-    records: u64,
-    counters: &Counters,
-) -> Result<Vec<u8>, AllocError>
+fn counters_text(alloc: Global, records: u64, counters: &Counters) -> Result<Vec<u8>, AllocError>
     ensures { IfOk result (λ text. text.items ≡ spec.counters_text records counters.now) }
 {
     let mut text = String::new(alloc);

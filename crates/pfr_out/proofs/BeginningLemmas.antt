@@ -148,7 +148,7 @@ fewer_begin job old new header form given records front b =
     let rest = drop (length given) records in
     let is : run_of job form records ≡ _ = ap (λ (rs : List RecordBytes). run_of job form rs) (front_and_rest given records front) ∙ run_behind job form given rest in
     rw is (all_longer old new (online header (run_of job form given)) (batch_alone (world_after job (bare (run_of job form given)) (map (frame_in form) rest)).texts) _
-      (online_behind header (run_of job form given).texts (world_after job (bare (run_of job form given)) (map (frame_in form) rest)) (run_of job form given) refl) b)
+    (online_behind header (run_of job form given).texts (world_after job (bare (run_of job form given)) (map (frame_in form) rest)) (run_of job form given) refl) b)
 
 taken_front : (count : ℕ) (records : List RecordBytes) → count ≤ length records → IsFront (take count records) records
 taken_front count records within =

@@ -132,7 +132,7 @@ batch_taken job capture capture' text left left' old mid new world world' record
       text_is = more.1;
       given = more.2;
       grew = rw (b.same.0, b.same.1) (grew_twice old mid new (online capture.header (run_of job capture.form records)) (batch_alone (world_after job world (frames_of packets)).texts)
-        (online capture.header (run_of job capture.form (records ++ records_of packets))) s.grew grew (piece_is job capture.header capture.form world records packets s.world_is b.packets_are));
+          (online capture.header (run_of job capture.form (records ++ records_of packets))) s.grew grew (piece_is job capture.header capture.form world records packets s.world_is b.packets_are));
       world_is = rw b.same.0 (left_is ∙ sym (ap bare (taken_world job capture.form world records packets s.world_is b.packets_are)));
     }
 
@@ -181,7 +181,7 @@ holds_part_of_batch job batch capture capture' text left left' old mid new world
       before = rw (front_is records all committed (front_of_part records (records_of packets) all front) counted) s.grew;
       piece = (world_after job world (frames_of packets)).texts;
       piece_is = rw (front_is records all committed (front_of_part records (records_of packets) all front) counted, front_is (records ++ records_of packets) all (length (records ++ records_of packets)) front refl)
-        (piece_is job capture.header capture.form world records packets s.world_is b.packets_are);
+          (piece_is job capture.header capture.form world records packets s.world_is b.packets_are);
       part = part;
     }))))
 

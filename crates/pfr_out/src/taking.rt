@@ -47,11 +47,7 @@ pub(crate) fn take_batch<S: Sink>(
 }
 
 /// Writes what stands at the end of a run.
-pub(crate) fn close<S: Sink>(
-    book: Book,
-    tail: Tail,
-    sinks: &mut Sinks<S>,
-) -> Result<Report, Stop>
+pub(crate) fn close<S: Sink>(book: Book, tail: Tail, sinks: &mut Sinks<S>) -> Result<Report, Stop>
     ensures told { each_of S.told sinks.new ≡ each_of S.told sinks.old }
     ensures closed { IfOk result (λ report. (report.committed ≡ book.count) × (report.tail ≡ tail) × (AllTold (each_of S.told sinks.old) → Grew (each_of S.written sinks.old) (each_of S.written sinks.new) (closing (world_in book no_texts)))) }
     ensures stops { IfErr result (λ stop. AllTold (each_of S.told sinks.old) → EndStops (world_in book no_texts) (each_of S.written sinks.old) (each_of S.written sinks.new) stop) }

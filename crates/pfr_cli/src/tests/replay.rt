@@ -21,8 +21,7 @@ const RECORD: [u8; 44] = [
     3, 0xe8, 0, 53, 0, 8, 0xc7, 0x81,
 ];
 
-const TWO_LINES: &[u8] =
-    b"1 0 out pass rule r=0 t=- s=1\n2 0 out pass state r=0 t=- s=1\n";
+const TWO_LINES: &[u8] = b"1 0 out pass rule r=0 t=- s=1\n2 0 out pass state r=0 t=- s=1\n";
 
 const COUNTERS: &[u8] = b"filter 0 1 5 140\ntotal 5 5 0 0 0\n";
 

@@ -6,11 +6,11 @@ use Rattle.pfr_commit.proofs.ending.states_text.Goals.{in-Some+in_ok-put_state, 
 pub loop-turn-preserved : goal.loop-turn-preserved
 loop-turn-preserved c = elim c.match-next.branch [
   | in-Some+in_ok-put_state w ↦
-    rw (w.text-is, w.next-is, w.after-next.ensures, w.in_ok-put_state.ensures)
-    (next_written c.args.table.now.states c.loop-turn._turn c.loop-turn.next w.in-Some.state _ c.len-turn-end.ensures.table.in_order c.loop-turn.invariant w.in-Some.is)
+      rw (w.text-is, w.next-is, w.after-next.ensures, w.in_ok-put_state.ensures)
+      (next_written c.args.table.now.states c.loop-turn._turn c.loop-turn.next w.in-Some.state _ c.len-turn-end.ensures.table.in_order c.loop-turn.invariant w.in-Some.is)
   | in_default w ↦
-    let count = c.len-turn-end.ensures.count in
-    let test = c.loop-turn-test.true in
-    let less : c.loop-turn._turn < length c.args.table.now.states = omega arith in
-    absurd (one_is_next c.args.table.now.states c.loop-turn._turn _ less (rw w.in_default.is at c.loop-turn.invariant))
+      let count = c.len-turn-end.ensures.count in
+      let test = c.loop-turn-test.true in
+      let less : c.loop-turn._turn < length c.args.table.now.states = omega arith in
+      absurd (one_is_next c.args.table.now.states c.loop-turn._turn _ less (rw w.in_default.is at c.loop-turn.invariant))
 ]
