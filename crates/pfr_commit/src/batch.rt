@@ -7,7 +7,7 @@ ghost use Rattle.pfr_commit.specs.World as spec;
 
 use crate::book::Book;
 use crate::emitted::Emitted;
-use crate::results::{in_places, take_at};
+use crate::results::{in_places, places_for, take_at};
 use pfr_capture::Record;
 use pfr_headers::View;
 use pfr_record::Speculation;
@@ -38,7 +38,8 @@ impl Book {
         if self.is_over {
             return Err(AllocError);
         }
-        let mut places = match in_places(self.alloc, results, self.count + 1, packets.len()) {
+        let count = places_for(results.as_slice(), packets.len());
+        let mut places = match in_places(self.alloc, results, self.count + 1, count) {
             Ok(places) => places,
             Err(refused) => {
                 self.is_over = true;

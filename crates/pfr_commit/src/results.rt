@@ -1,5 +1,5 @@
 //! What was found out ahead about the packets of a batch, each at its packet's place.
-ghost use Rattle.std.specs.Prelude.{◌≡◌, None, IfOk, length, replicate};
+ghost use Rattle.std.specs.Prelude.{◌≡◌, ◌≤◌, None, IfOk, length, replicate};
 ghost use Rattle.pfr_commit.specs.Results as spec;
 
 use pfr_record::Speculation;
@@ -56,6 +56,13 @@ pub(crate) fn in_places(
         put_result(&mut places, first, found);
     }
     Ok(places)
+}
+
+/// How many places so many packets need: none where there are no results.
+pub(crate) fn places_for(results: &[Speculation], packets: usize) -> usize
+    ensures { result ≤ packets }
+{
+    if results.is_empty() { 0 } else { packets }
 }
 
 /// Takes out what is at a place.
