@@ -19,7 +19,7 @@ from pathlib import Path
 sys.dont_write_bytecode = True
 
 from make_capture import write_capture
-from run import PROGRAM, RUNS, count_records, print_row, replay_command
+from run import PROGRAM, RUNS, count_records, print_row, replay_command, tcpdump_command
 
 COUNTS = [1, 10, 100, 1000, 10000]
 MOST_PACKETS = 10**5
@@ -83,9 +83,7 @@ class Contest:
         return replay_command(self.program, capture, self.rules, verdicts=verdicts)
 
     def tcpdump(self, capture, passed=os.devnull):
-        # as root, tcpdump would give up the right to write into this folder
-        user = ["-Z", "root"] if os.geteuid() == 0 else []
-        return ["tcpdump", *user, "-r", str(capture), "-w", str(passed), "-F", str(self.filter)]
+        return tcpdump_command(capture, passed, "-F", self.filter)
 
     def best_seconds(self):
         """The best times of the program and of tcpdump, of each the whole run and the run on a capture without

@@ -43,30 +43,11 @@ class Contest:
             write_capture(count, file)
         self.program = replay_command(program, self.capture, rules, verdicts=self.lines, packets=folder / "written.pcap",
                                       counters=folder / "counters", states=folder / "states")
-        # as root, tcpdump would give up the right to write into this folder
-        user = ["-Z", "root"] if os.geteuid() == 0 else []
-        self.tcpdump = ["tcpdump", *user, "-r", str(self.capture), "-w", str(self.passed), FILTER]
-
-    def seconds(self, command):
-        """The time of one run from its start to its end."""
-        start = time.perf_counter()
-        subprocess.run(command, stdin=subprocess.DEVNULL, stdout=subprocess.DEVNULL, stderr=subprocess.PIPE, check=True)
-        return time.perf_counter() - start
+        self.tcpdump = tcpdump_command(self.capture, self.passed, FILTER)
 
     def best_seconds(self):
         """The best times of the program and of tcpdump, run in turn."""
-        times = [(self.seconds(self.program), self.seconds(self.tcpdump)) for _ in range(RUNS)]
-        return map(min, zip(*times))
-
-    def peak_memory(self, command):
-        """The peak memory of one run in megabytes, as a word."""
-        # a child of this script would start with the script's own memory as its peak
-        timer = shutil.which("time")
-        if timer is None:
-            return "-"
-        with tempfile.NamedTemporaryFile() as report:
-            self.seconds([timer, "-f", "%M", "-o", report.name, *command])
-            return f"{int(report.read()) * 1024 / MEGABYTE:.1f}"
+        return best_seconds(self.program, self.tcpdump)
 
     def check(self):
         """Both have passed the same number of packets, and the program has a line for each."""
@@ -83,6 +64,37 @@ def replay_command(program, capture, rules, **files):
     return [str(program), "run", str(capture), str(rules), *FLAGS, *outputs]
 
 
+def tcpdump_command(capture, passed, *filter_words):
+    """The words that filter a capture."""
+    # as root, tcpdump would give up the right to write into this folder
+    user = ["-Z", "root"] if os.geteuid() == 0 else []
+    return ["tcpdump", *user, "-r", str(capture), "-w", str(passed), *map(str, filter_words)]
+
+
+def seconds(command):
+    """The time of one run from its start to its end."""
+    start = time.perf_counter()
+    subprocess.run(command, stdin=subprocess.DEVNULL, stdout=subprocess.DEVNULL, stderr=subprocess.PIPE, check=True)
+    return time.perf_counter() - start
+
+
+def best_seconds(*commands):
+    """The best time of each command, run in turn."""
+    times = [[seconds(command) for command in commands] for _ in range(RUNS)]
+    return list(map(min, zip(*times)))
+
+
+def peak_memory(command):
+    """The peak memory of one run in megabytes, as a word."""
+    # a child of this script would start with the script's own memory as its peak
+    timer = shutil.which("time")
+    if timer is None:
+        return "-"
+    with tempfile.NamedTemporaryFile() as report:
+        seconds([timer, "-f", "%M", "-o", report.name, *command])
+        return f"{int(report.read()) * 1024 / MEGABYTE:.1f}"
+
+
 def count_records(capture):
     """The records of a capture in this machine's byte order."""
     place, count = 24, 0
@@ -96,12 +108,12 @@ def row(folder, program, count):
     """The measures of one capture, as words."""
     contest = Contest(folder, program, count)
     size = contest.capture.stat().st_size / MEGABYTE
-    seconds, other_seconds = contest.best_seconds()
+    ours, theirs = contest.best_seconds()
     contest.check()
     return [f"{count}", f"{size:.1f}",
-            f"{count / seconds:.0f}", f"{size / seconds:.0f}", contest.peak_memory(contest.program),
-            f"{count / other_seconds:.0f}", f"{size / other_seconds:.0f}", contest.peak_memory(contest.tcpdump),
-            f"{other_seconds / seconds:.2f}"]
+            f"{count / ours:.0f}", f"{size / ours:.0f}", peak_memory(contest.program),
+            f"{count / theirs:.0f}", f"{size / theirs:.0f}", peak_memory(contest.tcpdump),
+            f"{theirs / ours:.2f}"]
 
 
 def print_row(words):
