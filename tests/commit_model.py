@@ -12,7 +12,7 @@ which it drops, and so how many packets it evaluates itself.
 from typing import NamedTuple
 
 from frame_model import Packet, datagram_of, view
-from model import PASSED
+from replay_model import PASSED
 from replay_model import Refused, Step, counters, job_of
 from states_model import StateTable
 from step_model import step
