@@ -72,10 +72,10 @@ map_out : (b : Bool) (r : Option State) → option_map (λ state. state.number) 
 map_out true r = refl
 map_out false r = refl
 
-abbrev Numbers : Type 0
+abbrev pub Numbers : Type 0
 Numbers = Key → Option StateNumber
 
-abbrev AnswersFor : Side → Numbers → List State → Type 0
+abbrev pub AnswersFor : Side → Numbers → List State → Type 0
 AnswersFor side f xs = (key : Key) → f key ≡ number_at side key xs
 
 -- the index after the state's key was added
@@ -132,13 +132,13 @@ waits_without old xs f g before now in_order has = λ due.
 
 -- ---- a table
 
-abbrev Entries : Type 0
+abbrev pub Entries : Type 0
 Entries = List (StateNumber × State)
 
-values_are : (es : Entries) (xs : List State) → es ≡ numbered xs → values_of es ≡ xs
+pub values_are : (es : Entries) (xs : List State) → es ≡ numbered xs → values_of es ≡ xs
 values_are es xs is = ap (λ (es : Entries). values_of es) is ∙ values_numbered xs
 
-refolded : (xs : List State) (es : Entries) (w t : Numbers) (d : Due → Bool) → AreIndexed xs es w t d → IsIndexed es w t d
+pub refolded : (xs : List State) (es : Entries) (w t : Numbers) (d : Due → Bool) → AreIndexed xs es w t d → IsIndexed es w t d
 refolded xs es w t d is = subst (λ (states : List State). AreIndexed states es w t d) (sym (values_are es xs is.by_number)) is
 
 -- what the states are of entries that belong to them
@@ -184,7 +184,7 @@ module _ {es : Entries} {w t : Numbers} {d : Due → Bool} (is : IsIndexed es w 
       = elim (and_cases (not (is_number s.number a)) (shares_key s a) (none_of (other_shares s) (values_of es) a free parts.0)) [ inl same ↦ absurd (both_ways (not (is_number s.number a)) same parts.1) | inr apart ↦ apart ] in
       apart_side side s a apart
 
-  keys_touched : (side : Side) (s old : State) (f g : Numbers) → AnswersFor side f (values_of es) → ((key : Key) → g key ≡ cond (has_key side key s) (Some s.number) (cond (has_key side key old) None (f key)))
+  pub keys_touched : (side : Side) (s old : State) (f g : Numbers) → AnswersFor side f (values_of es) → ((key : Key) → g key ≡ cond (has_key side key s) (Some s.number) (cond (has_key side key old) None (f key)))
       → state_of s.number (values_of es) ≡ Some old → list_any (other_shares s) (values_of es) ≡ false → AnswersFor side g (with_touched s (values_of es))
   keys_touched side s old f g before now there free =
       let xs = values_of es in
@@ -195,7 +195,7 @@ module _ {es : Entries} {w t : Numbers} {d : Due → Bool} (is : IsIndexed es w 
       subst (λ (ys : List State). AnswersFor side g ys) (sym (touched_without s xs is.in_order (present s old there)))
       (keys_with side s (without s.number xs) (λ key. cond (has_key side key old) None (f key)) g left now (none_without s.number xs) (other_apart side s free))
 
-  waits_touched : (s old : State) (e : Due → Bool) → ((due : Due) → e due ≡ cond (is_due due s) true (cond (is_same_due (old.deadline, s.number) due) false (d due))) → state_of s.number (values_of es) ≡ Some old
+  pub waits_touched : (s old : State) (e : Due → Bool) → ((due : Due) → e due ≡ cond (is_due due s) true (cond (is_same_due (old.deadline, s.number) due) false (d due))) → state_of s.number (values_of es) ≡ Some old
       → Awaits e (with_touched s (values_of es))
   waits_touched s old e now there =
       let xs = values_of es in

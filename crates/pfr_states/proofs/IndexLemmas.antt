@@ -30,7 +30,7 @@ is_same a b same = rw (le-ltb a b (omega (arith, same)), eq-eqb a b same) refl
 pub is_more : (a b : ℕ) → b < a → nat_cmp a b ≡ Greater
 is_more a b more = rw (le-ltb a b (omega arith), ne_eqb a b (λ same. absurd (omega arith))) refl
 
-is_eq_turned : (n : StateNumber) (x : State) → is_eq (number_cmp n x.number) ≡ is_number n x
+pub is_eq_turned : (n : StateNumber) (x : State) → is_eq (number_cmp n x.number) ≡ is_number n x
 is_eq_turned n x = elim (cases_order n.0 x.number.0) [
   | inl same ↦ rw (is_same n.0 x.number.0 same) (sym (eq-eqb x.number.0 n.0 (sym same)))
   | inr (inl less) ↦ rw (is_less n.0 x.number.0 less) (sym (ne_eqb x.number.0 n.0 (λ same. absurd (omega arith))))

@@ -10,5 +10,6 @@ pub mod PutLemmas
 pub mod PurgeLemmas
 pub mod QuestionLemmas
 pub mod RefusalLemmas
+pub mod RenewLemmas
 pub mod ShareLemmas
 pub mod TouchLemmas

@@ -1,11 +1,11 @@
 //! States in the order of their numbers, which are found by their keys and deadlines as well.
-ghost use Rattle.std.specs.Prelude.{◌≡◌, ◌&&◌, not, true, false, [], length, Some, None, OnOk, OnErr};
+ghost use Rattle.std.specs.Prelude.{◌≡◌, ◌&&◌, not, true, false, [], length, Some, None, IfOk, OnOk, OnErr};
 ghost use Rattle.std.specs.List.{filter, list_any};
 ghost use Rattle.pfr_states.specs.Indexed as index;
 ghost use Rattle.pfr_states.specs.States as spec;
 
 use crate::change::Side;
-use crate::indexes::Indexes;
+use crate::indexes::{Indexes, put_off};
 use pfr_track::{Clock, Key, State, StateNumber};
 use std::alloc::{AllocError, Global};
 use std::collections::BTreeMap;
@@ -30,6 +30,13 @@ impl Model for IndexedStates {
     ghost view = { λ t. values_of t.states.entries };
 
     ghost invariant = { λ t. IsIndexed t.states.entries (number_of t.indexes.wire) (number_of t.indexes.stack) (awaits t.indexes.deadlines) };
+}
+
+/// Whether two states have the same keys.
+fn have_same_keys(first: &State, second: &State) -> bool
+    ensures { result ≡ (spec.is_same_key first.now.wire second.now.wire && spec.is_same_key first.now.stack second.now.stack) }
+{
+    first.wire == second.wire && first.stack == second.stack
 }
 
 impl IndexedStates {
@@ -202,6 +209,30 @@ impl IndexedStates {
             Some(old) => self.replace(&old, state),
             None => Ok(()),
         }
+    }
+
+    /// Writes a state over the one of its number where that has the same keys, and says whether it did. Where memory is
+    /// refused nothing changes.
+    pub(crate) fn renew(&mut self, state: &State) -> Result<bool, AllocError>
+        ensures done { IfOk result (λ is_done. is_done ≡ true → self.new ≡ spec.with_touched state.now self.old) }
+        ensures free { IfOk result (λ is_done. is_done ≡ true → list_any (λ other. not (spec.is_number state.now.number other) && spec.shares_key state.now other) self.old ≡ false) }
+        ensures same { IfOk result (λ is_done. is_done ≡ false → self.new ≡ self.old) }
+        ensures kept { OnErr result (self.new ≡ self.old) }
+    {
+        let Some(place) = self.states.get_mut(&state.number) else {
+            return Ok(false);
+        };
+        if !have_same_keys(place, state) {
+            return Ok(false);
+        }
+        put_off(
+            &mut self.indexes.deadlines,
+            place.deadline,
+            state.deadline,
+            state.number,
+        )?;
+        *place = *state;
+        Ok(true)
     }
 
     /// Takes the state of a number out, if there is one.

@@ -83,7 +83,7 @@ fn forget(
 }
 
 /// Puts a number, which has a deadline, off to another one.
-fn put_off(
+pub(crate) fn put_off(
     deadlines: &mut BTreeSet<(Deadline, StateNumber)>,
     from: Deadline,
     to: Deadline,

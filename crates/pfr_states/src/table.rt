@@ -119,8 +119,8 @@ impl Table {
         Ok(())
     }
 
-    /// Takes a state over as a packet leaves it.
-    fn touch(&mut self, state: State) -> Result<(), TableError>
+    /// Takes a state over as a packet leaves it, with other keys than it had or not.
+    fn move_state(&mut self, state: State) -> Result<(), TableError>
         ensures done { OnOk result (self.new.states ≡ spec.with_change (Touched state) self.old.states) }
         ensures allowed { OnOk result (spec.refusal (Touched state) self.old.limit self.old.states ≡ None) }
         ensures refused { IfErr result (λ e. e ≢ Memory → spec.refusal (Touched state) self.old.limit self.old.states ≡ Some e) }
@@ -132,6 +132,20 @@ impl Table {
         }
         self.states.touch(state)?;
         Ok(())
+    }
+
+    /// Takes a state over as a packet leaves it.
+    fn touch(&mut self, state: State) -> Result<(), TableError>
+        ensures done { OnOk result (self.new.states ≡ spec.with_change (Touched state) self.old.states) }
+        ensures allowed { OnOk result (spec.refusal (Touched state) self.old.limit self.old.states ≡ None) }
+        ensures refused { IfErr result (λ e. e ≢ Memory → spec.refusal (Touched state) self.old.limit self.old.states ≡ Some e) }
+        ensures kept { OnErr result (self.new ≡ self.old) }
+        ensures limit { self.new.limit ≡ self.old.limit }
+    {
+        if self.states.renew(&state)? {
+            return Ok(());
+        }
+        self.move_state(state)
     }
 
     /// Takes the state of a number out.

@@ -5,9 +5,10 @@ use Rattle.pfr_packet.specs.Job.{RunJob}
 use Rattle.pfr_commit.specs.Books.{job_of, world_in}
 use Rattle.pfr_commit.specs.Emissions.{frame_of, texts_of}
 use Rattle.pfr_commit.specs.World.{World, after, world_after}
-use Rattle.pfr_commit.proofs.BookLemmas.{on_err, same_job}
+use Rattle.pfr_commit.proofs.BookLemmas.{same_job}
 use Rattle.pfr_commit.proofs.WorldLemmas.{nothing_taken, part_taken, world_next, world_none}
 use Rattle.pfr_commit.proofs.book.Book.commit_batch.Goals as goal
+use Rattle.pfr_states.proofs.RefusalLemmas.{on_err}
 
 pub returns-then-self-clause-part : goal.returns-then-self-clause-part
 returns-then-self-clause-part c = nothing_taken (job_of c.args.self.now) (world_in c.args.self.now (texts_of c.args.out.now)) c.args.self.now.count _

@@ -1,14 +1,10 @@
-use Rattle.std.proofs.Common.{◌∙◌, sym}
-use Rattle.pfr_states.proofs.RefusalLemmas.{touched_taken, touched_fits}
+use Rattle.pfr_states.proofs.RefusalLemmas.{touched_fits}
 use Rattle.pfr_states.proofs.TouchLemmas.{table_touched}
 use Rattle.pfr_states.proofs.table.Table.touch.Goals as goal
 
-pub returns-then-another_shares_key-clause-refused : goal.returns-then-another_shares_key-clause-refused
-returns-then-another_shares_key-clause-refused c =
-    λ _. rw (← c.self.view_is) (touched_taken c.args.state c.self.inside.limit c.self.inside.states (sym c.another_shares_key.ensures ∙ c.if-another_shares_key.true))
+pub invariant_of-self-then-branch : goal.invariant_of-self-then-branch
+invariant_of-self-then-branch c =
+    rw (c.in_ok-renew.ensures.done c.if-branch.true) (table_touched c.args.state c.self.inside.states c.self.inside.limit (c.in_ok-renew.ensures.free c.if-branch.true) c.self.invariant)
 
-pub invariant_of-self-2 : goal.invariant_of-self-2
-invariant_of-self-2 c = rw c.in_ok-touch.ensures.done (table_touched c.args.state c.self.inside.states c.self.inside.limit (sym c.another_shares_key.ensures ∙ c.if-another_shares_key.false) c.self.invariant)
-
-pub returns-clause-allowed : goal.returns-clause-allowed
-returns-clause-allowed c = rw (← c.self.view_is) (touched_fits c.args.state c.self.inside.limit c.self.inside.states (sym c.another_shares_key.ensures ∙ c.if-another_shares_key.false))
+pub returns-then-branch-clause-allowed : goal.returns-then-branch-clause-allowed
+returns-then-branch-clause-allowed c = rw (← c.self.view_is) (touched_fits c.args.state c.self.inside.limit c.self.inside.states (c.in_ok-renew.ensures.free c.if-branch.true))
