@@ -16,6 +16,7 @@ pub mod order;
 mod pieces;
 pub mod reader;
 pub mod reader_source;
+mod stock;
 pub mod transfer;
 pub mod writer_sink;
 

@@ -1,5 +1,5 @@
 //! The reader of captures.
-ghost use Rattle.std.specs.Prelude.{◌≡◌, ◌≤◌, ◌+◌, ◌^◌, ◌++◌, take, drop, length, None, IsTrue, IfOk, IfErr, IfNone, IfSome, OnOk, OnErr};
+ghost use Rattle.std.specs.Prelude.{◌≡◌, ◌≤◌, ◌+◌, ◌^◌, ◌++◌, [], take, drop, length, None, IsTrue, IfOk, IfErr, IfNone, IfSome, OnOk, OnErr};
 ghost use Rattle.pfr_capture.specs.Ahead.{CameBehind};
 ghost use Rattle.pfr_capture.specs.Header.{form_of, is_known_link, link_of, magic_of, resolution_of, version_of};
 ghost use Rattle.pfr_capture.specs.Reading.{Answers, EndsCapture, FieldsOf, Gave, LacksRecord, NextFails, OpenFails, Opens, ReadsOn, Refuses, RefusesHeader, StopsEarly, answer_again, given_by, tail_of};
@@ -9,6 +9,7 @@ use crate::capture::{CaptureError, Form, Record, Resolution, Tail};
 use crate::device::Source;
 use crate::order::ByteOrder;
 use crate::pieces::Pieces;
+use crate::stock::Stock;
 use std::alloc::{AllocError, Global};
 use std::marker::Model;
 
@@ -40,12 +41,12 @@ enum Step {
 /// bytes, and only where it lacks bytes of the next record.
 #[derive(Debug, Drop)]
 pub struct Capture {
-    alloc: Global,
     form: Form,
     header: [u8; 24],
     count: u64,
     over: Option<Result<Tail, CaptureError>>,
     ahead: Pieces,
+    stock: Stock,
 }
 
 impl Model for Capture {
@@ -80,12 +81,12 @@ impl Capture {
         let form = read_form(&header)?;
         ahead.take(HEADER);
         Ok(Capture {
-            alloc,
             form,
             header,
             count: 0,
             over: None,
             ahead,
+            stock: Stock::new(alloc),
         })
     }
 
@@ -113,7 +114,13 @@ impl Capture {
                 Err(e) => Err(e),
             };
         }
-        match find_next(self.alloc, self.form, self.count, &mut self.ahead, source) {
+        match find_next(
+            self.form,
+            self.count,
+            &mut self.ahead,
+            &mut self.stock,
+            source,
+        ) {
             Ok(Step::Found(record)) => {
                 self.count += 1;
                 Ok(Some(record))
@@ -127,6 +134,13 @@ impl Capture {
                 Err(e)
             }
         }
+    }
+
+    /// Takes a record back that isn't needed any more. Its buffer may serve for one that is still to be read.
+    pub fn give_back(&mut self, packet: Record)
+        ensures { self.new ≡ self.old }
+    {
+        self.stock.keep(packet.bytes);
     }
 
     /// How the capture ends, once `next` has answered None; until then Clean, as for the records given.
@@ -302,10 +316,10 @@ fn look_for_record<S: Source>(
 /// What stands next: a record, which is taken from the bytes ahead, or an end. Nothing else is taken.
 #[tactic(auto, using(crate::proofs::ReadingLemmas::taken_record))]
 fn find_next<S: Source>(
-    alloc: Global,
     form: Form,
     count: u64,
     ahead: &mut Pieces,
+    stock: &mut Stock,
     source: &mut S,
 ) -> Result<Step, CaptureError>
     requires { count ≤ 2 ^ 40 }
@@ -321,16 +335,22 @@ fn find_next<S: Source>(
     match look_for_record(form.order, count, ahead, source)? {
         Look::End(tail) => Ok(Step::Ended(tail)),
         Look::Captured(captured) => {
-            let record = record_at(alloc, form, ahead.bytes(), captured)?;
+            let record = record_at(form, ahead.bytes(), captured, stock.take())?;
             ahead.take(RECORD_HEADER + captured);
             Ok(Step::Found(record))
         }
     }
 }
 
-/// The record at the front of the bytes, with so many captured bytes.
-fn record_at(alloc: Global, form: Form, bytes: &[u8], captured: usize) -> Result<Record, AllocError>
-    requires { 16 + captured ≤ length bytes.now }
+/// The record at the front of the bytes, with so many captured bytes, which go into an empty buffer.
+fn record_at(
+    form: Form,
+    bytes: &[u8],
+    captured: usize,
+    mut buffer: Vec<u8>,
+) -> Result<Record, AllocError>
+    requires bytes { 16 + captured ≤ length bytes.now }
+    requires buffer { buffer.items ≡ [] }
     ensures header { IfOk result (λ r. r.header ≡ take 16 bytes.now) }
     ensures bytes { IfOk result (λ r. r.bytes.items ≡ take captured (drop 16 bytes.now)) }
     ensures fields { IfOk result (FieldsOf form) }
@@ -338,11 +358,12 @@ fn record_at(alloc: Global, form: Form, bytes: &[u8], captured: usize) -> Result
     let (front, rest) = bytes.split_at(RECORD_HEADER);
     let mut header = [0; RECORD_HEADER];
     header.copy_from_slice(front);
+    buffer.extend_from_slice(&rest[..captured])?;
     Ok(Record {
         link: form.link,
         seconds: form.order.read_u32(front),
         fraction: form.order.read_u32(&front[4..]),
         header,
-        bytes: Vec::from_slice(alloc, &rest[..captured])?,
+        bytes: buffer,
     })
 }

@@ -18,6 +18,16 @@ fn put_packet(packets: &mut Vec<(Record, View)>, packet: Record) -> Result<(), A
     Ok(())
 }
 
+/// Gives the records of packets back to their capture.
+fn give_back(capture: &mut Capture, packets: &mut Vec<(Record, View)>)
+    ensures capture { capture.new ≡ capture.old }
+    ensures packets { packets.new.items ≡ [] }
+{
+    while let Some((packet, _)) = packets.pop() {
+        capture.give_back(packet);
+    }
+}
+
 /// Reads a batch of packets in the place of others, of at most so many. It answers how the reading ends, if it does: at the
 /// capture's end, or with a refusal.
 pub(crate) fn read_batch<R: Source>(
@@ -38,7 +48,7 @@ pub(crate) fn read_batch<R: Source>(
     ensures says { IsTrue (R.told source.old) → BatchSays capture.old capture.new (R.unread source.old) (R.unread source.new) (records_of packets.new.items) result }
     ensures failures { BatchFails result (R.failures source.old) (R.failures source.new) }
 {
-    packets.clear();
+    give_back(capture, packets);
     while packets.len() < most {
         match capture.next(source) {
             Ok(Some(packet)) => match put_packet(packets, packet) {

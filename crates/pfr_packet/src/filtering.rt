@@ -129,9 +129,10 @@ impl Filtered {
     {
         let (decision, visits) = filter(alloc, rules, packet, direction)?;
         let conduct = conduct_of(rules.filter.rules(), decision.rule);
-        let outcome = decided(alloc, direction, decision, visits);
+        let mut outcome = decided(alloc, direction, decision, visits);
+        outcome.ask_leave(packet, conduct.allows_options);
         Ok(Filtered {
-            outcome: outcome.without_leave(packet, conduct.allows_options),
+            outcome,
             kept: conduct.kept,
         })
     }

@@ -24,7 +24,8 @@ fn passed(
     let mut outcome = Outcome::by_state(alloc, direction, state, Verdict::Pass, reason);
     outcome.bytes = written_by(direction, packet, &state.wire, &state.stack);
     outcome.change = change;
-    outcome.without_leave(packet, state.rules.allows_options)
+    outcome.ask_leave(packet, state.rules.allows_options);
+    outcome
 }
 
 /// What an ICMP error comes to that tells of a packet of a state's connection: it passes, and the state stays as it is.

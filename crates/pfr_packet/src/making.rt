@@ -50,7 +50,7 @@ fn with_made(packet: &Packet, state: State, mut outcome: Outcome) -> Outcome
 pub(crate) fn make_state<A: Answers>(
     packet: &Packet,
     state: State,
-    outcome: Outcome,
+    mut outcome: Outcome,
     answers: &mut A,
 ) -> Result<Outcome, AllocError>
     ensures seen { A.seen answers.new ≡ A.seen answers.old }
@@ -61,11 +61,15 @@ pub(crate) fn make_state<A: Answers>(
     let stack = answers.at(Side::Stack, &state.stack)?;
     match (wire, stack) {
         (None, None) => {}
-        _ => return Ok(outcome.blocked(Reason::StateInsert)),
+        _ => {
+            outcome.block(Reason::StateInsert);
+            return Ok(outcome);
+        }
     }
     if answers.room()? {
         Ok(with_made(packet, state, outcome))
     } else {
-        Ok(outcome.blocked(Reason::StateLimit))
+        outcome.block(Reason::StateLimit);
+        Ok(outcome)
     }
 }

@@ -88,25 +88,22 @@ impl Outcome {
         }
     }
 
-    /// The same, blocked: nothing changes.
-    pub(crate) fn blocked(mut self, reason: Reason) -> Outcome
-        ensures { result ≡ spec.blocked reason self }
+    /// The packet is blocked instead: nothing changes.
+    pub(crate) fn block(&mut self, reason: Reason)
+        ensures { self.new ≡ spec.blocked reason self.old }
     {
         self.verdict = Verdict::Block;
         self.reason = reason;
         self.bytes = None;
         self.change = None;
-        self
     }
 
-    /// The same, but blocked where the packet would pass, has IP options, and these are not allowed.
-    pub(crate) fn without_leave(self, packet: &Packet, allows_options: bool) -> Outcome
-        ensures { result ≡ spec.without_leave packet.now allows_options self }
+    /// The packet is blocked instead where it would pass, has IP options, and these are not allowed.
+    pub(crate) fn ask_leave(&mut self, packet: &Packet, allows_options: bool)
+        ensures { self.new ≡ spec.without_leave packet.now allows_options self.old }
     {
         if self.verdict.lets_pass() && packet.has_options() && !allows_options {
-            self.blocked(Reason::IpOption)
-        } else {
-            self
+            self.block(Reason::IpOption);
         }
     }
 }

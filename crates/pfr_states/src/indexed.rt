@@ -1,6 +1,7 @@
 //! States in the order of their numbers, which are found by their keys and deadlines as well.
 ghost use Rattle.std.specs.Prelude.{◌≡◌, ◌&&◌, not, true, false, [], length, Some, None, IfOk, OnOk, OnErr};
 ghost use Rattle.std.specs.List.{filter, list_any};
+ghost use Rattle.std.specs.Option.{option_copied};
 ghost use Rattle.pfr_states.specs.Indexed as index;
 ghost use Rattle.pfr_states.specs.States as spec;
 
@@ -58,14 +59,11 @@ impl IndexedStates {
     }
 
     /// The state of a number.
-    pub(crate) fn get(&self, number: StateNumber) -> Option<State>
-        ensures state { result ≡ index.state_of number self.now }
+    pub(crate) fn get(&self, number: StateNumber) -> Option<&State>
+        ensures state { option_copied result ≡ index.state_of number self.now }
         ensures in_order { spec.rise self.now ≡ true }
     {
-        match self.states.get(&number) {
-            Some(state) => Some(*state),
-            None => None,
-        }
+        self.states.get(&number)
     }
 
     /// The number of the state with a key on a side.
@@ -80,8 +78,8 @@ impl IndexedStates {
     }
 
     /// The state with a key on a side.
-    pub(crate) fn at(&self, side: Side, key: &Key) -> Option<State>
-        ensures { result ≡ spec.at side key.now self.now }
+    pub(crate) fn at(&self, side: Side, key: &Key) -> Option<&State>
+        ensures { option_copied result ≡ spec.at side key.now self.now }
     {
         match self.number_at(side, key) {
             Some(number) => self.get(number),
@@ -97,7 +95,7 @@ impl IndexedStates {
         match self.indexes.first_due() {
             Some((deadline, number)) => {
                 if deadline.has_come(clock) {
-                    self.get(number)
+                    self.get(number).copied()
                 } else {
                     None
                 }
@@ -193,7 +191,7 @@ impl IndexedStates {
         ensures kept { OnErr result (self.new ≡ self.old) }
     {
         match self.get(state.number) {
-            Some(old) => self.replace(&old, state),
+            Some(&old) => self.replace(&old, state),
             None => self.add(state),
         }
     }
@@ -206,7 +204,7 @@ impl IndexedStates {
         ensures kept { OnErr result (self.new ≡ self.old) }
     {
         match self.get(state.number) {
-            Some(old) => self.replace(&old, state),
+            Some(&old) => self.replace(&old, state),
             None => Ok(()),
         }
     }

@@ -58,7 +58,7 @@ impl Table {
                 if state.deadline.has_come(clock) {
                     None
                 } else {
-                    Some(state)
+                    Some(*state)
                 }
             }
             None => None,
