@@ -1,3 +1,4 @@
+pub mod BatchLemmas
 pub mod BookLemmas
 pub mod EndingLemmas
 pub mod ResultLemmas

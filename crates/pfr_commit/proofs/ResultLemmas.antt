@@ -1,5 +1,5 @@
 -- Results at the places of their packets.
-use Rattle.std.proofs.Common.{◌≡◌, ◌≢◌, ◌<◌, ◌≤◌, ◌+◌, ◌-◌, ◌==◌, ◌&&◌, ℕ, Bool, true, false, nat_le, nat_lt, is_none, cond, List, [], ◌∷◌, ◌++◌, length, replicate, get_or, Option, Some, None, inl, inr, refl, sym, ap, ◌∙◌, arith}
+use Rattle.std.proofs.Common.{◌≡◌, ◌<◌, ◌≤◌, ◌+◌, ◌-◌, ◌==◌, ◌&&◌, ℕ, Bool, true, false, nat_le, nat_lt, is_none, cond, List, [], ◌∷◌, ◌++◌, length, replicate, get_or, Option, Some, None, inl, inr, refl, sym, ◌∙◌, arith}
 use Rattle.std.specs.List.{find}
 use lib.ListN.{set}
 use Rattle.std.specs.Option.{option_or}

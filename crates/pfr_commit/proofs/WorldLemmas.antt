@@ -1,7 +1,7 @@
 -- Worlds, and what comes before them.
 use Rattle.std.proofs.Common.{◌≡◌, ◌<◌, max, ◌+◌, ◌-◌, ℕ, suc, List, [], ◌∷◌, ◌++◌, length, map, take, fold, get_or, refl, sym, ap, ◌∙◌, arith}
 use Rattle.std.proofs.lemmas.Grind.{fold-append}
-use Rattle.std.proofs.lemmas.List.{append_assoc, append-nil, map-append, take-map}
+use Rattle.std.proofs.lemmas.List.{append_assoc, map-append, take-map}
 use Rattle.std.proofs.Math.Seq.{take-suc}
 use Rattle.pfr_headers.specs.declared.packet.View.{View}
 use Rattle.pfr_track.specs.declared.time.Clock.{Clock}

@@ -1,6 +1,8 @@
 -- A book, and what it has emitted, as a world.
-use Rattle.std.specs.Prelude.{ℕ, Option, Some, None}
+use Rattle.std.specs.Prelude.{◌≡◌, ◌+◌, ℕ, List, [], ◌∷◌, Option, Some, None}
+use Rattle.std.specs.List.{find}
 use Rattle.std.specs.Arc.{arc_value}
+use Rattle.pfr_capture.specs.declared.capture.Record.{Record}
 use Rattle.pfr_headers.specs.declared.packet.View.{View}
 use Rattle.pfr_track.specs.declared.time.Clock.{Clock}
 use Rattle.pfr_states.specs.States.{StateTable}
@@ -8,7 +10,9 @@ use Rattle.pfr_packet.specs.Job.{RunJob}
 use Rattle.pfr_record.specs.declared.speculation.Speculation.{Speculation}
 use Rattle.pfr_record.specs.Speculations.{Fits}
 use Rattle.pfr_commit.specs.declared.book.Book.{Book}
-use Rattle.pfr_commit.specs.World.{Texts, World}
+use Rattle.pfr_commit.specs.Emissions.{frame_of}
+use Rattle.pfr_commit.specs.Results.{is_of}
+use Rattle.pfr_commit.specs.World.{Texts, World, after, clock_at}
 
 -- the world that a book stands for, where these are the texts so far
 abbrev pub world_in : Book → Texts → World
@@ -21,3 +25,19 @@ job_of book = arc_value book.job
 abbrev pub Holds : Option Speculation → RunJob → ℕ → Clock → View → StateTable → Type 0
 Holds None job number clock view table = ⊥
 Holds (Some speculation) job number clock view table = Fits speculation job number clock view table
+
+-- ---- a batch
+
+-- of the results of the world's next packet, which has this record and this view, the first one holds
+abbrev pub IsUsed : RunJob → World → List Speculation → Record × View → Type 0
+IsUsed job world results packet = Holds (find (is_of (world.count + 1)) results) job (world.count + 1) (clock_at world.clock (frame_of packet.0)) packet.1 world.table
+
+-- a number rises by one, unless a result is used
+abbrev pub RisesUnless : Type 0 → ℕ → ℕ → Type 0
+RisesUnless Used before next = (Used → next ≡ before) × ((Used → ⊥) → next ≡ before + 1)
+
+-- a number rises by one at each of the packets, which follow a world, whose first result isn't used
+abbrev pub RisesOver : RunJob → World → List Speculation → List (Record × View) → ℕ → ℕ → Type 0
+RisesOver job world results [] before last = last ≡ before
+RisesOver job world results (packet ∷ packets) before last =
+    (next : ℕ) × RisesUnless (IsUsed job world results packet) before next × RisesOver job (after job world (frame_of packet.0)) results packets next last

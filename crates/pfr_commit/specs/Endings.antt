@@ -7,7 +7,6 @@ use Rattle.pfr_commit.specs.declared.counters.Counters.{Counters}
 use Rattle.pfr_commit.specs.declared.counters.RuleCounters.{RuleCounters}
 use Rattle.pfr_commit.specs.declared.counters.Totals.{Totals}
 use Rattle.pfr_commit.specs.Lines.{state_line}
-use Rattle.pfr_commit.specs.World.{World}
 
 -- KIND N EVALUATIONS PACKETS BYTES
 unfoldable pub rule_line : List ℕ → ℕ → ℕ → ℕ → ℕ → List ℕ

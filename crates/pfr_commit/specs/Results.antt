@@ -10,6 +10,10 @@ is_of number found = found.number == number
 abbrev pub ArePlaced : List Speculation → ℕ → List (Option Speculation) → Type 0
 ArePlaced results first places = (place : ℕ) → place < length places → get_or places place None ≡ find (is_of (first + place)) results
 
+-- the same of so many packets: what isn't there stands for none
+abbrev pub AreFound : List Speculation → ℕ → ℕ → List (Option Speculation) → Type 0
+AreFound results first count places = (place : ℕ) → place < count → get_or places place None ≡ find (is_of (first + place)) results
+
 -- there is such a place, with nothing in it
 abbrev pub is_free : List (Option Speculation) → ℕ → Bool
 is_free places place = nat_lt place (length places) && is_none (get_or places place None)

@@ -7,18 +7,18 @@ ghost use Rattle.pfr_commit.specs.World as spec;
 
 use crate::book::Book;
 use crate::emitted::Emitted;
-use crate::results::{in_places, places_for, take_at};
+use crate::results::{in_places, take_at};
 use pfr_capture::Record;
 use pfr_headers::View;
 use pfr_record::Speculation;
 use std::alloc::AllocError;
 
 impl Book {
-    ghost use Rattle.pfr_commit.specs.Books.{job_of, world_in};
+    ghost use Rattle.pfr_commit.specs.Books.{RisesOver, job_of, world_in};
 
     /// Takes the next packets, and puts what they add behind what was emitted. Each has its record's view. The results may be
     /// in any order; some may be missing, and some of other packets or other jobs. Of several of one packet the first is
-    /// tried. Where memory is refused, what was emitted grows by what those packets add that were taken.
+    /// tried; where it doesn't hold, or there is none, the packet is evaluated here. Where memory is refused, what was emitted grows by what those packets add that were taken.
     pub fn commit_batch(
         &mut self,
         packets: &[(Record, View)],
@@ -30,6 +30,7 @@ impl Book {
         ensures world { OnOk result (world_in self.new (texts_of out.new) ≡ spec.world_after (job_of self.old) (world_in self.old (texts_of out.old)) (map (λ packet. frame_of packet.0) packets.now)) }
         ensures part { OnErr result (texts_of out.new ≡ (spec.world_after (job_of self.old) (world_in self.old (texts_of out.old)) (take (self.new.count - self.old.count) (map (λ packet. frame_of packet.0) packets.now))).texts) }
         ensures counted { OnOk result (self.new.count ≡ self.old.count + length packets.now) }
+        ensures own { OnOk result (RisesOver (job_of self.old) (world_in self.old (texts_of out.old)) results.items packets.now self.old.own self.new.own) }
         ensures job { self.new.job ≡ self.old.job }
         ensures within { (self.old.count ≤ self.new.count) × (self.new.count ≤ self.old.count + length packets.now) }
         ensures ok { OnOk result ((self.old.is_over ≡ false) × (self.new.is_over ≡ false)) }
@@ -38,8 +39,7 @@ impl Book {
         if self.is_over {
             return Err(AllocError);
         }
-        let count = places_for(results.as_slice(), packets.len());
-        let mut places = match in_places(self.alloc, results, self.count + 1, count) {
+        let mut places = match in_places(self.alloc, results, self.count + 1, packets.len()) {
             Ok(places) => places,
             Err(refused) => {
                 self.is_over = true;

@@ -1,5 +1,5 @@
 //! What was found out ahead about the packets of a batch, each at its packet's place.
-ghost use Rattle.std.specs.Prelude.{◌≡◌, ◌≤◌, None, IfOk, length, replicate};
+ghost use Rattle.std.specs.Prelude.{◌≡◌, ◌<◌, ℕ, None, IfOk, get_or, length, replicate};
 ghost use Rattle.pfr_commit.specs.Results as spec;
 
 use pfr_record::Speculation;
@@ -40,9 +40,9 @@ fn put_result(places: &mut Places, first: u64, found: Speculation)
     }
 }
 
-/// The results for so many packets from a number on: of several of one packet the first.
+/// A place for each of so many packets from a number on, with its result: of several of one packet the first.
 #[tactic(auto, using(crate::proofs::ResultLemmas::none_placed, crate::proofs::ResultLemmas::one_placed, crate::proofs::ResultLemmas::same_length))]
-pub(crate) fn in_places(
+fn placed(
     alloc: Global,
     results: Vec<Speculation>,
     first: u64,
@@ -58,15 +58,27 @@ pub(crate) fn in_places(
     Ok(places)
 }
 
-/// How many places so many packets need: none where there are no results.
-pub(crate) fn places_for(results: &[Speculation], packets: usize) -> usize
-    ensures { result ≤ packets }
+/// The results for so many packets from a number on: of several of one packet the first. Where there are none they take no room.
+pub(crate) fn in_places(
+    alloc: Global,
+    results: Vec<Speculation>,
+    first: u64,
+    count: usize,
+) -> Result<Places, AllocError>
+    ensures { IfOk result (λ places. spec.AreFound results.items first count places.items) }
 {
-    if results.is_empty() { 0 } else { packets }
+    if results.is_empty() {
+        Ok(Vec::new(alloc))
+    } else {
+        placed(alloc, results, first, count)
+    }
 }
 
 /// Takes out what is at a place.
-pub(crate) fn take_at(places: &mut Places, place: usize) -> Option<Speculation> {
+pub(crate) fn take_at(places: &mut Places, place: usize) -> Option<Speculation>
+    ensures taken { result ≡ get_or places.old.items place None }
+    ensures others { (other : ℕ) → place < other → get_or places.new.items other None ≡ get_or places.old.items other None }
+{
     match places.get_mut(place) {
         Some(held) => held.take(),
         None => None,

@@ -1,14 +1,17 @@
-use Rattle.std.proofs.Common.{◌≡◌, ◌+◌, ◌<◌, ◌∙◌, refl, sym, ap, length, map, take, rules, arith}
+use Rattle.std.proofs.Common.{◌≡◌, ◌+◌, ◌<◌, ◌∙◌, ℕ, refl, sym, ap, length, map, take, rules, arith}
+use Rattle.std.specs.List.{find}
 use Rattle.pfr_capture.specs.declared.capture.Record.{Record}
 use Rattle.pfr_headers.specs.declared.packet.View.{View}
 use Rattle.pfr_packet.specs.Job.{RunJob}
 use Rattle.pfr_commit.specs.Books.{job_of, world_in}
 use Rattle.pfr_commit.specs.Emissions.{frame_of, texts_of}
+use Rattle.pfr_commit.specs.Results.{is_of}
 use Rattle.pfr_commit.specs.World.{World, after, world_after}
+use Rattle.pfr_commit.proofs.BatchLemmas.{rises_by, rises_next}
 use Rattle.pfr_commit.proofs.BookLemmas.{same_job}
 use Rattle.pfr_commit.proofs.WorldLemmas.{nothing_taken, part_taken, world_next, world_none}
-use Rattle.pfr_commit.proofs.book.Book.commit_batch.Goals as goal
 use Rattle.pfr_states.proofs.RefusalLemmas.{on_err}
+use Rattle.pfr_commit.proofs.book.Book.commit_batch.Goals as goal
 
 pub returns-then-self-clause-part : goal.returns-then-self-clause-part
 returns-then-self-clause-part c = nothing_taken (job_of c.args.self.now) (world_in c.args.self.now (texts_of c.args.out.now)) c.args.self.now.count _
@@ -21,6 +24,8 @@ loop-index-init c = record {
   job = refl;
   counted = omega arith;
   is_open = c.if-self.false;
+  own = refl;
+  tried = λ place _ below. c.in-Ok.ensures place below;
   world = sym (world_none (job_of c.args.self.now) (world_in c.args.self.now (texts_of c.args.out.now)));
 }
 
@@ -42,6 +47,14 @@ loop-index-preserved c =
       job = c.take.ensures.job ∙ i.job;
       counted = omega arith;
       is_open = c.in_ok-take.ensures.ok.1;
+      own =
+          let number : c.args.self.now.count + 1 + c.loop-index.index ≡ c.loop-index.self.count + 1 = omega arith in
+          let held = c.take_at.ensures.taken ∙ i.tried c.loop-index.index (omega arith) below ∙ ap (λ (n : ℕ). find (is_of n) c.args.results.items) number in
+          rises_next (job_of c.args.self.now) (world_in c.args.self.now (texts_of c.args.out.now)) c.args.results.items c.args.packets.now c.loop-index.index c.index-packets-index.result
+          c.args.self.now.own c.loop-index.self.own c.take.new.self.own below i.own
+          (rises_by (job_of c.args.self.now) (job_of c.loop-index.self) _ (world_in c.loop-index.self (texts_of c.loop-index.out)) c.args.results.items c.index-packets-index.result _ c.take_at.result
+          c.loop-index.self.own c.take.new.self.own (same_job c.loop-index.self c.args.self.now i.job) i.world c.index-packets-index.is held c.in_ok-take.ensures.held c.in_ok-take.ensures.own);
+      tried = λ place from within. c.take_at.ensures.others place (omega arith) ∙ i.tried place (omega arith) within;
       world = c.in_ok-take.ensures.world
           ∙ ap (λ (w : World). after (job_of c.loop-index.self) w (frame_of c.index-packets-index.result.0)) i.world
           ∙ ap (λ (j : RunJob). after j (world_after (job_of c.args.self.now) (world_in c.args.self.now (texts_of c.args.out.now)) (map (λ packet. frame_of packet.0) (take c.loop-index.index c.args.packets.now))) (frame_of c.index-packets-index.result.0)) (same_job c.loop-index.self c.args.self.now i.job)

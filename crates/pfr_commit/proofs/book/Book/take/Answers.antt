@@ -1,4 +1,4 @@
-use Rattle.std.proofs.Common.{◌≡◌, ◌++◌, ◌∙◌, List, ℕ, ap, sym}
+use Rattle.std.proofs.Common.{◌++◌, ◌∙◌, List, ℕ, ap, sym}
 use Rattle.pfr_headers.specs.declared.change.Change.{Change}
 use Rattle.pfr_packet.specs.declared.outcome.Outcome.{Outcome}
 use Rattle.pfr_commit.specs.Books.{job_of, world_in}
