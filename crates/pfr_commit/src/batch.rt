@@ -18,7 +18,8 @@ impl Book {
 
     /// Takes the next packets, and puts what they add behind what was emitted. Each has its record's view. The results may be
     /// in any order; some may be missing, and some of other packets or other jobs. Of several of one packet the first is
-    /// tried; where it doesn't hold, or there is none, the packet is evaluated here. Where memory is refused, what was emitted grows by what those packets add that were taken.
+    /// tried; where it doesn't hold, or there is none, the packet is evaluated here. Where memory is refused, what was emitted
+    /// grows by what those packets add that were taken.
     pub fn commit_batch(
         &mut self,
         packets: &[(Record, View)],
