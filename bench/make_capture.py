@@ -16,7 +16,7 @@ from pathlib import Path
 sys.path.append(str(Path(__file__).resolve().parent.parent / "tests"))
 sys.dont_write_bytecode = True
 
-from packets import ACK, capture_header, tcp, udp
+from captures.packets import ACK, capture_header, tcp, udp
 
 OPENING = 1767261600
 DIFFERENT = 6000

@@ -19,8 +19,8 @@ from pathlib import Path
 sys.path.append(str(Path(__file__).resolve().parent.parent / "tests"))
 sys.dont_write_bytecode = True
 
-from packets import (ACK, ETHER_IPV4, FIN, LINKTYPE_ETHERNET, PSH, SYN, capture_header, echo, ethernet, record, tcp,
-                     udp)
+from captures.packets import (ACK, ETHER_IPV4, FIN, LINKTYPE_ETHERNET, PSH, SYN, capture_header, echo, ethernet, record,
+                              tcp, udp)
 
 OPENING = 1767261600
 A_SECOND = 5000

@@ -1,11 +1,10 @@
 #!/usr/bin/env python3
 """Measures how long rulesets take to be read, and how much memory, as they grow.
 
-    rulesets.py [PROGRAM]
+    rulesets.py [PROGRAM WORDS..]
 
-Takes the program of the crate read_rulesets unless it is given one, and prints for each kind of
-text, at lengths that double, the nanoseconds and the bytes of memory that a byte of text takes. Both should stay as they
-are.
+Takes the program of the crate answers by its word `rulesets` unless it is given another. It prints for each kind of text,
+at lengths that double, the nanoseconds and the bytes of memory that a byte of text takes. Both should stay as they are.
 """
 
 import os
@@ -41,33 +40,33 @@ KINDS = {
 }
 
 
-def run(program, text):
+def run(command, text):
     """The seconds and the greatest memory that the program takes for a text."""
     given = tempfile.TemporaryFile()
     given.write(len(text).to_bytes(4, "big") + text)
     given.seek(0)
     start = time.monotonic()
-    process = subprocess.Popen([program], stdin=given, stdout=subprocess.DEVNULL)
+    process = subprocess.Popen(command, stdin=given, stdout=subprocess.DEVNULL)
     _, status, usage = os.wait4(process.pid, 0)
     passed = time.monotonic() - start
     if status:
-        raise SystemExit(f"{program}: status {status}")
+        raise SystemExit(f"{' '.join(command)}: status {status}")
     return passed, usage.ru_maxrss * 1024
 
 
-def measure(program):
-    idle, _ = min(run(program, b"") for _ in range(5))
+def measure(command):
+    idle, _ = min(run(command, b"") for _ in range(5))
     print(f"{'text':>12} {'KiB':>6} {'ms':>8} {'ns a byte':>10} {'memory a byte':>14}")
     for name, make in KINDS.items():
         for length in LENGTHS:
             text = make(length)
-            seconds, memory = min(run(program, text) for _ in range(5))
+            seconds, memory = min(run(command, text) for _ in range(5))
             spent = max(seconds - idle, 0)
             print(f"{name:>12} {length >> 10:>6} {spent * 1e3:8.1f} {spent * 1e9 / length:10.1f} {memory / length:14.1f}")
 
 
 def main():
-    measure(sys.argv[1] if len(sys.argv) > 1 else building.program_of("read_rulesets"))
+    measure(sys.argv[1:] or building.answers("rulesets"))
 
 
 if __name__ == "__main__":

@@ -13,8 +13,9 @@ HERE = Path(__file__).resolve().parent
 sys.path.insert(0, str(HERE.parent / "tests"))
 sys.dont_write_bytecode = True
 
-from packets import (ACK, ETHER_ARP, ETHER_IPV4, FIN, LINKTYPE_ETHERNET, PSH, RST, SYN, UNREACHABLE, capture_header, echo,
-                     ethernet, fragments, group_report, icmp_error, ipv4, record, tcp, udp)
+from captures.packets import (ACK, ETHER_ARP, ETHER_IPV4, FIN, LINKTYPE_ETHERNET, PSH, RST, SYN, UNREACHABLE,
+                              capture_header, echo, ethernet, fragments, group_report, icmp_error, ipv4, record, tcp,
+                              udp)
 
 OPENING = 1767261600  # 2026-01-01 10:00:00 UTC
 

@@ -1,4 +1,4 @@
-"""The programs of the tests, which are crates of their own, each of the name of its program."""
+"""The programs that are compared: pfreplay, and `answers`, which prints what the proved crates answer."""
 
 import subprocess
 from pathlib import Path
@@ -7,6 +7,9 @@ ROOT = Path(__file__).resolve().parent.parent
 CRATES = ROOT / "crates"
 # what a crate is made of
 PARTS = ("src", "specs", "proofs")
+ANSWERS = CRATES / "answers"
+# with nothing on standard input it answers nothing by this word
+IDLE_WORD = "rulesets"
 
 
 def sources():
@@ -25,13 +28,28 @@ def is_stale(program):
     return any(path.stat().st_mtime > built for path in sources())
 
 
-def program_of(name):
-    """The program of a crate, as the gate left it, or built now."""
-    crate = CRATES / name
-    program = crate / "out" / name
+def ran(words, folder):
+    """Runs a command that builds; where it fails, what it printed is the last that is said."""
+    done = subprocess.run(words, cwd=folder, stdin=subprocess.DEVNULL, stdout=subprocess.PIPE,
+                          stderr=subprocess.STDOUT, text=True, check=False)
+    if done.returncode:
+        raise SystemExit(done.stdout)
+
+
+def build_answers():
+    """The program `answers`, which is built where it isn't or where a source is newer."""
+    program = ANSWERS / "out" / "answers"
     if is_stale(program):
-        done = subprocess.run(["rt", "run"], cwd=crate, stdin=subprocess.DEVNULL, stdout=subprocess.PIPE,
-                              stderr=subprocess.STDOUT, text=True)
-        if done.returncode:
-            raise SystemExit(done.stdout)
+        ran(["rt", "run", "--", IDLE_WORD], ANSWERS)
     return program
+
+
+def answers(word):
+    """The command that answers by one of the program's words."""
+    return [str(build_answers()), word]
+
+
+def pfreplay():
+    """The program pfreplay, which its script builds where a source is newer."""
+    ran(["./pfreplay", "--help"], ROOT)
+    return CRATES / "pfr_cli" / "out" / "pfr_cli"

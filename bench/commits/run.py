@@ -20,11 +20,11 @@ from typing import NamedTuple
 HERE = Path(__file__).resolve().parent
 ROOT = HERE.parent.parent
 sys.dont_write_bytecode = True
-sys.path[:0] = [str(ROOT / "bench"), str(ROOT / "tests"), str(ROOT / "tests" / "faults")]
+sys.path[:0] = [str(ROOT / "bench"), str(ROOT / "tests")]
 
+from faults.trial import Target, Trial
 from programs import Program, program_at
 from rules import vain_pairs
-from trial import Target, Trial
 
 PROGRAM = Program("commits_bench", HERE / "main.rattle", "pfr_commit")
 STATES = 100000

@@ -6,8 +6,8 @@ output and standard error are written.
 
 import re
 
-from replay import MEMORY, MESSAGES, TRANSFER, judge_lost
-from trial import Target, Unlawful
+from faults.replay import MEMORY, MESSAGES, TRANSFER, judge_lost
+from faults.trial import Target, Unlawful
 
 RULES = Target("read", "", TRANSFER)
 ANSWER = Target("write", "1", TRANSFER)

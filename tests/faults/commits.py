@@ -1,14 +1,14 @@
 """Which endings of the program whose book commits packets in batches are lawful where an allocation is refused.
 
-The program itself ends, having answered the runs before; or one run is answered otherwise. In that a job is answered with want
-of memory, or a packet that was to be evaluated ahead is, or the book refuses. The book that refuses a batch has emitted what its
-committed packets emit without the fault, and no more; and from there on it refuses all else that it is told.
+The program itself ends, having answered the runs before; or one run is answered otherwise. In that a job is answered
+with want of memory, or a packet that was to be evaluated ahead is, or the book refuses. A book that refuses a batch has
+emitted what its committed packets emit without the fault, and no more. From there on it refuses all else that it is told.
 """
 
 from typing import NamedTuple
 
-from rulesets import TARGETS
-from trial import Unlawful
+from faults.rulesets import TARGETS
+from faults.trial import Unlawful
 
 # in the order of the summary
 ENDINGS = ("whole", "no speculation", "no batch", "no ending", "no job", "ended")

@@ -1,9 +1,9 @@
-"""Which endings of the program that expands rulesets are lawful where an allocation is refused.
+"""Which endings of the programs that expand rulesets and that go through runs are lawful where an allocation is refused.
 
 They are those of the program that reads rulesets, where an answer is the lines before a line `end`.
 """
 
-from rulesets import ENDINGS, TARGETS, judge_answers
+from faults.rulesets import ENDINGS, TARGETS, judge_answers
 
 
 def answers_in(out):

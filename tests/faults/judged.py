@@ -1,25 +1,16 @@
-#!/usr/bin/env python3
-"""Hands the judge of replays made-up endings of a run of 600 packets: it has to allow the right ones and refuse the others.
-
-    judged.py
+"""Made-up endings of a run of 600 packets: the judge of replays has to allow the right ones and refuse the others.
 
 The run itself is the model's, so no program is needed.
 """
 
-import sys
 import tempfile
-from pathlib import Path
 from typing import NamedTuple
 
-sys.dont_write_bytecode = True
-# behind the judges, of which one has the name of a module there
-sys.path.append(str(Path(__file__).resolve().parent.parent))
-
-import model
-import replay
-from cases import Case
-from packets import capture_header, record, udp
-from trial import Counts, Fault, Seen, Unlawful
+from captures.packets import capture_header, record, udp
+from faults import replay
+from faults.trial import Counts, Fault, Seen, Unlawful
+from runs import model
+from runs.case import Case
 
 PACKETS = [udp("10.0.0.5", 1000, "198.51.100.7", 53), udp("203.0.113.9", 9, "192.0.2.1", 9)] * 300
 CAPTURE = capture_header() + b"".join(record(0, 0, packet) for packet in PACKETS)
@@ -164,7 +155,8 @@ def is_allowed(trial, ending):
     return True
 
 
-def main():
+def compare():
+    """How many endings are judged wrongly."""
     with tempfile.NamedTemporaryFile() as capture:
         capture.write(CAPTURE)
         capture.flush()
@@ -174,8 +166,4 @@ def main():
         wrong += [f"allowed: {ending.name}" for ending in wrong_endings(pieces) if is_allowed(trial, ending)]
         count = len([*right_endings(pieces), *wrong_endings(pieces)])
     print(f"{count} endings, {len(wrong)} judged wrongly", *wrong, sep="\n  ")
-    sys.exit(bool(wrong))
-
-
-if __name__ == "__main__":
-    main()
+    return len(wrong)

@@ -7,7 +7,7 @@ is to stand in them is told by the run without a fault.
 import re
 from itertools import accumulate
 
-from trial import Target, Unlawful
+from faults.trial import Target, Unlawful
 
 BATCH = 256
 HEADER, RECORD_HEADER = 24, 16

@@ -4,7 +4,7 @@ The text that is read then is answered with want of memory, on line 0; or the pr
 texts before.
 """
 
-from trial import Target, Unlawful
+from faults.trial import Target, Unlawful
 
 MEMORY = Target("allocation", "", ("fail",))
 TARGETS = (MEMORY,)

@@ -9,7 +9,7 @@ name is made.
 """
 
 import argparse
-import importlib
+import importlib.util
 import os
 import resource
 import sys
@@ -19,8 +19,11 @@ from concurrent.futures import ThreadPoolExecutor
 from pathlib import Path
 
 sys.dont_write_bytecode = True
+if __name__ == "__main__":
+    # Python looks for modules beside the command, and the packages stand one folder above
+    sys.path[0] = str(Path(__file__).resolve().parent.parent)
 
-from trial import Fault, Trial, Unlawful
+from faults.trial import Fault, Trial, Unlawful
 
 MOST_SHOWN = 10
 MOST_OUTPUT = 1 << 28
@@ -92,6 +95,12 @@ def run(command, source, judge):
     return calls, Counter(ending for ending, _ in results), [text for _, text in results if text]
 
 
+def judge_of(name):
+    """The module of a judge: one of this folder, or another that Python finds."""
+    is_here = importlib.util.find_spec(f"faults.{name}") is not None
+    return importlib.import_module(f"faults.{name}" if is_here else name)
+
+
 def main():
     parser = argparse.ArgumentParser(description="Runs a command with a fault at each call.")
     parser.add_argument("--judge", default="replay", help="the module that judges the runs")
@@ -100,7 +109,7 @@ def main():
     words = parser.parse_args()
     if not words.command:
         parser.error("a command is missing")
-    judge = importlib.import_module(words.judge)
+    judge = judge_of(words.judge)
     # a run that writes without end is ended by the system
     resource.setrlimit(resource.RLIMIT_FSIZE, (MOST_OUTPUT, MOST_OUTPUT))
     with tempfile.TemporaryDirectory() as folder:

@@ -4,16 +4,11 @@ One change isn't taken for want of memory, and every answer is as the model give
 itself ends before its first answer.
 """
 
-import sys
 from pathlib import Path
 
-from rulesets import ENDINGS, TARGETS
-from trial import Unlawful
-
-# behind the judges, of which one has the name of a module there
-sys.path.append(str(Path(__file__).resolve().parent.parent))
-
-import table_model
+import table.model
+from faults.rulesets import ENDINGS, TARGETS
+from faults.trial import Unlawful
 
 
 def first_difference(lines, others):
@@ -31,7 +26,7 @@ def judge(trial, fault, counts, seen):
     if seen.status != trial.clean.status or seen.err != trial.clean.err:
         raise Unlawful("the program ended otherwise than by an error before its first answer")
     lines = seen.out.decode().splitlines()
-    calls, right = table_model.refused(Path(trial.source).read_text().splitlines(), lines)
+    calls, right = table.model.refused(Path(trial.source).read_text().splitlines(), lines)
     if lines != right:
         line, other = first_difference(lines, right)
         raise Unlawful(f"refused: {calls}; then {line!r} in place of {other!r}")

@@ -1,0 +1,1 @@
+"""The book that commits packets in batches."""

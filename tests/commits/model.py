@@ -1,0 +1,201 @@
+"""A model of the book that commits a run's packets in order, with what was found out about them before.
+
+It says which results the book tries and which it drops, and so how many packets it evaluates itself.
+
+- A result is of one packet number, at one clock, as one packet is seen, under one job. It holds what was asked of the
+  table for it and answered. Asked are the state with a key on one side, and whether there is room for one more.
+- Of several results of a packet's number the first in the list is tried, and the others are dropped.
+- It is taken where number, clock, packet and job are those of the packet, and the table gives each answer anew. States
+  whose deadline is at most the clock are gone from the table then. Else the book evaluates the packet itself.
+- What a batch emits, and what is left at the end, is the same in either case: what the packets one by one come to.
+"""
+
+from typing import NamedTuple
+
+from captures.frames import Packet, datagram_of, view
+from steps.model import step
+from steps.replay import PASSED, Refused, Step, counters, job_of
+from table.states import StateTable
+
+
+class Speculate(NamedTuple):
+    """Evaluates packet `number` of a job, seen as packet `seen_as` is, and keeps what is found."""
+    job: int
+    number: int
+    seen_as: int
+    clock: int
+
+    def line(self):
+        return f"speculate {self.job} {self.number} {self.seen_as} {self.clock}"
+
+
+class Holds(NamedTuple):
+    """Asks whether a record that is kept holds."""
+    kept: int
+    clock: int
+
+    def line(self):
+        return f"holds {self.kept} {self.clock}"
+
+
+class Batch(NamedTuple):
+    """Commits the next packets with the results that are kept under some numbers."""
+    count: int
+    kept: tuple = ()
+
+    def line(self):
+        return " ".join(map(str, ("batch", self.count, *self.kept)))
+
+
+class Commit(NamedTuple):
+    """Commits the next packet alone; with a result, unless that is None."""
+    kept: int | None = None
+
+    def line(self):
+        return f"commit {'-' if self.kept is None else self.kept}"
+
+
+class Clear(NamedTuple):
+    """Forgets what was emitted."""
+
+    def line(self):
+        return "clear"
+
+
+class Found(NamedTuple):
+    """A result: the identity of its job, what it is of, and the questions with their answers."""
+    job: tuple
+    number: int
+    clock: int
+    seen: tuple
+    answers: dict
+
+
+class Asked:
+    """A table that writes down what it is asked and answers."""
+
+    def __init__(self, table):
+        self.table = table
+        self.answers = {}
+
+    def at(self, direction, key):
+        return self.answers.setdefault(("at", direction, key), self.table.at(direction, key))
+
+    def is_full(self):
+        return self.answers.setdefault(("room",), self.table.is_full())
+
+
+def answer_to(table, question):
+    return table.is_full() if question == ("room",) else table.at(*question[1:])
+
+
+def purged(table, clock):
+    """A copy of the table as it is at a clock."""
+    copy = StateTable(table.limit)
+    copy.entries = dict(table.entries)
+    copy.purge(clock)
+    return copy
+
+
+def holds(found, table, clock):
+    now = purged(table, clock)
+    return all(answer_to(now, question) == answer for question, answer in found.answers.items())
+
+
+def hex_of(octets):
+    return octets.hex() or "-"
+
+
+class Book:
+    """The book of a run. Its records have their headers; `jobs` are pairs of a byte of the seed and a ruleset's text."""
+
+    def __init__(self, run, jobs, records):
+        self.link, self.records, self.jobs = run.link, records, jobs
+        self.told, self.kept, self.steps = [], [], []
+        self.own = self.clock = self.tried = 0
+        self.meanings = [self.job_of(run, text) for _, text in jobs]
+        self.table = StateTable(self.meanings[0].ruleset.options.values["states"]) if self.meanings[0] else None
+
+    def job_of(self, run, text):
+        """The job of a text; a ruleset that is refused is told."""
+        try:
+            return job_of(text.encode(), run.interface, run.inside)
+        except Refused as why:
+            self.told.append(str(why))
+            return None
+
+    def seen(self, number):
+        frame = self.records[number - 1].frame
+        return view(self.link, frame), datagram_of(self.link, frame)
+
+    def step(self, job, number, clock, seen, table):
+        return step(self.meanings[job], number, clock, *seen, table)
+
+    # What it is told to do
+
+    def speculate(self, call):
+        if not self.meanings[call.job]:
+            self.kept.append(None)
+            return
+        asked = Asked(purged(self.table, call.clock))
+        self.step(call.job, call.number, call.clock, self.seen(call.seen_as), asked)
+        self.kept.append(Found(self.jobs[call.job], call.number, call.clock, self.seen(call.seen_as), asked.answers))
+
+    def taken(self, kept):
+        found = None if kept is None else self.kept[kept]
+        if found:
+            self.kept[kept] = None
+        return found
+
+    def fits(self, found, number):
+        return ((found.job, found.number, found.clock, found.seen) == (self.jobs[0], number, self.clock, self.seen(number))
+                and holds(found, self.table, self.clock))
+
+    def take(self, results):
+        """Commits the next packet."""
+        number = len(self.steps) + 1
+        record = self.records[number - 1]
+        self.clock = max(self.clock, record.seconds)
+        found = next((each for each in results if each.number == number), None)
+        self.tried += found is not None
+        self.own += not (found and self.fits(found, number))
+        gone = self.table.purge(self.clock)
+        seen, datagram = self.seen(number)
+        outcome = self.step(0, number, self.clock, (seen, datagram), self.table)
+        length = int.from_bytes(datagram[2:4], "big") if isinstance(seen, Packet) else None
+        self.table.apply(outcome.change)
+        self.steps.append(Step(number, self.clock, gone, outcome, length, record))
+
+    def commit(self, count, kept):
+        start = len(self.steps)
+        results = [found for found in map(self.taken, kept) if found]
+        for _ in self.records[start:start + count]:
+            self.take(results)
+        added = self.steps[start:]
+        packets = b"".join(each.record.header + each.record.frame for each in added if each.outcome.verdict in PASSED)
+        self.told += [*(each.verdict_line() for each in added), f"packets {hex_of(packets)}",
+                      f"own {self.own}, committed {len(self.steps)}"]
+
+    def holds(self, call):
+        found = self.kept[call.kept]
+        self.told.append("none" if not found else "holds" if holds(found, self.table, call.clock) else "fails")
+
+    def obey(self, call):
+        if not self.table:
+            return
+        match call:
+            case Speculate():
+                self.speculate(call)
+            case Holds():
+                self.holds(call)
+            case Batch():
+                self.commit(call.count, call.kept)
+            case Commit():
+                self.commit(1, () if call.kept is None else (call.kept,))
+
+    def texts(self):
+        """The texts at the end: a line for each rule and the totals, and the states."""
+        if not self.table:
+            return []
+        return [*counters(self.meanings[0].ruleset, self.steps).splitlines(),
+                *(entry.text() for entry in self.table.by_number())]

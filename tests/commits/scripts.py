@@ -1,0 +1,186 @@
+"""Scripts for a book: runs with what it is told to do, some written out and some random."""
+
+import random
+from typing import NamedTuple
+
+import steps.random_runs
+from captures.packets import SYN, record, tcp, udp
+from commits.model import Batch, Book, Clear, Commit, Holds, Speculate, hex_of
+from steps.replay import Record
+from steps.rows import H, P
+from steps.run import Run
+from steps.texts import some_text
+
+SEED = 20261124
+RECORD_HEADER = 16
+LARGEST_BATCH = 20
+# how far behind a batch a packet may be about which something is found out
+FARTHEST = 10
+OTHER_SEED = 1
+
+
+class Script(NamedTuple):
+    """A run, the jobs, each a byte of the seed and a text, of which the first is the book's, and what the book is told."""
+    run: Run
+    jobs: list
+    calls: list
+
+    def records(self):
+        """The records with their headers."""
+        return [Record(record(second, place, frame)[:RECORD_HEADER], second, frame)
+                for place, (second, frame) in enumerate(self.run.records)]
+
+    def lines(self):
+        """As the program reads it."""
+        name, address, bits = self.run.interface
+        number = int.from_bytes(bytes(map(int, address.split("."))))
+        yield f"interface {name} {number} {bits}"
+        yield from (f"inside {network.address} {network.bits}" for network in self.run.inside)
+        yield from (f"job {seed} {hex_of(text.encode())}" for seed, text in self.jobs)
+        yield from (f"packet {self.run.link} {each.seconds} {each.header.hex()} {hex_of(each.frame)}"
+                    for each in self.records())
+        yield from (call.line() for call in self.calls)
+        yield "end"
+
+    def by_model(self):
+        """The book once it was told all, with the lines that it has told."""
+        book = Book(self.run, self.jobs, self.records())
+        for call in self.calls:
+            book.obey(call)
+        book.told += book.texts()
+        return book
+
+
+# Written out
+
+def both_ahead(name, rules, packets, lines):
+    """Two packets, about both of which something is found out on the empty table, and taken in the other order; with the
+    lines of the packets. The record of the second holds before the first is committed, and not then."""
+    run = Run(name, rules, [(0, packet) for packet in packets])
+    ahead = [Speculate(0, number, number, 0) for number in (1, 2)]
+    written = hex_of(b"".join(each.header + each.frame for each, line in zip(Script(run, [], []).records(), lines)
+                              if " pass " in line))
+    yield Script(run, [(0, rules)], [*ahead, Batch(2, (1, 0))]), [*lines, f"packets {written}", "own 1, committed 2"]
+    first = hex_of(b"".join(Script(run, [], []).records()[0][::2]))
+    yield (Script(run, [(0, rules)], [*ahead, Holds(1, 0), Batch(1, (0,)), Holds(1, 0), Holds(0, 0)]),
+           ["holds", lines[0], f"packets {first}", "own 0, committed 1", "fails", "none"])
+
+
+def rows():
+    """Scripts, each with the lines that it is answered with before the end."""
+    opening = tcp(H, 1000, P, 80, SYN, 1000)
+    yield from both_ahead("one packet twice", "pass out", [opening, opening],
+                          ["1 0 out pass rule r=0 t=- s=1", "2 0 out pass state r=0 t=- s=1"])
+    yield from both_ahead("room for one state", "set limit states 1\npass out",
+                          [udp(H, 1000, P, 53), udp(H, 1001, P, 53)],
+                          ["1 0 out pass rule r=0 t=- s=1", "2 0 out block state-limit r=0 t=- s=-"])
+
+
+def in_batches(run, size):
+    """A run that is committed in batches of one size, and without results."""
+    count = -(-len(run.records) // size)
+    return Script(run, [(0, run.rules)], [Batch(size)] * count)
+
+
+# Random
+
+class Told:
+    """What the book of a random run is told: each call is drawn by how far the book is then."""
+
+    def __init__(self, draw, run, jobs):
+        self.draw, self.run, self.jobs = draw, run, jobs
+        script = Script(run, jobs, [])
+        self.book = Book(run, jobs, script.records())
+        self.total = len(run.records)
+        self.clocks = self.all_clocks()
+        self.calls = []
+
+    def all_clocks(self):
+        """The clock at each packet."""
+        clocks, clock = [], 0
+        for second, _ in self.run.records:
+            clock = max(clock, second)
+            clocks.append(clock)
+        return clocks
+
+    def tell(self, call):
+        self.calls.append(call)
+        self.book.obey(call)
+
+    def committed(self):
+        return len(self.book.steps)
+
+    def seen_as(self, number):
+        """Mostly the packet itself; else one that is surely seen as another, or has the same bytes."""
+        other = self.draw.randint(1, self.total)
+        mine, others = self.book.seen(number), self.book.seen(other)
+        return other if self.draw.random() < 0.08 and (mine == others or mine[0] != others[0]) else number
+
+    def speculate(self, number):
+        """Finds something out about a packet; mostly what is of use."""
+        draw = self.draw
+        job = draw.randrange(len(self.jobs)) if draw.random() < 0.2 else 0
+        clock = self.clocks[number - 1]
+        if draw.random() < 0.06:
+            clock = max(clock + draw.choice((-1, 1, 30)), 0) % 2**32
+        self.tell(Speculate(job, number, self.seen_as(number), clock))
+
+    def some_number(self):
+        """The number of a packet: mostly a next one, else a later one, or one that is committed."""
+        if self.committed() and self.draw.random() < 0.1:
+            return self.draw.randint(1, self.committed())
+        return min(self.committed() + self.draw.randint(1, LARGEST_BATCH + FARTHEST), self.total)
+
+    def find_out(self):
+        """Finds out about some packets, now and then about one of them twice or more."""
+        for _ in range(self.draw.choice((0, 1, 5, 10, 30))):
+            number = self.some_number()
+            for _ in range(self.draw.choice((1,) * 6 + (2, 3))):
+                self.speculate(number)
+
+    def ask(self):
+        if self.book.kept and self.draw.random() < 0.5:
+            kept = self.draw.randrange(len(self.book.kept))
+            clock = self.book.clock + self.draw.choice((0, 0, 1, 60))
+            self.tell(Holds(kept, clock % 2**32))
+
+    def some_kept(self, count):
+        """Results for a batch: some of its packets', and some of others, in any order."""
+        draw, start = self.draw, self.committed()
+        kept = [place for place, found in enumerate(self.book.kept)
+                if found and (start < found.number <= start + count or draw.random() < 0.1)]
+        kept = [place for place in kept if draw.random() < 0.85]
+        if draw.random() < 0.8:
+            draw.shuffle(kept)
+        return tuple(kept)
+
+    def commit(self):
+        if self.draw.random() < 0.2:
+            kept = self.some_kept(1)
+            self.tell(Commit(kept[0] if kept else None))
+        else:
+            count = self.draw.randint(0, LARGEST_BATCH)
+            self.tell(Batch(count, self.some_kept(count)))
+        if self.draw.random() < 0.3:
+            self.tell(Clear())
+
+    def all_calls(self):
+        while self.committed() < self.total:
+            self.find_out()
+            self.ask()
+            self.commit()
+            self.ask()
+        return self.calls
+
+
+def some_jobs(draw, run):
+    """The jobs of a run: the book's, one by the same inputs, one by another seed, and one by another text."""
+    return [(0, run.rules), (0, run.rules), (OTHER_SEED, run.rules), (0, some_text(draw))]
+
+
+def some_scripts(packets):
+    """Random scripts with so many packets in all, the same at every time."""
+    draw = random.Random(SEED)
+    for run in steps.random_runs.runs(packets):
+        jobs = some_jobs(draw, run)
+        yield Script(run, jobs, Told(draw, run, jobs).all_calls() if run.records else [])

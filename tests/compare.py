@@ -1,0 +1,88 @@
+#!/usr/bin/env python3
+"""Compares what the programs of this repository answer with models of it, and with what is written out by hand.
+
+    compare.py [--model] [WORD ..]
+
+Each word names a comparison, and no word stands for all of them. Each one runs in a process of its own, as many at once
+as there are processors. What it prints comes whole, in the order of the words, under its name and the seconds that it
+took. The status is 1 where one of them failed.
+
+With `--model` the models alone are asked what is written out, and no program is needed.
+"""
+
+import argparse
+import os
+import subprocess
+import sys
+import time
+from concurrent.futures import ThreadPoolExecutor
+from pathlib import Path
+from typing import NamedTuple
+
+sys.dont_write_bytecode = True
+
+import building
+
+TESTS = Path(__file__).resolve().parent
+# each is a package with a module `compare`
+WORDS = ("runs", "rulesets", "expansions", "tracking", "table", "steps", "commits", "faults")
+# those of which nothing is written out
+WITHOUT_MODEL_ALONE = ("table",)
+# those of the program pfreplay; all others are of the program `answers`
+OF_PFREPLAY = ("runs", "faults")
+
+
+class Outcome(NamedTuple):
+    """How a comparison ended: what it printed, and the seconds that it took."""
+    is_passed: bool
+    printed: bytes
+    seconds: float
+
+
+def outcome_of(word, function):
+    """Calls a function of a comparison in a process of its own."""
+    start = time.monotonic()
+    done = subprocess.run([sys.executable, "-uB", "-c", f"from {word} import compare; compare.{function}()"], cwd=TESTS,
+                          stdin=subprocess.DEVNULL, stdout=subprocess.PIPE, stderr=subprocess.STDOUT, check=False)
+    return Outcome(done.returncode == 0, done.stdout, time.monotonic() - start)
+
+
+def build(words):
+    """Builds what these comparisons need, so that none of them has to while the others run."""
+    if set(words) & set(OF_PFREPLAY):
+        building.pfreplay()
+    if set(words) - set(OF_PFREPLAY):
+        building.build_answers()
+
+
+def compare(words, function):
+    """Runs comparisons side by side and prints each: the words of those that failed."""
+    failed = []
+    with ThreadPoolExecutor(os.cpu_count()) as pool:
+        for word, outcome in zip(words, pool.map(lambda word: outcome_of(word, function), words)):
+            print(f"{word}, {outcome.seconds:.0f} seconds", flush=True)
+            sys.stdout.buffer.write(outcome.printed)
+            sys.stdout.flush()
+            failed += [] if outcome.is_passed else [word]
+    return failed
+
+
+def main():
+    parser = argparse.ArgumentParser(description="Compares the programs with models.")
+    parser.add_argument("--model", action="store_true", help="ask the models alone what is written out")
+    parser.add_argument("words", nargs="*", metavar="WORD", help=f"a comparison: {', '.join(WORDS)}")
+    asked = parser.parse_args()
+    words = tuple(dict.fromkeys(asked.words)) or WORDS
+    if unknown := [word for word in words if word not in WORDS]:
+        parser.error(f"no comparison: {' '.join(unknown)}")
+    if asked.model:
+        failed = compare([word for word in words if word not in WITHOUT_MODEL_ALONE], "model_alone")
+    else:
+        build(words)
+        failed = compare(words, "main")
+    if failed:
+        sys.exit(f"failed: {' '.join(failed)}")
+
+
+if __name__ == "__main__":
+    main()

@@ -1,0 +1,179 @@
+"""Hands rulesets to the program that expands them, and compares its answers; then refuses it each allocation in turn.
+
+The program takes records on standard input, each of these parts:
+
+- a byte, 1 where only the numbers of rules are asked for, and else 0;
+- the interface's name with its length before it in one byte, its address in four, and the bits of its network in one;
+- the text with its length before it in four bytes, the greatest first.
+
+It answers each with the lines of the dump that model.py tells of, the line `F filter, T translation`, or `line L: KIND`
+for the first fault. Behind each answer stands a line `end`.
+
+Answers are written to the texts of the folder and to the rows, and the model has to give them too. They are written to
+hostile texts as well. What is made of the texts, macros of every word in every place and random rulesets are answered by
+the model. Rules of translation are among all of these, so the program has to read them.
+"""
+
+import random
+import sys
+from concurrent.futures import ProcessPoolExecutor
+
+import building
+import rulesets.cases
+from answering import answers_of
+from expansions import expected, model
+from expansions.cases import RUNS, SEED, Text, each_value
+from expansions.hostile import hostile
+from expansions.random_texts import random_texts
+from faults.command import ends_lawfully
+from rulesets.model import worded
+
+MOST_SHOWN = 10
+SHOWN_BYTES, SHOWN_LINES = 500, 4
+RANDOM_TEXTS = 18000
+# rules of which the dump is asked for, and not only their number
+MOST_DUMPED = 4096
+# texts that the program gets at once
+CHUNK = 500
+# longer texts of the folders aren't changed at random
+LONG_TEXT = 1200
+# texts for which each allocation is refused, with their interfaces: what they hold covers the expansion, and the last
+# has a fault
+SHORT_OF_MEMORY = (
+    ("example_router", "igb1", "10.1.0.1/16"),
+    ("tables_entries_of_macros_laid_flat", "em0", "192.0.2.1/24"),
+    ("options_skip_adds_up", "em0", "192.0.2.1/24"),
+    ("anchors_nested_lists", "em0", "192.0.2.1/24"),
+    ("translation/example_gateway", "em0", "192.0.2.1/24"),
+    ("tables_clash_with_a_value", "em0", "192.0.2.1/24"),
+)
+
+
+def record(text, counts_alone=False):
+    """What the program is handed for a text."""
+    address, _, bits = text.network.partition("/")
+    name = text.interface.encode()
+    return (bytes([counts_alone, len(name)]) + name + bytes(map(int, (*address.split("."), bits)))
+            + len(text.text).to_bytes(4, "big") + text.text)
+
+
+def is_of_counts(answer):
+    return answer[0].endswith(" translation")
+
+
+def model_answer(text, counts_alone=False):
+    """What the model says to a text; of many rules, or where no more is asked, only how many they are."""
+    address, _, bits = text.network.partition("/")
+    ruleset = model.expand(text.text, text.interface, address, int(bits))
+    if not isinstance(ruleset, model.Ruleset):
+        return [worded(ruleset)]
+    rules, translations = ruleset.counts()
+    if counts_alone or rules + translations > MOST_DUMPED:
+        return [f"{rules} filter, {translations} translation"]
+    return list(model.dump(ruleset))
+
+
+def answer_of(text):
+    """What is to be said to a text."""
+    if text.answer is None:
+        return model_answer(text)
+    return [text.answer] if isinstance(text.answer, str) else text.answer
+
+
+def differences(command, texts):
+    """The texts to which the program says something else, with the lines expected and those that came."""
+    right = [answer_of(text) for text in texts]
+    records = [record(text, is_of_counts(answer)) for text, answer in zip(texts, right)]
+    return [(text, answer, seen) for text, answer, seen in zip(texts, right, answers_of(command, records))
+            if seen != answer]
+
+
+def texts_of(cases):
+    """Texts with the answers that are written for them."""
+    return [Text(case.name, text, case.interface, case.network, answer) for case, text, answer in cases]
+
+
+def with_answers():
+    """The texts of the folder and the rows."""
+    return texts_of(expected.written()), texts_of(expected.short())
+
+
+def changed(texts):
+    """Texts that come from those of the folder by random changes, and those of the reader's folders as they are."""
+    read = rulesets.cases.written(rulesets.cases.TEXTS) + rulesets.cases.written(rulesets.cases.TRANSLATION)
+    given = {text.name: (text.interface, text.network) for text in texts}
+    draw = random.Random(SEED)
+    for ruleset in read:
+        yield Text(ruleset.name, ruleset.text, *draw.choice(RUNS))
+    chosen = [rulesets.cases.Ruleset(text.name, text.text) for text in texts if len(text.text) <= LONG_TEXT]
+    chosen += filter(rulesets.cases.is_example, read)
+    for ruleset in rulesets.cases.changed(chosen):
+        name, _, _ = ruleset.name.rpartition(", change ")
+        yield Text(ruleset.name, ruleset.text, *given.get(name, ("em0", "192.0.2.1/24")))
+
+
+def chunks(texts):
+    return [texts[place:place + CHUNK] for place in range(0, len(texts), CHUNK)]
+
+
+def shown(lines, others):
+    """The first lines of an answer that the other hasn't."""
+    found = [line for line in lines if line not in others] or lines
+    more = [] if len(found) <= SHOWN_LINES else [f"and {len(found) - SHOWN_LINES} lines more"]
+    return "\n      ".join(line[:SHOWN_BYTES] for line in found[:SHOWN_LINES] + more)
+
+
+def show(wrong):
+    for text, answer, seen in wrong[:MOST_SHOWN]:
+        more = "" if len(text.text) <= SHOWN_BYTES else f"\n  and {len(text.text) - SHOWN_BYTES} bytes more"
+        print(f"{text.name} on {text.interface} {text.network}: {text.text[:SHOWN_BYTES]!r}{more}")
+        print(f"  expected {shown(answer, seen)}\n  got      {shown(seen, answer)}")
+
+
+def model_faults(texts):
+    """Where the model says something else than what is written."""
+    for text in texts:
+        right = answer_of(text)
+        seen = model_answer(text, is_of_counts(right))
+        if seen != right:
+            yield text._replace(name=f"model: {text.name}"), right, seen
+
+
+def compare_model():
+    """How many written answers the model doesn't give."""
+    files, rows = with_answers()
+    wrong = list(model_faults(files + rows))
+    show(wrong)
+    print(f"{len(files) + len(rows)} written answers: {len(wrong)} differ from the model")
+    return len(wrong)
+
+
+def compare(command):
+    """How many texts the program answers otherwise."""
+    files, rows = with_answers()
+    hard, others = hostile(), [*changed(files), *each_value(), *random_texts(RANDOM_TEXTS)]
+    wrong = differences(command, files + rows)
+    for text in hard:
+        wrong += differences(command, [text])
+    with ProcessPoolExecutor() as pool:
+        for some in pool.map(differences, [command] * len(chunks(others)), chunks(others)):
+            wrong += some
+    show(wrong)
+    print(f"{len(files) + len(rows) + len(hard) + len(others)} texts: {len(wrong)} differ from the program")
+    return len(wrong)
+
+
+def refuse_memory(command):
+    texts = [Text(name, (expected.TEXTS / f"{name}.conf").read_bytes(), interface, network)
+             for name, interface, network in SHORT_OF_MEMORY]
+    return ends_lawfully("expansions", command, b"".join(map(record, texts)))
+
+
+def model_alone():
+    sys.exit(bool(compare_model()))
+
+
+def main():
+    command = building.answers("expansions")
+    wrong = compare_model() + compare(command)
+    sys.exit(not refuse_memory(command) or bool(wrong))

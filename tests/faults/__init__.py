@@ -1,0 +1,1 @@
+"""Commands whose allocations, reads and writes fail in turn."""

@@ -1,0 +1,1 @@
+"""Ruleset texts that are read as statements."""

@@ -1,0 +1,1 @@
+"""The built program: its command lines, its files and what it prints."""

@@ -1,0 +1,99 @@
+"""The cases of the command `check`: rulesets with an interface, and command lines that don't fit."""
+
+from typing import NamedTuple
+
+from expansions.cases import RUNS
+from runs.case import EXAMPLES
+from runs.filter_cases import MANY_RULES, stored
+
+MOST_TEXT = 1048576
+# of the stored texts each such one, and all those about how many rules there may be
+STORED_STEP = {"rulesets": 11, "expansions": 3}
+# values of flags that aren't of their form
+BAD_INTERFACES = ("", "a_name_of_16_byt", "x" * 1000)
+BAD_ADDRESSES = ("", "192.0.2.1", "192.0.2.1/", "/24", "192.0.2.1/33", "192.0.2.1/256", "192.0.2.1/4294967320",
+                 "192.0.2.1/-1", "192.0.2.256/24", "256.0.2.1/24", "192.0.2/24", "192.0.2.1.1/24", "192.0.2.1/24/24",
+                 "192.0.2.1/2x", "192.0.2.x/24", "192..2.1/24", "em0/24", "192.0.2.1 /24")
+# a command line that fits, but for the word that is named
+RULES, FITTING = "rules", ("--interface", "em0", "--address", "192.0.2.1/24")
+
+
+class Check(NamedTuple):
+    name: str
+    text: bytes
+    interface: str = "em0"
+    network: str = "192.0.2.1/24"
+
+
+def counted(name, text, count, checksum, interface="em0", network="192.0.2.1/24"):
+    """A row of a text that is accepted, of so many filter rules. Its checksum was told by another program."""
+    return (Check(name, text, interface, network), f"{count} filter, 0 translation, {checksum}\n".encode(), b"", 0)
+
+
+def refused(text, fault, interface="em0", network="192.0.2.1/24"):
+    """A row of a text with a fault."""
+    return (Check(f"{fault}, {text[:30]!r}", text, interface, network), b"", f"pfreplay: rules {fault}\n".encode(), 1)
+
+
+def rows():
+    """Cases with the outcome written out: standard output, standard error and status."""
+    yield counted("an empty text", b"", 0, "d41d8cd98f00b204e9800998ecf8427e")
+    yield counted("one rule", b"pass in\n", 1, "5f49cf03ccf9333a4f324e3d1ba2b830")
+    yield counted("a rule of lists", b"pass proto { tcp, udp } to { 10.0.0.1 10.0.0.2 } port { 80, 443 }\n",
+                  8, "d877450c4dcf3e50293a9925dbdbf169")
+    yield counted("anchors of a list", b"anchor on { em0, em1 } {\npass\nblock\n}\n",
+                  4, "206464346a8e28b918b8fe09aab4876e")
+    yield counted("an interface of 15 bytes", b"pass from a_name_of_15_by:network\n",
+                  1, "4a34cca6657248d1a708c2726e67d72b", "a_name_of_15_by", "0.0.0.0/0")
+    yield counted("a network of 32 bits", b"pass from (igb1)\n", 1, "43108ef02922269c7d8d659be428cf46", "igb1",
+                  "255.255.255.255/32")
+    yield counted("a text of 1 MiB", b"#".ljust(MOST_TEXT, b"x"), 0, "6652934a6515a0c9e37ea806a54c402c")
+    yield counted("65536 rules", b"pass\n" * 65536, 65536, "864a1c22cbe2d0712e23a154b01b13ae")
+    yield refused(b"scrub in all", "line 1: left out: scrub")
+    yield refused(b"pass\nbinat on em0 from 10.0.0.1 to any -> em0\n", "line 2: left out: binat")
+    yield refused(b"pass\npass from em0\n", "line 2: left out: host name", "em1", "10.0.0.1/8")
+    yield refused(b"#".ljust(MOST_TEXT + 1, b"x"), "line 1: too many")
+    yield refused(b"\n" * (2 * MOST_TEXT), "line 1: too many")
+    yield refused(b"\x01" * (MOST_TEXT + 1), "line 1: too many")
+    yield refused(b"\n".ljust(MOST_TEXT, b"\x01"), "line 2: bad byte")
+
+
+def all_cases():
+    """Cases that the model answers."""
+    for path in sorted(EXAMPLES.glob("*.conf")):
+        for interface, network in RUNS:
+            yield Check(f"{path.name} on {interface} {network}", path.read_bytes(), interface, network)
+    for folder, step in STORED_STEP.items():
+        chosen = [path for number, path in enumerate(stored(folder))
+                  if number % step == 0 or path.name.startswith(MANY_RULES)]
+        for number, path in enumerate(chosen):
+            # most of the texts are about the first of the interfaces; how many rules there may be is the same for all
+            runs = {RUNS[0]} if path.name.startswith(MANY_RULES) else {RUNS[0], RUNS[number % len(RUNS)]}
+            for interface, network in sorted(runs):
+                yield Check(f"{folder}/{path.name} on {interface} {network}", path.read_bytes(), interface, network)
+
+
+def bad_command_lines():
+    """Command lines that don't fit, the words behind `check`. The ruleset has a fault that isn't to be met."""
+    interface, address = FITTING[:2], FITTING[2:]
+    yield ()
+    yield (RULES,)
+    yield FITTING
+    yield (RULES, *interface)
+    yield (RULES, *address)
+    yield (RULES, *interface, "--address")
+    yield (RULES, *address, "--interface")
+    yield (RULES, *FITTING, *interface)
+    yield (RULES, *FITTING, *address)
+    yield (RULES, *FITTING, "--interface", "em1")
+    yield (RULES, *FITTING, "--bits", "24")
+    yield (RULES, *FITTING, "--quiet")
+    yield (RULES, *FITTING, "-x")
+    yield (RULES, "10.0.0.0/8", *FITTING)
+    yield (RULES, *FITTING, "10.0.0.0/8")
+    yield ("missing", *FITTING, "packets")
+    yield ("missing", *interface)
+    for name in BAD_INTERFACES:
+        yield (RULES, "--interface", name, *address)
+    for network in BAD_ADDRESSES:
+        yield (RULES, *interface, "--address", network)

@@ -1,0 +1,93 @@
+"""Runs of the program on files in a folder, and what went otherwise than expected."""
+
+import subprocess
+import zlib
+
+from runs.model import OUTPUTS, Files, Outcome
+
+# seconds; other comparisons may run at the same time
+TIME_LIMIT = 30
+# longer than the text of many a run, so that what isn't emptied shows
+OLD_BYTES = b"as it was\n" * 50
+# what a fault of the command line is shown as where the program says something else
+ONE_LINE = b"pfreplay: (one line)\n"
+
+
+class Comparison:
+    """Runs the program on files in a folder of its own and keeps what went wrong."""
+
+    def __init__(self, program, folder):
+        self.program = program
+        self.folder = folder
+        self.rules = folder / "rules"
+        self.capture = folder / "capture"
+        self.files = Files(*(folder / name for name in OUTPUTS))
+        self.count = 0
+        self.wrong = []
+
+    def execute(self, words, out=subprocess.PIPE):
+        """One run of the program; None where it takes too long."""
+        try:
+            seen = subprocess.run([self.program, *map(str, words)], stdin=subprocess.DEVNULL, stdout=out,
+                                  stderr=subprocess.PIPE, timeout=TIME_LIMIT, check=False)
+        except subprocess.TimeoutExpired:
+            return None
+        return Outcome(seen.stdout or b"", seen.stderr, seen.returncode, self.left())
+
+    def left(self):
+        """What stands in the files that a run writes. One with its old bytes is as it was."""
+        texts = (name.read_bytes() if name.is_file() else None for name in self.files)
+        return Files(*(None if text == OLD_BYTES else text for text in texts))
+
+    def prepare(self, case=None, is_old=False):
+        """Writes the files that a run reads; those that it writes are gone, or hold something old."""
+        if case is not None:
+            self.rules.write_bytes(case.rules)
+            self.capture.write_bytes(case.capture)
+        for name in self.files:
+            name.unlink(missing_ok=True)
+            if is_old:
+                name.write_bytes(OLD_BYTES)
+
+    def expect(self, name, expected, seen):
+        self.count += 1
+        if seen != expected:
+            self.wrong.append((name, expected, seen))
+
+    def command(self, case):
+        """The words that replay a case, with the names of all files."""
+        return ["run", self.capture, self.rules, *flags_of(case, self.files)]
+
+    def show(self, most):
+        """Prints the first of what went wrong."""
+        for name, expected, seen in self.wrong[:most]:
+            print(f"{name}:\n  expected {shown(expected)}\n  seen     {shown(seen)}")
+
+
+def flags_of(case, files):
+    """The flags of the command `run`, each with its value."""
+    named = zip(OUTPUTS, files)
+    return ["--interface", case.interface, "--address", case.address, "--inside", case.inside,
+            *(word for name, file in named for word in (f"--{name}", file))]
+
+
+def a_line(seen, beginning, parts=()):
+    """What was said where it is one line with this beginning and these parts, else what stands for such a line."""
+    if seen is None or seen.err.find(b"\n") != len(seen.err) - 1:
+        return ONE_LINE
+    return seen.err if seen.err.startswith(beginning) and all(part in seen.err for part in parts) else ONE_LINE
+
+
+def shown(outcome):
+    """An outcome in few lines."""
+    if not isinstance(outcome, Outcome):
+        return "took too long" if outcome is None else repr(outcome)[:400]
+    files = "".join(f"\n    {name} {digest(text)}" for name, text in zip(OUTPUTS, outcome.files))
+    return f"status {outcome.status}, {outcome.out!r}, {outcome.err!r}{files}"
+
+
+def digest(text):
+    """The length and the last bytes of a file, with a sum that tells texts of one length apart."""
+    if text is None:
+        return "as it was"
+    return f"of {len(text)} bytes, sum {zlib.crc32(text):08x}, the last {text[-100:]!r}"

@@ -1,0 +1,102 @@
+"""Command lines of the command `run` that fit and that don't."""
+
+from typing import NamedTuple
+
+from runs.check_cases import BAD_ADDRESSES, BAD_INTERFACES
+from runs.model import OUTPUTS
+
+# the words that stand for files
+CAPTURE, RULES, MISSING = "capture", "rules", "missing"
+SEED = "0123456789abcdef" * 4
+FLAGS = {"--interface": "em0", "--address": "192.0.2.1/24", "--inside": "10.0.0.0/8",
+         **{f"--{name}": name for name in OUTPUTS}}
+# what is said of a value that isn't of its form names the form by these
+FORMS = {"--interface": "NAME", "--address": "A.B.C.D/BITS", "--inside": "NETS", "--seed": "HEX"}
+BAD_VALUES = {
+    "--interface": BAD_INTERFACES,
+    "--address": BAD_ADDRESSES,
+    "--inside": ("", ",", "10.0.0.0/8,", ",10.0.0.0/8", "10.0.0.1,,10.0.0.2", "10.0.0.0/33", "10.0.0.0/", "/8", "10.0.0.256",
+                 "10.0.0", "10.0.0.0.0", "10.0.0.0/8 ", "10.0.0.0/8, 192.0.2.1", "10.0.0.0/-1", "10.0.0.0/8/8", "10.0.0.x",
+                 "10.0.0.1 10.0.0.2", "10.0.0.1;10.0.0.2", "em0", "any", "10.0.0.0/8,em0", "10.0.0.1,10.0.0.0/4294967304"),
+    "--seed": ("", "0", "0" * 63, "0" * 65, "0" * 128, "g" * 64, "0" * 63 + "G", "0x" + "0" * 62, "0" * 63 + " ",
+               " " + "0" * 63, "-" + "0" * 63),
+}
+GOOD_SEEDS = ("0" * 64, "f" * 64, "F" * 64, SEED, SEED.upper(), SEED.swapcase(), "aB" * 32)
+GOOD_INSIDES = ("10.0.0.5", "10.0.0.0/8,192.0.2.1", "0.0.0.0/0", "192.0.2.1/32,10.0.0.5/8,10.0.0.6/0", "10.0.0.5/0")
+
+
+class Line(NamedTuple):
+    """The words behind the program's name, and what is said of them besides that they don't fit."""
+    words: tuple
+    said: tuple = ()
+
+
+def spelled(flags):
+    return tuple(word for flag, value in flags.items() for word in (flag, value))
+
+
+def run_line(flags, *more):
+    return ("run", CAPTURE, RULES, *spelled(flags), *more)
+
+
+def bad_values():
+    """One value each that isn't of its form, in both spellings; the flag and the form are named."""
+    for flag, values in BAD_VALUES.items():
+        others = {name: value for name, value in FLAGS.items() if name != flag}
+        said = (flag.encode(), FORMS[flag].encode())
+        for value in values:
+            yield Line(run_line(others, f"{flag}={value}"), said)
+            if not value.startswith("-"):
+                yield Line(run_line(others, flag, value), said)
+
+
+def missing_words():
+    for flag in FLAGS:
+        others = {name: value for name, value in FLAGS.items() if name != flag}
+        yield Line(run_line(others))
+        yield Line(run_line(others, flag))
+    yield Line(run_line(FLAGS, "--seed"))
+    yield Line(("run", *spelled(FLAGS)))
+    yield Line(("run", CAPTURE, *spelled(FLAGS)))
+    yield Line(("run", CAPTURE, RULES))
+    yield Line(("run",))
+    yield Line(())
+
+
+def surplus_words():
+    for flag, value in (*FLAGS.items(), ("--seed", SEED)):
+        again = {**FLAGS, "--seed": SEED}
+        yield Line(run_line(again, flag, value))
+        yield Line(run_line(again, f"{flag}={value}"))
+    yield Line(run_line(FLAGS, "more"))
+    yield Line(("run", "more", CAPTURE, RULES, *spelled(FLAGS)))
+    for word in ("--quiet", "-x", "--bits=24", "--batch=256", "--workers=0", "--messages=messages", "--peer=192.0.2.9:9"):
+        yield Line(run_line(FLAGS, word))
+    yield Line(run_line(FLAGS, "--batch", "256"))
+    # words of no command
+    yield Line((RULES, "10.0.0.0/8"))
+    yield Line((RULES, "10.0.0.0/8", "packets"))
+    yield Line(("replay", CAPTURE, RULES, *spelled(FLAGS)))
+    yield Line((CAPTURE, RULES, *spelled(FLAGS)))
+
+
+def bad():
+    """Lines that don't fit. The files that they name have faults too, which aren't to be met."""
+    yield from bad_values()
+    yield from missing_words()
+    yield from surplus_words()
+
+
+def good():
+    """Lines that fit and mean one run, but for the inside networks: the words of each, and its inside networks."""
+    flags, inside = spelled(FLAGS), FLAGS["--inside"]
+    yield (*flags, CAPTURE, RULES), inside
+    yield (CAPTURE, *flags, RULES), inside
+    yield (CAPTURE, RULES, *spelled(dict(reversed(FLAGS.items())))), inside
+    yield (CAPTURE, RULES, *(f"{flag}={value}" for flag, value in FLAGS.items())), inside
+    yield (*flags[:4], CAPTURE, *flags[4:10], RULES, *flags[10:]), inside
+    for seed in GOOD_SEEDS:
+        yield (CAPTURE, RULES, *flags, "--seed", seed), inside
+        yield (f"--seed={seed}", CAPTURE, RULES, *flags), inside
+    for networks in GOOD_INSIDES:
+        yield (CAPTURE, RULES, *spelled({**FLAGS, "--inside": networks})), networks

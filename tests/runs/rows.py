@@ -1,0 +1,86 @@
+"""Runs of the program of which texts are written out: those of steps.rows, and captures by where they end."""
+
+import steps.rows
+from captures.packets import SYN, capture_header, record, tcp
+from expansions.model import dotted
+from runs.case import EMPTIED, INSIDE, Case, Written, refused
+
+# a network of the inside that holds no packet's source, where a run has none at all
+NOBODY = "255.255.255.255"
+SYN_RECORD = record(0, 0, tcp("10.0.0.5", 1000, "198.51.100.7", 80, SYN, 1000, window=1000))
+SYN_LINE = b"1 0 out pass rule r=0 t=- s=1\n"
+SYN_COUNTERS, NO_COUNTERS = b"filter 0 1 1 40\ntotal 1 1 0 0 0\n", b"filter 0 0 0 0\ntotal 0 0 0 0 0\n"
+SYN_STATE = (b"1 6 out 198.51.100.7:80,10.0.0.5:1000 198.51.100.7:80,10.0.0.5:1000 r=0 t=- 2/1000/1002/1000/- 0/0/1/1/- "
+             b"0 120 1 40 0 0\n")
+
+
+def case_of(run):
+    """A run of the steps as a case of the program."""
+    inside = ",".join(f"{dotted(network.address)}/{network.bits}" for network in run.inside) or NOBODY
+    name, address, bits = run.interface
+    return Case(run.name, run.rules.encode(), inside, run.capture(), name, f"{address}/{bits}")
+
+
+def step_row(expected):
+    """A run with its texts, as far as they are written out."""
+    case, records = case_of(expected.run), expected.run.records
+    parts = {"out": b"committed %d\n" % len(records), "err": b"", "status": 0}
+    for name in ("verdicts", "counters", "states"):
+        text = getattr(expected, name)
+        if text is not None:
+            parts[name] = text.encode()
+    if expected.passed is not None:
+        passed = [records[number - 1] for number in expected.passed]
+        parts["packets"] = case.capture[:24] + b"".join(record(second, 0, frame) for second, frame in passed)
+    return Written(case, parts)
+
+
+def ending(name, capture, texts, tail):
+    """A row of `steps.rows.ends`."""
+    case, count = Case(name, b"block in", INSIDE, capture), texts.verdicts.count("\n")
+    files = {"verdicts": texts.verdicts.encode(), "packets": texts.packets, "counters": (texts.counters or "").encode(),
+             "states": (texts.states or "").encode()}
+    if tail not in ("clean", "cut"):
+        return refused(case, b"capture: %s, committed %d" % (tail.encode(), count), **files)
+    out, status = (b"committed %d, cut\n", 2) if tail == "cut" else (b"committed %d\n", 0)
+    return Written(case, {"out": out % count, "err": b"", "status": status, **files})
+
+
+def syn(name, capture):
+    return Case(name, b"pass out", INSIDE, capture)
+
+
+def cut_rows():
+    """A capture of one record, cut at each length."""
+    whole = capture_header() + SYN_RECORD
+    for length in range(24):
+        yield refused(syn(f"a SYN cut at {length}", whole[:length]), b"capture: header cut", **EMPTIED)
+    for length in range(24, len(whole)):
+        out, status = (b"committed 0\n", 0) if length == 24 else (b"committed 0, cut\n", 2)
+        yield Written(syn(f"a SYN cut at {length}", whole[:length]), {
+            "out": out, "err": b"", "status": status, "verdicts": b"", "packets": whole[:24], "counters": NO_COUNTERS,
+            "states": b""})
+    yield Written(syn("a SYN", whole), {"out": b"committed 1\n", "err": b"", "status": 0, **one_syn(whole)})
+
+
+def one_syn(packets):
+    return {"verdicts": SYN_LINE, "packets": packets, "counters": SYN_COUNTERS, "states": SYN_STATE}
+
+
+def length_rows():
+    """Captured lengths behind a whole record, the longest that is read and one more."""
+    whole = capture_header() + SYN_RECORD
+    yield refused(syn("a record of 262145 bytes", whole + record(0, 0, b"", captured=262145)),
+                  b"capture: record too long 262145, committed 1", **{**EMPTIED, "verdicts": SYN_LINE, "packets": whole})
+    yield Written(syn("a record of 262144 bytes that aren't there", whole + record(0, 0, b"", captured=262144)),
+                  {"out": b"committed 1, cut\n", "err": b"", "status": 2, **one_syn(whole)})
+
+
+def rows():
+    yield from map(step_row, steps.rows.rows())
+    for row in steps.rows.ends():
+        yield ending(*row)
+    yield from cut_rows()
+    yield from length_rows()
+    yield refused(Case("a word that is left out", b"scrub in all", INSIDE, capture_header() + SYN_RECORD),
+                  b"rules line 1: left out: scrub")

@@ -1,0 +1,159 @@
+"""Compares the program that goes through runs packet by packet with the model, and refuses it each allocation in turn.
+
+Compared are runs that are written out, cases of what one packet comes to, whose outcomes are written out too, and random
+runs.
+"""
+
+import sys
+from collections import Counter
+
+import building
+from answering import answers_of, differing, place_of_difference, show_lines
+from captures.model import Refused
+from faults.command import ends_lawfully
+from steps import random_runs
+from steps.cases import cases
+from steps.replay import replay
+from steps.rows import ends, rows
+from steps.run import INSIDE, INTERFACE, words_of
+
+RANDOM_PACKETS = 20000
+# of the cases each such one is run with each allocation refused
+REFUSED_STEP = 9
+
+
+# Runs as the program reads them
+
+def with_length(text):
+    return len(text).to_bytes(4) + text
+
+
+def address_bytes(address):
+    return bytes(map(int, address.split(".")))
+
+
+def run_bytes(run):
+    name, address, bits = run.interface
+    networks = b"".join(network.address.to_bytes(4) + bytes([network.bits]) for network in run.inside)
+    records = b"".join(run.link.to_bytes(2) + second.to_bytes(4) + with_length(frame) for second, frame in run.records)
+    return (bytes([len(name)]) + name.encode() + address_bytes(address) + bytes([bits, len(run.inside)]) + networks
+            + with_length(run.rules.encode()) + len(run.records).to_bytes(4) + records)
+
+
+# Runs as the model tells them
+
+def change_words(change):
+    if change is None:
+        return "-"
+    kind, changed = change
+    return f"{kind} {changed if kind == 'removed' else changed.text()}"
+
+
+def step_line(step):
+    """The line of a packet as the program prints it; no rule of translation is visited, and no byte changes."""
+    visited = ",".join(map(str, step.outcome.visited)) or "-"
+    return f"{step.verdict_line()}; {visited} -; {change_words(step.outcome.change)}; -"
+
+
+def replay_of(run):
+    return replay(run.rules.encode(), run.interface, run.inside, run.capture())
+
+
+def lines_of(done):
+    return [*map(step_line, done.steps), *done.texts.states.splitlines()]
+
+
+def lines_by_model(run):
+    try:
+        return lines_of(replay_of(run))
+    except Refused as why:
+        return [str(why)]
+
+
+# The comparison
+
+def show(run, expected, seen):
+    """Shows the first line that differs, with what it is about."""
+    place = place_of_difference(expected, seen)
+    print(f"{run.name}, line {place + 1}\n{run.rules}")
+    if place < len(run.records):
+        second, frame = run.records[place]
+        print(f"  second {second}, link {run.link}: {frame.hex()}")
+    show_lines(place, expected, seen)
+
+
+def answers(command, runs):
+    """The program's lines for each run."""
+    return answers_of(command, list(map(run_bytes, runs)))
+
+
+def texts_of(expected, done):
+    """The texts that are written out, and beside them the model's."""
+    passed = [step.number for step in done.steps if step.outcome.verdict in ("pass", "skip")]
+    records = done.texts.packets[24:]
+    written = [(expected.verdicts, done.texts.verdicts), (expected.counters, done.texts.counters),
+               (expected.states, done.texts.states), (expected.passed, passed)]
+    if records != b"".join(done.steps[number - 1].record.header + done.steps[number - 1].record.frame
+                           for number in passed):
+        raise SystemExit(f"{expected.run.name}: the model writes other packets than those that pass")
+    return [(wanted, told) for wanted, told in written if wanted is not None]
+
+
+def compare_with_model(title, written):
+    """How many runs that are written out differ from the model."""
+    replays = [replay_of(each.run) for each in written]
+    by_lines = differing(((each.run, each.words, list(map(words_of, map(step_line, done.steps))))
+                          for each, done in zip(written, replays)), show)
+    by_texts = differing(((each.run, [wanted], [told]) for each, done in zip(written, replays)
+                          for wanted, told in texts_of(each, done)), show)
+    count = sum(len(each.words) for each in written)
+    print(f"{title}: {len(written)} runs with {count} packets; {by_lines} and in their texts {by_texts} differ from the "
+          "model")
+    return by_lines + by_texts
+
+
+def compare_written(title, command, written):
+    """How many runs that are written out differ between model and program."""
+    seen = answers(command, [each.run for each in written])
+    count = differing(((each.run, lines_by_model(each.run), lines) for each, lines in zip(written, seen)), show)
+    print(f"{title}: {len(written)} runs; {count} differ from the program")
+    return count
+
+
+def compare_ends():
+    """How many captures the model ends otherwise than is written out; the program reads none."""
+    found = [(name, replay(b"block in", INTERFACE, INSIDE, capture), texts, tail)
+             for name, capture, texts, tail in ends()]
+    wrong = [name for name, done, texts, tail in found if (done.texts, done.tail) != (texts, tail)]
+    print(f"ends of captures: {len(wrong)} of {len(found)} differ from the model", *wrong, sep="\n  ")
+    return len(wrong)
+
+
+def compare_random(command):
+    """How many random runs differ."""
+    runs = list(random_runs.runs(RANDOM_PACKETS))
+    expected = [lines_by_model(run) for run in runs]
+    count = differing(zip(runs, expected, answers(command, runs)), show)
+    reasons = Counter(line.split(" ")[4].rstrip(";") for run, lines in zip(runs, expected)
+                      for line in lines[:len(run.records)] if line.count("; ") == 3)
+    shares = ", ".join(f"{share} {reason}" for reason, share in sorted(reasons.items()))
+    print(f"{len(runs)} random runs: {count} differ; of {reasons.total()} packets {shares}")
+    return count
+
+
+def compare_model():
+    """How many runs and captures that are written out differ from the model."""
+    return compare_with_model("whole runs", list(rows())) + compare_with_model("cases", list(cases())) + compare_ends()
+
+
+def model_alone():
+    sys.exit(bool(compare_model()))
+
+
+def main():
+    command, each_case = building.answers("steps"), list(cases())
+    wrong = compare_model() + compare_written("whole runs", command, list(rows()))
+    wrong += compare_written("cases", command, each_case) + compare_random(command)
+    refused = b"".join(run_bytes(each.run) for each in each_case[::REFUSED_STEP])
+    # its answers are cut like those of the expansion
+    sys.exit(not ends_lawfully("expansions", command, refused) or bool(wrong))

@@ -1,0 +1,144 @@
+"""What one packet comes to in a model of the run with states, but without translation.
+
+A packet goes through these steps, in this order, until one of them says what becomes of it:
+
+1. One that is no IPv4 packet is skipped (`not-ip`).
+2. One of an interface that `set skip on` names passes (`skip-on`).
+3. One that is too short is blocked (`short`).
+4. A fragment, and an ICMP message that is no echo, is filtered and makes no state. But an ICMP error that tells of the
+   connection of a state passes (`state-error`), and leaves the state as it is.
+5. One of the connection of a state does to the state what tracking says: where it is accepted it passes (`state`), else it
+   is blocked (`state-mismatch`), and maybe the state is removed.
+6. Any other is filtered. Where a rule decides that keeps state, and the packet passes, a state is made, unless there are
+   as many as there may be (`state-limit`).
+
+A packet with IP options that would pass by 4, 5 or 6 may be blocked (`ip-option`), and then changes nothing. It is where
+the rule that decides, or by which the state was made, doesn't allow them. It is as well where no rule decides.
+"""
+
+from typing import NamedTuple
+
+import tracking.model
+from captures.frames import Packet
+from expansions.model import Ruleset
+from steps.filter import deciding_place, network_holds, visited_places
+from table.states import Entry
+from tracking.connections import connection, told_connection, tracked_packet
+
+# the verdict of a rule by what it does
+VERDICTS = {"pass": "pass", "drop": "block", "return": "return"}
+
+
+class Job(NamedTuple):
+    """What all packets of a run are evaluated by: the ruleset, and the networks of the inside."""
+    ruleset: Ruleset
+    inside: list
+
+    def is_skipped(self):
+        return self.ruleset.hosts.run.interface in self.ruleset.options.skipped
+
+    def seconds(self):
+        """The timeouts in the order of their codes."""
+        return tuple(self.ruleset.options.timeouts.values())
+
+    def direction_of(self, packet):
+        return "out" if any(network_holds(network, packet.source) for network in self.inside) else "in"
+
+
+class Outcome(NamedTuple):
+    """What a packet comes to: the words of its line, the places of the filter rules that are visited, and what it changes
+    in the table: None, or a pair of `made` or `touched` and a state, or of `removed` and a number."""
+    direction: str
+    verdict: str
+    reason: str
+    rule: int | None = None
+    state: int | None = None
+    visited: tuple = ()
+    change: tuple | None = None
+
+
+class Arrival(NamedTuple):
+    """An IPv4 packet that is evaluated: its number, the clock at it, its bytes and the way it goes."""
+    job: Job
+    number: int
+    clock: int
+    packet: Packet
+    datagram: bytes
+    direction: str
+
+    def tracked(self):
+        return tracked_packet(self.packet, self.datagram, self.direction, self.clock)
+
+    def blocked(self, outcome, reason):
+        """The outcome of a packet that would pass, but is blocked."""
+        return outcome._replace(verdict="block", reason=reason, change=None)
+
+    def unless_options(self, outcome, allowed):
+        """The outcome, but that a packet with IP options passes only where they are allowed."""
+        if outcome.verdict == "pass" and self.packet.has_options and not allowed:
+            return self.blocked(outcome, "ip-option")
+        return outcome
+
+    def deciding_rule(self):
+        place = deciding_place(self.job.ruleset, self.packet, self.direction)
+        return place, None if place is None else self.job.ruleset.rules.filter[place]
+
+    def filtered(self):
+        """By the filter alone."""
+        place, rule = self.deciding_rule()
+        visited = visited_places(self.job.ruleset, self.packet, self.direction)
+        if rule is None:
+            outcome = Outcome(self.direction, "pass", "default", visited=visited)
+        else:
+            outcome = Outcome(self.direction, VERDICTS[rule.action], "rule", place, visited=visited)
+        return self.unless_options(outcome, rule is not None and rule.allow_opts)
+
+    def by_state(self, entry, verdict, reason, change=None):
+        return Outcome(self.direction, verdict, reason, entry.rule, entry.number, change=change)
+
+    def followed(self, entry):
+        """By the state of its connection."""
+        state = tracking.model.touch(entry.state, self.tracked(), self.job.seconds())
+        if state is None:
+            return self.by_state(entry, "block", "state-mismatch")
+        if state == tracking.model.REMOVED:
+            return self.by_state(entry, "block", "state-mismatch", ("removed", entry.number))
+        outcome = self.by_state(entry, "pass", "state", ("touched", entry._replace(state=state)))
+        return self.unless_options(outcome, entry.allows_options)
+
+    def opened(self, key, table):
+        """As the first packet of its connection. Both keys of the state that it makes are the one that no state has on the
+        side where it was looked up. Without translation none has it on the other side then, so none is in the way."""
+        outcome = self.filtered()
+        place, rule = self.deciding_rule()
+        if outcome.verdict != "pass" or rule is None or rule.binding is None:
+            return outcome
+        if table.is_full():
+            return self.blocked(outcome, "state-limit")
+        state = tracking.model.first(self.tracked(), self.job.seconds())
+        entry = Entry(self.number, key, key, place, rule.allow_opts, state)
+        return outcome._replace(state=self.number, change=("made", entry))
+
+    def outcome(self, table):
+        told = told_connection(self.packet, self.datagram, self.direction)
+        if told:
+            entry = table.at(self.direction, told)
+            if entry:
+                return self.unless_options(self.by_state(entry, "pass", "state-error"), entry.allows_options)
+        key = connection(self.packet, self.datagram, self.direction)
+        if key is None:
+            return self.filtered()
+        entry = table.at(self.direction, key)
+        return self.followed(entry) if entry else self.opened(key, table)
+
+
+def step(job, number, clock, seen, datagram, table):
+    """What packet `number` comes to at a clock, where `seen` is what its record shows. The states whose deadline is at most
+    the clock are gone from the table."""
+    if seen == "skip":
+        return Outcome("-", "skip", "not-ip")
+    if job.is_skipped():
+        return Outcome("-", "pass", "skip-on")
+    if seen == "short":
+        return Outcome("-", "block", "short")
+    return Arrival(job, number, clock, seen, datagram, job.direction_of(seen)).outcome(table)

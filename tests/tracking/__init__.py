@@ -1,0 +1,1 @@
+"""One state that the packets of its connection follow."""
