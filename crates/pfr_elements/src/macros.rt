@@ -1,9 +1,10 @@
 //! The macros that are defined, and what their uses stand for.
-ghost use Rattle.std.specs.Prelude.{◌≡◌, ◌<◌, ◌≤◌, Some, OnOk};
-ghost use Rattle.std.specs.Option.{option_copied};
+ghost use Rattle.std.specs.Prelude.{◌≡◌, ◌<◌, ◌≤◌, Some, OnOk, IfOk};
+ghost use Rattle.std.specs.Option.{is_some, option_copied};
 ghost use Rattle.pfr_elements.specs.Meanings as meanings;
 ghost use Rattle.pfr_elements.specs.Values as spec;
-ghost use Rattle.pfr_elements.specs.Values.{Makes};
+ghost use Rattle.pfr_elements.specs.Values.{Makes, only_plain};
+ghost use Rattle.pfr_words.specs.Words.{words};
 
 use crate::definition::{Definition, Taken, Text, TextOf};
 use crate::faults::unknown_word;
@@ -75,6 +76,14 @@ fn text_taken<'m>(
     }
 }
 
+/// Whether a text is one plain word.
+fn is_plain(alloc: Global, text: &[u8]) -> Result<bool, AllocError>
+    ensures { IfOk result (λ is. is ≡ is_some (only_plain (words text.now))) }
+{
+    let found = words(alloc, text)?;
+    Ok(only_plain(found.as_slice()).is_some())
+}
+
 impl<'a> Macros<'a> {
     pub fn new(alloc: Global) -> Macros<'a>
         ensures { result ≡ spec.no_macros }
@@ -105,8 +114,8 @@ impl<'a> Macros<'a> {
     ) -> Result<(), AllocError>
         ensures { OnOk result (self.new ≡ meanings.with_definition name.entry definition spliced self.old) }
     {
-        self.names.push(name)?;
         self.definitions.push(definition)?;
+        self.names.push(name)?;
         self.spliced = spliced;
         Ok(())
     }
@@ -150,10 +159,7 @@ impl<'a> Macros<'a> {
         let is_plain = match self.taken_at(alloc, found, false)? {
             Err(fault) => return Ok(Err(fault)),
             Ok(Taken::TooLong(_)) => false,
-            Ok(Taken::Word(text)) => {
-                let words = words(alloc, text.as_slice())?;
-                only_plain(words.as_slice()).is_some()
-            }
+            Ok(Taken::Word(text)) => is_plain(alloc, text.as_slice())?,
             Ok(Taken::Whole(text)) => text.get().meanings.word.is_some(),
         };
         if is_plain {

@@ -2,11 +2,12 @@
 ghost use Rattle.std.specs.Prelude.{◌≡◌, OnOk, IfOk, IfErr};
 ghost use Rattle.std.specs.Option.{option_map};
 ghost use Rattle.pfr_terms.specs.declared.error.ConfErrorKind.TheVariants.{Memory};
+ghost use Rattle.pfr_elements.specs.Elements.{listed};
 ghost use Rattle.pfr_elements.specs.Meanings as spec;
 ghost use Rattle.pfr_elements.specs.Values.{Makes};
 
-use crate::definition::{Definition, ListMeanings, Meanings, Text};
-use crate::element::list_meaning;
+use crate::definition::{Definition, ListMeaning, ListMeanings, Meanings, Text};
+use crate::element::{Element, list_meaning};
 use crate::hosts::form_read;
 use crate::scope::Scope;
 use crate::single::single_read;
@@ -21,6 +22,19 @@ use pfr_words::{Bytes, Items, Word};
 use std::alloc::{AllocError, Global};
 use std::mem::replace;
 
+/// What words mean as lists of two kinds.
+fn two_lists<A: Element, B: Element>(
+    alloc: Global,
+    scope: &Scope<'_>,
+    value: &[Word<'_>],
+) -> Result<(ListMeaning<A::Flat>, ListMeaning<B::Flat>), ConfError>
+    ensures { Makes (listed A.meaning A.form A.tables scope.now value.now, listed B.meaning B.form B.tables scope.now value.now) result }
+{
+    let first = list_meaning::<A>(alloc, scope, value)?;
+    let second = list_meaning::<B>(alloc, scope, value)?;
+    Ok((first, second))
+}
+
 /// What words mean as a list of each kind.
 #[tactic(auto, unfolding(crate::specs::Meanings::list_meanings))]
 fn list_meanings(
@@ -30,14 +44,22 @@ fn list_meanings(
 ) -> Result<ListMeanings, ConfError>
     ensures { Makes (spec.list_meanings scope.now value.now) result }
 {
+    let ports = list_meaning::<Written<'_, PortMatch>>(alloc, scope, value)?;
+    let (interfaces, skipped) = two_lists::<InterfaceMatch<'_>, Written<'_, InterfaceName<'_>>>(
+        alloc, scope, value,
+    )?;
+    let (protocols, icmp_types) = two_lists::<Written<'_, Protocol>, Written<'_, IcmpMatch>>(
+        alloc, scope, value,
+    )?;
+    let (hosts, entries) = two_lists::<AddressMatch<'_>, TableEntry<'_>>(alloc, scope, value)?;
     Ok(ListMeanings {
-        interfaces: list_meaning::<InterfaceMatch<'_>>(alloc, scope, value)?,
-        skipped: list_meaning::<Written<'_, InterfaceName<'_>>>(alloc, scope, value)?,
-        protocols: list_meaning::<Written<'_, Protocol>>(alloc, scope, value)?,
-        icmp_types: list_meaning::<Written<'_, IcmpMatch>>(alloc, scope, value)?,
-        hosts: list_meaning::<AddressMatch<'_>>(alloc, scope, value)?,
-        entries: list_meaning::<TableEntry<'_>>(alloc, scope, value)?,
-        ports: list_meaning::<Written<'_, PortMatch>>(alloc, scope, value)?,
+        interfaces,
+        skipped,
+        protocols,
+        icmp_types,
+        hosts,
+        entries,
+        ports,
     })
 }
 
@@ -58,11 +80,11 @@ fn meanings_of(alloc: Global, scope: &Scope<'_>, value: &[Word<'_>]) -> Result<M
 {
     Ok(Meanings {
         is_one_word: value.len() == 1,
-        word: copied(alloc, only_plain(value))?,
-        lists: list_meanings(alloc, scope, value)?,
         form: form_read(alloc, &scope.interface, 0, value)?,
         target: single_read(alloc, scope, true, 0, value)?,
         source: single_read(alloc, scope, false, 0, value)?,
+        word: copied(alloc, only_plain(value))?,
+        lists: list_meanings(alloc, scope, value)?,
     })
 }
 

@@ -3,6 +3,7 @@
 ghost use Rattle.std.specs.Prelude.{◌≡◌, ◌<◌, ◌≤◌, IfOk, Ok};
 ghost use Rattle.pfr_elements.specs.Single as spec;
 ghost use Rattle.pfr_elements.specs.Values.{Makes};
+ghost use Rattle.pfr_words.specs.Words.{words};
 ghost use Rattle.pfr_terms.specs.Input.{Reads};
 
 use crate::definition::{Meanings, Taken};
@@ -176,6 +177,20 @@ pub(crate) fn single_read(
     Ok(one_gathered(line, found, reader.into_gathered()))
 }
 
+/// The address that a word with a suffix stands for. All its faults stand on the line of the use.
+fn word_read(
+    alloc: Global,
+    scope: &Scope<'_>,
+    has_tables: bool,
+    line: usize,
+    word: &[u8],
+) -> Result<Result<Ipv4Address, ConfError>, ConfError>
+    ensures { Makes (spec.single_read has_tables scope.now line (words word.now)) result }
+{
+    let value = words(alloc, word)?;
+    single_read(alloc, scope, has_tables, line, value.as_slice())
+}
+
 /// The address that a value means as a target, or as the source of a rule.
 fn single_of(meanings: &Meanings, has_tables: bool) -> &Result<Ipv4Address, ConfError>
     ensures { result.now ≡ spec.single_of has_tables meanings.now }
@@ -202,8 +217,7 @@ fn used_single(
         Ok(Taken::TooLong(true)) => Ok(Err(pool(alloc, found.line)?)),
         Ok(Taken::TooLong(false)) => Ok(Err(unknown_word(found.line))),
         Ok(Taken::Word(text)) => {
-            let value = words(alloc, text.as_slice())?;
-            single_read(alloc, scope, has_tables, found.line, value.as_slice())
+            word_read(alloc, scope, has_tables, found.line, text.as_slice())
         }
         Ok(Taken::Whole(text)) => {
             let meant = single_of(&text.get().meanings, has_tables);

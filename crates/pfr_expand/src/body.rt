@@ -1,9 +1,12 @@
 //! Filter rules and anchors as flat rules, with the anchors round them.
-ghost use Rattle.std.specs.Prelude.{◌≡◌, ◌<◌, ◌≤◌, ◌+◌, ◌++◌, length, map, fold, OnOk, IfOk, IfSome};
+ghost use Rattle.std.specs.Prelude.{◌≡◌, ◌≢◌, ◌<◌, ◌≤◌, ◌+◌, ◌++◌, Ok, Err, length, map, fold, OnOk, IfOk, IfErr, IfSome};
 ghost use Rattle.std.specs.List.{All};
+ghost use Rattle.pfr_terms.specs.declared.error.ConfErrorKind.TheVariants.{Memory};
 ghost use Rattle.pfr_terms.specs.Input.{Gives};
 ghost use Rattle.pfr_elements.specs.Elements as faults;
 ghost use Rattle.pfr_expand.specs.Bodies as spec;
+ghost use Rattle.pfr_flat.specs.Counts as counts;
+ghost use Rattle.pfr_flat.specs.Lists as flat_lists;
 ghost use Rattle.pfr_flat.specs.Places as places;
 ghost use Rattle.pfr_expand.specs.Bodies.{Adds};
 
@@ -14,8 +17,8 @@ use pfr_conf::{
 use pfr_elements::Scope;
 use pfr_elements::element::first_fault;
 use pfr_flat::{
-    Choices, FilterAction, FlagsCriterion, FlatAnchor, FlatRule, NO_MATCH, PacketMatch, StateRule,
-    choices_or_fault, combinations, counted, lists_of, put_anchors, slice_of,
+    Choices, FilterAction, FlagsCriterion, FlatAnchor, FlatRule, Lists, NO_MATCH, PacketMatch,
+    StateRule, choices_or_fault, combinations, counted, lists_of, put_anchors, slice_of,
 };
 use std::alloc::{AllocError, Global};
 use std::mem::replace;
@@ -143,6 +146,24 @@ impl Body {
 
     /// Makes the rules of a rule, unless a fault came before.
     #[tactic(auto, using(crate::proofs::Places::more_are_placed))]
+    fn make_chosen(
+        &mut self,
+        alloc: Global,
+        rule: FlatRule,
+        choices: &Choices,
+    ) -> Result<(), AllocError>
+        requires { places.ArePlaced self.old.rules self.old.anchors }
+        ensures made { OnOk result (self.new ≡ spec.with_made rule (Ok choices.now) self.old) }
+        ensures placed { OnOk result (places.ArePlaced self.new.rules self.new.anchors) }
+    {
+        if self.fault.is_some() {
+            return Ok(());
+        }
+        let matches = combinations(alloc, choices)?;
+        put_rules(&mut self.rules, rule, matches.as_slice())
+    }
+
+    /// The same, or the fault of the rule's lists.
     fn make(
         &mut self,
         alloc: Global,
@@ -153,19 +174,34 @@ impl Body {
         ensures made { OnOk result (self.new ≡ spec.with_made rule choices self.old) }
         ensures placed { OnOk result (places.ArePlaced self.new.rules self.new.anchors) }
     {
-        let choices = match choices {
-            Ok(choices) => choices,
+        match choices {
+            Ok(choices) => self.make_chosen(alloc, rule, &choices),
             Err(fault) => {
                 self.add_fault(fault);
-                return Ok(());
+                Ok(())
             }
-        };
-        if self.fault.is_some() {
-            return Ok(());
         }
-        let matches = combinations(alloc, &choices)?;
-        put_rules(&mut self.rules, rule, matches.as_slice())
     }
+}
+
+/// How many rules a statement on a line has with those that its lists make of so many, and what may be chosen of the
+/// lists.
+pub(crate) fn counted_choices(
+    alloc: Global,
+    used: usize,
+    line: usize,
+    lists: Lists,
+    before: usize,
+    copies: usize,
+) -> Result<(usize, Result<Choices, ConfError>), ConfError>
+    requires { (before ≤ 65536) × (copies ≤ 65536) }
+    ensures count { IfOk result (λ made. counts.counted used line lists before copies ≡ Ok made.0) }
+    ensures choices { IfOk result (λ made. made.1 ≡ flat_lists.choices_or_fault lists) }
+    ensures within { IfOk result (λ made. used + made.0 ≤ 65536) }
+    ensures refused { IfErr result (λ e. e.kind ≢ Memory → counts.counted used line lists before copies ≡ Err e) }
+{
+    let count = counted(used, line, &lists, before, copies)?;
+    Ok((count, choices_or_fault(alloc, lists)?))
 }
 
 /// The rules of a rule.
@@ -185,8 +221,7 @@ fn add_rule(
 {
     let types = slice_of(&rule.options.icmp_types);
     let lists = lists_of(alloc, scope, true, &rule.criteria, types)?;
-    let count = counted(setting.used, setting.line, &lists, out.count, 1)?;
-    let choices = choices_or_fault(alloc, lists)?;
+    let (count, choices) = counted_choices(alloc, setting.used, setting.line, lists, out.count, 1)?;
     out.count = count;
     out.make(alloc, flat_rule(setting, rule), choices)?;
     Ok(())
@@ -266,33 +301,49 @@ fn put_copies(
 }
 
 /// The anchors of an anchor, each with the whole body, unless there is a fault.
-fn make_copies(
+fn copy_chosen(
     alloc: Global,
     out: &mut Body,
     anchor: FlatAnchor,
-    choices: Result<Choices, ConfError>,
-    mut inner: Body,
+    choices: &Choices,
+    inner: &mut Body,
 ) -> Result<(), AllocError>
-    requires inner { places.ArePlaced inner.rules inner.anchors }
+    requires inner { places.ArePlaced inner.old.rules inner.old.anchors }
     requires placed { places.ArePlaced out.old.rules out.old.anchors }
-    ensures made { OnOk result (out.new ≡ spec.with_copies anchor choices inner out.old) }
+    ensures made { OnOk result (out.new ≡ spec.with_copies anchor (Ok choices.now) inner.old out.old) }
     ensures count { OnOk result (out.new.count ≡ out.old.count) }
     ensures placed { OnOk result (places.ArePlaced out.new.rules out.new.anchors) }
 {
-    let choices = match choices {
-        Ok(choices) => choices,
-        Err(fault) => {
-            out.add_fault(fault);
-            return Ok(());
-        }
-    };
     let before = replace(&mut out.fault, None);
     out.fault = or_fault(before, replace(&mut inner.fault, None));
     if out.fault.is_some() || inner.rules.len() == 0 {
         return Ok(());
     }
-    let matches = combinations(alloc, &choices)?;
-    put_copies(out, anchor, &inner, matches.as_slice())
+    let matches = combinations(alloc, choices)?;
+    put_copies(out, anchor, inner, matches.as_slice())
+}
+
+/// The same, or the fault of the anchor's lists.
+fn make_copies(
+    alloc: Global,
+    out: &mut Body,
+    anchor: FlatAnchor,
+    choices: Result<Choices, ConfError>,
+    inner: &mut Body,
+) -> Result<(), AllocError>
+    requires inner { places.ArePlaced inner.old.rules inner.old.anchors }
+    requires placed { places.ArePlaced out.old.rules out.old.anchors }
+    ensures made { OnOk result (out.new ≡ spec.with_copies anchor choices inner.old out.old) }
+    ensures count { OnOk result (out.new.count ≡ out.old.count) }
+    ensures placed { OnOk result (places.ArePlaced out.new.rules out.new.anchors) }
+{
+    match choices {
+        Ok(choices) => copy_chosen(alloc, out, anchor, &choices, inner),
+        Err(fault) => {
+            out.add_fault(fault);
+            Ok(())
+        }
+    }
 }
 
 fn flat_anchor(anchor: &AnchorRule<'_>) -> FlatAnchor
@@ -320,18 +371,24 @@ fn add_anchor(
     setting: Setting,
     out: &mut Body,
     anchor: &AnchorRule<'_>,
-    inner: Body,
+    inner: &mut Body,
 ) -> Result<(), ConfError>
-    requires few { (out.old.count ≤ 65536) × (inner.count ≤ 65536) }
-    requires inner { places.ArePlaced inner.rules inner.anchors }
+    requires few { (out.old.count ≤ 65536) × (inner.old.count ≤ 65536) }
+    requires inner { places.ArePlaced inner.old.rules inner.old.anchors }
     requires placed { places.ArePlaced out.old.rules out.old.anchors }
-    ensures made { Adds (spec.with_body scope.now setting anchor.now inner out.old) result out.new }
+    ensures made { Adds (spec.with_body scope.now setting anchor.now inner.old out.old) result out.new }
     ensures counted { OnOk result (out.new.count ≤ 65536) }
     ensures placed { OnOk result (places.ArePlaced out.new.rules out.new.anchors) }
 {
-    let lists = lists_of(alloc, scope, has_rules(&inner), &anchor.criteria, None)?;
-    let count = counted(setting.used, setting.line, &lists, out.count, inner.count)?;
-    let choices = choices_or_fault(alloc, lists)?;
+    let lists = lists_of(alloc, scope, has_rules(inner), &anchor.criteria, None)?;
+    let (count, choices) = counted_choices(
+        alloc,
+        setting.used,
+        setting.line,
+        lists,
+        out.count,
+        inner.count,
+    )?;
     out.count = count;
     make_copies(alloc, out, flat_anchor(anchor), choices, inner)?;
     Ok(())
@@ -383,8 +440,8 @@ pub(crate) fn add_statement(
                     kind: ConfErrorKind::TooDeep,
                 });
             }
-            let inner = body_of(alloc, scope, setting, body.as_slice(), depth - 1)?;
-            add_anchor(alloc, scope, setting, out, anchor, inner)
+            let mut inner = body_of(alloc, scope, setting, body.as_slice(), depth - 1)?;
+            add_anchor(alloc, scope, setting, out, anchor, &mut inner)
         }
     }
 }

@@ -6,7 +6,7 @@ ghost use Rattle.pfr_expand.specs.Bodies.{Adds};
 ghost use Rattle.pfr_flat.specs.Places.{ArePlaced, joined};
 ghost use Rattle.pfr_expand.specs.Rulesets as spec;
 
-use crate::body::{Body, Setting, add_statement};
+use crate::body::{Body, Setting, add_statement, counted_choices};
 use crate::options::Options;
 use crate::ruleset::Ruleset;
 use crate::tables::{Filling, clash, fill};
@@ -18,9 +18,7 @@ use pfr_conf::{
 };
 use pfr_elements::value::Draft;
 use pfr_elements::{Elements, Interface, MOST_ELEMENTS, Macros, Names, Scope};
-use pfr_flat::{
-    FilterRules, FlatAnchor, FlatRule, MOST_RULES, choices_or_fault, counted, too_many,
-};
+use pfr_flat::{FilterRules, FlatAnchor, FlatRule, MOST_RULES, too_many};
 use std::alloc::{AllocError, Global};
 use std::mem::replace;
 
@@ -235,8 +233,7 @@ impl<'a> Work<'a> {
         ensures few { OnOk result (self.new.translations ≤ 65536) }
     {
         let lists = translation_lists(alloc, &self.scope, rule)?;
-        let count = counted(self.used(), rule.line, &lists, 0, 1)?;
-        let choices = choices_or_fault(alloc, lists)?;
+        let (count, choices) = counted_choices(alloc, self.used(), rule.line, lists, 0, 1)?;
         let number = self.translations;
         self.flat
             .translations

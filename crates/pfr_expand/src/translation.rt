@@ -1,5 +1,5 @@
 //! Translation rules as flat rules.
-ghost use Rattle.std.specs.Prelude.{◌≡◌, ◌≤◌, true, OnOk};
+ghost use Rattle.std.specs.Prelude.{◌≡◌, ◌≤◌, true, Ok, OnOk};
 ghost use Rattle.std.specs.Option.{option_map};
 ghost use Rattle.pfr_elements.specs.Single as single;
 ghost use Rattle.pfr_elements.specs.Values.{Makes};
@@ -220,6 +220,24 @@ impl Translations {
     }
 
     /// Puts the rules of a rule behind those of its kind, by what may be chosen of its lists.
+    fn add_chosen(
+        &mut self,
+        alloc: Global,
+        scope: &Scope<'_>,
+        number: usize,
+        rule: &TranslationRule<'_>,
+        choices: &Choices,
+    ) -> Result<(), ConfError>
+        requires { number ≤ 65536 }
+        ensures { Adds (spec.with_choices scope.now number rule.now (Ok choices.now) self.old) result self.new }
+    {
+        let change = change_of(alloc, scope, rule, choices.destination_ports.as_slice())??;
+        let matches = combinations(alloc, choices)?;
+        self.put(number, rule.passes, change, matches.as_slice())?;
+        Ok(())
+    }
+
+    /// The same, or the fault of the rule's lists.
     pub(crate) fn add(
         &mut self,
         alloc: Global,
@@ -231,10 +249,9 @@ impl Translations {
         requires { number ≤ 65536 }
         ensures { Adds (spec.with_choices scope.now number rule.now choices self.old) result self.new }
     {
-        let choices = choices?;
-        let change = change_of(alloc, scope, rule, choices.destination_ports.as_slice())??;
-        let matches = combinations(alloc, &choices)?;
-        self.put(number, rule.passes, change, matches.as_slice())?;
-        Ok(())
+        match choices {
+            Ok(choices) => self.add_chosen(alloc, scope, number, rule, &choices),
+            Err(fault) => Err(fault),
+        }
     }
 }

@@ -230,10 +230,9 @@ fn opened<T>(
 ) -> (Option<Items<T>>, Option<ConfError>)
     ensures { result ≡ (spec.items_of list, spec.or_fault fault list) }
 {
-    match (list, fault) {
-        (None, fault) => (None, fault),
-        (Some(list), Some(fault)) => (Some(list.items), Some(fault)),
-        (Some(list), None) => (Some(list.items), list.fault),
+    match list {
+        None => (None, fault),
+        Some(list) => (Some(list.items), fault.or(list.fault)),
     }
 }
 

@@ -20,8 +20,6 @@ mod rewriting;
 mod segment;
 pub mod tcp;
 mod tcp_options;
-#[cfg(test)]
-mod tests;
 pub mod transport;
 pub mod udp;
 mod way;

@@ -4,15 +4,12 @@ ghost use Rattle.pfr_headers.specs.Transport.{has_inner, icmp_of, inner_of, inne
 
 use crate::address::Ipv4Address;
 use crate::icmp::{IcmpHeader, IcmpMessage, IcmpType, Inner};
-use crate::packet::Protocol;
+use crate::packet::{LEAST_HEADER, Protocol};
 use crate::port::Port;
 use byteorder::{BigEndian, ByteOrder};
 
 /// The length of an ICMP header.
-const ICMP: usize = 8;
-
-/// The least length of an IPv4 header.
-const LEAST_HEADER: usize = 20;
+pub(crate) const ICMP_HEADER: usize = 8;
 
 /// The ICMP header at the front.
 #[inline]
@@ -20,7 +17,7 @@ const LEAST_HEADER: usize = 20;
 pub fn icmp(whole: u16, segment: &[u8]) -> Option<IcmpHeader>
     ensures { result ≡ icmp_of whole segment.now }
 {
-    if segment.len() < ICMP || usize::from(whole) < ICMP {
+    if segment.len() < ICMP_HEADER || usize::from(whole) < ICMP_HEADER {
         return None;
     }
     Some(IcmpHeader {
@@ -41,7 +38,7 @@ fn message(kind: u8, segment: &[u8]) -> IcmpMessage
         return IcmpMessage::Echo(BigEndian::read_u16(&segment[4..]));
     }
     if is_error(kind) {
-        return match inner(&segment[ICMP..]) {
+        return match inner(&segment[ICMP_HEADER..]) {
             Some(inner) => IcmpMessage::Error(inner),
             None => IcmpMessage::Other,
         };
@@ -100,21 +97,21 @@ fn inner_behind(carried: &[u8], segment: &[u8]) -> Option<Inner>
     requires eight { 8 ≤ length segment.now }
     ensures { result ≡ inner_behind carried.now segment.now }
 {
-    let protocol = carried[9];
-    let (source, destination) = if protocol == 6 || protocol == 17 {
-        (
+    let protocol = Protocol(carried[9]);
+    let (source, destination) = match protocol {
+        Protocol::TCP | Protocol::UDP => (
             BigEndian::read_u16(segment),
             BigEndian::read_u16(&segment[2..]),
-        )
-    } else if protocol == 1 && is_echo(segment[0]) {
-        let identifier = BigEndian::read_u16(&segment[4..]);
-        (identifier, identifier)
-    } else {
-        return None;
+        ),
+        Protocol::ICMP if is_echo(segment[0]) => {
+            let identifier = BigEndian::read_u16(&segment[4..]);
+            (identifier, identifier)
+        }
+        _ => return None,
     };
     Some(Inner {
         header_length: 4 * (carried[0] % 16),
-        protocol: Protocol(protocol),
+        protocol,
         source: Ipv4Address(BigEndian::read_u32(&carried[12..])),
         destination: Ipv4Address(BigEndian::read_u32(&carried[16..])),
         source_port: Port(source),

@@ -5,6 +5,9 @@ ghost use Rattle.pfr_headers.specs.View.{has_options};
 use crate::address::Ipv4Address;
 use crate::transport::Transport;
 
+/// The least length of an IPv4 header, in bytes.
+pub(crate) const LEAST_HEADER: usize = 20;
+
 /// The protocol that an IPv4 packet carries, by its number.
 #[derive(Clone, Copy, Debug, PartialEq, Eq, PartialOrd, Ord, Hash)]
 pub struct Protocol(pub u8);

@@ -4,13 +4,10 @@ ghost use Rattle.pfr_headers.specs.View.{IsView, fields_of, has_header, is_fragm
 
 use crate::address::Ipv4Address;
 use crate::frame::datagram_place;
-use crate::packet::{Packet, Protocol, View};
+use crate::packet::{LEAST_HEADER, Packet, Protocol, View};
 use crate::segment::transport;
 use crate::transport::Transport;
 use byteorder::{BigEndian, ByteOrder};
-
-/// The least length of an IPv4 header.
-const LEAST_HEADER: usize = 20;
 
 /// What a frame is, by the link type of its capture (0 BSD loopback, 1 Ethernet, 101 raw IP; a frame of any other
 /// is no IPv4 packet) and the bytes that were captured of it.

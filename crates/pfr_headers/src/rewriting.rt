@@ -11,20 +11,13 @@ use crate::change::{Change, End, Endpoint};
 use crate::checksum::{mend, mend_udp, put_address, put_word};
 use crate::frame::datagram_place;
 use crate::icmp::{IcmpMessage, Inner};
-use crate::packet::Packet;
+use crate::message::ICMP_HEADER;
+use crate::packet::{Packet, Protocol};
 use crate::port::Port;
 use crate::transport::Transport;
 
 /// The place of an IPv4 header's checksum.
 const CHECKSUM: usize = 10;
-
-/// The length of an ICMP header.
-const ICMP: usize = 8;
-
-/// The protocols' numbers.
-const TCP: u8 = 6;
-
-const UDP: u8 = 17;
 
 /// Where the address of an end stands in an IPv4 header.
 #[inline]
@@ -148,9 +141,9 @@ fn rewrite_told(
     ensures brings { result ≡ difference_of bytes.old (told_words bytes.old protocol at end addresses port) }
     ensures within { result ≤ 262140 }
 {
-    match protocol {
-        TCP => put_word(bytes, at + port_place(end), port.0),
-        UDP => rewrite_udp(bytes, at, end, addresses, port),
+    match Protocol(protocol) {
+        Protocol::TCP => put_word(bytes, at + port_place(end), port.0),
+        Protocol::UDP => rewrite_udp(bytes, at, end, addresses, port),
         _ => rewrite_echo(bytes, at, port),
     }
 }
@@ -193,7 +186,7 @@ fn rewrite_error(bytes: &mut [u8], packet: &Packet, inner: &Inner, end: End, to:
     ensures { bytes.new ≡ with_words (error_words bytes.old packet.now inner.now end to) bytes.old }
 {
     let at = usize::from(packet.header_length);
-    let carried = rewrite_inner(bytes, at + ICMP, inner, other_end(end), to);
+    let carried = rewrite_inner(bytes, at + ICMP_HEADER, inner, other_end(end), to);
     let _ = mend(bytes, at + 2, carried);
     rewrite_outer(bytes, packet, inner, end, to);
 }

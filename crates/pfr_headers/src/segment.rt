@@ -1,9 +1,10 @@
 //! What stands behind an IPv4 header.
 ghost use Rattle.std.specs.Prelude.{◌≡◌, ◌≤◌, ◌/◌, ◌%◌, ◌==◌, length, drop, slice_index, None, if◌then◌else◌};
 ghost use Rattle.pfr_headers.specs.TcpOptions.{scale_of};
-ghost use Rattle.pfr_headers.specs.Transport.{tcp_of, transport_of, udp_of};
+ghost use Rattle.pfr_headers.specs.Transport.{has_tcp, tcp_of, transport_of, udp_of};
 
 use crate::message::icmp;
+use crate::packet::Protocol;
 use crate::port::Port;
 use crate::tcp::{TcpFlags, TcpHeader};
 use crate::tcp_options::window_scale;
@@ -28,12 +29,26 @@ pub fn transport(protocol: u8, fragment: bool, whole: u16, segment: &[u8]) -> Op
     if fragment {
         return Some(Transport::Fragment);
     }
-    match protocol {
-        6 => Some(Transport::Tcp(tcp(whole, segment)?)),
-        17 => Some(Transport::Udp(udp(whole, segment)?)),
-        1 => Some(Transport::Icmp(icmp(whole, segment)?)),
+    match Protocol(protocol) {
+        Protocol::TCP => Some(Transport::Tcp(tcp(whole, segment)?)),
+        Protocol::UDP => Some(Transport::Udp(udp(whole, segment)?)),
+        Protocol::ICMP => Some(Transport::Icmp(icmp(whole, segment)?)),
         _ => Some(Transport::Other),
     }
+}
+
+/// Whether a TCP header with its options is there.
+#[inline]
+fn has_tcp(whole: u16, segment: &[u8]) -> bool
+    ensures { result ≡ has_tcp whole segment.now }
+{
+    if segment.len() < LEAST_TCP {
+        return false;
+    }
+    let header_length = usize::from(4 * (segment[12] / 16));
+    header_length >= LEAST_TCP
+        && segment.len() >= header_length
+        && usize::from(whole) >= header_length
 }
 
 /// The TCP header at the front.
@@ -42,14 +57,11 @@ pub fn transport(protocol: u8, fragment: bool, whole: u16, segment: &[u8]) -> Op
 fn tcp(whole: u16, segment: &[u8]) -> Option<TcpHeader>
     ensures { result ≡ tcp_of whole segment.now }
 {
-    if segment.len() < LEAST_TCP {
+    if !has_tcp(whole, segment) {
         return None;
     }
     let header_length = 4 * (segment[12] / 16);
-    let needed = usize::from(header_length);
-    if needed < LEAST_TCP || segment.len() < needed || usize::from(whole) < needed {
-        return None;
-    }
+    let options = &segment[LEAST_TCP..usize::from(header_length)];
     Some(TcpHeader {
         source: Port(BigEndian::read_u16(segment)),
         destination: Port(BigEndian::read_u16(&segment[2..])),
@@ -58,7 +70,7 @@ fn tcp(whole: u16, segment: &[u8]) -> Option<TcpHeader>
         header_length,
         flags: TcpFlags::from_bits_retain(segment[13]),
         window: BigEndian::read_u16(&segment[14..]),
-        window_scale: scale_offered(segment[13], &segment[LEAST_TCP..needed]),
+        window_scale: scale_offered(segment[13], options),
         payload_length: whole - u16::from(header_length),
     })
 }

@@ -7,8 +7,6 @@
 
 pub mod counts;
 pub mod decision;
-#[cfg(test)]
-mod tests;
 pub mod visits;
 mod walk;
 

@@ -1,15 +1,12 @@
 -- What a made state leaves of a table.
-use Rattle.std.proofs.Common.{◌≡◌, ◌≤◌, ◌<◌, ◌+◌, ℕ, suc, Bool, true, false, not, nat_lt, List, [], ◌∷◌, length, get_or, set, sym, refl, ap, ◌∙◌, subst, inl, inr, arith}
-use Rattle.std.specs.List.{list_all, list_any, prefix_len, insert}
-use Rattle.std.proofs.lemmas.Bool.{and_parts, and_from, or_parts, cases_order, not-true, lt-ltb, le-ltb, ltb-true, eqb-true, eqb-false, ne_eqb, eq-eqb}
+use Rattle.std.proofs.Common.{◌≡◌, ◌≤◌, ◌<◌, ◌+◌, ℕ, Bool, true, false, not, nat_lt, List, [], ◌∷◌, length, refl, ap, ◌∙◌, inl, inr, arith}
+use Rattle.std.specs.List.{list_all, list_any}
+use Rattle.std.proofs.lemmas.Bool.{and_parts, and_from, or_parts, cases_order, not-true, lt-ltb, le-ltb, ltb-true, ne_eqb, eq-eqb}
 use Rattle.pfr_track.specs.declared.state.State.{State}
-use Rattle.pfr_states.specs.States.{IsTable, rise, are_above, have_own_keys, shares_key, is_number, with_state}
+use Rattle.pfr_states.specs.States.{IsTable, rise, are_above, have_own_keys, shares_key, with_state}
 use Rattle.pfr_states.proofs.KeyLemmas.{shares_turned}
 
 -- ---- a state in its place
-
-abbrev pub place : State → List State → ℕ
-place s xs = prefix_len (λ (x : State). nat_lt x.number.0 s.number.0) xs
 
 pub with_before : (s x : State) (xs : List State) → s.number.0 < x.number.0 → with_state s (x ∷ xs) ≡ s ∷ x ∷ xs
 with_before s x xs before = rw (lt-ltb s.number.0 x.number.0 before) refl
@@ -19,48 +16,6 @@ with_over s x xs is = rw (le-ltb s.number.0 x.number.0 (omega arith), eq-eqb x.n
 
 pub with_behind : (s x : State) (xs : List State) → x.number.0 < s.number.0 → with_state s (x ∷ xs) ≡ x ∷ with_state s xs
 with_behind s x xs behind = rw (le-ltb s.number.0 x.number.0 (omega arith), ne_eqb x.number.0 s.number.0 (λ is. absurd (omega arith))) refl
-
-place_here : (s x : State) (xs : List State) → s.number.0 ≤ x.number.0 → place s (x ∷ xs) ≡ 0
-place_here s x xs low = rw (le-ltb x.number.0 s.number.0 low) refl
-
-place_on : (s x : State) (xs : List State) → x.number.0 < s.number.0 → place s (x ∷ xs) ≡ suc (place s xs)
-place_on s x xs behind = rw (lt-ltb x.number.0 s.number.0 behind) (omega arith)
-
-pub put_over : (s : State) (xs : List State) (d : State) → place s xs < length xs → (get_or xs (place s xs) d).number.0 ≡ s.number.0 → set xs (place s xs) s ≡ with_state s xs
-put_over s [] d within is = absurd (omega arith)
-put_over s (x ∷ xs) d within is = elim (cases_order x.number.0 s.number.0) [
-  | inl same ↦ rw (place_here s x xs (omega arith)) (sym (with_over s x xs same))
-  | inr (inl behind) ↦
-      let on = place_on s x xs behind in
-      let inside : place s xs < length xs = omega arith in
-      rw on (ap (λ states. x ∷ states) (put_over s xs d inside (rw on at is)) ∙ sym (with_behind s x xs behind))
-  | inr (inr before) ↦ (let here = place_here s x xs (omega arith) in let is : x.number.0 ≡ s.number.0 = rw here at is in absurd (omega arith))
-]
-
-pub put_in : (s : State) (xs : List State) (d : State) → (place s xs < length xs → (get_or xs (place s xs) d).number.0 ≡ s.number.0 → ⊥) → insert xs (place s xs) s ≡ with_state s xs
-put_in s [] d other = refl
-put_in s (x ∷ xs) d other = elim (cases_order x.number.0 s.number.0) [
-  | inl same ↦ (let here = place_here s x xs (omega arith) in absurd (subst (λ (n : ℕ). n < length (x ∷ xs) → (get_or (x ∷ xs) n d).number.0 ≡ s.number.0 → ⊥) here other (omega arith) same))
-  | inr (inl behind) ↦
-      let on = place_on s x xs behind in
-      let others : suc (place s xs) < length (x ∷ xs) → (get_or xs (place s xs) d).number.0 ≡ s.number.0 → ⊥ = subst (λ (n : ℕ). n < length (x ∷ xs) → (get_or (x ∷ xs) n d).number.0 ≡ s.number.0 → ⊥) on other in
-      rw on (ap (λ states. x ∷ states) (put_in s xs d (λ inside is. others (omega arith) is)) ∙ sym (with_behind s x xs behind))
-  | inr (inr before) ↦ rw (place_here s x xs (omega arith)) (sym (with_before s x xs before))
-]
-
--- by what was read there
-pub put_over_it : (s x : State) (xs : List State) (n : ℕ) → n ≡ place s xs → n < length xs → x ≡ get_or xs n x → is_number s.number x ≡ true → set xs n s ≡ with_state s xs
-put_over_it s x xs n is within read same =
-    let at : (get_or xs n x).number.0 ≡ s.number.0 = ap (λ (x : State). x.number.0) (sym read) ∙ eqb-true x.number.0 s.number.0 same in
-    rw is (put_over s xs x (rw is at within) (rw is at at))
-
-pub put_before_it : (s x : State) (xs : List State) (n : ℕ) → n ≡ place s xs → x ≡ get_or xs n x → is_number s.number x ≡ false → insert xs n s ≡ with_state s xs
-put_before_it s x xs n is read other =
-    let at : x ≡ get_or xs (place s xs) x = rw is at read in
-    rw is (put_in s xs x (λ within same. eqb-false x.number.0 s.number.0 other (ap (λ (x : State). x.number.0) at ∙ same)))
-
-pub put_behind_all : (s : State) (xs : List State) (n : ℕ) → n ≡ place s xs → length xs ≤ n → insert xs n s ≡ with_state s xs
-put_behind_all s xs n is past = rw is (put_in s xs s (λ within same. absurd (omega arith)))
 
 -- ---- a table
 

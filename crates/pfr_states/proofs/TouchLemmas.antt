@@ -1,9 +1,8 @@
 -- What a touched state leaves of a table.
-use Rattle.std.proofs.Common.{◌≡◌, ◌<◌, ◌&&◌, ℕ, Bool, true, false, if◌then◌else◌, not, nat_lt, List, [], ◌∷◌, ◌++◌, ◌+◌, length, take, drop, get_or, set, sym, refl, ap, ◌∙◌, subst, inl, inr, arith}
+use Rattle.std.proofs.Common.{◌≡◌, ◌&&◌, ℕ, Bool, true, false, if◌then◌else◌, not, nat_lt, List, [], ◌∷◌, sym, refl, ap, ◌∙◌, subst, inl, inr, arith}
 use Rattle.std.specs.List.{list_all, list_any}
-use Rattle.std.proofs.lemmas.Bool.{and_parts, and_from, or_parts, or_from, cases_Bool, not-true, ltb-true, eqb-true, ne_eqb, cond-true, cond-false}
-use Rattle.std.proofs.lemmas.List.{length-map, length-append, length-take, length-drop, get_or_default}
-use Rattle.std.proofs.lemmas.List.Edits.{map_over_more}
+use Rattle.std.proofs.lemmas.Bool.{and_parts, and_from, or_parts, or_from, cases_Bool, not-true, ltb-true, eqb-true, ne_eqb}
+use Rattle.std.proofs.lemmas.List.{length-map}
 use Rattle.pfr_track.specs.declared.state.State.{State}
 use Rattle.pfr_states.specs.States.{IsTable, rise, are_above, have_own_keys, shares_key, is_number, with_touched}
 use Rattle.pfr_states.proofs.KeyLemmas.{shares_turned}
@@ -17,25 +16,6 @@ same_number s x = elim (cases_Bool (is_number s.number x)) [
   | inl it_is ↦ rw it_is (sym (eqb-true x.number.0 s.number.0 it_is))
   | inr not_it ↦ rw not_it refl
 ]
-
--- ---- one state after the other
-
-touched_more : (s : State) (xs ys : List State) (i : ℕ) (d : State) → i < length xs → ys ≡ with_touched s (take i xs) ++ drop i xs → set ys i (in_place s (get_or ys i d)) ≡ with_touched s (take (i + 1) xs) ++ drop (i + 1) xs
-touched_more s xs ys i d within before =
-    let same : length ys ≡ length xs = rw (before, length-append (with_touched s (take i xs)) (drop i xs), length-map (take i xs) (in_place s), length-take i xs, length-drop i xs) (omega arith) in
-    map_over_more (in_place s) xs ys i (get_or ys i d) within before (get_or_default ys i d (get_or ys i d) (omega arith))
-
-pub touched_here : (s : State) (xs ys : List State) (i : ℕ) (d : State) (b : Bool) → i < length xs → ys ≡ with_touched s (take i xs) ++ drop i xs → b ≡ is_number s.number (get_or ys i d) → b ≡ true
-    → set ys i s ≡ with_touched s (take (i + 1) xs) ++ drop (i + 1) xs
-touched_here s xs ys i d b within before is it_is =
-    let here : in_place s (get_or ys i d) ≡ s = cond-true (is_number s.number (get_or ys i d)) s (get_or ys i d) (sym is ∙ it_is) in
-    ap (set ys i) (sym here) ∙ touched_more s xs ys i d within before
-
-pub touched_past : (s : State) (xs ys : List State) (i : ℕ) (d : State) (b : Bool) → i < length xs → ys ≡ with_touched s (take i xs) ++ drop i xs → b ≡ is_number s.number (get_or ys i d) → b ≡ false
-    → set ys i (get_or ys i d) ≡ with_touched s (take (i + 1) xs) ++ drop (i + 1) xs
-touched_past s xs ys i d b within before is not_it =
-    let here : in_place s (get_or ys i d) ≡ get_or ys i d = cond-false (is_number s.number (get_or ys i d)) s (get_or ys i d) (sym is ∙ not_it) in
-    ap (set ys i) (sym here) ∙ touched_more s xs ys i d within before
 
 -- ---- a table
 

@@ -6,11 +6,7 @@ pub mod change;
 mod indexed;
 mod indexes;
 pub mod laws;
-#[cfg(test)]
-mod plain;
 pub mod table;
-#[cfg(test)]
-mod tests;
 
 pub use change::{Side, TableChange, TableError};
 pub use table::Table;

@@ -5,7 +5,5 @@
 #![tactic(auto)]
 
 mod digest;
-#[cfg(test)]
-mod tests;
 
 pub use digest::checksum;

@@ -1,0 +1,356 @@
+//! `answers commits`: runs, whose packets a book commits in batches and one by one, with speculations that were made before or
+//! without. The answer to a run is what each batch emits, and at its end the counters and the states.
+//!
+//! Each line is a word and others behind it; numbers are decimal, and bytes are in hex, `-` where there are none. An address is
+//! a number too.
+//!
+//!     interface NAME ADDRESS BITS            the interface of the run
+//!     inside ADDRESS BITS                    one more inside network
+//!     job SEED TEXT                          one more job: a byte, which is each of its seed's, and the ruleset's text. The
+//!                                            first is the book's; it and the others are numbered from 0
+//!     packet LINK SECONDS HEADER BYTES       one more packet of the run, numbered from 1
+//!     speculate JOB NUMBER PACKET CLOCK      evaluates packet NUMBER of a job, seen as packet PACKET is, on the book's table.
+//!                                            What it finds is kept; what is kept is numbered from 0
+//!     holds KEPT CLOCK                       whether that record holds in the book's table now: `holds` or `fails`, and `none`
+//!                                            where it isn't kept any more
+//!     batch COUNT KEPT ..                    the book takes the next packets, with those results in this order
+//!     commit KEPT                            the book takes the next packet, with this result; it has none where this isn't
+//!                                            kept
+//!     clear                                  what was emitted is forgotten
+//!     end                                    the end of the run
+//!
+//! A batch, and a packet that is committed alone, are answered with the verdict lines, `packets BYTES`, and `own N, committed
+//! N`; where memory is refused `refused` stands before these. `speculate` answers nothing, or `lost` where memory is refused. The end is answered
+//! with the counters and the states, or with `refused`, and then with `end`. Where the ruleset of a job is refused that is
+//! answered, and no book takes packets where it is the first.
+mod packets;
+
+use crate::commits::packets::Packets;
+use crate::given::{Given, Words};
+use crate::printing::{put_bytes, put_fault};
+use pfr_capture::Record;
+use pfr_commit::{Book, Emitted};
+use pfr_conf::Ipv4Address;
+use pfr_expand::{IfName, Interface};
+use pfr_headers::Net;
+use pfr_packet::Job;
+use pfr_record::{Speculation, speculate};
+use pfr_track::Clock;
+use std::alloc::{AllocError, Global};
+use std::io;
+use std::io::Write;
+use std::str::Lines;
+use std::sync::Arc;
+
+/// More packets than any run has.
+const MOST: u64 = 1_000_000_000;
+
+/// A run.
+#[derive(Drop)]
+struct Run {
+    alloc: Global,
+    interface: Interface,
+    inside: Vec<Net>,
+    jobs: Vec<Option<Arc<Job>>>,
+    book: Option<Book>,
+    packets: Packets,
+    kept: Vec<Option<Speculation>>,
+    emitted: Emitted,
+}
+
+/// The bytes that are the next word.
+fn bytes(alloc: Global, words: &mut Words<'_>) -> Result<Vec<u8>, AllocError> {
+    let word = words.word();
+    let digits = if word == "-" { "" } else { word };
+    match hex::decode(alloc, digits) {
+        Ok(bytes) => Ok(bytes),
+        Err(_) => Err(AllocError),
+    }
+}
+
+/// The packet that a line tells.
+fn record(alloc: Global, words: &mut Words<'_>) -> Result<Record, AllocError> {
+    let link = words.number().unwrap_or(0);
+    let seconds = words.number().unwrap_or(0);
+    let header = bytes(alloc, words)?;
+    let bytes = bytes(alloc, words)?;
+    Ok(Record {
+        link,
+        seconds,
+        fraction: 0,
+        header: Given {
+            rest: header.as_slice(),
+        }
+        .array(),
+        bytes,
+    })
+}
+
+/// What stands in some bytes from a place on.
+fn behind(bytes: &[u8], start: usize) -> &[u8] {
+    let (_, rest) = bytes.split_at(start.min(bytes.len()));
+    rest
+}
+
+fn put_packets(alloc: Global, out: &mut String, bytes: &[u8]) -> Result<(), AllocError> {
+    if bytes.is_empty() {
+        return out.push_str("packets -\n");
+    }
+    let digits = hex::encode(alloc, bytes)?;
+    writeln!(out, "packets {digits}")
+}
+
+/// Tells what was emitted behind these places, and how far a book has come.
+fn put_emitted(
+    alloc: Global,
+    out: &mut String,
+    emitted: &Emitted,
+    verdicts: usize,
+    packets: usize,
+    book: &Book,
+) -> Result<(), AllocError> {
+    put_bytes(out, behind(emitted.verdicts.as_slice(), verdicts))?;
+    put_packets(alloc, out, behind(emitted.packets.as_slice(), packets))?;
+    writeln!(out, "own {}, committed {}", book.own(), book.committed())
+}
+
+/// Ends a book's run.
+fn put_ending(out: &mut String, book: Book) -> Result<(), AllocError> {
+    match book.finish() {
+        Ok(ending) => {
+            put_bytes(out, ending.counters.as_slice())?;
+            put_bytes(out, ending.states.as_slice())
+        }
+        Err(_) => out.push_str("refused\n"),
+    }
+}
+
+impl Run {
+    fn new(alloc: Global) -> Run {
+        Run {
+            alloc,
+            interface: Interface {
+                name: IfName::new(b"em0"),
+                address: Ipv4Address(0),
+                bits: 0,
+            },
+            inside: Vec::new(alloc),
+            jobs: Vec::new(alloc),
+            book: None,
+            packets: Packets::new(alloc),
+            kept: Vec::new(alloc),
+            emitted: Emitted::new(alloc),
+        }
+    }
+
+    fn set_interface(&mut self, words: &mut Words<'_>) {
+        let name = IfName::new(words.word().as_bytes());
+        let address = Ipv4Address(words.number().unwrap_or(0));
+        let bits = words.number().unwrap_or(0);
+        self.interface = Interface {
+            name,
+            address,
+            bits,
+        };
+    }
+
+    fn add_network(&mut self, words: &mut Words<'_>) -> Result<(), AllocError> {
+        let address = pfr_headers::Ipv4Address(words.number().unwrap_or(0));
+        let bits = words.number().unwrap_or(0);
+        self.inside.push(Net { address, bits })?;
+        Ok(())
+    }
+
+    /// The job of a line, if its ruleset isn't refused.
+    fn job(&self, out: &mut String, words: &mut Words<'_>) -> Result<Option<Arc<Job>>, AllocError> {
+        let seed = [words.number().unwrap_or(0); 32];
+        let text = bytes(self.alloc, words)?;
+        match Job::new(
+            self.alloc,
+            text.as_slice(),
+            self.interface,
+            self.inside.as_slice(),
+            seed,
+        ) {
+            Ok(job) => Ok(Some(Arc::new(self.alloc, job)?)),
+            Err(fault) => {
+                put_fault(out, &fault)?;
+                Ok(None)
+            }
+        }
+    }
+
+    /// Adds a job, and makes the book of the first.
+    fn add_job(&mut self, out: &mut String, words: &mut Words<'_>) -> Result<(), AllocError> {
+        let job = self.job(out, words)?;
+        if let (true, Some(first)) = (self.jobs.is_empty(), &job) {
+            self.book = Some(Book::new(self.alloc, Arc::try_clone(first)?)?);
+        }
+        self.jobs.push(job)?;
+        Ok(())
+    }
+
+    fn add_packet(&mut self, words: &mut Words<'_>) -> Result<(), AllocError> {
+        let record = record(self.alloc, words)?;
+        self.packets.put(record)
+    }
+
+    /// What is found out as a line says; nothing without a book or that job.
+    fn speculation(&self, words: &mut Words<'_>) -> Result<Option<Speculation>, AllocError> {
+        let job = self.jobs.get(words.number().unwrap_or(0));
+        let number = words.number().unwrap_or(0);
+        let view = self.packets.view_of(words.number().unwrap_or(0));
+        let clock = Clock(words.number().unwrap_or(0));
+        match (&self.book, job) {
+            (Some(book), Some(Some(job))) => {
+                let found = speculate(self.alloc, job, number, clock, view, book.table())?;
+                Ok(Some(found))
+            }
+            _ => Ok(None),
+        }
+    }
+
+    fn keep_speculation(
+        &mut self,
+        out: &mut String,
+        words: &mut Words<'_>,
+    ) -> Result<(), AllocError> {
+        let found = match self.speculation(words) {
+            Ok(found) => found,
+            Err(_) => {
+                out.push_str("lost\n")?;
+                None
+            }
+        };
+        self.kept.push(found)?;
+        Ok(())
+    }
+
+    fn put_holds(&self, out: &mut String, words: &mut Words<'_>) -> Result<(), AllocError> {
+        let kept = self.kept.get(words.number().unwrap_or(usize::MAX));
+        let clock = Clock(words.number().unwrap_or(0));
+        match (&self.book, kept) {
+            (Some(book), Some(Some(kept))) if kept.holds_in(book.table(), clock) => {
+                out.push_str("holds\n")
+            }
+            (Some(_), Some(Some(_))) => out.push_str("fails\n"),
+            _ => out.push_str("none\n"),
+        }
+    }
+
+    /// Takes out what is kept under a number.
+    fn taken(&mut self, number: usize) -> Option<Speculation> {
+        match self.kept.get_mut(number) {
+            Some(kept) => kept.take(),
+            None => None,
+        }
+    }
+
+    /// Takes out all that is kept under the numbers of a line, in their order.
+    fn results(&mut self, words: &mut Words<'_>) -> Result<Vec<Speculation>, AllocError> {
+        let mut results = Vec::new(self.alloc);
+        for _turn in 0..u64::MAX {
+            let Some(number) = words.number() else {
+                break;
+            };
+            if let Some(result) = self.taken(number) {
+                results.push(result)?;
+            }
+        }
+        Ok(results)
+    }
+
+    fn batch(&mut self, out: &mut String, words: &mut Words<'_>) -> Result<(), AllocError> {
+        let most = words.number().unwrap_or(0);
+        let results = self.results(words)?;
+        let Some(book) = &mut self.book else {
+            return Ok(());
+        };
+        let packets = self.packets.next(book.committed() as usize, most);
+        if book.committed() > MOST || packets.len() as u64 > MOST {
+            return Ok(());
+        }
+        let verdicts = self.emitted.verdicts.len();
+        let written = self.emitted.packets.len();
+        if book
+            .commit_batch(packets, results, &mut self.emitted)
+            .is_err()
+        {
+            out.push_str("refused\n")?;
+        }
+        put_emitted(self.alloc, out, &self.emitted, verdicts, written, book)
+    }
+
+    fn commit(&mut self, out: &mut String, words: &mut Words<'_>) -> Result<(), AllocError> {
+        let result = self.taken(words.number().unwrap_or(usize::MAX));
+        let Some(book) = &mut self.book else {
+            return Ok(());
+        };
+        let [(record, view)] = self.packets.next(book.committed() as usize, 1) else {
+            return Ok(());
+        };
+        if book.committed() > MOST {
+            return Ok(());
+        }
+        match book.commit(record, *view, result) {
+            Ok(emitted) => put_emitted(self.alloc, out, &emitted, 0, 0, book),
+            Err(_) => {
+                out.push_str("refused\n")?;
+                let emitted = Emitted::new(self.alloc);
+                put_emitted(self.alloc, out, &emitted, 0, 0, book)
+            }
+        }
+    }
+
+    fn finish(&mut self, out: &mut String) -> Result<(), AllocError> {
+        if let Some(book) = self.book.take() {
+            put_ending(out, book)?;
+        }
+        out.push_str("end\n")
+    }
+
+    /// Does what a line says, and answers whether it is the end of the run.
+    fn obey(&mut self, out: &mut String, words: &mut Words<'_>) -> Result<bool, AllocError> {
+        match words.word() {
+            "interface" => self.set_interface(words),
+            "inside" => self.add_network(words)?,
+            "job" => self.add_job(out, words)?,
+            "packet" => self.add_packet(words)?,
+            "speculate" => self.keep_speculation(out, words)?,
+            "holds" => self.put_holds(out, words)?,
+            "batch" => self.batch(out, words)?,
+            "commit" => self.commit(out, words)?,
+            "clear" => self.emitted.clear(),
+            "end" => {
+                self.finish(out)?;
+                return Ok(true);
+            }
+            _ => out.push_str("no call\n")?,
+        }
+        Ok(false)
+    }
+}
+
+/// The answer to the next run, if a whole one is left.
+fn next_answer(alloc: Global, lines: &mut Lines<'_>) -> Result<Option<String>, AllocError> {
+    let mut answer = String::new(alloc);
+    let mut run = Run::new(alloc);
+    for line in lines {
+        if run.obey(&mut answer, &mut Words::of(line))? {
+            return Ok(Some(answer));
+        }
+    }
+    Ok(None)
+}
+
+/// Answers all runs of a text.
+pub(crate) fn answer<W: Write>(alloc: Global, text: &str, out: &mut W) -> io::Result<()> {
+    let mut lines = text.lines();
+    for _turn in 0..u64::MAX {
+        let Some(answer) = next_answer(alloc, &mut lines)? else {
+            break;
+        };
+        out.write_all(answer.as_bytes())?;
+    }
+    Ok(())
+}

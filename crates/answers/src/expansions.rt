@@ -1,0 +1,91 @@
+//! `answers expansions`: each record is a ruleset with the interface that it is meant for. The answer is what it means, as
+//! `expansions/model.py` of the folder `tests` dumps it, or its first fault; and a line `end`.
+//!
+//! A record holds a byte that is 1 where only the numbers of rules are asked for, and else 0; the interface; and the text
+//! with its length before it in four bytes.
+mod options;
+mod rules;
+mod statements;
+mod terms;
+mod translations;
+
+use crate::expansions::options::put_options;
+use crate::expansions::rules::put_rules;
+use crate::expansions::statements::statements_of;
+use crate::expansions::terms::{put_network, put_table_name, table_names};
+use crate::expansions::translations::put_translations;
+use crate::given::Given;
+use crate::printing::{put_fault, word_if};
+use pfr_conf::Statements;
+use pfr_expand::{AddressTable, Interface, Ruleset, expand};
+use std::alloc::{AllocError, Global};
+
+fn put_table(
+    alloc: Global,
+    out: &mut String,
+    names: &[&[u8]],
+    place: usize,
+    table: &AddressTable,
+) -> Result<(), AllocError> {
+    out.push_str("table ")?;
+    put_table_name(out, names, place)?;
+    let entries = table.entries(alloc)?;
+    for entry in entries.as_slice() {
+        out.push_str(word_if(entry.is_negated, " !", " "))?;
+        put_network(out, entry.network)?;
+    }
+    out.push('\n')
+}
+
+/// The lines of a ruleset.
+fn put_ruleset(
+    alloc: Global,
+    out: &mut String,
+    names: &[&[u8]],
+    ruleset: &Ruleset,
+) -> Result<(), AllocError> {
+    put_options(out, &ruleset.options)?;
+    for (place, table) in ruleset.tables.as_slice().iter().enumerate() {
+        put_table(alloc, out, names, place, table)?;
+    }
+    put_translations(out, names, &ruleset.translations)?;
+    put_rules(alloc, out, names, ruleset)
+}
+
+/// How many rules a ruleset has.
+fn put_counts(out: &mut String, ruleset: &Ruleset) -> Result<(), AllocError> {
+    let (rules, translations) = ruleset.counts();
+    writeln!(out, "{rules} filter, {translations} translation")
+}
+
+/// What statements mean, or their first fault.
+fn put_meaning(
+    alloc: Global,
+    out: &mut String,
+    counts_alone: bool,
+    interface: &Interface,
+    statements: &Statements<'_>,
+) -> Result<(), AllocError> {
+    match expand(alloc, statements, interface) {
+        Ok(ruleset) if counts_alone => put_counts(out, &ruleset),
+        Ok(ruleset) => {
+            let names = table_names(alloc, statements)?;
+            put_ruleset(alloc, out, names.as_slice(), &ruleset)
+        }
+        Err(fault) => put_fault(out, &fault),
+    }
+}
+
+pub(crate) fn put_answer(
+    alloc: Global,
+    out: &mut String,
+    given: &mut Given<'_>,
+) -> Result<(), AllocError> {
+    let counts_alone = given.byte() == 1;
+    let interface = given.interface();
+    match statements_of(alloc, given.text()) {
+        Ok(statements) => put_meaning(alloc, out, counts_alone, &interface, &statements)?,
+        Err(fault) => put_fault(out, &fault)?,
+    }
+    out.push_str("end\n")
+}

@@ -1,0 +1,196 @@
+//! `answers steps`: each record is a run, which is replayed packet by packet over a table of states. The answer is a line for
+//! each packet, then one for each state that is left, and a line `end`; or the first fault of the ruleset and `end`.
+//!
+//! The line of a packet has four parts with `; ` between them: its verdict line; the numbers of the filter rules visited and,
+//! behind a blank, those of the translation rules; what it changes in the table (`made STATE`, `touched STATE` or `removed
+//! NUMBER`); what is written into its bytes (`source` or `destination`, and an address and port). In place of nothing there
+//! is a `-`. A change that the table refuses has ` refused` behind it.
+//!
+//! A run holds the interface, the inside networks (one byte that counts them, and of each four bytes and the bits in one), the
+//! text of the ruleset with its length before it in four bytes, how many records there are (4), and these. A record holds the
+//! link type (2), the seconds (4), and the captured bytes with their length before them (4).
+use crate::given::Given;
+use crate::printing::{put_address, put_fault};
+use pfr_commit::{StateLine, VerdictLine};
+use pfr_headers::{Change, End, Ipv4Address, Net, view};
+use pfr_packet::{Direct, Job, Outcome, step};
+use pfr_rules::Visits;
+use pfr_states::{Table, TableChange, TableError};
+use pfr_track::{Clock, State, StateNumber};
+use std::alloc::{AllocError, Global};
+
+/// A record of a capture.
+#[derive(Clone, Copy)]
+struct Record<'a> {
+    link: u16,
+    seconds: u32,
+    bytes: &'a [u8],
+}
+
+fn networks(alloc: Global, given: &mut Given<'_>) -> Result<Vec<Net>, AllocError> {
+    let mut networks = Vec::new(alloc);
+    for _network in 0..given.byte() {
+        let address = Ipv4Address(given.number());
+        let bits = given.byte();
+        networks.push(Net { address, bits })?;
+    }
+    Ok(networks)
+}
+
+impl<'a> Record<'a> {
+    fn read(given: &mut Given<'a>) -> Record<'a> {
+        let link = given.short();
+        let seconds = given.number();
+        let bytes = given.text();
+        Record {
+            link,
+            seconds,
+            bytes,
+        }
+    }
+}
+
+/// Numbers of rules with commas between them.
+fn put_visits(alloc: Global, out: &mut String, visits: &Visits) -> Result<(), AllocError> {
+    let numbers = visits.numbers(alloc)?;
+    if numbers.len() == 0 {
+        return out.push('-');
+    }
+    let mut comma = "";
+    for number in numbers.as_slice() {
+        write!(out, "{comma}{number}")?;
+        comma = ",";
+    }
+    Ok(())
+}
+
+/// A word and a state.
+fn put_state(out: &mut String, word: &str, state: &State) -> Result<(), AllocError> {
+    write!(out, "{word} {}", StateLine { state })?;
+    let _newline = out.pop();
+    Ok(())
+}
+
+fn put_change(out: &mut String, change: Option<TableChange>) -> Result<(), AllocError> {
+    match change {
+        Some(TableChange::Made(state)) => put_state(out, "made", &state),
+        Some(TableChange::Touched(state)) => put_state(out, "touched", &state),
+        Some(TableChange::Removed(StateNumber(number))) => write!(out, "removed {number}"),
+        None => out.push('-'),
+    }
+}
+
+fn put_bytes(out: &mut String, bytes: Option<Change>) -> Result<(), AllocError> {
+    let Some(change) = bytes else {
+        return out.push('-');
+    };
+    match change.end {
+        End::Source => out.push_str("source ")?,
+        End::Destination => out.push_str("destination ")?,
+    }
+    put_address(out, change.to.address.0)?;
+    write!(out, ":{}", change.to.port.0)
+}
+
+/// The line of a packet, without a newline.
+fn put_outcome(alloc: Global, out: &mut String, line: VerdictLine<'_>) -> Result<(), AllocError> {
+    write!(out, "{line}")?;
+    let _newline = out.pop();
+    out.push_str("; ")?;
+    put_visits(alloc, out, &line.outcome.visited.filter)?;
+    out.push(' ')?;
+    put_visits(alloc, out, &line.outcome.visited.translation)?;
+    out.push_str("; ")?;
+    put_change(out, line.outcome.change)?;
+    out.push_str("; ")?;
+    put_bytes(out, line.outcome.bytes)
+}
+
+/// Lets the states go whose deadline has come, and takes a packet's change over.
+fn take(
+    out: &mut String,
+    table: &mut Table,
+    clock: Clock,
+    outcome: &Outcome,
+) -> Result<(), AllocError> {
+    table.purge(clock);
+    if let Some(change) = outcome.change {
+        match table.apply(change) {
+            Ok(()) => {}
+            Err(TableError::KeyTaken | TableError::Full) => out.push_str(" refused")?,
+            Err(TableError::Memory) => return Err(AllocError),
+        }
+    }
+    out.push('\n')
+}
+
+/// The states that are left.
+fn put_states(out: &mut String, table: &Table) -> Result<(), AllocError> {
+    let mut number = StateNumber(0);
+    for _turn in 0..u64::MAX {
+        let Some(state) = table.after(number) else {
+            break;
+        };
+        write!(out, "{}", StateLine { state: &state })?;
+        number = state.number;
+    }
+    Ok(())
+}
+
+/// The lines of all packets and of the states that are left.
+fn replay(
+    alloc: Global,
+    out: &mut String,
+    given: &mut Given<'_>,
+    job: &Job,
+    records: u32,
+) -> Result<(), AllocError> {
+    let limit = job.rules().options.state_limit as usize;
+    let mut table = Table::new(alloc, limit);
+    let mut clock = Clock(0);
+    for place in 0..records {
+        let number = u64::from(place) + 1;
+        let record = Record::read(given);
+        clock = clock.max(Clock(record.seconds));
+        let view = view(record.link, record.bytes);
+        let mut answers = Direct {
+            table: &table,
+            clock,
+        };
+        let outcome = step(alloc, job, number, clock, &view, &mut answers)?;
+        let line = VerdictLine {
+            number,
+            clock,
+            outcome: &outcome,
+        };
+        put_outcome(alloc, out, line)?;
+        take(out, &mut table, clock, &outcome)?;
+    }
+    put_states(out, &table)
+}
+
+/// Steps over so many records.
+fn step_over(given: &mut Given<'_>, records: u32) {
+    for _record in 0..records {
+        let _record = Record::read(given);
+    }
+}
+
+pub(crate) fn put_answer(
+    alloc: Global,
+    out: &mut String,
+    given: &mut Given<'_>,
+) -> Result<(), AllocError> {
+    let interface = given.interface();
+    let inside = networks(alloc, given)?;
+    let text = given.text();
+    let records = given.number();
+    match Job::new(alloc, text, interface, inside.as_slice(), [0; 32]) {
+        Ok(job) => replay(alloc, out, given, &job, records)?,
+        Err(fault) => {
+            step_over(given, records);
+            put_fault(out, &fault)?;
+        }
+    }
+    out.push_str("end\n")
+}

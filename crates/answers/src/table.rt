@@ -1,0 +1,176 @@
+//! `answers table`: calls to a table of states, one a line, and what the table answers to each.
+//!
+//! The first line is how many states there may be. A call is a word and numbers, with spaces between them:
+//!
+//!     make NUMBER WIRE STACK DEADLINE BYTES      a state comes
+//!     touch NUMBER WIRE STACK DEADLINE BYTES     a packet leaves a state like this
+//!     remove NUMBER
+//!     purge CLOCK
+//!     at SIDE KEY CLOCK                          SIDE is the word `wire` or `stack`
+//!     room CLOCK
+//!     due CLOCK
+//!     after NUMBER
+//!     len
+//!     list                                       `len`, and then `after` for each state from number 0 on
+//!
+//! WIRE, STACK and KEY are five numbers each: the protocol, the outside party's address and port, and the inside one's.
+//! BYTES are what the state has counted; what else a state has is the same in all. The answers are `done` or why the
+//! change isn't taken, `yes` or `no`, a number, and a state's numbers in the order above or `none`. A list is one line for
+//! each of its answers.
+//!
+//! All lines are read before the first call, and the answers go into a text that is made before it. So from there on only the
+//! table takes memory, as long as no answer is longer than that text has room.
+use crate::given::Words;
+use pfr_headers::{Direction, Ipv4Address, Port, Protocol};
+use pfr_states::{Side, Table, TableChange};
+use pfr_track::{
+    Clock, Deadline, Endpoint, Key, Peers, State, StateNumber, StateRules, Timeout, Traffic,
+};
+use std::alloc::{AllocError, Global};
+use std::io;
+use std::io::Write;
+
+/// How many bytes the text of the answers has room for.
+const ROOM: usize = 65536;
+
+fn endpoint(words: &mut Words<'_>) -> Option<Endpoint> {
+    let address = Ipv4Address(words.number()?);
+    let port = Port(words.number()?);
+    Some(Endpoint { address, port })
+}
+
+fn key(words: &mut Words<'_>) -> Option<Key> {
+    let protocol = Protocol(words.number()?);
+    let outside = endpoint(words)?;
+    let inside = endpoint(words)?;
+    Some(Key {
+        protocol,
+        outside,
+        inside,
+    })
+}
+
+fn state(words: &mut Words<'_>) -> Option<State> {
+    let number = StateNumber(words.number()?);
+    let wire = key(words)?;
+    let stack = key(words)?;
+    let deadline = Deadline(words.number()?);
+    let bytes = words.number()?;
+    Some(State {
+        number,
+        direction: Direction::In,
+        wire,
+        stack,
+        rules: StateRules {
+            filter: None,
+            translation: None,
+            is_synchronised: true,
+            allows_options: false,
+        },
+        peers: Peers::Icmp,
+        made: Clock(0),
+        deadline,
+        timeout: Timeout::IcmpFirst,
+        forth: Traffic { packets: 1, bytes },
+        back: Traffic {
+            packets: 0,
+            bytes: 0,
+        },
+    })
+}
+
+/// The state that is found by the side, the key and the clock of a line.
+fn found_at(table: &Table, words: &mut Words<'_>) -> Option<Option<State>> {
+    let side = match words.word() {
+        "wire" => Side::Wire,
+        "stack" => Side::Stack,
+        _ => return None,
+    };
+    let key = key(words)?;
+    let clock = Clock(words.number()?);
+    Some(table.at(side, &key, clock))
+}
+
+fn put_key(out: &mut String, key: Key) -> Result<(), AllocError> {
+    let Endpoint { address, port } = key.outside;
+    write!(out, " {} {} {}", key.protocol.0, address.0, port.0)?;
+    let Endpoint { address, port } = key.inside;
+    write!(out, " {} {}", address.0, port.0)
+}
+
+fn put_found(out: &mut String, found: Option<State>) -> Result<(), AllocError> {
+    let Some(state) = found else {
+        return out.push_str("none\n");
+    };
+    write!(out, "{}", state.number.0)?;
+    put_key(out, state.wire)?;
+    put_key(out, state.stack)?;
+    writeln!(out, " {} {}", state.deadline.0, state.forth.bytes)
+}
+
+fn put_list(out: &mut String, table: &Table) -> Result<(), AllocError> {
+    writeln!(out, "{}", table.len())?;
+    let mut number = StateNumber(0);
+    for _turn in 0..u64::MAX {
+        let found = table.after(number);
+        put_found(out, found)?;
+        let Some(state) = found else {
+            break;
+        };
+        number = state.number;
+    }
+    Ok(())
+}
+
+fn put_change(out: &mut String, table: &mut Table, change: TableChange) -> Result<(), AllocError> {
+    match table.apply(change) {
+        Ok(()) => out.push_str("done\n"),
+        Err(refusal) => writeln!(out, "{refusal}"),
+    }
+}
+
+/// Does what is asked, and puts the answer; None where nothing is asked.
+fn put_answer(
+    out: &mut String,
+    table: &mut Table,
+    words: &mut Words<'_>,
+) -> Option<Result<(), AllocError>> {
+    Some(match words.word() {
+        "make" => put_change(out, table, TableChange::Made(state(words)?)),
+        "touch" => put_change(out, table, TableChange::Touched(state(words)?)),
+        "remove" => put_change(
+            out,
+            table,
+            TableChange::Removed(StateNumber(words.number()?)),
+        ),
+        "purge" => {
+            table.purge(Clock(words.number()?));
+            out.push_str("done\n")
+        }
+        "at" => put_found(out, found_at(table, words)?),
+        "room" if table.room(Clock(words.number()?)) => out.push_str("yes\n"),
+        "room" => out.push_str("no\n"),
+        "due" => put_found(out, table.due(Clock(words.number()?))),
+        "after" => put_found(out, table.after(StateNumber(words.number()?))),
+        "len" => writeln!(out, "{}", table.len()),
+        "list" => put_list(out, table),
+        _ => return None,
+    })
+}
+
+/// Answers all lines of a text.
+pub(crate) fn answer<W: Write>(alloc: Global, text: &str, out: &mut W) -> io::Result<()> {
+    let mut lines = text.lines();
+    let limit = lines.next().unwrap_or("").parse::<usize>().unwrap_or(0);
+    let mut table = Table::new(alloc, limit);
+    let mut answer = String::with_capacity(alloc, ROOM)?;
+    for line in lines {
+        match put_answer(&mut answer, &mut table, &mut Words::of(line)) {
+            Some(done) => done?,
+            None => answer.push_str("no call\n")?,
+        }
+        out.write_all(answer.as_bytes())?;
+        answer.clear();
+    }
+    Ok(())
+}

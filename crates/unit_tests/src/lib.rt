@@ -1,0 +1,29 @@
+//! The unit tests of all crates: vectors from outside, printed texts, and each public function once with ample memory.
+//!
+//! What a contract says of every input, and what the models of the folder `tests` answer, isn't asked here again.
+#![tactic(auto)]
+
+#[cfg(test)]
+mod captures;
+#[cfg(test)]
+mod checksum;
+#[cfg(test)]
+mod criteria;
+#[cfg(test)]
+mod elements;
+#[cfg(test)]
+mod frames;
+#[cfg(test)]
+mod rewriting;
+#[cfg(test)]
+mod runs;
+#[cfg(test)]
+mod states;
+#[cfg(test)]
+mod tables;
+#[cfg(test)]
+mod terms;
+#[cfg(test)]
+mod tracking;
+#[cfg(test)]
+mod words;

@@ -1,0 +1,95 @@
+//! A table of states, at the moments when states expire.
+use pfr_headers::{Direction, Ipv4Address, Port, Protocol};
+use pfr_states::{Side, Table, TableChange, TableError};
+use pfr_track::{
+    Clock, Deadline, Endpoint, Key, Peers, State, StateNumber, StateRules, Timeout, Traffic,
+};
+
+fn key(address: u32) -> Key {
+    Key {
+        protocol: Protocol::UDP,
+        outside: Endpoint {
+            address: Ipv4Address(0xc633_6407),
+            port: Port(80),
+        },
+        inside: Endpoint {
+            address: Ipv4Address(address),
+            port: Port(1000),
+        },
+    }
+}
+
+fn state(number: u64, wire: Key, stack: Key, deadline: u64) -> State {
+    let traffic = Traffic {
+        packets: 1,
+        bytes: 28,
+    };
+    State {
+        number: StateNumber(number),
+        direction: Direction::In,
+        wire,
+        stack,
+        rules: StateRules {
+            filter: None,
+            translation: None,
+            is_synchronised: true,
+            allows_options: false,
+        },
+        peers: Peers::Icmp,
+        made: Clock(0),
+        deadline: Deadline(deadline),
+        timeout: Timeout::IcmpFirst,
+        forth: traffic,
+        back: traffic,
+    }
+}
+
+/// The number of a state, or 0.
+fn number_of(found: Option<State>) -> u64 {
+    match found {
+        Some(state) => state.number.0,
+        None => 0,
+    }
+}
+
+/// The number of the state with a key on the wire, or 0.
+fn number_at(table: &Table, key: &Key, clock: u32) -> u64 {
+    number_of(table.at(Side::Wire, key, Clock(clock)))
+}
+
+/// The number of the state that is due first, or 0.
+fn number_due(table: &Table, clock: u32) -> u64 {
+    number_of(table.due(Clock(clock)))
+}
+
+/// Whether a table takes a change.
+fn takes(table: &mut Table, change: TableChange) -> bool {
+    table.apply(change).is_ok()
+}
+
+#[test]
+fn a_state_expires_at_its_deadline(rt: HostRuntime) {
+    let (first, second) = (key(1), key(2));
+    let next = TableChange::Made(state(2, second, second, 89));
+    let mut table = Table::new(rt.alloc(), 1);
+    assert!(rt; takes(&mut table, TableChange::Made(state(1, first, first, 60))));
+    assert!(rt; number_at(&table, &first, 59) == 1 && number_at(&table, &first, 60) == 0);
+    assert!(rt; number_due(&table, 59) == 0 && number_due(&table, 60) == 1);
+    assert!(rt; !table.room(Clock(59)) && table.room(Clock(60)));
+    assert!(rt; table.apply(next) == Err(TableError::Full));
+    table.purge(Clock(60));
+    assert!(rt; takes(&mut table, next) && number_at(&table, &second, 88) == 2);
+}
+
+#[test]
+fn states_are_changed(rt: HostRuntime) {
+    let (wire, stack, other) = (key(1), key(2), key(3));
+    let mut table = Table::new(rt.alloc(), 2);
+    assert!(rt; takes(&mut table, TableChange::Made(state(1, wire, wire, 60))));
+    assert!(rt; takes(&mut table, TableChange::Made(state(2, other, other, 60))));
+    assert!(rt; takes(&mut table, TableChange::Touched(state(1, wire, stack, 60))));
+    assert!(rt; number_of(table.at(Side::Stack, &stack, Clock(0))) == 1);
+    assert!(rt; number_of(table.first()) == 1 && number_of(table.after(StateNumber(1))) == 2);
+    assert!(rt; !takes(&mut table, TableChange::Made(state(3, other, wire, 60))));
+    assert!(rt; takes(&mut table, TableChange::Removed(StateNumber(1))) && table.len() == 1);
+}
