@@ -58,9 +58,10 @@ class Account:
         for process in Path("/proc").glob("[0-9]*"):
             try:
                 begin = (process.name, (process / "stat").read_text().rpartition(")")[2].split()[19])
-                if begin not in self.works:
-                    self.works[begin] = work_of(process)
-                if self.works[begin]:
+                # a process that is no prover's may become one
+                work = self.works.get(begin) or work_of(process)
+                if work:
+                    self.works[begin] = work
                     self.ticks[begin] = ticks_of(process)
             except OSError:
                 continue
