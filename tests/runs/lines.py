@@ -10,8 +10,9 @@ CAPTURE, RULES, MISSING = "capture", "rules", "missing"
 SEED = "0123456789abcdef" * 4
 FLAGS = {"--interface": "em0", "--address": "192.0.2.1/24", "--inside": "10.0.0.0/8",
          **{f"--{name}": name for name in OUTPUTS}}
-# what is said of a value that isn't of its form names the form by these
-FORMS = {"--interface": "NAME", "--address": "A.B.C.D/BITS", "--inside": "NETS", "--seed": "HEX"}
+# what the help and what is said of a value call its form
+FORMS = {"--interface": "NAME", "--address": "A.B.C.D/BITS", "--inside": "NETS", "--seed": "HEX",
+         **{f"--{name}": "FILE" for name in OUTPUTS}}
 BAD_VALUES = {
     "--interface": BAD_INTERFACES,
     "--address": BAD_ADDRESSES,
@@ -21,6 +22,10 @@ BAD_VALUES = {
     "--seed": ("", "0", "0" * 63, "0" * 65, "0" * 128, "g" * 64, "0" * 63 + "G", "0x" + "0" * 62, "0" * 63 + " ",
                " " + "0" * 63, "-" + "0" * 63),
 }
+# of a list of networks the first part that is none is refused
+REFUSED_PARTS = {",": "", "10.0.0.0/8,": "", ",10.0.0.0/8": "", "10.0.0.1,,10.0.0.2": "",
+                 "10.0.0.0/8, 192.0.2.1": " 192.0.2.1", "10.0.0.0/8,em0": "em0",
+                 "10.0.0.1,10.0.0.0/4294967304": "10.0.0.0/4294967304"}
 GOOD_SEEDS = ("0" * 64, "f" * 64, "F" * 64, SEED, SEED.upper(), SEED.swapcase(), "aB" * 32)
 GOOD_INSIDES = ("10.0.0.5", "10.0.0.0/8,192.0.2.1", "0.0.0.0/0", "192.0.2.1/32,10.0.0.5/8,10.0.0.6/0", "10.0.0.5/0")
 
@@ -40,11 +45,12 @@ def run_line(flags, *more):
 
 
 def bad_values():
-    """One value each that isn't of its form, in both spellings; the flag and the form are named."""
+    """One value each that isn't of its form, in both spellings; value, flag and form are named."""
     for flag, values in BAD_VALUES.items():
         others = {name: value for name, value in FLAGS.items() if name != flag}
-        said = (flag.encode(), FORMS[flag].encode())
         for value in values:
+            refused = REFUSED_PARTS.get(value, value)
+            said = (f"invalid value '{refused}' for '{flag} <{FORMS[flag]}>'".encode(),)
             yield Line(run_line(others, f"{flag}={value}"), said)
             if not value.startswith("-"):
                 yield Line(run_line(others, flag, value), said)
@@ -66,8 +72,9 @@ def missing_words():
 def surplus_words():
     for flag, value in (*FLAGS.items(), ("--seed", SEED)):
         again = {**FLAGS, "--seed": SEED}
-        yield Line(run_line(again, flag, value))
-        yield Line(run_line(again, f"{flag}={value}"))
+        said = (f"the argument '{flag} <{FORMS[flag]}>' cannot be used multiple times".encode(),)
+        yield Line(run_line(again, flag, value), said)
+        yield Line(run_line(again, f"{flag}={value}"), said)
     yield Line(run_line(FLAGS, "more"))
     yield Line(("run", "more", CAPTURE, RULES, *spelled(FLAGS)))
     for word in ("--quiet", "-x", "--bits=24", "--batch=256", "--workers=0", "--messages=messages", "--peer=192.0.2.9:9"):
