@@ -1,5 +1,7 @@
 //! The values behind the flags of the command line, and their forms.
-ghost use Rattle.std.specs.Prelude.{◌≤◌, IfSome};
+ghost use Rattle.std.specs.Prelude.{◌≡◌, ◌<◌, ℕ, IfSome, SomeIff, length, slice_index};
+ghost use Rattle.std.specs.Char.{digit_value};
+ghost use Rattle.pfr_cli.specs.Seeds.{byte_at};
 
 use crate::failure::Failure;
 use pfr_conf::Ipv4Address;
@@ -72,7 +74,10 @@ pub fn seed<'a>(word: &'a str) -> Result<[u8; 32], Failure<'a>> {
 }
 
 /// The bytes that 64 hexadecimal digits write.
-fn seed_of(digits: &[u8]) -> Option<[u8; 32]> {
+fn seed_of(digits: &[u8]) -> Option<[u8; 32]>
+    ensures length { IfSome result (λ seed. length digits.now ≡ 64) }
+    ensures bytes { IfSome result (λ seed. (place : ℕ) → place < 32 → slice_index seed place ≡ byte_at digits.now place) }
+{
     let mut seed = [0; 32];
     if digits.len() != 2 * seed.len() {
         return None;
@@ -87,12 +92,10 @@ fn seed_of(digits: &[u8]) -> Option<[u8; 32]> {
 
 /// What a hexadecimal digit of either case counts.
 fn digit(byte: u8) -> Option<u8>
-    ensures { IfSome result (λ digit. digit ≤ 15) }
+    ensures { SomeIff result (digit_value byte < 16) (digit_value byte) }
 {
-    match byte {
-        b'0'..=b'9' => Some(byte - b'0'),
-        b'a'..=b'f' => Some(byte - b'a' + 10),
-        b'A'..=b'F' => Some(byte - b'A' + 10),
-        _ => None,
+    match char::from(byte).to_digit(16) {
+        Some(digit) => Some(digit as u8),
+        None => None,
     }
 }
