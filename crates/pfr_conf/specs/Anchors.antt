@@ -25,14 +25,20 @@ anchor_rule line = do
 abbrev pub blank_lines : Parser (Unit {0})
 blank_lines = λ i. Ok (tt, skip_line_ends i)
 
+-- one item, with the end of its line
+abbrev pub one_line : Parser FilterStatement → List FilterStatement → Parser (Unit {0} × List FilterStatement)
+one_line item found = do
+  x ← item
+  _ ← end_of_line
+  pure (tt, found ++ x ∷ [])
+
 abbrev pub body_line : Parser FilterStatement → (List FilterStatement → Parser (List FilterStatement)) → List FilterStatement → Parser (List FilterStatement)
 body_line item more found = do
   _ ← blank_lines
   is_end ← eat_sign s.CloseBrace
   if is_end then pure found else (do
-    x ← item
-    _ ← end_of_line
-    more (found ++ x ∷ []))
+    read ← one_line item found
+    more read.1)
 
 -- one to a line, up to the closing brace
 abbrev pub body_lines : Parser FilterStatement → Parser (List FilterStatement)
@@ -54,10 +60,14 @@ anchor_of item line = do
   inner ← body item
   pure (f.Anchor rule inner)
 
+-- what comes behind the action of a filter rule on this line
+abbrev pub rule : ℕ → A.Action → Parser FilterStatement
+rule line found = do
+  read ← filter_rule line found
+  pure (f.Rule read)
+
 abbrev pub rule_or : (ℕ → Parser FilterStatement) → ℕ → Option A.Action → Parser FilterStatement
-rule_or anchor line (Some found) = do
-  rule ← filter_rule line found
-  pure (f.Rule rule)
+rule_or anchor line (Some found) = rule line found
 rule_or anchor line None = λ i. if sees_word (codes "anchor") i then anchor line i else refuse i
 
 unfoldable pub rule_or_anchor : (ℕ → Parser FilterStatement) → Parser FilterStatement

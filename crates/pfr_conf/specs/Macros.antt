@@ -26,10 +26,16 @@ piece_by None None None = refuse
 unfoldable pub piece : Parser P.Piece
 piece = λ i. piece_by (macro_ahead i) (quoted_ahead i) (plain_ahead i) i
 
+-- one more behind those found so far
+abbrev pub one_piece : List P.Piece → Parser (Unit {0} × List P.Piece)
+one_piece found = do
+  x ← piece
+  pure (tt, found ++ x ∷ [])
+
 abbrev pub piece_more : (List P.Piece → Parser (List P.Piece)) → List P.Piece → Parser (List P.Piece)
 piece_more more found = do
-  x ← piece
-  λ i. if at_line_end i then pure (found ++ x ∷ []) i else more (found ++ x ∷ []) i
+  read ← one_piece found
+  λ i. if at_line_end i then pure read.1 i else more read.1 i
 
 -- one or more of them to the line's end
 abbrev pub pieces : Parser (List P.Piece)

@@ -1,9 +1,10 @@
 //! Anchors, which may hold filter rules and anchors.
 ghost use Rattle.std.specs.Prelude.{◌≡◌, ◌≤◌, [], Ok, codes};
 ghost use Rattle.pfr_conf.specs.Anchors as spec;
+ghost use Rattle.pfr_conf.specs.Statements.{ReadsOnto};
 ghost use Rattle.pfr_terms.specs.Input.{Reads};
 
-use crate::filter::{FilterRule, action_ahead, rule_behind};
+use crate::filter::{Action, FilterRule, action_ahead, rule_behind};
 use crate::name::name_ahead;
 use crate::policy::{Direction, direction_ahead, end_of_line};
 use pfr_terms::hosts::packet_criteria;
@@ -53,6 +54,20 @@ fn anchor_rule<'a>(
     })
 }
 
+/// Adds the statement of a line to those found so far.
+#[cycle(nest)]
+fn add_line<'a>(
+    alloc: Global,
+    reader: &mut Reader<'_, 'a>,
+    depth: usize,
+    found: &mut Items<FilterStatement<'a>>,
+) -> Result<(), ConfError>
+    ensures { ReadsOnto (spec.one_line (spec.statement depth) found.old reader.old) result found.new reader.new }
+{
+    found.push(statement(alloc, reader, depth)?)?;
+    end_of_line(alloc, reader)
+}
+
 /// The lines of a body up to the closing brace, of which each may hold at most this many anchors in one another.
 #[cycle(nest)]
 #[tactic(auto, using(pfr_terms::proofs::Turns::one_turn, pfr_terms::proofs::Turns::no_turn))]
@@ -69,8 +84,7 @@ fn body<'a>(
         if reader.eat_sign(Sign::CloseBrace) {
             return Ok(found);
         }
-        found.push(statement(alloc, reader, depth)?)?;
-        end_of_line(alloc, reader)?;
+        add_line(alloc, reader, depth, &mut found)?;
     }
     Err(reader.refuse(alloc))
 }
@@ -92,9 +106,38 @@ fn body_if_any<'a>(
     body(alloc, reader, depth)
 }
 
+/// An anchor, whose word comes next on this line and in which at most `depth` others may stand in one another.
+#[cycle(nest)]
+#[tactic(auto, unfolding(crate::specs::Anchors::anchor_of))]
+fn anchor<'a>(
+    alloc: Global,
+    reader: &mut Reader<'_, 'a>,
+    line: usize,
+    depth: usize,
+) -> Result<FilterStatement<'a>, ConfError>
+    ensures { Reads (spec.anchor_of (spec.statement depth) line reader.old) result reader.new }
+{
+    reader.take();
+    let rule = anchor_rule(alloc, reader, line)?;
+    let body = body_if_any(alloc, reader, depth)?;
+    Ok(FilterStatement::Anchor(rule, body))
+}
+
+/// The filter rule behind its action.
+fn rule<'a>(
+    alloc: Global,
+    reader: &mut Reader<'_, 'a>,
+    line: usize,
+    action: Action,
+) -> Result<FilterStatement<'a>, ConfError>
+    ensures { Reads (spec.rule line action reader.old) result reader.new }
+{
+    Ok(FilterStatement::Rule(rule_behind(alloc, reader, line, action)?))
+}
+
 /// A filter rule, or an anchor in which at most `depth - 1` others may stand in one another.
 #[cycle(nest)]
-#[tactic(auto, unfolding(crate::specs::Anchors::anchor_of, crate::specs::Anchors::rule_or_anchor), using(crate::proofs::Depths::deepest, crate::proofs::Depths::deeper))]
+#[tactic(auto, unfolding(crate::specs::Anchors::rule_or_anchor), using(crate::proofs::Depths::deepest, crate::proofs::Depths::deeper))]
 pub(crate) fn statement<'a>(
     alloc: Global,
     reader: &mut Reader<'_, 'a>,
@@ -104,7 +147,7 @@ pub(crate) fn statement<'a>(
 {
     let line = reader.line_ahead();
     if let Some(action) = action_ahead(reader) {
-        return Ok(FilterStatement::Rule(rule_behind(alloc, reader, line, action)?));
+        return rule(alloc, reader, line, action);
     }
     if !reader.sees_word(b"anchor") {
         return Err(reader.refuse(alloc));
@@ -112,8 +155,5 @@ pub(crate) fn statement<'a>(
     if depth == 0 {
         return Err(reader.fault(ConfErrorKind::TooDeep));
     }
-    reader.take();
-    let rule = anchor_rule(alloc, reader, line)?;
-    let body = body_if_any(alloc, reader, depth - 1)?;
-    Ok(FilterStatement::Anchor(rule, body))
+    anchor(alloc, reader, line, depth - 1)
 }

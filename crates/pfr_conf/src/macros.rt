@@ -1,6 +1,7 @@
 //! Definitions of macros: `NAME = pieces`.
 ghost use Rattle.std.specs.Prelude.{◌≡◌, []};
 ghost use Rattle.pfr_conf.specs.Macros as spec;
+ghost use Rattle.pfr_conf.specs.Statements.{ReadsOnto};
 ghost use Rattle.pfr_terms.specs.Input.{Reads};
 
 use pfr_terms::lists::Item;
@@ -48,6 +49,17 @@ impl<'a> Item<'a> for Piece<'a> {
     }
 }
 
+/// Adds the next piece to those found so far.
+fn add_piece<'a>(
+    alloc: Global,
+    reader: &mut Reader<'_, 'a>,
+    found: &mut Items<Piece<'a>>,
+) -> Result<(), ConfError>
+    ensures { ReadsOnto (spec.one_piece found.old reader.old) result found.new reader.new }
+{
+    Ok(found.push(Piece::<'a>::read(alloc, reader)?)?)
+}
+
 /// One or more pieces up to the line's end.
 #[tactic(auto, using(pfr_terms::proofs::Turns::one_turn, pfr_terms::proofs::Turns::no_turn))]
 fn pieces<'a>(alloc: Global, reader: &mut Reader<'_, 'a>) -> Result<Items<Piece<'a>>, ConfError>
@@ -55,7 +67,7 @@ fn pieces<'a>(alloc: Global, reader: &mut Reader<'_, 'a>) -> Result<Items<Piece<
 {
     let mut found = Items::new(alloc);
     for _turn in 0..reader.turns() {
-        found.push(Piece::<'a>::read(alloc, reader)?)?;
+        add_piece(alloc, reader, &mut found)?;
         if reader.at_line_end() {
             return Ok(found);
         }

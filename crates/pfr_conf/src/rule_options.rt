@@ -1,6 +1,7 @@
 //! What may stand behind the hosts of a filter rule, each at most once and in any order.
 ghost use Rattle.std.specs.Prelude.{◌≡◌, ◌&&◌, Ok, codes};
 ghost use Rattle.pfr_conf.specs.RuleOptions as spec;
+ghost use Rattle.pfr_conf.specs.Statements.{ReadsOnto};
 ghost use Rattle.pfr_terms.specs.Input.{Reads};
 
 use crate::name::some_name;
@@ -125,89 +126,63 @@ fn state_keeping(
     Ok(None)
 }
 
-/// `allow-opts` or a label, if one comes next that may still come; answers whether it did.
+/// Reads `allow-opts` or a label, if one comes next that may still come; answers whether it did.
 #[tactic(auto, unfolding(crate::specs::RuleOptions::last_option))]
 fn last_option<'a>(
     alloc: Global,
     reader: &mut Reader<'_, 'a>,
-    found: RuleOptions<'a>,
-) -> Result<(bool, RuleOptions<'a>), ConfError>
-    ensures { Reads (spec.last_option found.entry reader.old) result reader.new }
+    found: &mut RuleOptions<'a>,
+) -> Result<bool, ConfError>
+    ensures { ReadsOnto (spec.last_option found.old reader.old) result found.new reader.new }
 {
     if eat_if(reader, !found.allow_opts, b"allow-opts") {
-        return Ok((
-            true,
-            RuleOptions {
-                allow_opts: true,
-                ..found
-            },
-        ));
+        found.allow_opts = true;
+        return Ok(true);
     }
     if eat_if(reader, found.label.is_none(), b"label") {
-        let label = some_name(alloc, reader)?;
-        return Ok((
-            true,
-            RuleOptions {
-                label: Some(label),
-                ..found
-            },
-        ));
+        found.label = Some(some_name(alloc, reader)?);
+        return Ok(true);
     }
-    Ok((false, found))
+    Ok(false)
 }
 
-/// `no state` or `keep state ..` where none came, or one of the last options.
+/// Reads `no state` or `keep state ..` where none came, or one of the last options; answers whether one came.
 #[tactic(auto, unfolding(crate::specs::RuleOptions::later_option))]
 fn later_option<'a>(
     alloc: Global,
     reader: &mut Reader<'_, 'a>,
-    found: RuleOptions<'a>,
-) -> Result<(bool, RuleOptions<'a>), ConfError>
-    ensures { Reads (spec.later_option found.entry reader.old) result reader.new }
+    found: &mut RuleOptions<'a>,
+) -> Result<bool, ConfError>
+    ensures { ReadsOnto (spec.later_option found.old reader.old) result found.new reader.new }
 {
     if found.state.is_some() {
         return last_option(alloc, reader, found);
     }
     match state_keeping(alloc, reader)? {
-        Some(keeping) => Ok((
-            true,
-            RuleOptions {
-                state: Some(keeping),
-                ..found
-            },
-        )),
+        Some(keeping) => {
+            found.state = Some(keeping);
+            Ok(true)
+        }
         None => last_option(alloc, reader, found),
     }
 }
 
-/// One more option of a rule, if one comes next that may still come; answers whether it did.
+/// Reads one more option of a rule, if one comes next that may still come; answers whether it did.
 #[tactic(auto, unfolding(crate::specs::RuleOptions::rule_option))]
 fn rule_option<'a>(
     alloc: Global,
     reader: &mut Reader<'_, 'a>,
-    found: RuleOptions<'a>,
-) -> Result<(bool, RuleOptions<'a>), ConfError>
-    ensures { Reads (spec.rule_option found.entry reader.old) result reader.new }
+    found: &mut RuleOptions<'a>,
+) -> Result<bool, ConfError>
+    ensures { ReadsOnto (spec.rule_option found.old reader.old) result found.new reader.new }
 {
     if eat_if(reader, found.flags.is_none(), b"flags") {
-        let flags = flags_match(alloc, reader)?;
-        return Ok((
-            true,
-            RuleOptions {
-                flags: Some(flags),
-                ..found
-            },
-        ));
+        found.flags = Some(flags_match(alloc, reader)?);
+        return Ok(true);
     }
     if eat_if(reader, found.icmp_types.is_none(), b"icmp-type") {
-        let types = list::<Written<'a, IcmpMatch>>(alloc, reader)?;
-        return Ok((
-            true,
-            RuleOptions {
-                icmp_types: Some(types),
-                ..found
-            },
-        ));
+        found.icmp_types = Some(list::<Written<'a, IcmpMatch>>(alloc, reader)?);
+        return Ok(true);
     }
     later_option(alloc, reader, found)
 }
@@ -228,9 +203,7 @@ pub(crate) fn options_behind<'a>(
         label: None,
     };
     for _turn in 0..reader.turns() {
-        let (is_more, next) = rule_option(alloc, reader, found)?;
-        found = next;
-        if !is_more {
+        if !rule_option(alloc, reader, &mut found)? {
             return Ok(found);
         }
     }
