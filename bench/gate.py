@@ -6,7 +6,7 @@
 The command runs at the top of the repository, and its output goes on as it comes. Behind it stands a table for
 docs/ARCHITECTURE.md: for each crate the processor minutes of its proofs, of its unit tests' proofs and of its must-fail
 edits, and how many edits it has; and the minutes by the clock. The prover's processes are looked at in short turns, so what
-one of them does behind its last look isn't counted.
+one of them does behind its last look isn't counted. Those of other sessions of the machine (`setsid`) aren't either.
 """
 
 import os
@@ -52,11 +52,14 @@ class Account:
     def __init__(self):
         self.works = {}
         self.ticks = {}
+        self.session = os.getsid(0)
         self.is_over = threading.Event()
 
     def look(self):
         for process in Path("/proc").glob("[0-9]*"):
             try:
+                if os.getsid(int(process.name)) != self.session:
+                    continue
                 begin = (process.name, (process / "stat").read_text().rpartition(")")[2].split()[19])
                 # a process that is no prover's may become one
                 work = self.works.get(begin) or work_of(process)
@@ -114,7 +117,7 @@ def main():
         account.is_over.set()
         keeper.join()
     print(*table(account.minutes()), sep="\n")
-    print(f"{(time.monotonic() - begin) / 60:.1f} minutes by the clock, {os.cpu_count()} processors: {' '.join(command)}")
+    print(f"{(time.monotonic() - begin) / 60:.1f} minutes by the clock, {len(os.sched_getaffinity(0))} processors: {' '.join(command)}")
     sys.exit(status)
 
 
