@@ -329,28 +329,33 @@ impl Run {
         }
         Ok(false)
     }
+
+    /// Does what the lines say up to the end of the run, and answers whether it came.
+    fn follow(&mut self, out: &mut String, lines: &mut Lines<'_>) -> Result<bool, AllocError> {
+        for line in lines {
+            if self.obey(out, &mut Words::of(line))? {
+                return Ok(true);
+            }
+        }
+        Ok(false)
+    }
 }
 
-/// The answer to the next run, if a whole one is left.
-fn next_answer(alloc: Global, lines: &mut Lines<'_>) -> Result<Option<String>, AllocError> {
-    let mut answer = String::new(alloc);
-    let mut run = Run::new(alloc);
-    for line in lines {
-        if run.obey(&mut answer, &mut Words::of(line))? {
-            return Ok(Some(answer));
-        }
-    }
-    Ok(None)
+/// Puts the answer to the next run, and answers whether a whole one was left.
+fn put_next(alloc: Global, out: &mut String, lines: &mut Lines<'_>) -> Result<bool, AllocError> {
+    Run::new(alloc).follow(out, lines)
 }
 
 /// Answers all runs of a text.
 pub(crate) fn answer<W: Write>(alloc: Global, text: &str, out: &mut W) -> io::Result<()> {
     let mut lines = text.lines();
+    let mut answer = String::new(alloc);
     for _turn in 0..u64::MAX {
-        let Some(answer) = next_answer(alloc, &mut lines)? else {
+        if !put_next(alloc, &mut answer, &mut lines)? {
             break;
-        };
+        }
         out.write_all(answer.as_bytes())?;
+        answer.clear();
     }
     Ok(())
 }

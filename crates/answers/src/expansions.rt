@@ -58,6 +58,21 @@ fn put_counts(out: &mut String, ruleset: &Ruleset) -> Result<(), AllocError> {
     writeln!(out, "{rules} filter, {translations} translation")
 }
 
+/// What is asked for of the ruleset that some statements mean.
+fn put_asked(
+    alloc: Global,
+    out: &mut String,
+    counts_alone: bool,
+    statements: &Statements<'_>,
+    ruleset: &Ruleset,
+) -> Result<(), AllocError> {
+    if counts_alone {
+        return put_counts(out, ruleset);
+    }
+    let names = table_names(alloc, statements)?;
+    put_ruleset(alloc, out, names.as_slice(), ruleset)
+}
+
 /// What statements mean, or their first fault.
 fn put_meaning(
     alloc: Global,
@@ -67,11 +82,21 @@ fn put_meaning(
     statements: &Statements<'_>,
 ) -> Result<(), AllocError> {
     match expand(alloc, statements, interface) {
-        Ok(ruleset) if counts_alone => put_counts(out, &ruleset),
-        Ok(ruleset) => {
-            let names = table_names(alloc, statements)?;
-            put_ruleset(alloc, out, names.as_slice(), &ruleset)
-        }
+        Ok(ruleset) => put_asked(alloc, out, counts_alone, statements, &ruleset),
+        Err(fault) => put_fault(out, &fault),
+    }
+}
+
+/// What a text means, or its first fault.
+fn put_text(
+    alloc: Global,
+    out: &mut String,
+    counts_alone: bool,
+    interface: &Interface,
+    text: &[u8],
+) -> Result<(), AllocError> {
+    match statements_of(alloc, text) {
+        Ok(statements) => put_meaning(alloc, out, counts_alone, interface, &statements),
         Err(fault) => put_fault(out, &fault),
     }
 }
@@ -83,9 +108,6 @@ pub(crate) fn put_answer(
 ) -> Result<(), AllocError> {
     let counts_alone = given.byte() == 1;
     let interface = given.interface();
-    match statements_of(alloc, given.text()) {
-        Ok(statements) => put_meaning(alloc, out, counts_alone, &interface, &statements)?,
-        Err(fault) => put_fault(out, &fault)?,
-    }
+    put_text(alloc, out, counts_alone, &interface, given.text())?;
     out.push_str("end\n")
 }

@@ -32,7 +32,7 @@ fn bodies_of<'s, 'a>(
     Ok(bodies)
 }
 
-/// How many statements stand in bodies, in those within them too.
+/// How many statements stand in these bodies, in those within them too.
 fn count_in(mut waiting: Vec<&[FilterStatement<'_>]>) -> Result<usize, AllocError> {
     let mut count: usize = 0;
     for _turn in 0..u64::MAX {
@@ -45,21 +45,28 @@ fn count_in(mut waiting: Vec<&[FilterStatement<'_>]>) -> Result<usize, AllocErro
     Ok(count)
 }
 
+/// How many statements there are, those of bodies too.
+fn count(alloc: Global, statements: &[Statement<'_>]) -> Result<usize, AllocError> {
+    let within = count_in(bodies_of(alloc, statements)?)?;
+    Ok(statements.len().saturating_add(within))
+}
+
+fn put_count(
+    alloc: Global,
+    out: &mut String,
+    statements: &[Statement<'_>],
+) -> Result<(), AllocError> {
+    let count = count(alloc, statements)?;
+    writeln!(out, "{count} statements")
+}
+
 pub(crate) fn put_answer(
     alloc: Global,
     out: &mut String,
     given: &mut Given<'_>,
 ) -> Result<(), AllocError> {
     match read(alloc, given.text()) {
-        Ok(found) => {
-            let statements = found.statements.as_slice();
-            let within = count_in(bodies_of(alloc, statements)?)?;
-            writeln!(
-                out,
-                "{} statements",
-                statements.len().saturating_add(within)
-            )
-        }
+        Ok(found) => put_count(alloc, out, found.statements.as_slice()),
         Err(fault) => put_fault(out, &fault),
     }
 }

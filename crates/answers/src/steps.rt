@@ -12,6 +12,7 @@
 use crate::given::Given;
 use crate::printing::{put_address, put_fault};
 use pfr_commit::{StateLine, VerdictLine};
+use pfr_conf::ConfError;
 use pfr_headers::{Change, End, Ipv4Address, Net, view};
 use pfr_packet::{Direct, Job, Outcome, step};
 use pfr_rules::Visits;
@@ -176,21 +177,50 @@ fn step_over(given: &mut Given<'_>, records: u32) {
     }
 }
 
+/// Steps over so many records, and puts the ruleset's first fault.
+fn refuse(
+    out: &mut String,
+    given: &mut Given<'_>,
+    records: u32,
+    fault: &ConfError,
+) -> Result<(), AllocError> {
+    step_over(given, records);
+    put_fault(out, fault)
+}
+
+/// The lines of a run of this job, or its ruleset's first fault.
+fn put_lines(
+    alloc: Global,
+    out: &mut String,
+    given: &mut Given<'_>,
+    job: &Result<Job, ConfError>,
+) -> Result<(), AllocError> {
+    let records = given.number();
+    match job {
+        Ok(job) => replay(alloc, out, given, job, records),
+        Err(fault) => refuse(out, given, records, fault),
+    }
+}
+
+/// The job that a run begins with.
+fn job(alloc: Global, given: &mut Given<'_>) -> Result<Result<Job, ConfError>, AllocError> {
+    let interface = given.interface();
+    let inside = networks(alloc, given)?;
+    let text = given.text();
+    Ok(Job::new(alloc, text, interface, inside.as_slice(), [0; 32]))
+}
+
+/// The answer to a run, but for its end.
+fn put_run(alloc: Global, out: &mut String, given: &mut Given<'_>) -> Result<(), AllocError> {
+    let job = job(alloc, given)?;
+    put_lines(alloc, out, given, &job)
+}
+
 pub(crate) fn put_answer(
     alloc: Global,
     out: &mut String,
     given: &mut Given<'_>,
 ) -> Result<(), AllocError> {
-    let interface = given.interface();
-    let inside = networks(alloc, given)?;
-    let text = given.text();
-    let records = given.number();
-    match Job::new(alloc, text, interface, inside.as_slice(), [0; 32]) {
-        Ok(job) => replay(alloc, out, given, &job, records)?,
-        Err(fault) => {
-            step_over(given, records);
-            put_fault(out, &fault)?;
-        }
-    }
+    put_run(alloc, out, given)?;
     out.push_str("end\n")
 }
