@@ -11,35 +11,73 @@ const RUN_EXAMPLE: &str = "Example:
 const CHECK_EXAMPLE: &str = "Example:
   pfreplay check /etc/pf.conf --interface em0 --address 192.0.2.1/24";
 
+/// The flags that say which interface a ruleset is for: their names, what the help calls their values, and their help.
+const INTERFACE_FLAGS: [(&str, &str, &str); 2] = [
+    (
+        "interface",
+        INTERFACE,
+        "The interface on which packets are, of 1 to 15 bytes",
+    ),
+    (
+        "address",
+        ADDRESS,
+        "The interface's address and the length of its network's prefix",
+    ),
+];
+
+/// The flags that say which packets go out, and where the outputs go.
+const RUN_FLAGS: [(&str, &str, &str); 5] = [
+    (
+        "inside",
+        INSIDE,
+        "The networks whose packets go out, A.B.C.D/BITS or A.B.C.D, separated by commas",
+    ),
+    ("verdicts", FILE, "The file for a line on each packet"),
+    ("packets", FILE, "The file for the packets that go on"),
+    ("counters", FILE, "The file for the counters of the rules"),
+    ("states", FILE, "The file for the states at the end"),
+];
+
 /// The whole command line.
 pub fn command_line<'a>(alloc: Global) -> Result<Command<'a>, AllocError> {
-    Command::new(alloc, "pfreplay")
-        .bin_name("pfreplay")?
-        .version("0.1.0")
-        .about("Replays a packet capture through a pf ruleset")
-        .after_help(CHECK_EXAMPLE)
-        .subcommand_required(true)
-        .disable_help_subcommand(true)
-        .subcommand(run_command(alloc)?)?
-        .subcommand(check_command(alloc)?)
+    let program = with_run(alloc, program(alloc)?)?;
+    program.subcommand(check_command(alloc)?)
+}
+
+/// The program without its commands.
+fn program<'a>(alloc: Global) -> Result<Command<'a>, AllocError> {
+    let program = Command::new(alloc, "pfreplay").bin_name("pfreplay")?;
+    Ok(
+        program
+            .version("0.1.0")
+            .about("Replays a packet capture through a pf ruleset")
+            .after_help(CHECK_EXAMPLE)
+            .subcommand_required(true)
+            .disable_help_subcommand(true),
+    )
+}
+
+/// A program with the command that replays a capture.
+fn with_run<'a>(alloc: Global, program: Command<'a>) -> Result<Command<'a>, AllocError> {
+    program.subcommand(run_command(alloc)?)
 }
 
 /// The command that replays a capture.
 fn run_command<'a>(alloc: Global) -> Result<Command<'a>, AllocError> {
     let capture = "The file with the packet capture, in the classic pcap format";
-    let inside = "The networks whose packets go out, A.B.C.D/BITS or A.B.C.D, separated by commas";
-    let seed = "What random choices begin with, 64 hexadecimal digits [default: 64 zeros]";
     let command = Command::new(alloc, "run")
         .about("Replays a packet capture through a ruleset")
         .after_help(RUN_EXAMPLE)
         .arg(word(alloc, "CAPTURE", capture))?;
-    with_ruleset(alloc, command)?
-        .arg(flag(alloc, "inside", INSIDE, inside))?
-        .arg(flag(alloc, "seed", SEED, seed).required(false))?
-        .arg(output(alloc, "verdicts", "The file for a line on each packet"))?
-        .arg(output(alloc, "packets", "The file for the packets that go on"))?
-        .arg(output(alloc, "counters", "The file for the counters of the rules"))?
-        .arg(output(alloc, "states", "The file for the states at the end"))
+    let command = with_ruleset(alloc, command)?;
+    with_choices(alloc, command)
+}
+
+/// A command with the flags that say how a capture is replayed.
+fn with_choices<'a>(alloc: Global, command: Command<'a>) -> Result<Command<'a>, AllocError> {
+    let seed = "What random choices begin with, 64 hexadecimal digits [default: 64 zeros]";
+    let command = with_flags(alloc, command, &RUN_FLAGS)?;
+    command.arg(flag(alloc, "seed", SEED, seed).required(false))
 }
 
 /// The command that reads a ruleset alone.
@@ -52,12 +90,28 @@ fn check_command<'a>(alloc: Global) -> Result<Command<'a>, AllocError> {
 
 /// A command with the words that say a ruleset and the interface that it is for.
 fn with_ruleset<'a>(alloc: Global, command: Command<'a>) -> Result<Command<'a>, AllocError> {
-    let interface = "The interface on which packets are, of 1 to 15 bytes";
-    let address = "The interface's address and the length of its network's prefix";
-    command
-        .arg(word(alloc, "RULES", "The file with the ruleset"))?
-        .arg(flag(alloc, "interface", INTERFACE, interface))?
-        .arg(flag(alloc, "address", ADDRESS, address))
+    let command = command.arg(word(alloc, "RULES", "The file with the ruleset"))?;
+    with_flags(alloc, command, &INTERFACE_FLAGS)
+}
+
+/// A command with these flags.
+fn with_flags<'a>(
+    alloc: Global,
+    command: Command<'a>,
+    flags: &[(&'a str, &'a str, &'a str)],
+) -> Result<Command<'a>, AllocError> {
+    command.args(args(alloc, flags)?)
+}
+
+fn args<'a>(
+    alloc: Global,
+    flags: &[(&'a str, &'a str, &'a str)],
+) -> Result<Vec<Arg<'a>>, AllocError> {
+    let mut args = Vec::new(alloc);
+    for (name, form, help) in flags {
+        args.push(flag(alloc, name, form, help))?;
+    }
+    Ok(args)
 }
 
 /// A word that has to be given, by its place.
@@ -71,9 +125,4 @@ fn word<'a>(alloc: Global, name: &'a str, help: &'a str) -> Arg<'a> {
 /// A flag with a value, which has to be given.
 fn flag<'a>(alloc: Global, name: &'a str, form: &'a str, help: &'a str) -> Arg<'a> {
     word(alloc, name, help).long(name).value_name(form)
-}
-
-/// The flag of an output's file.
-fn output<'a>(alloc: Global, name: &'a str, help: &'a str) -> Arg<'a> {
-    flag(alloc, name, FILE, help)
 }

@@ -21,16 +21,27 @@ pub fn replay<'a, R: Files + AllocGlobal, O: Write>(
     let text = ruleset_text(rt, asked.rules)?;
     // A fault of the ruleset is told before any other file is touched.
     ruleset_of(rt.alloc(), text.as_slice(), &asked.interface)?;
-    let mut source = ReaderSource::new(opened(rt, asked.capture)?);
-    let mut sinks = sinks(rt, &asked.outputs)?;
+    let report = replay_text(rt, asked, text.as_slice())?;
+    finish(&report, out)
+}
+
+/// Replays a capture through the ruleset of this text.
+fn replay_text<'a, R: Files + AllocGlobal>(
+    rt: &R,
+    asked: &RunWords<'a>,
+    text: &[u8],
+) -> Result<Report, Failure<'a>> {
     let settings = Settings {
         interface: asked.interface,
         inside: asked.inside.as_slice(),
         batch: BATCH,
     };
-    let text = text.as_slice();
-    let report = pfr_out::replay(rt, &mut source, text, asked.seed, &settings, &mut sinks)?;
-    finish(&report, out)
+    let mut source = ReaderSource::new(opened(rt, asked.capture)?);
+    let mut sinks = sinks(rt, &asked.outputs)?;
+    match pfr_out::replay(rt, &mut source, text, asked.seed, &settings, &mut sinks) {
+        Ok(report) => Ok(report),
+        Err(stop) => Err(Failure::from(stop)),
+    }
 }
 
 /// Creates the files of the outputs, in this order. The messages for a standby go nowhere.

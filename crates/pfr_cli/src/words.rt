@@ -83,22 +83,37 @@ fn refused<'a>(alloc: Global, error: &clap::Error) -> Result<Asked<'a>, Failure<
 
 /// What the words behind `run` ask for.
 fn run_words<'a>(alloc: Global, matches: &ArgMatches<'a>) -> Result<Asked<'a>, Failure<'a>> {
+    let capture = given(matches, "CAPTURE")?;
+    let rules = given(matches, "RULES")?;
+    let outputs = given_outputs(matches)?;
+    let interface = given_interface(matches)?;
+    let inside = networks(alloc, given(matches, "inside")?)?;
     Ok(Asked::Run(RunWords {
-        capture: given(matches, "CAPTURE")?,
-        rules: given(matches, "RULES")?,
-        interface: given_interface(matches)?,
-        inside: networks(alloc, given(matches, "inside")?)?,
-        seed: match matches.get_str("seed") {
-            Some(digits) => seed(digits)?,
-            None => [0; 32],
-        },
-        outputs: OutputNames {
-            verdicts: given(matches, "verdicts")?,
-            packets: given(matches, "packets")?,
-            counters: given(matches, "counters")?,
-            states: given(matches, "states")?,
-        },
+        capture,
+        rules,
+        interface,
+        inside,
+        seed: given_seed(matches)?,
+        outputs,
     }))
+}
+
+/// The files that the words name for the outputs.
+fn given_outputs<'a>(matches: &ArgMatches<'a>) -> Result<OutputNames<'a>, Failure<'a>> {
+    Ok(OutputNames {
+        verdicts: given(matches, "verdicts")?,
+        packets: given(matches, "packets")?,
+        counters: given(matches, "counters")?,
+        states: given(matches, "states")?,
+    })
+}
+
+/// The seed that the words say, or zeros.
+fn given_seed<'a>(matches: &ArgMatches<'a>) -> Result<[u8; 32], Failure<'a>> {
+    match matches.get_str("seed") {
+        Some(digits) => seed(digits),
+        None => Ok([0; 32]),
+    }
 }
 
 /// What the words behind `check` ask for.
