@@ -28,6 +28,12 @@ class Case(NamedTuple):
     address: str = "192.0.2.1/24"
 
 
+class Line(NamedTuple):
+    """Words of a command line, and what is said of them besides that they don't fit."""
+    words: tuple
+    said: tuple = ()
+
+
 class Written(NamedTuple):
     """A case, and what is written out of its outcome by hand: parts of it by their names. A file that is left as it was is
     None."""

@@ -3,7 +3,7 @@
 from typing import NamedTuple
 
 from expansions.cases import RUNS
-from runs.case import EXAMPLES
+from runs.case import EXAMPLES, Line
 from runs.filter_cases import MANY_RULES, stored
 
 MOST_TEXT = 1048576
@@ -16,6 +16,8 @@ BAD_ADDRESSES = ("", "192.0.2.1", "192.0.2.1/", "/24", "192.0.2.1/33", "192.0.2.
                  "192.0.2.1/2x", "192.0.2.x/24", "192..2.1/24", "em0/24", "192.0.2.1 /24")
 # a command line that fits, but for the word that is named
 RULES, FITTING = "rules", ("--interface", "em0", "--address", "192.0.2.1/24")
+# what the help and what is said of a value call its form
+FORMS = {"--interface": "NAME", "--address": "A.B.C.D/BITS"}
 
 
 class Check(NamedTuple):
@@ -43,6 +45,7 @@ def rows():
                   8, "d877450c4dcf3e50293a9925dbdbf169")
     yield counted("anchors of a list", b"anchor on { em0, em1 } {\npass\nblock\n}\n",
                   4, "206464346a8e28b918b8fe09aab4876e")
+    yield counted("an interface of a byte", b"pass from e:network\n", 1, "7ece055abb75068bf969c8e34876ad92", "e")
     yield counted("an interface of 15 bytes", b"pass from a_name_of_15_by:network\n",
                   1, "4a34cca6657248d1a708c2726e67d72b", "a_name_of_15_by", "0.0.0.0/0")
     yield counted("a network of 32 bits", b"pass from (igb1)\n", 1, "43108ef02922269c7d8d659be428cf46", "igb1",
@@ -76,24 +79,23 @@ def all_cases():
 def bad_command_lines():
     """Command lines that don't fit, the words behind `check`. The ruleset has a fault that isn't to be met."""
     interface, address = FITTING[:2], FITTING[2:]
-    yield ()
-    yield (RULES,)
-    yield FITTING
-    yield (RULES, *interface)
-    yield (RULES, *address)
-    yield (RULES, *interface, "--address")
-    yield (RULES, *address, "--interface")
-    yield (RULES, *FITTING, *interface)
-    yield (RULES, *FITTING, *address)
-    yield (RULES, *FITTING, "--interface", "em1")
-    yield (RULES, *FITTING, "--bits", "24")
-    yield (RULES, *FITTING, "--quiet")
-    yield (RULES, *FITTING, "-x")
-    yield (RULES, "10.0.0.0/8", *FITTING)
-    yield (RULES, *FITTING, "10.0.0.0/8")
-    yield ("missing", *FITTING, "packets")
-    yield ("missing", *interface)
-    for name in BAD_INTERFACES:
-        yield (RULES, "--interface", name, *address)
-    for network in BAD_ADDRESSES:
-        yield (RULES, *interface, "--address", network)
+    yield Line(())
+    yield Line((RULES,))
+    yield Line(FITTING)
+    yield Line((RULES, *interface))
+    yield Line((RULES, *address))
+    yield Line((RULES, *interface, "--address"))
+    yield Line((RULES, *address, "--interface"))
+    for flag, value in (interface, address, ("--interface", "em1")):
+        said = (f"the argument '{flag} <{FORMS[flag]}>' cannot be used multiple times".encode(),)
+        yield Line((RULES, *FITTING, flag, value), said)
+    yield Line((RULES, *FITTING, "--bits", "24"))
+    yield Line((RULES, *FITTING, "--quiet"))
+    yield Line((RULES, *FITTING, "-x"))
+    yield Line((RULES, "10.0.0.0/8", *FITTING))
+    yield Line((RULES, *FITTING, "10.0.0.0/8"))
+    yield Line(("missing", *FITTING, "packets"))
+    yield Line(("missing", *interface))
+    for flag, values, other in (("--interface", BAD_INTERFACES, address), ("--address", BAD_ADDRESSES, interface)):
+        for value in values:
+            yield Line((RULES, flag, value, *other), (f"invalid value '{value}' for '{flag} <{FORMS[flag]}>'".encode(),))

@@ -52,10 +52,10 @@ def files(comparison):
 
 
 def command_lines(comparison):
-    """Command lines that don't fit. How that is worded isn't fixed; the ruleset isn't looked at."""
+    """Command lines that don't fit. Of the wording what is at fault is fixed; the ruleset isn't looked at."""
     comparison.rules.write_bytes(b"scrub in all\n")
     places = {RULES: comparison.rules, "missing": comparison.folder / "missing"}
-    for line in check_cases.bad_command_lines():
+    for line, said in check_cases.bad_command_lines():
         words = [places.get(word, word) for word in line]
         seen = comparison.execute(["check", *words])
-        comparison.expect(f"check: words {line}", Outcome(b"", a_line(seen, b"pfreplay: "), 1), seen)
+        comparison.expect(f"check: words {line}", Outcome(b"", a_line(seen, b"pfreplay: ", said), 1), seen)

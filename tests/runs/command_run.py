@@ -84,7 +84,7 @@ def good_lines(comparison):
 
 
 def bad_lines(comparison):
-    """Command lines that don't fit. How that is worded isn't fixed; no file is looked at or made."""
+    """Command lines that don't fit. Of the wording what is at fault is fixed; no file is looked at or made."""
     comparison.prepare(Case("words", b"scrub in all", INSIDE, b""))
     for words, said in lines.bad():
         seen = comparison.execute(named(comparison, words))

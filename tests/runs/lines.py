@@ -1,7 +1,7 @@
 """Command lines of the command `run` that fit and that don't."""
 
-from typing import NamedTuple
-
+from runs import check_cases
+from runs.case import Line
 from runs.check_cases import BAD_ADDRESSES, BAD_INTERFACES
 from runs.model import OUTPUTS
 
@@ -11,8 +11,7 @@ SEED = "0123456789abcdef" * 4
 FLAGS = {"--interface": "em0", "--address": "192.0.2.1/24", "--inside": "10.0.0.0/8",
          **{f"--{name}": name for name in OUTPUTS}}
 # what the help and what is said of a value call its form
-FORMS = {"--interface": "NAME", "--address": "A.B.C.D/BITS", "--inside": "NETS", "--seed": "HEX",
-         **{f"--{name}": "FILE" for name in OUTPUTS}}
+FORMS = {**check_cases.FORMS, "--inside": "NETS", "--seed": "HEX", **{f"--{name}": "FILE" for name in OUTPUTS}}
 BAD_VALUES = {
     "--interface": BAD_INTERFACES,
     "--address": BAD_ADDRESSES,
@@ -28,12 +27,6 @@ REFUSED_PARTS = {",": "", "10.0.0.0/8,": "", ",10.0.0.0/8": "", "10.0.0.1,,10.0.
                  "10.0.0.1,10.0.0.0/4294967304": "10.0.0.0/4294967304"}
 GOOD_SEEDS = ("0" * 64, "f" * 64, "F" * 64, SEED, SEED.upper(), SEED.swapcase(), "aB" * 32)
 GOOD_INSIDES = ("10.0.0.5", "10.0.0.0/8,192.0.2.1", "0.0.0.0/0", "192.0.2.1/32,10.0.0.5/8,10.0.0.6/0", "10.0.0.5/0")
-
-
-class Line(NamedTuple):
-    """The words behind the program's name, and what is said of them besides that they don't fit."""
-    words: tuple
-    said: tuple = ()
 
 
 def spelled(flags):
