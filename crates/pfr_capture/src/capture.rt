@@ -5,14 +5,14 @@ use std::alloc::{AllocError, AllocFailed};
 use thiserror::Error;
 
 /// What the fractions of a second count.
-#[derive(Clone, Copy, Debug, PartialEq, Eq)]
+#[derive(Clone, Copy)]
 pub enum Resolution {
     Microseconds,
     Nanoseconds,
 }
 
 /// What a capture's header says of its records.
-#[derive(Clone, Copy, Debug, PartialEq, Eq)]
+#[derive(Clone, Copy)]
 pub struct Form {
     pub order: ByteOrder,
     pub resolution: Resolution,
@@ -21,7 +21,7 @@ pub struct Form {
 }
 
 /// How a capture ends: with a whole record, or inside one (or, after 2^40 records, with more bytes).
-#[derive(Clone, Copy, Debug, PartialEq, Eq)]
+#[derive(Clone, Copy, PartialEq, Eq)]
 pub enum Tail {
     Clean,
     Cut,
@@ -76,7 +76,7 @@ impl From<AllocError> for CaptureError {
 }
 
 /// One packet of a capture.
-#[derive(Debug, Drop)]
+#[derive(Drop)]
 pub struct Record {
     /// The link type of its capture.
     pub link: u16,

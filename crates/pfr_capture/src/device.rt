@@ -5,7 +5,7 @@ ghost use Rattle.pfr_capture.specs.Device.{moved, after_read, after_write};
 use thiserror::Error;
 
 /// A device failed to read or write. It says no more: which device it was is known where it is used.
-#[derive(Clone, Copy, Debug, PartialEq, Eq, Error)]
+#[derive(Clone, Copy, Debug, Error)]
 #[error("the device failed")]
 pub struct Fault;
 

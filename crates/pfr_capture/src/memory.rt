@@ -8,7 +8,7 @@ use std::marker::Model;
 
 /// A source and a sink over bytes in memory. What is read comes from the front of its bytes, and what is
 /// written goes to their end. It tells its bytes.
-#[derive(Debug, Drop)]
+#[derive(Drop)]
 pub struct Mem {
     bytes: Vec<u8>,
     place: usize,

@@ -3,7 +3,7 @@ ghost use Rattle.std.specs.Prelude.{◌≡◌, ◌≤◌, length};
 ghost use Rattle.pfr_capture.specs.Header.{number, short_number};
 
 /// The order in which the bytes of a number stand, in all headers of one capture.
-#[derive(Clone, Copy, Debug, PartialEq, Eq)]
+#[derive(Clone, Copy)]
 pub enum ByteOrder {
     Big,
     Little,

@@ -12,7 +12,7 @@ use std::marker::Model;
 const PIECE: usize = 65536;
 
 /// The bytes that came from a source and were not taken yet.
-#[derive(Debug, Drop)]
+#[derive(Drop)]
 pub struct Pieces {
     buffer: Vec<u8>,
     /// Where in the buffer they begin.

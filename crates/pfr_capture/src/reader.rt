@@ -24,14 +24,14 @@ const MOST_RECORDS: u64 = 1 << 40;
 const MOST_CAPTURED: u32 = 262144;
 
 /// What a look at the bytes ahead finds: the header of a next record, with its captured length, or an end.
-#[derive(Clone, Copy, Debug)]
+#[derive(Clone, Copy)]
 enum Look {
     Captured(usize),
     End(Tail),
 }
 
 /// What stands next in a capture.
-#[derive(Debug, Drop)]
+#[derive(Drop)]
 enum Step {
     Found(Record),
     Ended(Tail),
@@ -39,7 +39,7 @@ enum Step {
 
 /// Reads the records of a capture, one after the other. It asks its source for pieces of at most 65536
 /// bytes, and only where it lacks bytes of the next record.
-#[derive(Debug, Drop)]
+#[derive(Drop)]
 pub struct Capture {
     form: Form,
     header: [u8; 24],

@@ -7,7 +7,7 @@ use std::alloc::Global;
 const LONGEST: usize = 16384;
 
 /// Buffers of records that aren't needed any more.
-#[derive(Debug, Drop)]
+#[derive(Drop)]
 pub(crate) struct Stock {
     alloc: Global,
     buffers: Vec<Vec<u8>>,

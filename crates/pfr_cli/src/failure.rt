@@ -16,7 +16,7 @@ pub const DEVICE: u8 = 3;
 pub const NO_MEMORY: u8 = 4;
 
 /// Why the program did not do what was asked.
-#[derive(Debug, Drop)]
+#[derive(Drop)]
 pub enum Failure<'a> {
     /// The words of the command line can't be read as text.
     NoWords,

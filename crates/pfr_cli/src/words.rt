@@ -11,7 +11,7 @@ use std::rt::Env;
 use std::{env, io};
 
 /// What the command line asks for.
-#[derive(Debug, Drop)]
+#[derive(Drop)]
 pub enum Asked<'a> {
     /// To replay a capture.
     Run(RunWords<'a>),
@@ -25,7 +25,7 @@ pub enum Asked<'a> {
 }
 
 /// What the words behind `run` say: which capture is replayed through which ruleset, and how.
-#[derive(Debug, Drop)]
+#[derive(Drop)]
 pub struct RunWords<'a> {
     pub capture: &'a str,
     pub rules: &'a str,
@@ -36,7 +36,7 @@ pub struct RunWords<'a> {
 }
 
 /// The files that a run writes.
-#[derive(Clone, Copy, Debug)]
+#[derive(Clone, Copy)]
 pub struct OutputNames<'a> {
     pub verdicts: &'a str,
     pub packets: &'a str,

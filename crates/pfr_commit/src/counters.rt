@@ -34,7 +34,7 @@ pub struct RuleCounters {
 }
 
 /// How many packets came to each verdict.
-#[derive(Clone, Copy, Debug, PartialEq, Eq)]
+#[derive(Clone, Copy)]
 pub struct Totals {
     pub passed: u64,
     pub blocked: u64,

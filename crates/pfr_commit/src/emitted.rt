@@ -11,7 +11,7 @@ use pfr_packet::Outcome;
 use std::alloc::{AllocError, Global};
 
 /// What packets add to the outputs: their verdict lines, and the records of those that aren't blocked.
-#[derive(Debug, Drop)]
+#[derive(Drop)]
 pub struct Emitted {
     pub verdicts: Vec<u8>,
     pub packets: Vec<u8>,

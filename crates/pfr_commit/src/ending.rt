@@ -12,7 +12,7 @@ use std::alloc::{AllocError, Global};
 use std::fmt::Write;
 
 /// The texts at the end of a run.
-#[derive(Debug, Drop)]
+#[derive(Drop)]
 pub struct Ending {
     /// A line for each rule, and the totals.
     pub counters: Vec<u8>,

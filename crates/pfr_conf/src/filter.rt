@@ -11,7 +11,7 @@ use pfr_words::Sign;
 use std::alloc::Global;
 
 /// What a rule does with a packet; `block` alone does what the block policy says.
-#[derive(Clone, Copy, Debug, PartialEq, Eq)]
+#[derive(Clone, Copy)]
 pub enum Action {
     Pass,
     Block(Option<BlockPolicy>),

@@ -34,7 +34,7 @@ pub enum SetOption<'a> {
 }
 
 /// The words that name an option.
-#[derive(Clone, Copy, Debug)]
+#[derive(Clone, Copy)]
 enum OptionWord {
     Skip,
     Timeout,

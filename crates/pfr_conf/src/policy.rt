@@ -7,21 +7,21 @@ use pfr_terms::{ConfError, Reader};
 use std::alloc::Global;
 
 /// Which way a packet goes through an interface.
-#[derive(Clone, Copy, Debug, PartialEq, Eq)]
+#[derive(Clone, Copy)]
 pub enum Direction {
     In,
     Out,
 }
 
 /// What becomes of a blocked packet: dropped, or answered.
-#[derive(Clone, Copy, Debug, PartialEq, Eq)]
+#[derive(Clone, Copy)]
 pub enum BlockPolicy {
     Drop,
     Return,
 }
 
 /// On which interfaces a state's packets may come.
-#[derive(Clone, Copy, Debug, PartialEq, Eq)]
+#[derive(Clone, Copy)]
 pub enum Binding {
     IfBound,
     Floating,

@@ -14,7 +14,7 @@ use pfr_words::{Items, Sign};
 use std::alloc::Global;
 
 /// What is written of a state in round brackets.
-#[derive(Clone, Copy, Debug, PartialEq, Eq)]
+#[derive(Clone, Copy)]
 pub struct StateOptions {
     /// The state isn't told to others.
     pub no_sync: bool,
@@ -22,7 +22,7 @@ pub struct StateOptions {
 }
 
 /// Whether a rule keeps state.
-#[derive(Clone, Copy, Debug, PartialEq, Eq)]
+#[derive(Clone, Copy)]
 pub enum StateKeeping {
     No,
     Keep(StateOptions),

@@ -10,7 +10,7 @@ use pfr_words::names::entry_of;
 use std::alloc::Global;
 
 /// The timeouts of pf.conf(5). The last three concern what this profile leaves out, and have no effect.
-#[derive(Clone, Copy, Debug, PartialEq, Eq)]
+#[derive(Clone, Copy)]
 pub enum Timeout {
     TcpFirst,
     TcpOpening,
@@ -32,14 +32,14 @@ pub enum Timeout {
 }
 
 /// A timeout and its seconds, at most 2147483647.
-#[derive(Clone, Copy, Debug, PartialEq, Eq)]
+#[derive(Clone, Copy)]
 pub struct TimeoutSetting {
     pub timeout: Timeout,
     pub seconds: u32,
 }
 
 /// What may be limited. Only the limit of states has an effect.
-#[derive(Clone, Copy, Debug, PartialEq, Eq)]
+#[derive(Clone, Copy)]
 pub enum Limit {
     States,
     Fragments,
@@ -49,7 +49,7 @@ pub enum Limit {
 }
 
 /// A limit and its number; for states it is from 1 to 1000000.
-#[derive(Clone, Copy, Debug, PartialEq, Eq)]
+#[derive(Clone, Copy)]
 pub struct LimitSetting {
     pub limit: Limit,
     pub number: u32,

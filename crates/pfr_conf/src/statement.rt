@@ -31,7 +31,7 @@ pub struct Statements<'a> {
 }
 
 /// How far a ruleset has come: options stand before translation rules, and these before filter rules.
-#[derive(Clone, Copy, Debug, PartialEq, Eq)]
+#[derive(Clone, Copy)]
 pub enum Section {
     Options,
     Filter,

@@ -14,7 +14,7 @@ use pfr_words::Sign;
 use std::alloc::Global;
 
 /// The ports of a `rdr` target.
-#[derive(Clone, Copy, Debug, PartialEq, Eq)]
+#[derive(Clone, Copy)]
 pub enum RedirectedPort {
     /// `port z`: all go to this one.
     Fixed(u16),
@@ -48,7 +48,7 @@ pub enum Target<'a> {
 }
 
 /// What a word says where the port of a `rdr` target has to stand and none does.
-#[derive(Clone, Copy, Debug, PartialEq, Eq)]
+#[derive(Clone, Copy)]
 enum PortFault {
     /// No port and no service.
     Service,

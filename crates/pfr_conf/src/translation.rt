@@ -15,7 +15,7 @@ use pfr_words::{Bytes, Items, Sign};
 use std::alloc::{AllocError, Global};
 
 /// The three kinds of translation.
-#[derive(Clone, Copy, Debug, PartialEq, Eq)]
+#[derive(Clone, Copy)]
 pub enum TranslationKind {
     /// Sources of outbound packets.
     Nat,

@@ -29,7 +29,7 @@ use pfr_words::spelling::words;
 use std::alloc::Global;
 
 /// Addresses that a packet's is held against.
-#[derive(Clone, Copy, Debug, PartialEq, Eq)]
+#[derive(Clone, Copy)]
 pub enum HostSet {
     Any,
     /// No address has a bit below the network's prefix.
@@ -41,7 +41,7 @@ pub enum HostSet {
 }
 
 /// Addresses that a packet's has to be among, or with `!` must not be among.
-#[derive(Clone, Copy, Debug, PartialEq, Eq)]
+#[derive(Clone, Copy)]
 pub struct HostCriterion {
     pub is_negated: bool,
     pub hosts: HostSet,

@@ -9,13 +9,13 @@ use pfr_terms::{Ipv4Address, Network};
 const LONGEST_NAME: usize = 15;
 
 /// The name of an interface with zeros behind it, as systems keep it in `IFNAMSIZ` bytes.
-#[derive(Clone, Copy, Debug, PartialEq, Eq)]
+#[derive(Clone, Copy, PartialEq, Eq)]
 pub struct IfName {
     pub bytes: [u8; 16],
 }
 
 /// The interface of a run: its name, its address and the length of its network's prefix.
-#[derive(Clone, Copy, Debug, PartialEq, Eq)]
+#[derive(Clone, Copy, PartialEq, Eq)]
 pub struct Interface {
     pub name: IfName,
     pub address: Ipv4Address,

@@ -25,7 +25,7 @@ use pfr_words::Bytes;
 use std::alloc::Global;
 
 /// An interface that a packet has to be on, or with `!` must not be on.
-#[derive(Clone, Copy, Debug, PartialEq, Eq)]
+#[derive(Clone, Copy)]
 pub struct InterfaceCriterion {
     pub is_negated: bool,
     pub name: IfName,

@@ -24,7 +24,7 @@ use std::alloc::{AllocError, Global};
 use std::mem::replace;
 
 /// What the options say of rules, how many rules stand before a statement, and the statement's line.
-#[derive(Clone, Copy, Debug)]
+#[derive(Clone, Copy)]
 pub struct Setting {
     pub block_policy: BlockPolicy,
     pub state_policy: Binding,

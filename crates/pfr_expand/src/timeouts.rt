@@ -11,7 +11,7 @@ pub const DEFAULT_SECONDS: [u32; 14] = [
 ];
 
 /// The timeouts that have an effect: their seconds by their codes.
-#[derive(Clone, Copy, Debug, PartialEq, Eq)]
+#[derive(Clone, Copy)]
 pub struct Timeouts {
     pub seconds: [u32; 14],
 }

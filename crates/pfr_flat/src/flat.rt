@@ -3,7 +3,7 @@ use pfr_conf::{Binding, Direction, FlagSet, IcmpMatch, Ipv4Address, PortMatch, P
 use pfr_elements::{HostCriterion, HostSet, InterfaceCriterion};
 
 /// What a flat rule or anchor asks of a packet, but for its direction. None asks for nothing.
-#[derive(Clone, Copy, Debug, PartialEq, Eq)]
+#[derive(Clone, Copy)]
 pub struct PacketMatch {
     pub interface: Option<InterfaceCriterion>,
     pub protocol: Option<Protocol>,
@@ -32,7 +32,7 @@ pub const NO_MATCH: PacketMatch = PacketMatch {
 };
 
 /// What a rule does with a packet.
-#[derive(Clone, Copy, Debug, PartialEq, Eq)]
+#[derive(Clone, Copy)]
 pub enum FilterAction {
     Pass,
     Drop,
@@ -41,7 +41,7 @@ pub enum FilterAction {
 }
 
 /// The flags that a rule asks of TCP packets.
-#[derive(Clone, Copy, Debug, PartialEq, Eq)]
+#[derive(Clone, Copy)]
 pub enum FlagsCriterion {
     Any,
     /// Of those of the mask just these.
@@ -51,7 +51,7 @@ pub enum FlagsCriterion {
 }
 
 /// The state that a rule keeps.
-#[derive(Clone, Copy, Debug, PartialEq, Eq)]
+#[derive(Clone, Copy)]
 pub struct StateRule {
     pub binding: Binding,
     /// It isn't told to others.
@@ -59,7 +59,7 @@ pub struct StateRule {
 }
 
 /// A filter rule. Its number is its place among them.
-#[derive(Clone, Copy, Debug, PartialEq, Eq)]
+#[derive(Clone, Copy)]
 pub struct FlatRule {
     pub action: FilterAction,
     pub direction: Option<Direction>,
@@ -73,7 +73,7 @@ pub struct FlatRule {
 
 /// An anchor round the filter rules from the place `first` to the place `last`. Those round one rule come from the
 /// outermost on.
-#[derive(Clone, Copy, Debug, PartialEq, Eq)]
+#[derive(Clone, Copy)]
 pub struct FlatAnchor {
     pub direction: Option<Direction>,
     pub is_quick: bool,
@@ -83,14 +83,14 @@ pub struct FlatAnchor {
 }
 
 /// Ports from the first to the second.
-#[derive(Clone, Copy, Debug, PartialEq, Eq)]
+#[derive(Clone, Copy)]
 pub struct PortRange {
     pub low: u16,
     pub high: u16,
 }
 
 /// What `nat` makes of a packet's source.
-#[derive(Clone, Copy, Debug, PartialEq, Eq)]
+#[derive(Clone, Copy)]
 pub struct NatAddress {
     pub address: Ipv4Address,
     /// The ports of which one is picked, if the rule says which.
@@ -100,7 +100,7 @@ pub struct NatAddress {
 }
 
 /// What `rdr` makes of a destination port.
-#[derive(Clone, Copy, Debug, PartialEq, Eq)]
+#[derive(Clone, Copy)]
 pub enum PortChange {
     Kept,
     To(u16),
@@ -109,14 +109,14 @@ pub enum PortChange {
 }
 
 /// What `rdr` makes of a packet's destination.
-#[derive(Clone, Copy, Debug, PartialEq, Eq)]
+#[derive(Clone, Copy)]
 pub struct RdrAddress {
     pub address: Ipv4Address,
     pub port: PortChange,
 }
 
 /// A translation rule of one kind.
-#[derive(Clone, Copy, Debug, PartialEq, Eq)]
+#[derive(Clone, Copy)]
 pub struct FlatTranslation<T> {
     /// Its place among the translation rules of all kinds.
     pub number: usize,

@@ -19,7 +19,7 @@ pub struct Endpoint {
 
 /// A packet of which one end is translated. In an ICMP error that tells of a packet, it is the other end of that
 /// packet that is translated, and with it the error's own end where that has the same address.
-#[derive(Clone, Copy, Debug, PartialEq, Eq)]
+#[derive(Clone, Copy)]
 pub struct Change {
     /// The packet as its view has it.
     pub packet: Packet,

@@ -8,7 +8,7 @@ use crate::port::Port;
 pub struct IcmpType(pub u8);
 
 /// An ICMP header (RFC 792).
-#[derive(Clone, Copy, Debug, PartialEq, Eq)]
+#[derive(Clone, Copy, PartialEq, Eq)]
 pub struct IcmpHeader {
     pub kind: IcmpType,
     pub code: u8,
@@ -16,7 +16,7 @@ pub struct IcmpHeader {
 }
 
 /// What an ICMP message says, as far as it matters to a firewall.
-#[derive(Clone, Copy, Debug, PartialEq, Eq)]
+#[derive(Clone, Copy, PartialEq, Eq)]
 pub enum IcmpMessage {
     /// An echo (type 8) or its reply (type 0), with its identifier.
     Echo(u16),
@@ -27,7 +27,7 @@ pub enum IcmpMessage {
 }
 
 /// The packet that an ICMP error tells of. Its header begins 8 bytes behind the error's own IPv4 header.
-#[derive(Clone, Copy, Debug, PartialEq, Eq)]
+#[derive(Clone, Copy, PartialEq, Eq)]
 pub struct Inner {
     /// The length of its IPv4 header in bytes, options included: 20 to 60.
     pub header_length: u8,

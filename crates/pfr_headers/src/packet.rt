@@ -21,7 +21,7 @@ impl Protocol {
 }
 
 /// An IPv4 packet, by its headers (RFC 791, section 3.1).
-#[derive(Clone, Copy, Debug, PartialEq, Eq)]
+#[derive(Clone, Copy, PartialEq, Eq)]
 pub struct Packet {
     /// The header's length in bytes, options included: 20 to 60.
     pub header_length: u8,
@@ -44,7 +44,7 @@ impl Packet {
 }
 
 /// What a frame of a capture is.
-#[derive(Clone, Copy, Debug, PartialEq, Eq)]
+#[derive(Clone, Copy, PartialEq, Eq)]
 pub enum View {
     /// An IPv4 packet whose headers were captured whole.
     Ipv4(Packet),
@@ -55,7 +55,7 @@ pub enum View {
 }
 
 /// Which way a packet goes, seen from the firewall.
-#[derive(Clone, Copy, Debug, PartialEq, Eq)]
+#[derive(Clone, Copy)]
 pub enum Direction {
     In,
     Out,

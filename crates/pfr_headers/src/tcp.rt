@@ -6,7 +6,7 @@ use crate::port::Port;
 use bitflags::{Flag, Flags, bitflag_items};
 
 /// The flags of a TCP header (RFC 9293, section 3.1; ECE and CWR are RFC 3168's, section 6.1).
-#[derive(Clone, Copy, Debug, PartialEq, Eq)]
+#[derive(Clone, Copy, PartialEq, Eq)]
 pub struct TcpFlags(u8);
 
 bitflag_items! {
@@ -55,7 +55,7 @@ impl TcpFlags {
 }
 
 /// A TCP header (RFC 9293, section 3.1).
-#[derive(Clone, Copy, Debug, PartialEq, Eq)]
+#[derive(Clone, Copy, PartialEq, Eq)]
 pub struct TcpHeader {
     pub source: Port,
     pub destination: Port,

@@ -4,7 +4,7 @@ use crate::tcp::TcpHeader;
 use crate::udp::UdpHeader;
 
 /// What stands behind an IPv4 header.
-#[derive(Clone, Copy, Debug, PartialEq, Eq)]
+#[derive(Clone, Copy, PartialEq, Eq)]
 pub enum Transport {
     /// A part of a packet: more parts follow or it isn't the first. Its bytes are not looked at.
     Fragment,

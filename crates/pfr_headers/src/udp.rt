@@ -2,7 +2,7 @@
 use crate::port::Port;
 
 /// A UDP header (RFC 768).
-#[derive(Clone, Copy, Debug, PartialEq, Eq)]
+#[derive(Clone, Copy, PartialEq, Eq)]
 pub struct UdpHeader {
     pub source: Port,
     pub destination: Port,

@@ -4,7 +4,7 @@ use pfr_conf::ConfError;
 use thiserror::Error;
 
 /// A run that went to the end of its capture.
-#[derive(Clone, Copy, Debug, PartialEq, Eq)]
+#[derive(Clone, Copy, PartialEq, Eq)]
 pub struct Report {
     /// How many packets were replayed.
     pub committed: u64,
@@ -13,7 +13,7 @@ pub struct Report {
 }
 
 /// The outputs of a run.
-#[derive(Clone, Copy, Debug, PartialEq, Eq, Error)]
+#[derive(Clone, Copy, Debug, Error)]
 pub enum Output {
     #[error("verdicts")]
     Verdicts,

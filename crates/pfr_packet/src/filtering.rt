@@ -12,7 +12,7 @@ use pfr_track::{RuleNumber, StateRules};
 use std::alloc::{AllocError, Global};
 
 /// What the rule that decides says beyond its verdict.
-#[derive(Clone, Copy, Debug, PartialEq, Eq)]
+#[derive(Clone, Copy)]
 pub struct Conduct {
     /// Packets with IP options may pass.
     pub allows_options: bool,

@@ -9,7 +9,7 @@ use pfr_states::Side;
 use pfr_track::{Endpoint, Key};
 
 /// What the table of states is asked about a packet.
-#[derive(Clone, Copy, Debug, PartialEq, Eq)]
+#[derive(Clone, Copy)]
 pub enum Subject {
     /// Nothing: a part of a packet, or an ICMP message that belongs to no connection.
     Alone,

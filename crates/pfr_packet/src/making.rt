@@ -14,7 +14,7 @@ use pfr_track::{Key, RuleNumber, State};
 use std::alloc::AllocError;
 
 /// Both keys of a packet that begins a connection, and the translation rule that holds for it.
-#[derive(Clone, Copy, Debug, PartialEq, Eq)]
+#[derive(Clone, Copy)]
 pub struct Passage {
     pub wire: Key,
     pub stack: Key,

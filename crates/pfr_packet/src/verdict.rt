@@ -5,7 +5,7 @@ ghost use Rattle.pfr_packet.specs.Verdicts as spec;
 use std::fmt;
 
 /// What becomes of a packet.
-#[derive(Clone, Copy, Debug, PartialEq, Eq)]
+#[derive(Clone, Copy)]
 pub enum Verdict {
     Pass,
     Block,
@@ -39,7 +39,7 @@ impl Verdict {
 }
 
 /// Why.
-#[derive(Clone, Copy, Debug, PartialEq, Eq)]
+#[derive(Clone, Copy)]
 pub enum Reason {
     /// A rule decided.
     Rule,

@@ -4,7 +4,7 @@ ghost use Rattle.std.specs.Prelude.{◌≡◌, ◌↔◌, IsTrue};
 use pfr_track::{DatagramPeer, Key, Peers, State, StateRules, TcpPeer, Traffic};
 
 /// What a table of states answered.
-#[derive(Clone, Copy, Debug, PartialEq, Eq)]
+#[derive(Clone, Copy)]
 pub enum Answer {
     /// The state with a key, if there is one.
     Found(Option<State>),

@@ -6,7 +6,7 @@ use pfr_flat::FilterAction;
 pub struct RuleNumber(pub usize);
 
 /// What becomes of a packet, and by which rule. No rule means that none hit.
-#[derive(Clone, Copy, Debug, PartialEq, Eq)]
+#[derive(Clone, Copy)]
 pub struct Decision {
     pub rule: Option<RuleNumber>,
     pub action: FilterAction,

@@ -11,7 +11,7 @@ pub enum Side {
 }
 
 /// What a packet changes in the table.
-#[derive(Clone, Copy, Debug, PartialEq, Eq)]
+#[derive(Clone, Copy)]
 pub enum TableChange {
     /// A new state.
     Made(State),

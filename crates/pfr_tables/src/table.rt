@@ -12,7 +12,7 @@ use std::collections::BTreeMap;
 use std::marker::Model;
 
 /// An entry of a table; with `!` the table doesn't hold its addresses, but where a longer entry does.
-#[derive(Clone, Copy, Debug, PartialEq, Eq)]
+#[derive(Clone, Copy, PartialEq, Eq)]
 pub struct Entry {
     pub network: Network,
     pub is_negated: bool,

@@ -13,11 +13,11 @@ use pfr_words::{Bytes, Sign};
 use std::alloc::{AllocError, Global};
 
 /// An IPv4 address as a number: the first octet is the highest byte.
-#[derive(Clone, Copy, Debug, PartialEq, Eq)]
+#[derive(Clone, Copy, PartialEq, Eq)]
 pub struct Ipv4Address(pub u32);
 
 /// The addresses that share the first `bits` bits of one; the bits behind don't matter.
-#[derive(Clone, Copy, Debug, PartialEq, Eq)]
+#[derive(Clone, Copy, PartialEq, Eq)]
 pub struct Network {
     pub address: Ipv4Address,
     pub bits: u8,
@@ -67,7 +67,7 @@ pub struct TableEntry<'a> {
 }
 
 /// What a plain word says where an address has to stand.
-#[derive(Clone, Copy, Debug)]
+#[derive(Clone, Copy)]
 enum AddressWord {
     Address(Ipv4Address),
     Network(Network),

@@ -11,11 +11,11 @@ use pfr_words::Bytes;
 use std::alloc::Global;
 
 /// TCP flags by the bits of RFC 9293's header: FIN is 1, and so on up to CWR, which is 128.
-#[derive(Clone, Copy, Debug, PartialEq, Eq)]
+#[derive(Clone, Copy)]
 pub struct FlagSet(pub u8);
 
 /// The flags that a TCP packet has to have.
-#[derive(Clone, Copy, Debug, PartialEq, Eq)]
+#[derive(Clone, Copy)]
 pub enum FlagsMatch {
     /// Any flags.
     Any,

@@ -12,7 +12,7 @@ use pfr_words::names::service_named;
 use std::alloc::{AllocError, Global};
 
 /// How a port is compared with one that is written.
-#[derive(Clone, Copy, Debug, PartialEq, Eq)]
+#[derive(Clone, Copy)]
 pub enum Comparison {
     Equal,
     NotEqual,
@@ -23,7 +23,7 @@ pub enum Comparison {
 }
 
 /// How a port is held against two that are written.
-#[derive(Clone, Copy, Debug, PartialEq, Eq)]
+#[derive(Clone, Copy)]
 pub enum RangeOperator {
     /// `x:y`: from the first to the second.
     Inclusive,
@@ -34,14 +34,14 @@ pub enum RangeOperator {
 }
 
 /// The ports that a packet may have.
-#[derive(Clone, Copy, Debug, PartialEq, Eq)]
+#[derive(Clone, Copy)]
 pub enum PortMatch {
     Compare(Comparison, u16),
     Range(RangeOperator, u16, u16),
 }
 
 /// What a word says where a port has to stand.
-#[derive(Clone, Copy, Debug)]
+#[derive(Clone, Copy)]
 pub enum PortWord {
     Port(u16),
     /// A number above 65535, or a range whose first port is above its second.

@@ -12,11 +12,11 @@ use pfr_words::names::{icmp_type_named, protocol_named};
 use std::alloc::Global;
 
 /// The number of an IP protocol, by IANA's registry.
-#[derive(Clone, Copy, Debug, PartialEq, Eq)]
+#[derive(Clone, Copy)]
 pub struct Protocol(pub u8);
 
 /// An ICMP type, and a code of it where one is asked for.
-#[derive(Clone, Copy, Debug, PartialEq, Eq)]
+#[derive(Clone, Copy)]
 pub struct IcmpMatch {
     pub kind: u8,
     pub code: Option<u8>,

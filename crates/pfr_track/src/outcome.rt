@@ -5,7 +5,7 @@ use crate::tcp::TcpPeer;
 use crate::timeout::Timeout;
 
 /// What a packet does to a state.
-#[derive(Clone, Copy, Debug, PartialEq, Eq)]
+#[derive(Clone, Copy)]
 pub enum Touch {
     /// The packet is accepted, and this is the state from then on.
     Touched(State),
@@ -16,7 +16,7 @@ pub enum Touch {
 }
 
 /// What a packet does to both ends of a connection.
-#[derive(Clone, Copy, Debug, PartialEq, Eq)]
+#[derive(Clone, Copy)]
 pub(crate) enum Track {
     Accepted(Peers, Timeout),
     Removed,
@@ -24,7 +24,7 @@ pub(crate) enum Track {
 }
 
 /// What a segment does to its sender and the other end.
-#[derive(Clone, Copy, Debug, PartialEq, Eq)]
+#[derive(Clone, Copy)]
 pub(crate) enum Followed {
     /// The sender and the other end, as they become.
     Accepted(TcpPeer, TcpPeer),

@@ -3,7 +3,7 @@ use crate::datagram::DatagramPeer;
 use crate::tcp::TcpPeer;
 
 /// What was seen of both ends of a connection, that of the state's maker first.
-#[derive(Clone, Copy, Debug, PartialEq, Eq)]
+#[derive(Clone, Copy)]
 pub enum Peers {
     Tcp(TcpPeer, TcpPeer),
     Udp(DatagramPeer, DatagramPeer),

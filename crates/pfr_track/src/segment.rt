@@ -81,7 +81,7 @@ fn places(header: &TcpHeader) -> u32
 }
 
 /// What a segment says, once a step of the tracking after the other has been applied.
-#[derive(Clone, Copy, Debug, PartialEq, Eq)]
+#[derive(Clone, Copy)]
 pub(crate) struct Segment {
     pub sequence: Sequence,
     /// Behind its bytes.
@@ -97,7 +97,7 @@ pub(crate) struct Segment {
 }
 
 /// A segment between its sender and the other end, both as they would become.
-#[derive(Clone, Copy, Debug, PartialEq, Eq)]
+#[derive(Clone, Copy)]
 pub(crate) struct Exchange {
     pub sender: TcpPeer,
     pub receiver: TcpPeer,

@@ -17,7 +17,7 @@ pub struct StateNumber(pub u64);
 pub struct RuleNumber(pub u32);
 
 /// The rules by which a state was made, and what they say of it.
-#[derive(Clone, Copy, Debug, PartialEq, Eq)]
+#[derive(Clone, Copy, PartialEq, Eq)]
 pub struct StateRules {
     /// None where no filter rule decided.
     pub filter: Option<RuleNumber>,
@@ -30,7 +30,7 @@ pub struct StateRules {
 }
 
 /// Packets and bytes (IP total lengths) that went one way. A count at its last value stays there.
-#[derive(Clone, Copy, Debug, PartialEq, Eq)]
+#[derive(Clone, Copy, PartialEq, Eq)]
 pub struct Traffic {
     pub packets: u64,
     pub bytes: u64,
@@ -49,7 +49,7 @@ impl Traffic {
 }
 
 /// What is kept of one connection.
-#[derive(Clone, Copy, Debug, PartialEq, Eq)]
+#[derive(Clone, Copy)]
 pub struct State {
     pub number: StateNumber,
     /// The way of the packet that made it.

@@ -77,7 +77,7 @@ impl TcpPeerState {
 }
 
 /// One end of a TCP connection.
-#[derive(Clone, Copy, Debug, PartialEq, Eq)]
+#[derive(Clone, Copy, PartialEq, Eq)]
 pub struct TcpPeer {
     pub state: TcpPeerState,
     /// Behind the last byte that it has sent.

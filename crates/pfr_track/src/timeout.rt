@@ -62,7 +62,7 @@ impl Timeout {
 }
 
 /// The seconds of each timeout, by its code.
-#[derive(Clone, Copy, Debug, PartialEq, Eq)]
+#[derive(Clone, Copy)]
 pub struct Timeouts {
     pub seconds: [u32; 14],
 }

@@ -6,7 +6,7 @@ use crate::names::is_name_byte;
 use crate::sign::double_sign;
 
 /// What a run of bytes is made of.
-#[derive(Clone, Copy, Debug)]
+#[derive(Clone, Copy)]
 pub(crate) enum Class {
     /// Letters, digits and underscores.
     Name,

@@ -3,7 +3,7 @@ ghost use Rattle.std.specs.Prelude.{◌≡◌, ◌≢◌, OnSome};
 ghost use Rattle.pfr_words.specs.Words as spec;
 
 /// A sign of pf.conf(5). `Between` and `Outside` are the two operators on a range of ports.
-#[derive(Clone, Copy, Debug, PartialEq, Eq)]
+#[derive(Clone, Copy, Debug)]
 pub enum Sign {
     /// `{`
     OpenBrace,

@@ -3,7 +3,7 @@ use crate::bytes::Bytes;
 use crate::sign::Sign;
 
 /// What is wrong with a part of a text that is no word.
-#[derive(Clone, Copy, Debug, PartialEq, Eq)]
+#[derive(Clone, Copy, Debug)]
 pub enum WordFault {
     /// A byte that is neither printable ASCII nor a blank, outside of comments.
     BadByte,
@@ -14,7 +14,7 @@ pub enum WordFault {
 }
 
 /// A word of a ruleset text.
-#[derive(Debug, Drop)]
+#[derive(Drop)]
 pub enum Token<'a> {
     /// The end of a line.
     LineEnd,
@@ -29,7 +29,7 @@ pub enum Token<'a> {
 }
 
 /// A word and the line that it begins on, from 1.
-#[derive(Debug, Drop)]
+#[derive(Drop)]
 pub struct Word<'a> {
     pub line: usize,
     pub token: Token<'a>,
