@@ -36,6 +36,7 @@ impl Book {
         ensures within { (self.old.count ≤ self.new.count) × (self.new.count ≤ self.old.count + length packets.now) }
         ensures ok { OnOk result ((self.old.is_over ≡ false) × (self.new.is_over ≡ false)) }
         ensures err { OnErr result (self.new.is_over ≡ true) }
+        ensures over { self.old.is_over ≡ true → (self.new ≡ self.old) × (out.new ≡ out.old) }
     {
         if self.is_over {
             return Err(AllocError);

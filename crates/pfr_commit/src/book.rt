@@ -29,7 +29,7 @@ use std::sync::Arc;
 /// Takes the packets of a run in the order of the capture, one after the other, with what was found out about them before
 /// or without. It has the states and counters that the packets so far have left, and not what they have emitted.
 ///
-/// Once memory was refused it answers so for good.
+/// Once memory was refused it answers so for good, and stays as it is.
 #[derive(Drop)]
 pub struct Book {
     pub(crate) alloc: Global,
@@ -209,18 +209,16 @@ impl Book {
     ) -> Result<(), AllocError>
         requires view { view.now ≡ view_of packet.now.link packet.now.bytes.items }
         requires few { self.old.count < 2 ^ 43 }
+        requires open { self.old.is_over ≡ false }
         ensures world { OnOk result (world_in self.new (texts_of out.new) ≡ spec.after (job_of self.old) (world_in self.old (texts_of out.old)) (frame_of packet.now)) }
         ensures job { self.new.job ≡ self.old.job }
         ensures counted { OnOk result (self.new.count ≡ self.old.count + 1) }
         ensures kept { OnErr result ((self.new.count ≡ self.old.count) × (texts_of out.new ≡ texts_of out.old)) }
         ensures held { OnOk result (Holds speculation (job_of self.old) (self.old.count + 1) (spec.clock_at self.old.clock (frame_of packet.now)) view.now self.old.table → self.new.own ≡ self.old.own) }
         ensures own { OnOk result ((Holds speculation (job_of self.old) (self.old.count + 1) (spec.clock_at self.old.clock (frame_of packet.now)) view.now self.old.table → ⊥) → self.new.own ≡ self.old.own + 1) }
-        ensures ok { OnOk result ((self.old.is_over ≡ false) × (self.new.is_over ≡ false)) }
+        ensures ok { OnOk result (self.new.is_over ≡ false) }
         ensures err { OnErr result (self.new.is_over ≡ true) }
     {
-        if self.is_over {
-            return Err(AllocError);
-        }
         self.is_over = true;
         let number = self.count + 1;
         let clock = later(self.clock, packet.seconds);
@@ -257,13 +255,17 @@ impl Book {
         ensures own { OnOk result ((Holds speculation (job_of self.old) (self.old.count + 1) (spec.clock_at self.old.clock (frame_of packet.now)) view self.old.table → ⊥) → self.new.own ≡ self.old.own + 1) }
         ensures ok { OnOk result ((self.old.is_over ≡ false) × (self.new.is_over ≡ false)) }
         ensures err { OnErr result (self.new.is_over ≡ true) }
+        ensures over { self.old.is_over ≡ true → self.new ≡ self.old }
     {
+        if self.is_over {
+            return Err(AllocError);
+        }
         let mut out = Emitted::new(self.alloc);
         self.take(packet, &view, speculation, &mut out)?;
         Ok(out)
     }
 
-    /// The counters and the states at the end of a run.
+    /// The counters and the states at the end of a run. Once memory was refused there are none.
     pub fn finish(self) -> Result<Ending, AllocError>
         ensures counters { IfOk result (λ ending. ending.counters.items ≡ counters_text self.count self.counters) }
         ensures states { IfOk result (λ ending. ending.states.items ≡ states_text self.table.states) }

@@ -1,5 +1,5 @@
 -- Whatever a stop leaves in the outputs is a beginning of what the replay of the capture writes.
-use Rattle.std.proofs.Common.{◌≡◌, ℕ, ◌+◌, ◌≤◌, List, [], ◌∷◌, ◌++◌, length, map, take, drop, None, Result, Ok, Err, ◌⊎◌, inl, inr, refl, sym, ◌∙◌, ap, arith}
+use Rattle.std.proofs.Common.{◌≡◌, ℕ, Bool, ◌+◌, ◌≤◌, List, [], ◌∷◌, ◌++◌, length, map, take, drop, None, Result, Ok, Err, ◌⊎◌, inl, inr, refl, sym, ◌∙◌, ap, arith}
 use Rattle.std.specs.List.{flat_map}
 use Rattle.std.proofs.lemmas.List.{append_assoc, append_cancel_right, append-nil, length-take-le, take-append-drop, take_at}
 use Rattle.pfr_capture.specs.declared.capture.CaptureError.{CaptureError}
@@ -7,18 +7,21 @@ use Rattle.pfr_capture.specs.declared.capture.CaptureError.TheVariants as refusa
 use Rattle.pfr_capture.specs.declared.capture.Form.{Form}
 use Rattle.pfr_capture.specs.declared.capture.Tail.{Tail}
 use Rattle.pfr_capture.specs.Device.{GrewByBeginning, GrewByPart}
+use Rattle.pfr_capture.specs.Header.{opening_of}
 use Rattle.pfr_capture.specs.Reading.{HasGiven, Reading}
 use Rattle.pfr_capture.specs.Records.{IsCapture, RecordBytes, text_of}
 use Rattle.pfr_capture.proofs.CaptureLemmas.{IsFront, given_first}
-use Rattle.pfr_capture.proofs.LawLemmas.{one_capture}
+use Rattle.pfr_capture.proofs.LawLemmas.{every_capture, one_capture}
 use Rattle.pfr_packet.specs.Job.{RunJob}
 use Rattle.pfr_commit.specs.World.{World, world_after}
 use Rattle.pfr_out.specs.declared.report.Output.{Output}
 use Rattle.pfr_out.specs.declared.report.Output.TheVariants as output
 use Rattle.pfr_out.specs.declared.report.Stop.{Stop}
 use Rattle.pfr_out.specs.declared.report.Stop.TheVariants as stop
-use Rattle.pfr_out.specs.Outputs.{Grew, Outputs, PartWritten, batch_alone, header_alone}
-use Rattle.pfr_out.specs.Replay.{Begins, Holds, HoldsAll, HoldsAllRead, HoldsPartOfBatch, HoldsPartOfEnding, HoldsPartOfHeader, OfEvery, Refused, Stopped, closing, frame_in, online, replay_of, run_of, whole}
+use Rattle.pfr_out.specs.declared.sinks.Sinks.{Sinks}
+use Rattle.pfr_out.specs.Outputs.{AllTold, Grew, Outputs, PartWritten, batch_alone, header_alone}
+use Rattle.pfr_out.specs.Replay.{Begins, Holds, HoldsAll, HoldsAllRead, HoldsPartOfBatch, HoldsPartOfEnding, HoldsPartOfHeader, OfEvery, Refused, Stopped, closing, committed_of, frame_in, online, replay_of, run_of, whole}
+use Rattle.pfr_out.proofs.ReadingLemmas.{capture_opens}
 use Rattle.pfr_out.proofs.RunLemmas.{bare, run_behind}
 use Rattle.pfr_out.proofs.WritingLemmas.{online_behind, whole_is}
 
@@ -182,82 +185,125 @@ of_source text left P form records end o c =
     let is : IsCapture (o.read ++ left) form records end = rw (← o.is) c in
     rw o.is (o.every left form records end is)
 
-all_begins : (job : RunJob) (text : List ℕ) (old new : Outputs) (end : Result Tail CaptureError) (committed : ℕ) (form : Form) (records : List RecordBytes) (end' : Result Tail CaptureError) → HoldsAll job text old new end committed → IsCapture text form records end'
+all_begins : (job : RunJob) (text : List ℕ) (told : Sinks Bool) (is_told : AllTold told) (old new : Outputs) (end : Result Tail CaptureError) (committed : ℕ) (form : Form) (records : List RecordBytes) (end' : Result Tail CaptureError) → HoldsAll job text told old new end committed → IsCapture text form records end'
     → Begins old new (replay_of (take 24 text) (run_of job form records) end')
-all_begins job text old new end committed form records end' h c =
+all_begins job text told is_told old new end committed form records end' h c =
     let one = one_capture text h.form form h.records records end end' h.capture c in
-    online_begins old new (take 24 text) (run_of job form records) end' (rw (← one.0, ← one.1) (all_whole old new (online (take 24 text) (run_of job h.form h.records)) h.grew))
+    online_begins old new (take 24 text) (run_of job form records) end' (rw (← one.0, ← one.1) (all_whole old new (online (take 24 text) (run_of job h.form h.records)) (h.grew is_told)))
 
-read_begins : (job : RunJob) (text left : List ℕ) (old new : Outputs) (committed : ℕ) (form : Form) (records : List RecordBytes) (end : Result Tail CaptureError) → HoldsAllRead job text left old new committed → IsCapture text form records end
+read_begins : (job : RunJob) (text left : List ℕ) (told : Sinks Bool) (is_told : AllTold told) (old new : Outputs) (committed : ℕ) (form : Form) (records : List RecordBytes) (end : Result Tail CaptureError) → HoldsAllRead job text left told old new committed → IsCapture text form records end
     → Begins old new (replay_of (take 24 text) (run_of job form records) end)
-read_begins job text left old new committed form records end h c =
+read_begins job text left told is_told old new committed form records end h c =
     let first = capture_first h.read left h.form form h.records records (Ok h.tail) end h.capture (rw (← h.is) c) in
     online_begins old new (take 24 text) (run_of job form records) end
-    (rw first.0 (fewer_begin job old new (take 24 text) h.form h.records records first.1 (all_whole old new (online (take 24 text) (run_of job h.form h.records)) h.grew)))
+    (rw first.0 (fewer_begin job old new (take 24 text) h.form h.records records first.1 (all_whole old new (online (take 24 text) (run_of job h.form h.records)) (h.grew is_told))))
 
-holds_begins : (job : RunJob) (batch : ℕ) (old new : Outputs) (committed : ℕ) (header : List ℕ) (form : Form) (records : List RecordBytes) (end : Result Tail CaptureError) → Holds job batch old new committed header form records
+holds_begins : (job : RunJob) (batch : ℕ) (told : Sinks Bool) (is_told : AllTold told) (old new : Outputs) (committed : ℕ) (header : List ℕ) (form : Form) (records : List RecordBytes) (end : Result Tail CaptureError) → Holds job batch told old new committed header form records
     → Begins old new (replay_of header (run_of job form records) end)
-holds_begins job batch old new committed header form records end h =
+holds_begins job batch told is_told old new committed header form records end h =
     online_begins old new header (run_of job form records) end
-    (fewer_begin job old new header form (take committed records) records (taken_front committed records h.within) (all_whole old new (online header (run_of job form (take committed records))) h.grew))
+    (fewer_begin job old new header form (take committed records) records (taken_front committed records h.within) (all_whole old new (online header (run_of job form (take committed records))) (h.grew is_told)))
 
-part_of_header_begins : (job : RunJob) (old new : Outputs) (at : Output) (committed : ℕ) (header : List ℕ) (form : Form) (records : List RecordBytes) (end : Result Tail CaptureError) → HoldsPartOfHeader old new at committed header
+part_of_header_begins : (job : RunJob) (told : Sinks Bool) (is_told : AllTold told) (old new : Outputs) (at : Output) (committed : ℕ) (header : List ℕ) (form : Form) (records : List RecordBytes) (end : Result Tail CaptureError) → HoldsPartOfHeader told old new at committed header
     → Begins old new (replay_of header (run_of job form records) end)
-part_of_header_begins job old new at committed header form records end h =
+part_of_header_begins job told is_told old new at committed header form records end h =
     online_begins old new header (run_of job form records) end
-    (all_longer old new (header_alone header) (batch_alone (run_of job form records).texts) (online header (run_of job form records)) (header_begins header (run_of job form records)) (part_begins_all old new (header_alone header) at h.part))
+    (all_longer old new (header_alone header) (batch_alone (run_of job form records).texts) (online header (run_of job form records)) (header_begins header (run_of job form records)) (part_begins_all old new (header_alone header) at (h.part is_told)))
 
-part_of_batch_begins : (job : RunJob) (batch : ℕ) (old new : Outputs) (at : Output) (committed : ℕ) (header : List ℕ) (form : Form) (records : List RecordBytes) (end : Result Tail CaptureError) → HoldsPartOfBatch job batch old new at committed header form records
+part_of_batch_begins : (job : RunJob) (batch : ℕ) (told : Sinks Bool) (is_told : AllTold told) (old new : Outputs) (at : Output) (committed : ℕ) (header : List ℕ) (form : Form) (records : List RecordBytes) (end : Result Tail CaptureError) → HoldsPartOfBatch job batch told old new at committed header form records
     → Begins old new (replay_of header (run_of job form records) end)
-part_of_batch_begins job batch old new at committed header form records end h =
+part_of_batch_begins job batch told is_told old new at committed header form records end h =
     online_begins old new header (run_of job form records) end
     (fewer_begin job old new header form (take h.next records) records (taken_front h.next records h.within)
-    (all_behind old h.mid new (online header (run_of job form (take committed records))) (batch_alone h.piece) (online header (run_of job form (take h.next records))) h.before h.piece_is (part_begins_all h.mid new (batch_alone h.piece) at h.part)))
+    (all_behind old h.mid new (online header (run_of job form (take committed records))) (batch_alone h.piece) (online header (run_of job form (take h.next records))) (h.before is_told) h.piece_is (part_begins_all h.mid new (batch_alone h.piece) at (h.part is_told))))
 
-part_of_ending_begins : (job : RunJob) (text : List ℕ) (old new : Outputs) (at : Output) (committed : ℕ) (form : Form) (records : List RecordBytes) (end : Result Tail CaptureError) → HoldsPartOfEnding job text old new at committed → IsCapture text form records end
+part_of_ending_begins : (job : RunJob) (text : List ℕ) (told : Sinks Bool) (is_told : AllTold told) (old new : Outputs) (at : Output) (committed : ℕ) (form : Form) (records : List RecordBytes) (end : Result Tail CaptureError) → HoldsPartOfEnding job text told old new at committed → IsCapture text form records end
     → Begins old new (replay_of (take 24 text) (run_of job form records) end)
-part_of_ending_begins job text old new at committed form records end h c =
+part_of_ending_begins job text told is_told old new at committed form records end h c =
     let one = one_capture text h.form form h.records records (Ok h.tail) end h.capture c in
     rw (← one.0, ← one.1, ← one.2)
-    (all_behind old h.mid new (online (take 24 text) (run_of job h.form h.records)) (closing (run_of job h.form h.records)) (whole (take 24 text) (run_of job h.form h.records)) h.before (whole_is (take 24 text) (run_of job h.form h.records))
-    (part_begins_all h.mid new (closing (run_of job h.form h.records)) at h.part))
+    (all_behind old h.mid new (online (take 24 text) (run_of job h.form h.records)) (closing (run_of job h.form h.records)) (whole (take 24 text) (run_of job h.form h.records)) (h.before is_told) (whole_is (take 24 text) (run_of job h.form h.records))
+    (part_begins_all h.mid new (closing (run_of job h.form h.records)) at (h.part is_told)))
 
-refused_begins : (job : RunJob) (text : List ℕ) (old new : Outputs) (e : CaptureError) (committed : ℕ) (form : Form) (records : List RecordBytes) (end : Result Tail CaptureError) → Refused job text old new e committed → IsCapture text form records end
+refused_begins : (job : RunJob) (text : List ℕ) (told : Sinks Bool) (is_told : AllTold told) (old new : Outputs) (e : CaptureError) (committed : ℕ) (form : Form) (records : List RecordBytes) (end : Result Tail CaptureError) → Refused job text told old new e committed → IsCapture text form records end
     → Begins old new (replay_of (take 24 text) (run_of job form records) end)
-refused_begins job text old new refusal.Read committed form records end r c = absurd r
-refused_begins job text old new refusal.Memory committed form records end r c = absurd r
-refused_begins job text old new (refusal.RecordTooLong asked) committed form records end r c = all_begins job text old new (Err (refusal.RecordTooLong asked)) committed form records end r c
-refused_begins job text old new refusal.HeaderCut committed form records end r c = all_nothing old new _ r.2
-refused_begins job text old new refusal.BadMagic committed form records end r c = all_nothing old new _ r.2
-refused_begins job text old new refusal.BadVersion committed form records end r c = all_nothing old new _ r.2
-refused_begins job text old new (refusal.LinkType link) committed form records end r c = all_nothing old new _ r.2
+refused_begins job text told is_told old new refusal.Read committed form records end r c = absurd r
+refused_begins job text told is_told old new refusal.Memory committed form records end r c = absurd r
+refused_begins job text told is_told old new (refusal.RecordTooLong asked) committed form records end r c = all_begins job text told is_told old new (Err (refusal.RecordTooLong asked)) committed form records end r c
+refused_begins job text told is_told old new refusal.HeaderCut committed form records end r c = all_nothing old new _ (r.2 is_told)
+refused_begins job text told is_told old new refusal.BadMagic committed form records end r c = all_nothing old new _ (r.2 is_told)
+refused_begins job text told is_told old new refusal.BadVersion committed form records end r c = all_nothing old new _ (r.2 is_told)
+refused_begins job text told is_told old new (refusal.LinkType link) committed form records end r c = all_nothing old new _ (r.2 is_told)
 
-pub stop_begins : (job : RunJob) (batch : ℕ) (text left : List ℕ) (old new : Outputs) (s : Stop) (form : Form) (records : List RecordBytes) (end : Result Tail CaptureError) → Stopped job batch text left old new s → IsCapture text form records end
+pub stop_begins : (job : RunJob) (batch : ℕ) (text left : List ℕ) (told : Sinks Bool) (is_told : AllTold told) (old new : Outputs) (s : Stop) (form : Form) (records : List RecordBytes) (end : Result Tail CaptureError) → Stopped job batch text left told old new s → IsCapture text form records end
     → Begins old new (replay_of (take 24 text) (run_of job form records) end)
-stop_begins job batch text left old new (stop.Ruleset fault) form records end s c = absurd s
-stop_begins job batch text left old new (stop.Capture e committed) form records end s c = refused_begins job text old new e committed form records end s c
-stop_begins job batch text left old new (stop.Read committed) form records end (inl unopened) c = all_nothing old new _ unopened.same
-stop_begins job batch text left old new (stop.Read committed) form records end (inr holds) c = read_begins job text left old new committed form records end holds c
-stop_begins job batch text left old new (stop.Memory committed) form records end (inl unwritten) c = all_nothing old new _ unwritten.same
-stop_begins job batch text left old new (stop.Memory committed) form records end (inr (inl holds)) c =
-    holds_begins job batch old new committed (take 24 text) form records end (of_source text left (Holds job batch old new committed) form records end holds c)
-stop_begins job batch text left old new (stop.Memory committed) form records end (inr (inr holds)) c = all_begins job text old new (Ok holds.0) committed form records end holds.1 c
-stop_begins job batch text left old new (stop.Write at committed) form records end (inl holds) c =
-    by_part (of_source text left (λ header form records. HoldsPartOfHeader old new at committed header ⊎ HoldsPartOfBatch job batch old new at committed header form records) form records end holds c)
+stop_begins job batch text left told is_told old new (stop.Ruleset fault) form records end s c = absurd s
+stop_begins job batch text left told is_told old new (stop.Capture e committed) form records end s c = refused_begins job text told is_told old new e committed form records end s c
+stop_begins job batch text left told is_told old new (stop.Read committed) form records end (inl unopened) c = all_nothing old new _ (unopened.same is_told)
+stop_begins job batch text left told is_told old new (stop.Read committed) form records end (inr holds) c = read_begins job text left told is_told old new committed form records end holds c
+stop_begins job batch text left told is_told old new (stop.Memory committed) form records end (inl unwritten) c = all_nothing old new _ (unwritten.same is_told)
+stop_begins job batch text left told is_told old new (stop.Memory committed) form records end (inr (inl holds)) c =
+    holds_begins job batch told is_told old new committed (take 24 text) form records end (of_source text left (Holds job batch told old new committed) form records end holds c)
+stop_begins job batch text left told is_told old new (stop.Memory committed) form records end (inr (inr holds)) c = all_begins job text told is_told old new (Ok holds.0) committed form records end holds.1 c
+stop_begins job batch text left told is_told old new (stop.Write at committed) form records end (inl holds) c =
+    by_part (of_source text left (λ header form records. HoldsPartOfHeader told old new at committed header ⊎ HoldsPartOfBatch job batch told old new at committed header form records) form records end holds c)
   where
-    by_part : HoldsPartOfHeader old new at committed (take 24 text) ⊎ HoldsPartOfBatch job batch old new at committed (take 24 text) form records → Begins old new (replay_of (take 24 text) (run_of job form records) end)
-    by_part (inl h) = part_of_header_begins job old new at committed (take 24 text) form records end h
-    by_part (inr h) = part_of_batch_begins job batch old new at committed (take 24 text) form records end h
-stop_begins job batch text left old new (stop.Write at committed) form records end (inr holds) c = part_of_ending_begins job text old new at committed form records end holds c
+    by_part : HoldsPartOfHeader told old new at committed (take 24 text) ⊎ HoldsPartOfBatch job batch told old new at committed (take 24 text) form records → Begins old new (replay_of (take 24 text) (run_of job form records) end)
+    by_part (inl h) = part_of_header_begins job told is_told old new at committed (take 24 text) form records end h
+    by_part (inr h) = part_of_batch_begins job batch told is_told old new at committed (take 24 text) form records end h
+stop_begins job batch text left told is_told old new (stop.Write at committed) form records end (inr holds) c = part_of_ending_begins job text told is_told old new at committed form records end holds c
 
 -- where reading failed, the outputs begin the replay of every capture that begins with what was read
-pub read_stop_begins : (job : RunJob) (batch : ℕ) (text left : List ℕ) (old new : Outputs) (committed : ℕ) (read more : List ℕ) (form : Form) (records : List RecordBytes) (end : Result Tail CaptureError) → Stopped job batch text left old new (stop.Read committed)
+pub read_stop_begins : (job : RunJob) (batch : ℕ) (text left : List ℕ) (told : Sinks Bool) (is_told : AllTold told) (old new : Outputs) (committed : ℕ) (read more : List ℕ) (form : Form) (records : List RecordBytes) (end : Result Tail CaptureError) → Stopped job batch text left told old new (stop.Read committed)
     → text ≡ read ++ left → IsCapture (read ++ more) form records end → Begins old new (replay_of (take 24 (read ++ more)) (run_of job form records) end)
-read_stop_begins job batch text left old new committed read more form records end (inl unopened) is c = all_nothing old new _ unopened.same
-read_stop_begins job batch text left old new committed read more form records end (inr h) is c =
+read_stop_begins job batch text left told is_told old new committed read more form records end (inl unopened) is c = all_nothing old new _ (unopened.same is_told)
+read_stop_begins job batch text left told is_told old new committed read more form records end (inr h) is c =
     let same : h.read ≡ read = append_cancel_right h.read read left (sym h.is ∙ is) in
     let whole_read : IsCapture read h.form h.records (Ok h.tail) = rw same at h.capture in
     let first = capture_first read more h.form form h.records records (Ok h.tail) end whole_read c in
-    let grew = rw (is, same_header read left h.form h.records (Ok h.tail) whole_read) at h.grew in
+    let grew = rw (is, same_header read left h.form h.records (Ok h.tail) whole_read) at (h.grew is_told) in
     online_begins old new (take 24 (read ++ more)) (run_of job form records) end
     (rw (first.0, same_header read more h.form h.records (Ok h.tail) whole_read) (fewer_begin job old new (take 24 read) h.form h.records records first.1 (all_whole old new (online (take 24 read) (run_of job h.form h.records)) grew)))
+
+-- ---- a refused header
+
+-- an accepted one is no refused one
+not_both : (text : List ℕ) (form : Form) (e : CaptureError) → opening_of text ≡ Err e → opening_of text ≡ Ok form → ⊥
+not_both text form e refused opened = cc (refused, opened)
+
+capture_is_opened : (text : List ℕ) (form : Form) (records : List RecordBytes) (end : Result Tail CaptureError) → IsCapture text form records end → opening_of text ≡ Ok form
+capture_is_opened text form records end c = rw (append-nil text) at (capture_opens text [] form records end c)
+
+-- with more behind it an accepted header is accepted
+opened_longer : (read left : List ℕ) (form : Form) → opening_of read ≡ Ok form → opening_of (read ++ left) ≡ Ok form
+opened_longer read left form opened =
+    let is = every_capture read form opened in
+    capture_opens read left form is.0 is.1 is.2
+
+of_every_opens : (text left : List ℕ) (P : List ℕ → Form → List RecordBytes → Type 0) (o : OfEvery text left P) → opening_of text ≡ Ok o.form
+of_every_opens text left P o = rw o.is (opened_longer o.read left o.form o.opened)
+
+-- then nothing was written, and no packet committed
+pub nothing_behind_a_refusal : (job : RunJob) (batch : ℕ) (text left : List ℕ) (told : Sinks Bool) (old new : Outputs) (s : Stop) (e : CaptureError) → opening_of text ≡ Err e → Stopped job batch text left told old new s
+    → (AllTold told → new ≡ old) × (committed_of s ≡ 0)
+nothing_behind_a_refusal job batch text left told old new (stop.Ruleset fault) e refused s = absurd s
+nothing_behind_a_refusal job batch text left told old new (stop.Capture e' committed) e refused s = by_refusal e' s
+  where
+    by_refusal : (e' : CaptureError) → Refused job text told old new e' committed → (AllTold told → new ≡ old) × (committed ≡ 0)
+    by_refusal refusal.Read s = absurd s
+    by_refusal refusal.Memory s = absurd s
+    by_refusal (refusal.RecordTooLong asked) s = absurd (not_both text s.form e refused (capture_is_opened text s.form s.records (Err (refusal.RecordTooLong asked)) s.capture))
+    by_refusal refusal.HeaderCut s = (s.2, s.1)
+    by_refusal refusal.BadMagic s = (s.2, s.1)
+    by_refusal refusal.BadVersion s = (s.2, s.1)
+    by_refusal (refusal.LinkType link) s = (s.2, s.1)
+nothing_behind_a_refusal job batch text left told old new (stop.Read committed) e refused (inl unopened) = (unopened.same, unopened.none)
+nothing_behind_a_refusal job batch text left told old new (stop.Read committed) e refused (inr h) =
+    absurd (not_both text h.form e refused (rw h.is (capture_opens h.read left h.form h.records (Ok h.tail) h.capture)))
+nothing_behind_a_refusal job batch text left told old new (stop.Memory committed) e refused (inl unwritten) = (unwritten.same, unwritten.none)
+nothing_behind_a_refusal job batch text left told old new (stop.Memory committed) e refused (inr (inl holds)) = absurd (not_both text holds.form e refused (of_every_opens text left _ holds))
+nothing_behind_a_refusal job batch text left told old new (stop.Memory committed) e refused (inr (inr holds)) =
+    absurd (not_both text holds.1.form e refused (capture_is_opened text holds.1.form holds.1.records (Ok holds.0) holds.1.capture))
+nothing_behind_a_refusal job batch text left told old new (stop.Write at committed) e refused (inl holds) = absurd (not_both text holds.form e refused (of_every_opens text left _ holds))
+nothing_behind_a_refusal job batch text left told old new (stop.Write at committed) e refused (inr h) =
+    absurd (not_both text h.form e refused (capture_is_opened text h.form h.records (Ok h.tail) h.capture))

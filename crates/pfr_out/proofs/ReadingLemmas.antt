@@ -1,13 +1,15 @@
 -- Batches of records, and the captures that they come from.
-use Rattle.std.proofs.Common.{◌≡◌, ℕ, ◌+◌, ◌≤◌, List, [], ◌∷◌, ◌++◌, length, map, take, drop, Option, Some, None, Result, Ok, Err, refl, sym, ◌∙◌, ap, arith}
+use Rattle.std.proofs.Common.{◌≡◌, ℕ, ◌+◌, ◌≤◌, ltb, false, List, [], ◌∷◌, ◌++◌, length, map, take, drop, Option, Some, None, Result, Ok, Err, refl, sym, ◌∙◌, ap, arith}
 use Rattle.std.specs.List.{All, flat_map}
-use Rattle.std.proofs.lemmas.List.{append_assoc, append-nil, map-append, take_at}
+use Rattle.std.proofs.lemmas.Bool.{le-ltb}
+use Rattle.std.proofs.lemmas.List.{append_assoc, append-nil, length-append, map-append, take_at}
 use Rattle.std.proofs.lemmas.List.Elements.{All-head, All-push, All-tail, All-weaker}
 use Rattle.pfr_capture.specs.declared.capture.CaptureError.{CaptureError}
 use Rattle.pfr_capture.specs.declared.capture.CaptureError.TheVariants as refusal
 use Rattle.pfr_capture.specs.declared.capture.Form.{Form}
 use Rattle.pfr_capture.specs.declared.capture.Record.{Record}
 use Rattle.pfr_capture.specs.declared.capture.Tail.{Tail}
+use Rattle.pfr_capture.specs.Header.{form_of, opening_of}
 use Rattle.pfr_capture.specs.Reading.{EndsCapture, Gave, HasGiven, LacksRecord, NextFails, Reading, ReadsOn, Refuses, bytes_of}
 use Rattle.pfr_capture.specs.Records.{IsCapture, RecordBytes, text_of}
 use Rattle.pfr_capture.proofs.CaptureLemmas.{IsFront, given_first}
@@ -85,12 +87,34 @@ header_is capture read more given h =
     ap (λ (t : List ℕ). t ++ more) h.read_is ∙ append_assoc capture.header (flat_map text_of given ++ capture.ahead) more in
     rw whole (take_at capture.header ((flat_map text_of given ++ capture.ahead) ++ more) 24 h.header_length)
 
+-- a text that begins with a whole header opens as that says
+opens_as : (header rest : List ℕ) (form : Form) → length header ≡ 24 → form_of header ≡ Ok form → opening_of (header ++ rest) ≡ Ok form
+opens_as header rest form long says =
+    let enough : ltb (length (header ++ rest)) 24 ≡ false = le-ltb _ _ (omega (arith, length-append header rest)) in
+    rw (enough, take_at header rest 24 long) says
+
+-- and so does the text that was read
+pub read_opens : (capture : Reading) (read more : List ℕ) (given : List RecordBytes) → HasGiven capture read given → opening_of (read ++ more) ≡ Ok capture.form
+read_opens capture read more given h =
+    let whole : read ++ more ≡ capture.header ++ ((flat_map text_of given ++ capture.ahead) ++ more) =
+    ap (λ (t : List ℕ). t ++ more) h.read_is ∙ append_assoc capture.header (flat_map text_of given ++ capture.ahead) more in
+    rw whole (opens_as capture.header ((flat_map text_of given ++ capture.ahead) ++ more) capture.form h.header_length h.says)
+
+-- and a capture
+pub capture_opens : (text more : List ℕ) (form : Form) (records : List RecordBytes) (end : End) → IsCapture text form records end → opening_of (text ++ more) ≡ Ok form
+capture_opens text more form records end c =
+    let whole : text ++ more ≡ c.header ++ ((flat_map text_of records ++ c.rest) ++ more) =
+    ap (λ (t : List ℕ). t ++ more) c.whole ∙ append_assoc c.header (flat_map text_of records ++ c.rest) more in
+    rw whole (opens_as c.header ((flat_map text_of records ++ c.rest) ++ more) form c.header_length c.says)
+
 -- what holds of the reader's header and form, and of all records that begin with those given, where more of the source was read since
 pub of_every : (capture : Reading) (text left read later : List ℕ) (given : List RecordBytes) (P : List ℕ → Form → List RecordBytes → Type 0) → text ≡ read ++ later → Gave later left → HasGiven capture read given
     → ((records : List RecordBytes) → IsFront given records → P capture.header capture.form records) → OfEvery text left P
 of_every capture text left read later given P is gave h p = record {
   read = read ++ gave.came;
   is = is ∙ (rw gave.gave (sym (append_assoc read gave.came left)));
+  form = capture.form;
+  opened = read_opens capture read gave.came given h;
   every = λ more form records ending c.
       let capture_is : IsCapture (read ++ (gave.came ++ more)) form records ending = rw (append_assoc read gave.came more) at c in
       let g = given_first capture read (gave.came ++ more) given form records ending h capture_is in

@@ -1,5 +1,5 @@
 -- The replay of a capture through a ruleset, by one thread, a batch of packets at a time.
-use Rattle.std.specs.Prelude.{◌≡◌, ◌⊎◌, ◌≤◌, ◌<◌, ◌+◌, ◌*◌, ℕ, List, [], ◌++◌, length, map, take, Result, Ok, Err}
+use Rattle.std.specs.Prelude.{◌≡◌, ◌⊎◌, ◌≤◌, ◌<◌, ◌+◌, ◌*◌, ℕ, Bool, IsTrue, List, [], ◌++◌, length, map, take, Result, Ok, Err}
 use Rattle.pfr_capture.specs.declared.capture.CaptureError.{CaptureError}
 use Rattle.pfr_capture.specs.declared.capture.CaptureError.TheVariants as capture
 use Rattle.pfr_capture.specs.declared.capture.Form.{Form}
@@ -21,7 +21,7 @@ use Rattle.pfr_out.specs.declared.report.Stop.{Stop}
 use Rattle.pfr_out.specs.declared.report.Stop.TheVariants as stop
 use Rattle.pfr_out.specs.declared.settings.Settings.{Settings}
 use Rattle.pfr_out.specs.declared.sinks.Sinks.{Sinks}
-use Rattle.pfr_out.specs.Outputs.{Grew, Outputs, PartWritten, RoseAt, batch_alone, ending_alone, header_alone}
+use Rattle.pfr_out.specs.Outputs.{AllTold, Grew, Outputs, PartWritten, RoseAt, batch_alone, ending_alone, header_alone}
 
 -- ---- what a replay writes
 
@@ -60,19 +60,24 @@ pub record Begins (old new all : Outputs) : Type 0 where
 
 -- ---- a run to the end
 
-pub record Replayed (job : RunJob) (text : List ℕ) (old new : Outputs) (report : Report) : Type 0 where
+-- Facts of the outputs hold where all sinks tell their bytes.
+
+pub record Replayed (job : RunJob) (text : List ℕ) (told : Sinks Bool) (old new : Outputs) (report : Report) : Type 0 where
   pub form : Form
   pub records : List RecordBytes
   pub capture : IsCapture text form records (Ok report.tail)
   pub counted : length records ≡ report.committed
-  pub grew : Grew old new (whole (take 24 text) (run_of job form records))
+  pub grew : AllTold told → Grew old new (whole (take 24 text) (run_of job form records))
 
 -- ---- stops
 
--- a fact of the header, the form and the records of every capture that begins with the bytes that were read of the source
+-- The capture's header was read and is accepted, and this is a fact of the header, the form and the records of every capture that
+-- begins with the bytes that were read of the source.
 pub record OfEvery (text left : List ℕ) (P : List ℕ → Form → List RecordBytes → Type 0) : Type 0 where
   pub read : List ℕ
   pub is : text ≡ read ++ left
+  pub form : Form
+  pub opened : opening_of read ≡ Ok form
   pub every : (more : List ℕ) (form : Form) (records : List RecordBytes) (ending : Result Tail CaptureError) → IsCapture (read ++ more) form records ending → P (take 24 (read ++ more)) form records
 
 -- between two batches
@@ -80,42 +85,42 @@ abbrev pub IsBoundary : ℕ → ℕ → Type 0
 IsBoundary batch count = (batches : ℕ) × (count ≡ batches * batch)
 
 -- the outputs hold just what so many of the records write, and that is a number of whole batches
-pub record Holds (job : RunJob) (batch : ℕ) (old new : Outputs) (committed : ℕ) (header : List ℕ) (form : Form) (records : List RecordBytes) : Type 0 where
+pub record Holds (job : RunJob) (batch : ℕ) (told : Sinks Bool) (old new : Outputs) (committed : ℕ) (header : List ℕ) (form : Form) (records : List RecordBytes) : Type 0 where
   pub within : committed ≤ length records
   pub boundary : IsBoundary batch committed
-  pub grew : Grew old new (online header (run_of job form (take committed records)))
+  pub grew : AllTold told → Grew old new (online header (run_of job form (take committed records)))
 
 -- the header wasn't written whole, and nothing else was
-pub record HoldsPartOfHeader (old new : Outputs) (output : Output) (committed : ℕ) (header : List ℕ) : Type 0 where
+pub record HoldsPartOfHeader (told : Sinks Bool) (old new : Outputs) (output : Output) (committed : ℕ) (header : List ℕ) : Type 0 where
   pub none : committed ≡ 0
-  pub part : PartWritten old new (header_alone header) output
+  pub part : AllTold told → PartWritten old new (header_alone header) output
 
 -- The outputs hold what so many records write, a number of whole batches, and a part of what the next ones write, at most a batch
 -- of them: of one output a part that lacks at least its last byte, and nothing behind that.
-pub record HoldsPartOfBatch (job : RunJob) (batch : ℕ) (old new : Outputs) (output : Output) (committed : ℕ) (header : List ℕ) (form : Form) (records : List RecordBytes) : Type 0 where
+pub record HoldsPartOfBatch (job : RunJob) (batch : ℕ) (told : Sinks Bool) (old new : Outputs) (output : Output) (committed : ℕ) (header : List ℕ) (form : Form) (records : List RecordBytes) : Type 0 where
   pub next : ℕ
   pub at_most : next ≤ committed + batch
   pub within : next ≤ length records
   pub boundary : IsBoundary batch committed
   pub mid : Outputs
-  pub before : Grew old mid (online header (run_of job form (take committed records)))
+  pub before : AllTold told → Grew old mid (online header (run_of job form (take committed records)))
   pub piece : Texts
   pub piece_is : Grew (online header (run_of job form (take committed records))) (online header (run_of job form (take next records))) (batch_alone piece)
-  pub part : PartWritten mid new (batch_alone piece) output
+  pub part : AllTold told → PartWritten mid new (batch_alone piece) output
 
 -- nothing was written, since not all of the capture's header had come
-pub record Unopened (text left : List ℕ) (old new : Outputs) (committed : ℕ) : Type 0 where
+pub record Unopened (text left : List ℕ) (told : Sinks Bool) (old new : Outputs) (committed : ℕ) : Type 0 where
   pub none : committed ≡ 0
   pub early : length text < 24 + length left
-  pub same : new ≡ old
+  pub same : AllTold told → new ≡ old
 
 -- nothing was written
-pub record Unwritten (old new : Outputs) (committed : ℕ) : Type 0 where
+pub record Unwritten (told : Sinks Bool) (old new : Outputs) (committed : ℕ) : Type 0 where
   pub none : committed ≡ 0
-  pub same : new ≡ old
+  pub same : AllTold told → new ≡ old
 
 -- what was read of the source is a capture of just the records committed, and the outputs hold just what these write
-pub record HoldsAllRead (job : RunJob) (text left : List ℕ) (old new : Outputs) (committed : ℕ) : Type 0 where
+pub record HoldsAllRead (job : RunJob) (text left : List ℕ) (told : Sinks Bool) (old new : Outputs) (committed : ℕ) : Type 0 where
   pub read : List ℕ
   pub is : text ≡ read ++ left
   pub form : Form
@@ -123,58 +128,66 @@ pub record HoldsAllRead (job : RunJob) (text left : List ℕ) (old new : Outputs
   pub tail : Tail
   pub capture : IsCapture read form records (Ok tail)
   pub counted : length records ≡ committed
-  pub grew : Grew old new (online (take 24 text) (run_of job form records))
+  pub grew : AllTold told → Grew old new (online (take 24 text) (run_of job form records))
 
 -- the source is a capture of just the records committed, which ends so, and the outputs hold just what these write
-pub record HoldsAll (job : RunJob) (text : List ℕ) (old new : Outputs) (ending : Result Tail CaptureError) (committed : ℕ) : Type 0 where
+pub record HoldsAll (job : RunJob) (text : List ℕ) (told : Sinks Bool) (old new : Outputs) (ending : Result Tail CaptureError) (committed : ℕ) : Type 0 where
   pub form : Form
   pub records : List RecordBytes
   pub capture : IsCapture text form records ending
   pub counted : length records ≡ committed
-  pub grew : Grew old new (online (take 24 text) (run_of job form records))
+  pub grew : AllTold told → Grew old new (online (take 24 text) (run_of job form records))
 
 -- the source is a capture that was read to its end, and what stands there was written in part
-pub record HoldsPartOfEnding (job : RunJob) (text : List ℕ) (old new : Outputs) (output : Output) (committed : ℕ) : Type 0 where
+pub record HoldsPartOfEnding (job : RunJob) (text : List ℕ) (told : Sinks Bool) (old new : Outputs) (output : Output) (committed : ℕ) : Type 0 where
   pub form : Form
   pub records : List RecordBytes
   pub tail : Tail
   pub capture : IsCapture text form records (Ok tail)
   pub counted : length records ≡ committed
   pub mid : Outputs
-  pub before : Grew old mid (online (take 24 text) (run_of job form records))
-  pub part : PartWritten mid new (closing (run_of job form records)) output
+  pub before : AllTold told → Grew old mid (online (take 24 text) (run_of job form records))
+  pub part : AllTold told → PartWritten mid new (closing (run_of job form records)) output
 
 -- what a refusal of the capture says of the source's bytes and of the outputs
-abbrev pub Refused : RunJob → List ℕ → Outputs → Outputs → CaptureError → ℕ → Type 0
-Refused job text old new capture.Read committed = ⊥
-Refused job text old new capture.Memory committed = ⊥
-Refused job text old new (capture.RecordTooLong asked) committed = HoldsAll job text old new (Err (capture.RecordTooLong asked)) committed
-Refused job text old new e committed = (opening_of text ≡ Err e) × (committed ≡ 0) × (new ≡ old)
+abbrev pub Refused : RunJob → List ℕ → (told : Sinks Bool) → (old new : Outputs) → CaptureError → ℕ → Type 0
+Refused job text told old new capture.Read committed = ⊥
+Refused job text told old new capture.Memory committed = ⊥
+Refused job text told old new (capture.RecordTooLong asked) committed = HoldsAll job text told old new (Err (capture.RecordTooLong asked)) committed
+Refused job text told old new e committed = (opening_of text ≡ Err e) × (committed ≡ 0) × (AllTold told → new ≡ old)
 
 -- what a refusal of memory says: nothing was written, or whole batches were, or all that stands before the end
-abbrev pub Wanting : RunJob → ℕ → (text left : List ℕ) → (old new : Outputs) → ℕ → Type 0
-Wanting job batch text left old new committed =
-    Unwritten old new committed ⊎ (OfEvery text left (Holds job batch old new committed) ⊎ ((tail : Tail) × HoldsAll job text old new (Ok tail) committed))
+abbrev pub Wanting : RunJob → ℕ → (text left : List ℕ) → (told : Sinks Bool) → (old new : Outputs) → ℕ → Type 0
+Wanting job batch text left told old new committed =
+    Unwritten told old new committed ⊎ (OfEvery text left (Holds job batch told old new committed) ⊎ ((tail : Tail) × HoldsAll job text told old new (Ok tail) committed))
 
 -- what a failed write says
-abbrev pub Failing : RunJob → ℕ → (text left : List ℕ) → (old new : Outputs) → Output → ℕ → Type 0
-Failing job batch text left old new output committed =
-    OfEvery text left (λ header form records. HoldsPartOfHeader old new output committed header ⊎ HoldsPartOfBatch job batch old new output committed header form records)
-    ⊎ HoldsPartOfEnding job text old new output committed
+abbrev pub Failing : RunJob → ℕ → (text left : List ℕ) → (told : Sinks Bool) → (old new : Outputs) → Output → ℕ → Type 0
+Failing job batch text left told old new output committed =
+    OfEvery text left (λ header form records. HoldsPartOfHeader told old new output committed header ⊎ HoldsPartOfBatch job batch told old new output committed header form records)
+    ⊎ HoldsPartOfEnding job text told old new output committed
 
 -- what each stop after the ruleset was read says
-abbrev pub Stopped : RunJob → ℕ → (text left : List ℕ) → (old new : Outputs) → Stop → Type 0
-Stopped job batch text left old new (stop.Ruleset fault) = ⊥
-Stopped job batch text left old new (stop.Capture e committed) = Refused job text old new e committed
-Stopped job batch text left old new (stop.Read committed) = Unopened text left old new committed ⊎ HoldsAllRead job text left old new committed
-Stopped job batch text left old new (stop.Memory committed) = Wanting job batch text left old new committed
-Stopped job batch text left old new (stop.Write output committed) = Failing job batch text left old new output committed
+abbrev pub Stopped : RunJob → ℕ → (text left : List ℕ) → (told : Sinks Bool) → (old new : Outputs) → Stop → Type 0
+Stopped job batch text left told old new (stop.Ruleset fault) = ⊥
+Stopped job batch text left told old new (stop.Capture e committed) = Refused job text told old new e committed
+Stopped job batch text left told old new (stop.Read committed) = Unopened text left told old new committed ⊎ HoldsAllRead job text left told old new committed
+Stopped job batch text left told old new (stop.Memory committed) = Wanting job batch text left told old new committed
+Stopped job batch text left told old new (stop.Write output committed) = Failing job batch text left told old new output committed
 
 -- the stop for a refusal of the capture's reader
 abbrev pub stop_for : CaptureError → ℕ → Stop
 stop_for capture.Read committed = stop.Read committed
 stop_for capture.Memory committed = stop.Memory committed
 stop_for e committed = stop.Capture e committed
+
+-- how many packets a stop reports as committed
+abbrev pub committed_of : Stop → ℕ
+committed_of (stop.Ruleset fault) = 0
+committed_of (stop.Capture e committed) = committed
+committed_of (stop.Read committed) = committed
+committed_of (stop.Write output committed) = committed
+committed_of (stop.Memory committed) = committed
 
 -- ---- failures of devices
 
@@ -207,7 +220,8 @@ pub record IsFaultOf (text : List ℕ) (settings : Settings) (fault : ConfError)
   pub is : Gives (ruleset_of text settings.interface) (Err fault)
   pub line : fault.kind ≡ NoMemory → fault.line ≡ 0
 
--- what each stop says; a fault of the ruleset leaves the source unread and the outputs as they were
-abbrev pub StopOf : (text seed : List ℕ) → Settings → (before left : List ℕ) → (old new : Outputs) → Stop → Type 0
-StopOf text seed settings before left old new (stop.Ruleset fault) = IsFaultOf text settings fault × (left ≡ before) × (new ≡ old)
-StopOf text seed settings before left old new s = UnderJob text seed settings (λ job. Stopped job settings.batch before left old new s)
+-- What each stop says where the source tells its bytes, where all sinks do, and where neither does. A fault of the ruleset leaves the
+-- source unread and the outputs as they were.
+abbrev pub StopOf : (text seed : List ℕ) → Settings → (tells : Bool) → (before left : List ℕ) → (told : Sinks Bool) → (old new : Outputs) → Stop → Type 0
+StopOf text seed settings tells before left told old new (stop.Ruleset fault) = IsFaultOf text settings fault × (IsTrue tells → left ≡ before) × (AllTold told → new ≡ old)
+StopOf text seed settings tells before left told old new s = UnderJob text seed settings (λ job. IsTrue tells → Stopped job settings.batch before left told old new s)

@@ -1,17 +1,19 @@
 //! The replay of a capture.
-ghost use Rattle.std.specs.Prelude.{◌≡◌, ◌≤◌, ℕ, List, [], ◌++◌, false, None, IsTrue, IfErr, IfOk, OnOk};
+ghost use Rattle.std.specs.Prelude.{◌≡◌, ◌≤◌, ℕ, List, [], ◌++◌, None, Some, IsTrue, IfErr, IfOk, OnOk};
 ghost use Rattle.pfr_capture.specs.Reading.{HasGiven};
 ghost use Rattle.pfr_commit.specs.Books.{job_of, world_in};
 ghost use Rattle.pfr_commit.specs.World.{no_texts, opening};
 ghost use Rattle.pfr_out.specs.Outputs.{AllTold, each_of};
+ghost use Rattle.pfr_out.specs.Reading.{BatchFails};
 ghost use Rattle.pfr_out.specs.Replay.{Replayed, StopFails, StopOf, Stopped, UnderJob};
+ghost use Rattle.pfr_out.specs.Taking.{IsLate, Reaches};
 
 use crate::reading::{read_batch, wants_memory};
 use crate::report::{Report, Stop};
 use crate::settings::Settings;
 use crate::sinks::Sinks;
 use crate::taking::{conclude, stop_for, take_batch};
-use pfr_capture::{Capture, Sink, Source};
+use pfr_capture::{Capture, CaptureError, Sink, Source, Tail};
 use pfr_commit::{Book, Emitted};
 use pfr_packet::Job;
 use std::alloc::{AllocError, Global};
@@ -27,22 +29,24 @@ fn book_of(alloc: Global, job: Job) -> Result<Book, AllocError>
 }
 
 /// Writes the header of a capture, and then takes and writes its packets, a batch at a time. Its reader has given none of them.
-fn replay_capture<R: Source, S: Sink>(
+/// It answers how the reading ends; where memory was refused then that is a stop.
+fn take_packets<R: Source, S: Sink>(
     alloc: Global,
-    mut book: Book,
+    book: &mut Book,
     capture: &mut Capture,
     source: &mut R,
     batch: usize,
     sinks: &mut Sinks<S>,
-) -> Result<Report, Stop>
+) -> Result<Result<Tail, CaptureError>, Stop>
     requires reading { capture.old.over ≡ None }
     requires start { capture.old.count ≡ 0 }
-    requires world { world_in book no_texts ≡ opening (job_of book) }
+    requires world { world_in book.old no_texts ≡ opening (job_of book.old) }
     requires batch { (1 ≤ batch) × (batch ≤ 4096) }
     ensures told { (R.told source.new ≡ R.told source.old) × (each_of S.told sinks.new ≡ each_of S.told sinks.old) }
-    ensures ok { IfOk result (λ report. IsTrue (R.told source.old) → AllTold (each_of S.told sinks.old) → (read : List ℕ) → HasGiven capture.old read [] → Replayed (job_of book) (read ++ R.unread source.old) (each_of S.written sinks.old) (each_of S.written sinks.new) report) }
-    ensures stopped { IfErr result (λ stop. IsTrue (R.told source.old) → AllTold (each_of S.told sinks.old) → (read : List ℕ) → HasGiven capture.old read [] → Stopped (job_of book) batch (read ++ R.unread source.old) (R.unread source.new) (each_of S.written sinks.old) (each_of S.written sinks.new) stop) }
-    ensures no_failure { OnOk result ((R.failures source.new ≡ R.failures source.old) × (each_of S.failures sinks.new ≡ each_of S.failures sinks.old)) }
+    ensures reaches { IfOk result (λ end. IsTrue (R.told source.old) → (read : List ℕ) → HasGiven capture.old read [] → Reaches (job_of book.old) batch (read ++ R.unread source.old) (R.unread source.new) (each_of S.told sinks.old) (each_of S.written sinks.old) (each_of S.written sinks.new) (world_in book.new no_texts) end) }
+    ensures stopped { IfErr result (λ stop. IsTrue (R.told source.old) → (read : List ℕ) → HasGiven capture.old read [] → Stopped (job_of book.old) batch (read ++ R.unread source.old) (R.unread source.new) (each_of S.told sinks.old) (each_of S.written sinks.old) (each_of S.written sinks.new) stop) }
+    ensures late { IfErr result (λ stop. IsLate stop) }
+    ensures no_failure { IfOk result (λ end. BatchFails (Some end) (R.failures source.old) (R.failures source.new) × (each_of S.failures sinks.new ≡ each_of S.failures sinks.old)) }
     ensures failure { IfErr result (λ stop. StopFails stop (R.failures source.old) (R.failures source.new) (each_of S.failures sinks.old) (each_of S.failures sinks.new)) }
 {
     match sinks.write_header(&capture.header()) {
@@ -56,14 +60,39 @@ fn replay_capture<R: Source, S: Sink>(
         if wants_memory(&end) {
             return Err(Stop::Memory(book.committed()));
         }
-        match take_batch(alloc, &mut book, packets.as_slice(), &mut out, sinks) {
+        match take_batch(alloc, book, packets.as_slice(), &mut out, sinks) {
             Ok(()) => {}
             Err(stop) => return Err(stop),
         }
-        match end {
-            None => {}
-            Some(end) => return conclude(book, end, sinks),
+        if let Some(end) = end {
+            return Ok(end);
         }
+    }
+}
+
+/// Replays a capture whose reader has given no packet.
+fn replay_capture<R: Source, S: Sink>(
+    alloc: Global,
+    mut book: Book,
+    capture: &mut Capture,
+    source: &mut R,
+    batch: usize,
+    sinks: &mut Sinks<S>,
+) -> Result<Report, Stop>
+    requires reading { capture.old.over ≡ None }
+    requires start { capture.old.count ≡ 0 }
+    requires world { world_in book no_texts ≡ opening (job_of book) }
+    requires batch { (1 ≤ batch) × (batch ≤ 4096) }
+    ensures told { (R.told source.new ≡ R.told source.old) × (each_of S.told sinks.new ≡ each_of S.told sinks.old) }
+    ensures ok { IfOk result (λ report. IsTrue (R.told source.old) → (read : List ℕ) → HasGiven capture.old read [] → Replayed (job_of book) (read ++ R.unread source.old) (each_of S.told sinks.old) (each_of S.written sinks.old) (each_of S.written sinks.new) report) }
+    ensures stopped { IfErr result (λ stop. IsTrue (R.told source.old) → (read : List ℕ) → HasGiven capture.old read [] → Stopped (job_of book) batch (read ++ R.unread source.old) (R.unread source.new) (each_of S.told sinks.old) (each_of S.written sinks.old) (each_of S.written sinks.new) stop) }
+    ensures late { IfErr result (λ stop. IsLate stop) }
+    ensures no_failure { OnOk result ((R.failures source.new ≡ R.failures source.old) × (each_of S.failures sinks.new ≡ each_of S.failures sinks.old)) }
+    ensures failure { IfErr result (λ stop. StopFails stop (R.failures source.old) (R.failures source.new) (each_of S.failures sinks.old) (each_of S.failures sinks.new)) }
+{
+    match take_packets(alloc, &mut book, capture, source, batch, sinks) {
+        Ok(end) => conclude(book, end, sinks),
+        Err(stop) => Err(stop),
     }
 }
 
@@ -77,7 +106,11 @@ fn replay_capture<R: Source, S: Sink>(
 ///
 /// Ok comes where the capture was read to its end; the sinks have then grown by just what its packets write, one after the
 /// other. At every stop they have grown by a beginning of that, and hold all that the packets write that the stop reports as
-/// committed. The clauses on bytes hold where the source and all sinks tell them.
+/// committed.
+///
+/// Ok comes only where the text means a ruleset, and a stop for the ruleset only with the text's first fault, whatever the
+/// devices. What is said of the capture holds where the source tells its bytes, and what is said of the outputs where all sinks
+/// tell theirs too.
 pub fn replay<H: AllocGlobal, R: Source, S: Sink>(
     rt: &H,
     source: &mut R,
@@ -90,11 +123,11 @@ pub fn replay<H: AllocGlobal, R: Source, S: Sink>(
     ensures told { (R.told source.new ≡ R.told source.old) × (each_of S.told sinks.new ≡ each_of S.told sinks.old) }
 
     // A run to the end.
-    ensures ok { IfOk result (λ report. IsTrue (R.told source.old) → AllTold (each_of S.told sinks.old) → UnderJob text.now seed settings.now (λ job. Replayed job (R.unread source.old) (each_of S.written sinks.old) (each_of S.written sinks.new) report)) }
+    ensures ok { IfOk result (λ report. UnderJob text.now seed settings.now (λ job. IsTrue (R.told source.old) → Replayed job (R.unread source.old) (each_of S.told sinks.old) (each_of S.written sinks.old) (each_of S.written sinks.new) report)) }
     ensures no_failure { OnOk result ((R.failures source.new ≡ R.failures source.old) × (each_of S.failures sinks.new ≡ each_of S.failures sinks.old)) }
 
     // A stop.
-    ensures stopped { IfErr result (λ stop. IsTrue (R.told source.old) → AllTold (each_of S.told sinks.old) → StopOf text.now seed settings.now (R.unread source.old) (R.unread source.new) (each_of S.written sinks.old) (each_of S.written sinks.new) stop) }
+    ensures stopped { IfErr result (λ stop. StopOf text.now seed settings.now (R.told source.old) (R.unread source.old) (R.unread source.new) (each_of S.told sinks.old) (each_of S.written sinks.old) (each_of S.written sinks.new) stop) }
     ensures failure { IfErr result (λ stop. StopFails stop (R.failures source.old) (R.failures source.new) (each_of S.failures sinks.old) (each_of S.failures sinks.new)) }
 {
     let alloc = rt.alloc();

@@ -30,7 +30,7 @@ pub(crate) fn take_batch<S: Sink>(
     ensures world { OnOk result (world_in book.new (added_by (job_of book.old) (world_in book.old no_texts) (frames_of packets.now)) ≡ world_after (job_of book.old) (world_in book.old no_texts) (frames_of packets.now)) }
     ensures counted { OnOk result (book.new.count ≡ book.old.count + length packets.now) }
     ensures written { OnOk result (AllTold (each_of S.told sinks.old) → Grew (each_of S.written sinks.old) (each_of S.written sinks.new) (batch_alone (added_by (job_of book.old) (world_in book.old no_texts) (frames_of packets.now)))) }
-    ensures stops { IfErr result (λ stop. AllTold (each_of S.told sinks.old) → BatchStops (added_by (job_of book.old) (world_in book.old no_texts) (frames_of packets.now)) book.old.count (each_of S.written sinks.old) (each_of S.written sinks.new) stop) }
+    ensures stops { IfErr result (λ stop. BatchStops (added_by (job_of book.old) (world_in book.old no_texts) (frames_of packets.now)) book.old.count (each_of S.told sinks.old) (each_of S.written sinks.old) (each_of S.written sinks.new) stop) }
     ensures no_failure { OnOk result (each_of S.failures sinks.new ≡ each_of S.failures sinks.old) }
     ensures failure { IfErr result (λ stop. SinksFail stop (each_of S.failures sinks.old) (each_of S.failures sinks.new)) }
 {
@@ -50,7 +50,7 @@ pub(crate) fn take_batch<S: Sink>(
 pub(crate) fn close<S: Sink>(book: Book, tail: Tail, sinks: &mut Sinks<S>) -> Result<Report, Stop>
     ensures told { each_of S.told sinks.new ≡ each_of S.told sinks.old }
     ensures closed { IfOk result (λ report. (report.committed ≡ book.count) × (report.tail ≡ tail) × (AllTold (each_of S.told sinks.old) → Grew (each_of S.written sinks.old) (each_of S.written sinks.new) (closing (world_in book no_texts)))) }
-    ensures stops { IfErr result (λ stop. AllTold (each_of S.told sinks.old) → EndStops (world_in book no_texts) (each_of S.written sinks.old) (each_of S.written sinks.new) stop) }
+    ensures stops { IfErr result (λ stop. EndStops (world_in book no_texts) (each_of S.told sinks.old) (each_of S.written sinks.old) (each_of S.written sinks.new) stop) }
     ensures no_failure { OnOk result (each_of S.failures sinks.new ≡ each_of S.failures sinks.old) }
     ensures failure { IfErr result (λ stop. SinksFail stop (each_of S.failures sinks.old) (each_of S.failures sinks.new)) }
 {
@@ -84,7 +84,7 @@ pub(crate) fn conclude<S: Sink>(
 ) -> Result<Report, Stop>
     ensures told { each_of S.told sinks.new ≡ each_of S.told sinks.old }
     ensures closed { IfOk result (λ report. (report.committed ≡ book.count) × (end ≡ Ok report.tail) × (AllTold (each_of S.told sinks.old) → Grew (each_of S.written sinks.old) (each_of S.written sinks.new) (closing (world_in book no_texts)))) }
-    ensures stops { IfErr result (λ stop. AllTold (each_of S.told sinks.old) → Concludes end (world_in book no_texts) (each_of S.written sinks.old) (each_of S.written sinks.new) stop) }
+    ensures stops { IfErr result (λ stop. Concludes end (world_in book no_texts) (each_of S.told sinks.old) (each_of S.written sinks.old) (each_of S.written sinks.new) stop) }
     ensures no_failure { OnOk result (each_of S.failures sinks.new ≡ each_of S.failures sinks.old) }
     ensures failure { IfErr result (λ stop. ConcludeFails end book.count (each_of S.failures sinks.old) (each_of S.failures sinks.new) stop) }
 {

@@ -1,123 +1,32 @@
-use Rattle.std.proofs.Common.{◌≡◌, ◌+◌, ◌∙◌, ◌≤◌, ◌^◌, false, true, IsTrue, length, refl, sym, ap, arith}
 use Rattle.std.proofs.lemmas.Result.{IfErr-weaker, IfOk-weaker}
 use Rattle.pfr_commit.specs.Books.{job_of, world_in}
-use Rattle.pfr_commit.specs.World.{no_texts, world_after}
-use Rattle.pfr_commit.proofs.BookLemmas.{same_job}
+use Rattle.pfr_commit.specs.World.{no_texts}
 use Rattle.pfr_out.specs.declared.report.Report.{Report}
 use Rattle.pfr_out.specs.declared.report.Stop.{Stop}
-use Rattle.pfr_out.specs.Outputs.{AllTold, each_of}
-use Rattle.pfr_out.specs.Reading.{wants_memory}
-use Rattle.pfr_out.specs.Taking.{frames_of}
-use Rattle.pfr_out.proofs.ReadingLemmas.{all_viewed}
-use Rattle.pfr_out.proofs.RunLemmas.{at_start, bare, batch_stopped, conclude_fails, concluded, concluded_stop, header_stopped, memory_stopped, next_head, opening_count, says_on, wanted_gave}
+use Rattle.pfr_out.proofs.RunLemmas.{conclude_fails, conclude_is_late, concluded, concluded_stop, concludes_for}
 use Rattle.pfr_out.proofs.WritingLemmas.{still_told}
 use Rattle.pfr_out.proofs.run.replay_capture.Goals as goal
 
-pub returns-in-Err-clause-stopped : goal.returns-in-Err-clause-stopped
-returns-in-Err-clause-stopped g c = λ t u read h. header_stopped (job_of c.args.book) c.args.batch _ read _ _ _ c.in-Err.output h (rw c.header.ensures at (c.in-Err.ensures.fails u))
-
-pub loop-alloc-init : goal.loop-alloc-init
-loop-alloc-init g c =
-    let start = c.requires.start in
-    record {
-      reading = c.requires.reading;
-      job = refl;
-      counted = c.requires.start ∙ sym (opening_count (job_of c.args.book) (world_in c.args.book no_texts) c.requires.world);
-      few = omega arith;
-      source_told = refl;
-      source_failures = refl;
-      sinks_told = c.write_header.ensures.told;
-      sinks_failures = c.in-Ok.ensures.no_failure;
-      at_head = λ t u read h. at_start (job_of c.args.book) c.args.batch _ read _ _ _ _ h c.requires.world (rw c.header.ensures at (c.in-Ok.ensures.ok u));
-    }
-
-pub returns-then-wants_memory-clause-stopped : goal.returns-then-wants_memory-clause-stopped
-returns-then-wants_memory-clause-stopped g c =
-    λ t u read h.
-    let i = c.loop-alloc.invariant in
-    let head = i.at_head t u read h in
-    let told : IsTrue (g.R.Source.told c.loop-alloc.source) = rw i.source_told t in
-    rw c.committed.ensures
-    (memory_stopped (job_of c.args.book) c.args.batch _ _ _ _ _ _ (world_in c.loop-alloc.book no_texts) head
-    (wanted_gave _ _ _ _ _ c.read_batch-end.result (sym c.wants_memory.ensures ∙ c.if-wants_memory.true) (c.read_batch-end.ensures.says told)))
-
-pub take_batch-requires-clause-views : goal.take_batch-requires-clause-views
-take_batch-requires-clause-views g c = rw c.as_slice.ensures.value (all_viewed _ _ c.read_batch-end.ensures.packets)
-
-pub returns-in-Err-take_batch-clause-stopped : goal.returns-in-Err-take_batch-clause-stopped
-returns-in-Err-take_batch-clause-stopped g c =
-    λ t u read h.
-    let i = c.loop-alloc.invariant in
-    let head = i.at_head t u read h in
-    let told : IsTrue (g.R.Source.told c.loop-alloc.source) = rw i.source_told t in
-    let sinks : AllTold (each_of g.S.Sink.told c.loop-alloc.sinks) = still_told _ _ i.sinks_told u in
-    let other : wants_memory c.read_batch-end.result ≡ false = sym c.wants_memory.ensures ∙ c.if-wants_memory.false in
-    batch_stopped (job_of c.args.book) c.args.batch _ _ _ _ _ _ _ _ (world_in c.loop-alloc.book no_texts) c.read_batch-end.new.packets.items c.in-Err-take_batch.stop head
-    (record { on = says_on _ _ _ _ _ c.read_batch-end.result other (c.read_batch-end.ensures.says told); same = c.read_batch-end.ensures.same; packets_are = c.read_batch-end.ensures.packets })
-    c.read_batch-end.ensures.at_most
-    (rw (same_job c.loop-alloc.book c.args.book i.job, c.as_slice.ensures.value) at (c.in-Err-take_batch.ensures.stops sinks))
-
-pub loop-alloc-preserved : goal.loop-alloc-preserved
-loop-alloc-preserved g c =
-    let i = c.loop-alloc.invariant in
-    let full = c.read_batch-end.ensures.full c.in-None.is in
-    let read = full.2 in
-    let taken = rw c.as_slice.ensures.value at c.in-Ok-take_batch.ensures.counted in
-    let before = i.counted in
-    record {
-      reading = full.1;
-      job = c.take_batch.ensures.job ∙ i.job;
-      counted = omega arith;
-      few = c.read_batch-end.ensures.few i.few;
-      source_told = c.read_batch-end.ensures.told ∙ i.source_told;
-      source_failures = (rw c.in-None.is at c.read_batch-end.ensures.failures) ∙ i.source_failures;
-      sinks_told = c.take_batch.ensures.told ∙ i.sinks_told;
-      sinks_failures = c.in-Ok-take_batch.ensures.no_failure ∙ i.sinks_failures;
-      at_head = λ t u read h.
-          let head = i.at_head t u read h in
-          let told : IsTrue (g.R.Source.told c.loop-alloc.source) = rw i.source_told t in
-          let sinks : AllTold (each_of g.S.Sink.told c.loop-alloc.sinks) = still_told _ _ i.sinks_told u in
-          next_head (job_of c.args.book) c.args.batch _ _ _ _ _ _ _ _ (world_in c.loop-alloc.book no_texts) (world_in c.take_batch.new.book no_texts) c.read_batch-end.new.packets.items head
-          (record { on = rw c.in-None.is at (c.read_batch-end.ensures.says told); same = c.read_batch-end.ensures.same; packets_are = c.read_batch-end.ensures.packets })
-          full.0
-          (ap bare (rw (same_job c.loop-alloc.book c.args.book i.job, c.as_slice.ensures.value) at c.in-Ok-take_batch.ensures.world))
-          (rw (same_job c.loop-alloc.book c.args.book i.job, c.as_slice.ensures.value) at (c.in-Ok-take_batch.ensures.written sinks));
-    }
-
-pub returns-in-Some-clause-ok : goal.returns-in-Some-clause-ok
-returns-in-Some-clause-ok g c =
-    IfOk-weaker c.conclude.result _ _ (λ (report : Report) closed t u read h.
-    let i = c.loop-alloc.invariant in
-    let head = i.at_head t u read h in
-    let told : IsTrue (g.R.Source.told c.loop-alloc.source) = rw i.source_told t in
-    let sinks : AllTold (each_of g.S.Sink.told c.loop-alloc.sinks) = still_told _ _ i.sinks_told u in
-    let mid : AllTold (each_of g.S.Sink.told c.take_batch.new.sinks) = still_told _ _ c.take_batch.ensures.told sinks in
-    concluded (job_of c.args.book) c.args.batch _ _ _ _ _ _ _ _ _ (world_in c.loop-alloc.book no_texts) (world_in c.take_batch.new.book no_texts) c.read_batch-end.new.packets.items c.in-Some.end report head
-    (rw c.in-Some.is at (c.read_batch-end.ensures.says told)) c.read_batch-end.ensures.same c.read_batch-end.ensures.packets
-    (ap bare (rw (same_job c.loop-alloc.book c.args.book i.job, c.as_slice.ensures.value) at c.in-Ok-take_batch.ensures.world))
-    (rw (same_job c.loop-alloc.book c.args.book i.job, c.as_slice.ensures.value) at (c.in-Ok-take_batch.ensures.written sinks))
-    closed.0 closed.1 (closed.2 mid))
+pub returns-in-Ok-clause-ok : goal.returns-in-Ok-clause-ok
+returns-in-Ok-clause-ok g c =
+    IfOk-weaker c.conclude.result _ _ (λ (report : Report) closed t read h.
+    concluded (job_of c.args.book) c.args.batch _ _ _ _ _ _ (world_in c.take_packets.new.book no_texts) c.in-Ok.end report (c.in-Ok.ensures.reaches t read h)
+    closed.0 closed.1 (λ u. closed.2 (still_told _ _ c.take_packets.ensures.told.1 u)))
     c.conclude.ensures.closed
 
-pub returns-in-Some-clause-stopped : goal.returns-in-Some-clause-stopped
-returns-in-Some-clause-stopped g c =
-    IfErr-weaker c.conclude.result _ _ (λ (stop : Stop) stops t u read h.
-    let i = c.loop-alloc.invariant in
-    let head = i.at_head t u read h in
-    let told : IsTrue (g.R.Source.told c.loop-alloc.source) = rw i.source_told t in
-    let sinks : AllTold (each_of g.S.Sink.told c.loop-alloc.sinks) = still_told _ _ i.sinks_told u in
-    let mid : AllTold (each_of g.S.Sink.told c.take_batch.new.sinks) = still_told _ _ c.take_batch.ensures.told sinks in
-    let other : wants_memory c.read_batch-end.result ≡ false = sym c.wants_memory.ensures ∙ c.if-wants_memory.false in
-    concluded_stop (job_of c.args.book) c.args.batch _ _ _ _ _ _ _ _ _ (world_in c.loop-alloc.book no_texts) (world_in c.take_batch.new.book no_texts) c.read_batch-end.new.packets.items c.in-Some.end stop head
-    (rw c.in-Some.is at other) (rw c.in-Some.is at (c.read_batch-end.ensures.says told)) c.read_batch-end.ensures.same c.read_batch-end.ensures.packets
-    (ap bare (rw (same_job c.loop-alloc.book c.args.book i.job, c.as_slice.ensures.value) at c.in-Ok-take_batch.ensures.world))
-    (rw (same_job c.loop-alloc.book c.args.book i.job, c.as_slice.ensures.value) at (c.in-Ok-take_batch.ensures.written sinks))
-    (stops mid))
+pub returns-in-Ok-clause-stopped : goal.returns-in-Ok-clause-stopped
+returns-in-Ok-clause-stopped g c =
+    IfErr-weaker c.conclude.result _ _ (λ (stop : Stop) stops t read h.
+    concluded_stop (job_of c.args.book) c.args.batch _ _ _ _ _ _ (world_in c.take_packets.new.book no_texts) c.in-Ok.end stop (c.in-Ok.ensures.reaches t read h)
+    (concludes_for c.in-Ok.end (world_in c.take_packets.new.book no_texts) _ _ _ _ stop c.take_packets.ensures.told.1 stops))
     c.conclude.ensures.stops
 
-pub returns-in-Some-clause-failure : goal.returns-in-Some-clause-failure
-returns-in-Some-clause-failure g c =
-    let i = c.loop-alloc.invariant in
+pub returns-in-Ok-clause-late : goal.returns-in-Ok-clause-late
+returns-in-Ok-clause-late g c =
+    IfErr-weaker c.conclude.result _ _ (λ (stop : Stop) fails. conclude_is_late c.in-Ok.end _ _ _ stop fails) c.conclude.ensures.failure
+
+pub returns-in-Ok-clause-failure : goal.returns-in-Ok-clause-failure
+returns-in-Ok-clause-failure g c =
     IfErr-weaker c.conclude.result _ _ (λ (stop : Stop) fails.
-    conclude_fails c.in-Some.end _ _ _ _ _ _ stop (rw (c.in-Some.is, i.source_failures) at c.read_batch-end.ensures.failures) (c.in-Ok-take_batch.ensures.no_failure ∙ i.sinks_failures) fails)
+    conclude_fails c.in-Ok.end _ _ _ _ _ _ stop c.in-Ok.ensures.no_failure.0 c.in-Ok.ensures.no_failure.1 fails)
     c.conclude.ensures.failure

@@ -46,7 +46,7 @@ loop-index-preserved c =
     record {
       job = c.take.ensures.job ∙ i.job;
       counted = omega arith;
-      is_open = c.in_ok-take.ensures.ok.1;
+      is_open = c.in_ok-take.ensures.ok;
       own =
           let number : c.args.self.now.count + 1 + c.loop-index.index ≡ c.loop-index.self.count + 1 = omega arith in
           let held = c.take_at.ensures.taken ∙ i.tried c.loop-index.index (omega arith) below ∙ ap (λ (n : ℕ). find (is_of n) c.args.results.items) number in

@@ -2,9 +2,9 @@ use Rattle.std.proofs.Common.{◌≡◌, ◌≤◌, ◌+◌, ◌-◌, ◌^◌, �
 use Rattle.pfr_capture.specs.Reading.{HasGiven}
 use Rattle.pfr_commit.specs.Books.{job_of, world_in}
 use Rattle.pfr_commit.specs.World.{no_texts}
-use Rattle.pfr_out.specs.Outputs.{AllTold, each_of}
+use Rattle.pfr_out.specs.Outputs.{each_of}
 use Rattle.pfr_out.proofs.RunLemmas.{AtHead}
-use Rattle.pfr_out.proofs.run.replay_capture.Given as goal
+use Rattle.pfr_out.proofs.run.take_packets.Given as goal
 
 abbrev pub invariant-loop-alloc : goal.invariant-loop-alloc
 invariant-loop-alloc g l = record {
@@ -16,8 +16,8 @@ invariant-loop-alloc g l = record {
   source_failures : g.R.Source.failures l.source ≡ g.R.Source.failures l.fn.source;
   sinks_told : each_of g.S.Sink.told l.sinks ≡ each_of g.S.Sink.told l.fn.sinks;
   sinks_failures : each_of g.S.Sink.failures l.sinks ≡ each_of g.S.Sink.failures l.fn.sinks;
-  at_head : IsTrue (g.R.Source.told l.fn.source) → AllTold (each_of g.S.Sink.told l.fn.sinks) → (read : List ℕ) → HasGiven l.fn.capture read []
-      → AtHead (job_of l.fn.book) l.batch l.capture (read ++ g.R.Source.unread l.fn.source) (g.R.Source.unread l.source) (each_of g.S.Sink.written l.fn.sinks) (each_of g.S.Sink.written l.sinks) (world_in l.book no_texts);
+  at_head : IsTrue (g.R.Source.told l.fn.source) → (read : List ℕ) → HasGiven l.fn.capture read []
+      → AtHead (job_of l.fn.book) l.batch l.capture (read ++ g.R.Source.unread l.fn.source) (g.R.Source.unread l.source) (each_of g.S.Sink.told l.fn.sinks) (each_of g.S.Sink.written l.fn.sinks) (each_of g.S.Sink.written l.sinks) (world_in l.book no_texts);
 }
 
 abbrev pub decreases-loop-alloc : goal.decreases-loop-alloc
