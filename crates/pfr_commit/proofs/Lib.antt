@@ -1,5 +1,7 @@
 pub mod BatchLemmas
 pub mod BookLemmas
+pub mod CountLemmas
 pub mod EndingLemmas
 pub mod ResultLemmas
+pub mod TableLemmas
 pub mod WorldLemmas

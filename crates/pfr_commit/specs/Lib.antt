@@ -4,5 +4,6 @@ pub mod Emissions
 pub mod Endings
 pub mod Lines
 pub mod Results
+pub mod Runs
 pub mod Texts
 pub mod World

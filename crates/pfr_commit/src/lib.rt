@@ -10,6 +10,7 @@ mod counter_line;
 pub mod counters;
 pub mod emitted;
 pub mod ending;
+pub mod laws;
 mod results;
 pub mod state_line;
 mod texts;

@@ -85,7 +85,7 @@ filtered_stands number clock table rules packet direction =
 
 -- ---- a state that is found
 
-found_in_states : (table : StateTable) (side : Side) (key : Key) (state : State) → found_in table side key ≡ Some state → Contains table.states state
+pub found_in_states : (table : StateTable) (side : Side) (key : Key) (state : State) → found_in table side key ≡ Some state → Contains table.states state
 unfolding found_in
 found_in_states table side key state is = found_there (λ (s : State). is_same_key (key_on side s) key) table.states state is
 

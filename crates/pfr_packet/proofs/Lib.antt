@@ -4,3 +4,4 @@ pub mod FreeLemmas
 pub mod Local
 pub mod Members
 pub mod SameLemmas
+pub mod WayLemmas

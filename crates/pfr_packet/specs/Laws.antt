@@ -1,6 +1,11 @@
 -- Words of the laws: what becomes of the one state that a packet makes, touches or ends.
-use Rattle.std.specs.Prelude.{◌≡◌, ℕ, Bool, true, false, List, Option, Some, None}
-use Rattle.std.specs.List.{Contains}
+use Rattle.std.specs.Prelude.{◌≡◌, ◌⊎◌, ℕ, min, Bool, true, false, List, Option, Some, None}
+use Rattle.std.specs.List.{Contains, slice_get}
+use Rattle.pfr_headers.specs.declared.icmp.IcmpMessage.{IcmpMessage}
+use Rattle.pfr_headers.specs.declared.icmp.IcmpMessage.TheVariants as message
+use Rattle.pfr_headers.specs.declared.transport.Transport.{Transport}
+use Rattle.pfr_headers.specs.declared.transport.Transport.TheVariants as transport
+use Rattle.pfr_flat.specs.declared.flat.FlatRule.{FlatRule}
 use Rattle.pfr_track.specs.declared.state.State.{State}
 use Rattle.pfr_track.specs.declared.state.StateNumber.{StateNumber}
 use Rattle.pfr_track.specs.declared.time.Clock.{Clock}
@@ -60,3 +65,27 @@ only_removes None = true
 only_removes (Some (Made state)) = false
 only_removes (Some (Touched state)) = false
 only_removes (Some (Removed number)) = true
+
+-- ---- packets of no connection
+
+-- an echo is of a connection, an error and any other message are of none
+abbrev pub message_opens : IcmpMessage → Bool
+message_opens (message.Echo identifier) = true
+message_opens (message.Error inner) = false
+message_opens message.Other = false
+
+-- the packet can be the first of a connection; a part of a packet can't
+abbrev pub opens_connection : Transport → Bool
+opens_connection transport.Fragment = false
+opens_connection (transport.Tcp header) = true
+opens_connection (transport.Udp header) = true
+opens_connection (transport.Icmp header) = message_opens header.message
+opens_connection transport.Other = true
+
+-- ---- IP options
+
+-- the rule that the outcome names allows IP options, or the state of the table that it names does
+abbrev pub HasLeave : List FlatRule → List State → Outcome → Type 0
+HasLeave rules states outcome =
+    ((place : ℕ) × (rule : FlatRule) × (slice_get rules place ≡ Some rule) × (outcome.rule ≡ Some (record { 0 = min place 4294967295 })) × (rule.allow_opts ≡ true))
+    ⊎ ((state : State) × Contains states state × (outcome.state ≡ Some state.number) × (state.rules.allows_options ≡ true))

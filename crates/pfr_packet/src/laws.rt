@@ -1,15 +1,24 @@
 //! Laws of the definitions, each the contract of a function that does nothing.
-ghost use Rattle.std.specs.Prelude.{◌≡◌, ℕ, true, false, Some, None};
+ghost use Rattle.std.specs.Prelude.{◌≡◌, ◌⊎◌, ℕ, true, false, Some, None};
 ghost use Rattle.std.specs.List.{All};
 ghost use Rattle.pfr_headers.specs.declared.change.Change.{Change};
+ghost use Rattle.pfr_headers.specs.declared.packet.Packet.{Packet};
 ghost use Rattle.pfr_headers.specs.declared.packet.View.{View};
 ghost use Rattle.pfr_headers.specs.declared.packet.View.TheVariants.{Ipv4};
+ghost use Rattle.pfr_headers.specs.Address.{direction_of};
+ghost use Rattle.pfr_headers.specs.View.{has_options};
+ghost use Rattle.pfr_track.specs.declared.key.Key.{Key};
+ghost use Rattle.pfr_track.specs.declared.state.State.{State};
 ghost use Rattle.pfr_track.specs.declared.time.Clock.{Clock};
 ghost use Rattle.pfr_states.specs.declared.change.TableChange.{TableChange};
 ghost use Rattle.pfr_states.specs.States.{IsTable, StateTable, purged, refusal};
+ghost use Rattle.pfr_packet.specs.declared.keys.Subject.TheVariants.{Connection, Told};
+ghost use Rattle.pfr_packet.specs.declared.verdict.Reason.TheVariants.{SkipOn, StateLimit};
 ghost use Rattle.pfr_packet.specs.Job.{RunJob};
-ghost use Rattle.pfr_packet.specs.Laws.{IsOwnChange, only_removes};
-ghost use Rattle.pfr_packet.specs.Plan.{SameAnswer, purged_at};
+ghost use Rattle.pfr_packet.specs.Keys.{side_of, subject_of};
+ghost use Rattle.pfr_packet.specs.Laws.{HasLeave, IsOwnChange, only_removes, opens_connection};
+ghost use Rattle.pfr_packet.specs.Outcomes.{none_visited};
+ghost use Rattle.pfr_packet.specs.Plan.{SameAnswer, found_in, has_room_in, purged_at};
 ghost use Rattle.pfr_packet.specs.Steps.{asked_of, step_of};
 ghost use Rattle.pfr_packet.specs.Verdicts.{lets_pass};
 
@@ -60,3 +69,37 @@ pub fn what_is_blocked_only_removes()
 {
     what_a_packet_leaves();
 }
+
+/// A part of a packet, an ICMP error and any other ICMP message than an echo make no state and touch none.
+pub fn what_opens_no_connection_leaves_the_table()
+    ensures { (job : RunJob) (number : ℕ) (clock : Clock) (packet : Packet) (table : StateTable)
+        → opens_connection packet.transport ≡ false → (step_of job number clock (Ipv4 packet) table).change ≡ None }
+{}
+
+/// Where a state is found for a packet, or for the packet that an ICMP error tells of, no rule is visited.
+pub fn no_rule_is_visited_behind_a_state()
+    ensures { (job : RunJob) (number : ℕ) (clock : Clock) (packet : Packet) (table : StateTable) (key : Key) (state : State)
+        → (subject_of (direction_of job.inside packet) packet ≡ Told key) ⊎ (subject_of (direction_of job.inside packet) packet ≡ Connection key)
+        → found_in (purged_at clock table) (side_of (direction_of job.inside packet)) key ≡ Some state
+        → (step_of job number clock (Ipv4 packet) table).visited ≡ none_visited }
+{}
+
+/// A packet is blocked for the limit of states only where the table is full, once the states are gone whose deadline has come.
+pub fn the_limit_blocks_only_where_it_is_reached()
+    ensures { (job : RunJob) (number : ℕ) (clock : Clock) (packet : Packet) (table : StateTable)
+        → (step_of job number clock (Ipv4 packet) table).reason ≡ StateLimit → has_room_in (purged_at clock table) ≡ false }
+{}
+
+/// Nothing is written into a packet that doesn't pass.
+pub fn what_is_blocked_is_not_written()
+    ensures { (job : RunJob) (number : ℕ) (clock : Clock) (packet : Packet) (table : StateTable)
+        → lets_pass (step_of job number clock (Ipv4 packet) table).verdict ≡ false → (step_of job number clock (Ipv4 packet) table).bytes ≡ None }
+{}
+
+/// A packet with IP options passes the filter only where the rule that it names allows them, or the state that it names.
+pub fn options_pass_only_by_leave()
+    ensures { (job : RunJob) (number : ℕ) (clock : Clock) (packet : Packet) (table : StateTable)
+        → has_options packet ≡ true → lets_pass (step_of job number clock (Ipv4 packet) table).verdict ≡ true
+        → ((step_of job number clock (Ipv4 packet) table).reason ≡ SkipOn → ⊥)
+        → HasLeave job.rules.filter.rules (purged_at clock table).states (step_of job number clock (Ipv4 packet) table) }
+{}

@@ -1,0 +1,277 @@
+-- What packets leave in the lines and the counters.
+use Rattle.std.proofs.Common.{◌≡◌, ◌≤◌, ◌<◌, ◌+◌, ◌-◌, ◌^◌, ◌++◌, ◌∷◌, ◌&&◌, ◌==◌, ◌⊎◌, inl, inr, ℕ, suc, max, true, false, List, [], length, map, get_or, replicate, Option, Some, None, cond, refl, sym, ap, ◌∙◌, arith}
+use Rattle.std.specs.List.{All, Any, count_by, flat_map, range_with_len, sum_by}
+use Rattle.std.proofs.lemmas.Bool.{cases_Bool, cases_lt, eqb-true, eq-eqb, false≢true}
+use Rattle.std.proofs.lemmas.List.{append_assoc, append-nil, get_or-replicate, get_or-set_other, get_or-set_same, length-replicate, length-set}
+use Rattle.std.proofs.lemmas.List.Elements.{All-cons, All-head}
+use Rattle.std.proofs.lemmas.List.Sums.{sum_by-cons}
+use Rattle.pfr_headers.specs.View.{view_of}
+use Rattle.pfr_rules.specs.Counts.{added}
+use Rattle.pfr_track.specs.declared.state.RuleNumber.{RuleNumber}
+use Rattle.pfr_packet.specs.declared.outcome.Outcome.{Outcome}
+use Rattle.pfr_packet.specs.declared.verdict.Verdict.{Verdict}
+use Rattle.pfr_packet.specs.declared.verdict.Verdict.TheVariants as verdict
+use Rattle.pfr_packet.specs.Job.{RunJob}
+use Rattle.pfr_expand.specs.Rulesets.{counts}
+use Rattle.pfr_commit.specs.declared.counters.Counters.{Counters}
+use Rattle.pfr_commit.specs.declared.counters.Totals.{Totals}
+use Rattle.pfr_commit.specs.Counters.{added_to, counted, counts_for_rules, length_of, no_totals, with_named, with_verdict}
+use Rattle.pfr_commit.specs.Lines.{verdict_line}
+use Rattle.pfr_commit.specs.Runs.{Taken, bytes_for, comes_to, counts_for, held, is_rule, is_same_verdict, next_taken, taken_after, taken_in, total_of}
+use Rattle.pfr_commit.specs.World.{Frame, World, after, opening, packet_text, with_outcome, with_texts, world_after, world_of}
+use Rattle.pfr_commit.proofs.WorldLemmas.{world_count}
+
+-- ---- lines and records
+
+pub frames_after : (job : RunJob) (world : World) (frames : List Frame) → map (λ (p : Taken). p.frame) (taken_after job world frames) ≡ frames
+frames_after job world [] = refl
+frames_after job world (frame ∷ frames) = ap (λ (fs : List Frame). frame ∷ fs) (frames_after job (after job world frame) frames)
+
+count_next : (job : RunJob) (world : World) (frame : Frame) → (after job world frame).count ≡ world.count + 1
+unfolding after with_outcome
+count_next job world frame = refl
+
+pub numbers_after : (job : RunJob) (world : World) (frames : List Frame) → map (λ (p : Taken). p.number) (taken_after job world frames) ≡ range_with_len (world.count + 1) (length frames)
+numbers_after job world [] = refl
+numbers_after job world (frame ∷ frames) =
+    ap (λ (ns : List ℕ). (world.count + 1) ∷ ns) (numbers_after job (after job world frame) frames ∙ ap (λ (n : ℕ). range_with_len (n + 1) (length frames)) (count_next job world frame))
+
+pub verdicts_after : (job : RunJob) (world : World) (frames : List Frame)
+    → (world_after job world frames).texts.verdicts ≡ world.texts.verdicts ++ flat_map (λ (p : Taken). verdict_line p.number p.clock p.outcome) (taken_after job world frames)
+unfolding world_after after with_outcome with_texts
+verdicts_after job world [] = sym (append-nil world.texts.verdicts)
+verdicts_after job world (frame ∷ frames) =
+    let p = next_taken job world frame in
+    verdicts_after job (after job world frame) frames
+    ∙ append_assoc world.texts.verdicts (verdict_line p.number p.clock p.outcome) (flat_map (λ (p : Taken). verdict_line p.number p.clock p.outcome) (taken_after job (after job world frame) frames))
+
+pub packets_after : (job : RunJob) (world : World) (frames : List Frame)
+    → (world_after job world frames).texts.packets ≡ world.texts.packets ++ flat_map (λ (p : Taken). packet_text p.frame p.outcome) (taken_after job world frames)
+unfolding world_after after with_outcome with_texts
+packets_after job world [] = sym (append-nil world.texts.packets)
+packets_after job world (frame ∷ frames) =
+    let p = next_taken job world frame in
+    packets_after job (after job world frame) frames
+    ∙ append_assoc world.texts.packets (packet_text p.frame p.outcome) (flat_map (λ (p : Taken). packet_text p.frame p.outcome) (taken_after job (after job world frame) frames))
+
+-- ---- the clock
+
+clock_next : (job : RunJob) (world : World) (frame : Frame) → (after job world frame).clock.0 ≡ max world.clock.0 frame.seconds
+unfolding after with_outcome
+clock_next job world frame = refl
+
+pub clock_rises : (job : RunJob) (world : World) (frames : List Frame) → world.clock.0 ≤ (world_after job world frames).clock.0
+unfolding world_after
+clock_rises job world [] = omega arith
+clock_rises job world (frame ∷ frames) =
+    let next = clock_next job world frame in
+    let rest = clock_rises job (after job world frame) frames in
+    omega arith
+
+pub none_later : (job : RunJob) (world : World) (frames : List Frame) → All (λ frame. frame.seconds ≤ (world_after job world frames).clock.0) frames
+unfolding world_after
+none_later job world [] = λ k d below. absurd (omega (arith, below))
+none_later job world (frame ∷ frames) =
+    let next = clock_next job world frame in
+    let rest = clock_rises job (after job world frame) frames in
+    let within : frame.seconds ≤ (world_after job (after job world frame) frames).clock.0 = omega arith in
+    All-cons (λ (other : Frame). other.seconds ≤ (world_after job (after job world frame) frames).clock.0) frame frames within (none_later job (after job world frame) frames)
+
+first_is : {X : Type 0} (P : X → Type 0) (x : X) (xs : List X) → P x → Any P (x ∷ xs)
+first_is P x xs h = (0, x, omega arith, refl, h)
+
+later_is : {X : Type 0} (P : X → Type 0) (x : X) (xs : List X) → Any P xs → Any P (x ∷ xs)
+later_is P x xs h = (let below = h.2 in (suc h.0, h.1, omega arith, h.3, h.4))
+
+-- the clock before, or one of the records' seconds
+pub clock_is_one : (job : RunJob) (world : World) (frames : List Frame) → ((world_after job world frames).clock.0 ≡ world.clock.0) ⊎ Any (λ other. other.seconds ≡ (world_after job world frames).clock.0) frames
+unfolding world_after
+clock_is_one job world [] = inl refl
+clock_is_one job world (frame ∷ frames) = elim (clock_is_one job (after job world frame) frames) [
+  | inl same ↦ (let next = clock_next job world frame in elim (cases_lt world.clock.0 frame.seconds) [ inl above ↦ inr (first_is _ frame frames (omega (arith, same))) | inr below ↦ inl (omega (arith, same)) ])
+  | inr later ↦ inr (later_is _ frame frames later)
+]
+
+-- ---- verdicts
+
+one_total : (verdict one : Verdict) (totals : Totals) → total_of verdict totals ≤ 2 ^ 64 - 1 → total_of verdict (with_verdict one totals) ≡ held (total_of verdict totals + cond (is_same_verdict one verdict) 1 0)
+one_total verdict.Pass verdict.Pass totals few = refl
+one_total verdict.Pass verdict.Block totals few = omega arith
+one_total verdict.Pass verdict.Return totals few = omega arith
+one_total verdict.Pass verdict.Skip totals few = omega arith
+one_total verdict.Block verdict.Pass totals few = omega arith
+one_total verdict.Block verdict.Block totals few = refl
+one_total verdict.Block verdict.Return totals few = omega arith
+one_total verdict.Block verdict.Skip totals few = omega arith
+one_total verdict.Return verdict.Pass totals few = omega arith
+one_total verdict.Return verdict.Block totals few = omega arith
+one_total verdict.Return verdict.Return totals few = refl
+one_total verdict.Return verdict.Skip totals few = omega arith
+one_total verdict.Skip verdict.Pass totals few = omega arith
+one_total verdict.Skip verdict.Block totals few = omega arith
+one_total verdict.Skip verdict.Return totals few = omega arith
+one_total verdict.Skip verdict.Skip totals few = refl
+
+named_totals : (outcome : Outcome) (length : ℕ) (counters : Counters) → (with_named outcome length counters).totals ≡ counters.totals
+named_totals outcome length counters = elim (cases_Bool (counts_for_rules outcome.reason)) [ inl it ↦ rw it refl | inr not_it ↦ rw not_it refl ]
+
+totals_next : (job : RunJob) (world : World) (frame : Frame) → (after job world frame).counters.totals ≡ with_verdict (next_taken job world frame).outcome.verdict world.counters.totals
+unfolding after with_outcome counted
+totals_next job world frame =
+    ap (λ (t : Totals). with_verdict (next_taken job world frame).outcome.verdict t) (named_totals (next_taken job world frame).outcome (length_of (view_of frame.link frame.bytes)) _)
+
+pub total_after : (verdict : Verdict) (job : RunJob) (world : World) (frames : List Frame) → total_of verdict world.counters.totals ≤ 2 ^ 64 - 1
+    → total_of verdict (world_after job world frames).counters.totals ≡ held (total_of verdict world.counters.totals + count_by (comes_to verdict) (taken_after job world frames))
+unfolding world_after
+total_after verdict job world [] few = omega arith
+total_after verdict job world (frame ∷ frames) few =
+    let p = next_taken job world frame in
+    let next : total_of verdict (after job world frame).counters.totals ≡ held (total_of verdict world.counters.totals + cond (comes_to verdict p) 1 0) =
+    ap (total_of verdict) (totals_next job world frame) ∙ one_total verdict p.outcome.verdict world.counters.totals few in
+    let rest = total_after verdict job (after job world frame) frames (omega (arith, next)) in
+    let more = sum_by-cons (λ (p : Taken). cond (comes_to verdict p) 1 0) p (taken_after job (after job world frame) frames) in
+    omega (arith, next, rest, more)
+
+-- each packet comes to one of the four
+each_verdict : (one : Verdict) → cond (is_same_verdict one verdict.Pass) 1 0 + cond (is_same_verdict one verdict.Block) 1 0 + cond (is_same_verdict one verdict.Return) 1 0 + cond (is_same_verdict one verdict.Skip) 1 0 ≡ 1
+each_verdict verdict.Pass = refl
+each_verdict verdict.Block = refl
+each_verdict verdict.Return = refl
+each_verdict verdict.Skip = refl
+
+pub all_verdicts : (packets : List Taken) → count_by (comes_to verdict.Pass) packets + count_by (comes_to verdict.Block) packets + count_by (comes_to verdict.Return) packets + count_by (comes_to verdict.Skip) packets ≡ length packets
+all_verdicts [] = refl
+all_verdicts (p ∷ packets) =
+    let pass = sum_by-cons (λ (p : Taken). cond (comes_to verdict.Pass p) 1 0) p packets in
+    let block = sum_by-cons (λ (p : Taken). cond (comes_to verdict.Block p) 1 0) p packets in
+    let back = sum_by-cons (λ (p : Taken). cond (comes_to verdict.Return p) 1 0) p packets in
+    let skip = sum_by-cons (λ (p : Taken). cond (comes_to verdict.Skip p) 1 0) p packets in
+    let one = each_verdict p.outcome.verdict in
+    let rest = all_verdicts packets in
+    omega (arith, pass, block, back, skip, one, rest)
+
+pub length_after : (job : RunJob) (world : World) (frames : List Frame) → length (taken_after job world frames) ≡ length frames
+length_after job world [] = refl
+length_after job world (frame ∷ frames) = ap suc (length_after job (after job world frame) frames)
+
+-- ---- rules
+
+-- more at a place
+length_added : (rule : Option RuleNumber) (amount : ℕ) (counts : List ℕ) → length (added_to rule amount counts) ≡ length counts
+unfolding added
+length_added None amount counts = refl
+length_added (Some rule) amount counts = length-set counts rule.0 _
+
+added_at : (rule : Option RuleNumber) (amount k : ℕ) (counts : List ℕ) → k < length counts → get_or counts k 0 ≤ 2 ^ 64 - 1 → get_or (added_to rule amount counts) k 0 ≡ held (get_or counts k 0 + cond (is_rule k rule) amount 0)
+unfolding added
+added_at None amount k counts below few = omega arith
+added_at (Some rule) amount k counts below few = elim (cases_Bool (rule.0 == k)) [
+  | inl same ↦ (let is : rule.0 ≡ k = eqb-true rule.0 k same in rw (same, is) (get_or-set_same counts k (held (get_or counts k 0 + amount)) 0 below))
+  | inr other ↦
+      let stays = get_or-set_other counts rule.0 k (held (get_or counts rule.0 0 + amount)) 0 (λ at. false≢true (sym other ∙ eq-eqb rule.0 k (sym at))) in
+      rw other (stays ∙ (let same : get_or counts k 0 ≡ held (get_or counts k 0 + 0) = omega arith in same))
+]
+
+-- what a packet leaves of a list of counts
+abbrev counted_to : Outcome → ℕ → List ℕ → List ℕ
+counted_to outcome amount counts = cond (counts_for_rules outcome.reason) (added_to outcome.rule amount counts) counts
+
+length_counted : (outcome : Outcome) (amount : ℕ) (counts : List ℕ) → length (counted_to outcome amount counts) ≡ length counts
+length_counted outcome amount counts = elim (cases_Bool (counts_for_rules outcome.reason)) [ inl it ↦ rw it (length_added outcome.rule amount counts) | inr not_it ↦ rw not_it refl ]
+
+counted_at : (outcome : Outcome) (amount k : ℕ) (counts : List ℕ) → k < length counts → get_or counts k 0 ≤ 2 ^ 64 - 1
+    → get_or (counted_to outcome amount counts) k 0 ≡ held (get_or counts k 0 + cond (counts_for_rules outcome.reason && is_rule k outcome.rule) amount 0)
+counted_at outcome amount k counts below few = elim (cases_Bool (counts_for_rules outcome.reason)) [
+  | inl it ↦ rw it (added_at outcome.rule amount k counts below few)
+  | inr not_it ↦ rw not_it (let same : get_or counts k 0 ≡ held (get_or counts k 0 + 0) = omega arith in same)
+]
+
+packets_next : (job : RunJob) (world : World) (frame : Frame) → (after job world frame).counters.filter.packets ≡ counted_to (next_taken job world frame).outcome 1 world.counters.filter.packets
+unfolding after with_outcome counted
+packets_next job world frame = elim (cases_Bool (counts_for_rules (next_taken job world frame).outcome.reason)) [ inl it ↦ rw it refl | inr not_it ↦ rw not_it refl ]
+
+bytes_next : (job : RunJob) (world : World) (frame : Frame)
+    → (after job world frame).counters.filter.bytes ≡ counted_to (next_taken job world frame).outcome (length_of (view_of frame.link frame.bytes)) world.counters.filter.bytes
+unfolding after with_outcome counted
+bytes_next job world frame = elim (cases_Bool (counts_for_rules (next_taken job world frame).outcome.reason)) [ inl it ↦ rw it refl | inr not_it ↦ rw not_it refl ]
+
+pub rule_packets_after : (k : ℕ) (job : RunJob) (world : World) (frames : List Frame) → k < length world.counters.filter.packets → get_or world.counters.filter.packets k 0 ≤ 2 ^ 64 - 1
+    → get_or (world_after job world frames).counters.filter.packets k 0 ≡ held (get_or world.counters.filter.packets k 0 + count_by (counts_for k) (taken_after job world frames))
+unfolding world_after
+rule_packets_after k job world [] below few = omega arith
+rule_packets_after k job world (frame ∷ frames) below few =
+    let p = next_taken job world frame in
+    let long : length (after job world frame).counters.filter.packets ≡ length world.counters.filter.packets = ap length (packets_next job world frame) ∙ length_counted p.outcome 1 world.counters.filter.packets in
+    let next : get_or (after job world frame).counters.filter.packets k 0 ≡ held (get_or world.counters.filter.packets k 0 + cond (counts_for k p) 1 0) =
+    ap (λ (counts : List ℕ). get_or counts k 0) (packets_next job world frame) ∙ counted_at p.outcome 1 k world.counters.filter.packets below few in
+    let rest = rule_packets_after k job (after job world frame) frames (omega (arith, long)) (omega (arith, next)) in
+    let more = sum_by-cons (λ (p : Taken). cond (counts_for k p) 1 0) p (taken_after job (after job world frame) frames) in
+    omega (arith, next, rest, more)
+
+pub rule_bytes_after : (k : ℕ) (job : RunJob) (world : World) (frames : List Frame) → k < length world.counters.filter.bytes → get_or world.counters.filter.bytes k 0 ≤ 2 ^ 64 - 1
+    → get_or (world_after job world frames).counters.filter.bytes k 0 ≡ held (get_or world.counters.filter.bytes k 0 + sum_by (bytes_for k) (taken_after job world frames))
+unfolding world_after
+rule_bytes_after k job world [] below few = omega arith
+rule_bytes_after k job world (frame ∷ frames) below few =
+    let p = next_taken job world frame in
+    let amount = length_of (view_of frame.link frame.bytes) in
+    let long : length (after job world frame).counters.filter.bytes ≡ length world.counters.filter.bytes = ap length (bytes_next job world frame) ∙ length_counted p.outcome amount world.counters.filter.bytes in
+    let next : get_or (after job world frame).counters.filter.bytes k 0 ≡ held (get_or world.counters.filter.bytes k 0 + bytes_for k p) =
+    ap (λ (counts : List ℕ). get_or counts k 0) (bytes_next job world frame) ∙ counted_at p.outcome amount k world.counters.filter.bytes below few in
+    let rest = rule_bytes_after k job (after job world frame) frames (omega (arith, long)) (omega (arith, next)) in
+    let more = sum_by-cons (bytes_for k) p (taken_after job (after job world frame) frames) in
+    omega (arith, next, rest, more)
+
+-- ---- a run
+
+total_none : (verdict : Verdict) → total_of verdict no_totals ≡ 0
+total_none verdict.Pass = refl
+total_none verdict.Block = refl
+total_none verdict.Return = refl
+total_none verdict.Skip = refl
+
+pub total_of_run : (job : RunJob) (frames : List Frame) (verdict : Verdict) → total_of verdict (world_of job frames).counters.totals ≡ held (count_by (comes_to verdict) (taken_in job frames))
+unfolding world_of opening
+total_of_run job frames verdict =
+    let none = total_none verdict in
+    let total = total_after verdict job (opening job) frames (omega (arith, none)) in
+    omega (arith, none, total)
+
+pub totals_together : (job : RunJob) (frames : List Frame) → length frames < 2 ^ 64
+    → (world_of job frames).counters.totals.passed + (world_of job frames).counters.totals.blocked + (world_of job frames).counters.totals.returned + (world_of job frames).counters.totals.skipped ≡ (world_of job frames).count
+unfolding world_of opening
+totals_together job frames few =
+    let pass = total_of_run job frames verdict.Pass in
+    let block = total_of_run job frames verdict.Block in
+    let back = total_of_run job frames verdict.Return in
+    let skip = total_of_run job frames verdict.Skip in
+    let all = all_verdicts (taken_in job frames) in
+    let long = length_after job (opening job) frames in
+    let count = world_count job (opening job) frames in
+    omega (arith, pass, block, back, skip, all, long, count)
+
+pub packets_of_run : (job : RunJob) (frames : List Frame) (rule : ℕ) → rule < (counts job.rules).0 → get_or (world_of job frames).counters.filter.packets rule 0 ≡ held (count_by (counts_for rule) (taken_in job frames))
+unfolding world_of opening
+packets_of_run job frames rule below =
+    let none : get_or (replicate (counts job.rules).0 0) rule 0 ≡ 0 = get_or-replicate {A = ℕ} (counts job.rules).0 rule 0 0 below in
+    let long : length (replicate (counts job.rules).0 0) ≡ (counts job.rules).0 = length-replicate {A = ℕ} (counts job.rules).0 0 in
+    let all = rule_packets_after rule job (opening job) frames (omega (arith, long, below)) (omega (arith, none)) in
+    omega (arith, none, all)
+
+pub bytes_of_run : (job : RunJob) (frames : List Frame) (rule : ℕ) → rule < (counts job.rules).0 → get_or (world_of job frames).counters.filter.bytes rule 0 ≡ held (sum_by (bytes_for rule) (taken_in job frames))
+unfolding world_of opening
+bytes_of_run job frames rule below =
+    let none : get_or (replicate (counts job.rules).0 0) rule 0 ≡ 0 = get_or-replicate {A = ℕ} (counts job.rules).0 rule 0 0 below in
+    let long : length (replicate (counts job.rules).0 0) ≡ (counts job.rules).0 = length-replicate {A = ℕ} (counts job.rules).0 0 in
+    let all = rule_bytes_after rule job (opening job) frames (omega (arith, long, below)) (omega (arith, none)) in
+    omega (arith, none, all)
+
+pub clock_of_run : (job : RunJob) (frame : Frame) (frames : List Frame) → Any (λ other. other.seconds ≡ (world_of job (frame ∷ frames)).clock.0) (frame ∷ frames)
+unfolding world_of opening
+clock_of_run job frame frames = elim (clock_is_one job (opening job) (frame ∷ frames)) [
+  | inl same ↦
+      (let bound = All-head (λ (other : Frame). other.seconds ≤ (world_after job (opening job) (frame ∷ frames)).clock.0) frame frames (none_later job (opening job) (frame ∷ frames)) in
+      let is : frame.seconds ≡ (world_after job (opening job) (frame ∷ frames)).clock.0 = omega (arith, same, bound) in
+      first_is (λ (other : Frame). other.seconds ≡ (world_after job (opening job) (frame ∷ frames)).clock.0) frame frames is)
+  | inr one ↦ one
+]

@@ -1,0 +1,125 @@
+-- What packets leave in the table of states.
+use Rattle.std.proofs.Common.{◌≡◌, ◌⊎◌, ℕ, false, not, nat_lt, List, [], ◌∷◌, length, Option, Some, None, if◌then◌else◌, inl, inr, refl, sym, ap, ◌∙◌}
+use Rattle.std.specs.List.{Contains}
+use Rattle.std.proofs.lemmas.Bool.{cases_Bool, ltb-true, not-false}
+use Rattle.pfr_headers.specs.declared.packet.View.{View}
+use Rattle.pfr_headers.specs.View.{view_of}
+use Rattle.pfr_track.specs.declared.state.State.{State}
+use Rattle.pfr_track.specs.declared.state.StateNumber.{StateNumber}
+use Rattle.pfr_track.specs.declared.time.Clock.{Clock}
+use Rattle.pfr_states.specs.declared.change.TableChange.{TableChange}
+use Rattle.pfr_states.specs.declared.change.TableChange.TheVariants.{Made, Touched, Removed}
+use Rattle.pfr_states.specs.States.{IsTable, StateTable, has_room, is_number, is_taken, is_too_many, lives, purged, refusal, with_change, with_state, with_touched}
+use Rattle.pfr_states.proofs.FilterLemmas.{table_filter}
+use Rattle.pfr_states.proofs.Membership.{from_filter, here, in_cons, in_none, there}
+use Rattle.pfr_states.proofs.PutLemmas.{table_with}
+use Rattle.pfr_states.proofs.TouchLemmas.{table_touched}
+use Rattle.pfr_packet.specs.declared.outcome.Outcome.{Outcome}
+use Rattle.pfr_packet.specs.Job.{RunJob}
+use Rattle.pfr_packet.specs.Laws.{IsOwnChange}
+use Rattle.pfr_packet.specs.Plan.{purged_at}
+use Rattle.pfr_packet.specs.Steps.{step_of}
+use Rattle.pfr_commit.specs.Runs.{IsMadeAmong, Taken, next_taken, taken_after}
+use Rattle.pfr_commit.specs.World.{Frame, World, after, changed, with_outcome, world_after}
+
+-- ---- one table
+
+-- no packet's change is refused
+abbrev pub NoneRefused : Type 0
+NoneRefused = (job : RunJob) (number : ℕ) (clock : Clock) (view : View) (table : StateTable) (change : TableChange) → IsTable table → (step_of job number clock view table).change ≡ Some change → refusal change table.limit (purged clock table.states) ≡ None
+
+taken_over : (change : TableChange) (limit : ℕ) (states : List State) → refusal change limit states ≡ None → (is_taken change states ≡ false) × (is_too_many change limit states ≡ false)
+unfolding refusal
+taken_over change limit states is = elim (cases_Bool (is_taken change states)) [
+  | inl taken ↦ absurd (cc (rw taken at is))
+  | inr free ↦ elim (cases_Bool (is_too_many change limit states)) [ inl many ↦ absurd (cc (rw (free, many) at is)) | inr few ↦ (free, few) ]
+]
+
+table_with_change : (change : TableChange) (limit : ℕ) (states : List State) → refusal change limit states ≡ None → IsTable (record { states = states; limit = limit }) → IsTable (record { states = with_change change states; limit = limit })
+table_with_change (Made state) limit states fits table =
+    let over = taken_over (Made state) limit states fits in
+    table_with state states limit over.0 (ltb-true (length states) limit (not-false (has_room limit states) over.1)) table
+table_with_change (Touched state) limit states fits table = table_touched state states limit (taken_over (Touched state) limit states fits).0 table
+table_with_change (Removed number) limit states fits table = table_filter (λ state. not (is_number number state)) states limit table
+
+table_changed : (change : Option TableChange) (table : StateTable) → IsTable table → ((c : TableChange) → change ≡ Some c → refusal c table.limit table.states ≡ None) → IsTable (changed change table)
+table_changed None table is fits = is
+table_changed (Some change) table is fits = table_with_change change table.limit table.states (fits change refl) is
+
+table_next : NoneRefused → (job : RunJob) (world : World) (frame : Frame) → IsTable world.table → IsTable (after job world frame).table
+unfolding after with_outcome purged_at
+table_next none job world frame is =
+    let p = next_taken job world frame in
+    table_changed p.outcome.change (purged_at p.clock world.table) (table_filter (lives p.clock) world.table.states world.table.limit is)
+    (λ change change_is. none job p.number p.clock (view_of frame.link frame.bytes) world.table change is change_is)
+
+pub table_after : NoneRefused → (job : RunJob) (world : World) (frames : List Frame) → IsTable world.table → IsTable (world_after job world frames).table
+unfolding world_after
+table_after none job world [] is = is
+table_after none job world (frame ∷ frames) is = table_after none job (after job world frame) frames (table_next none job world frame is)
+
+-- ---- where states come from
+
+abbrev pub OwnChanges : Type 0
+OwnChanges = (job : RunJob) (number : ℕ) (clock : Clock) (view : View) (table : StateTable) (change : TableChange) → (step_of job number clock view table).change ≡ Some change
+    → IsOwnChange number clock (purged clock table.states) (step_of job number clock view table) change
+
+from_with : (made : State) (states : List State) (s : State) → Contains (with_state made states) s → (made ≡ s) ⊎ Contains states s
+from_with made [] s h = in_cons made [] s h
+from_with made (other ∷ states) s h = elim (cases_Bool (nat_lt made.number.0 other.number.0)) [
+  | inl before ↦ in_cons made (other ∷ states) s (rw before at h)
+  | inr behind ↦ elim (cases_Bool (is_number made.number other)) [
+    | inl same ↦ elim (in_cons made states s (rw (behind, same) at h)) [ inl is ↦ inl is | inr rest ↦ inr (there other states s rest) ]
+    | inr not_same ↦ elim (in_cons other (with_state made states) s (rw (behind, not_same) at h)) [
+      | inl is ↦ inr (rw (← is) (here other states))
+      | inr rest ↦ elim (from_with made states s rest) [ inl is ↦ inl is | inr more ↦ inr (there other states s more) ]
+    ]
+  ]
+]
+
+from_touched : (touched : State) (states : List State) (s : State) → Contains (with_touched touched states) s → (touched ≡ s) ⊎ Contains states s
+from_touched touched [] s h = absurd (in_none s h)
+from_touched touched (other ∷ states) s h = elim (in_cons (if is_number touched.number other then touched else other) (with_touched touched states) s h) [
+  | inl is ↦ elim (cases_Bool (is_number touched.number other)) [ inl same ↦ inl (rw same at is) | inr not_same ↦ inr (rw (← (rw not_same at is)) (here other states)) ]
+  | inr rest ↦ elim (from_touched touched states s rest) [ inl is ↦ inl is | inr more ↦ inr (there other states s more) ]
+]
+
+from_change : (change : TableChange) (number : ℕ) (clock : Clock) (states : List State) (outcome : Outcome) (packets : List Taken) (p : Taken) (s : State)
+    → p.number ≡ number → p.clock ≡ clock → p.outcome ≡ outcome → Contains packets p → IsOwnChange number clock states outcome change → ((s : State) → Contains states s → IsMadeAmong packets s)
+    → Contains (with_change change states) s → IsMadeAmong packets s
+from_change (Made state) number clock states outcome packets p s number_is clock_is outcome_is is_there own each h = elim (from_with state states s h) [
+  | inl is ↦ rw (← is) (record { packet = p; is_there = is_there; number_is = number_is ∙ sym own.number_is; clock_is = clock_is ∙ sym own.made_is; passed = rw outcome_is own.passes; named = rw outcome_is own.named })
+  | inr rest ↦ each s rest
+]
+from_change (Touched state) number clock states outcome packets p s number_is clock_is outcome_is is_there own each h = elim (from_touched state states s h) [
+  | inl is ↦
+      (let made = each own.before own.is_there in
+      rw (← is) (record { packet = made.packet; is_there = made.is_there; number_is = made.number_is ∙ ap (λ (n : StateNumber). n.0) (sym own.number_is); clock_is = made.clock_is ∙ sym own.made_is; passed = made.passed; named = rw own.number_is made.named }))
+  | inr rest ↦ each s rest
+]
+from_change (Removed old) number clock states outcome packets p s number_is clock_is outcome_is is_there own each h = each s (from_filter (λ state. not (is_number old state)) states s h).0
+
+from_changed : (change : Option TableChange) (number : ℕ) (clock : Clock) (table : StateTable) (outcome : Outcome) (packets : List Taken) (p : Taken) (s : State)
+    → p.number ≡ number → p.clock ≡ clock → p.outcome ≡ outcome → Contains packets p → ((c : TableChange) → change ≡ Some c → IsOwnChange number clock table.states outcome c)
+    → ((s : State) → Contains table.states s → IsMadeAmong packets s) → Contains (changed change table).states s → IsMadeAmong packets s
+from_changed None number clock table outcome packets p s number_is clock_is outcome_is is_there own each h = each s h
+from_changed (Some change) number clock table outcome packets p s number_is clock_is outcome_is is_there own each h =
+    from_change change number clock table.states outcome packets p s number_is clock_is outcome_is is_there (own change refl) each h
+
+states_next : OwnChanges → (job : RunJob) (packets : List Taken) (world : World) (frame : Frame) → Contains packets (next_taken job world frame) → ((s : State) → Contains world.table.states s → IsMadeAmong packets s)
+    → (s : State) → Contains (after job world frame).table.states s → IsMadeAmong packets s
+unfolding after with_outcome purged_at
+states_next own job packets world frame is_there each s h =
+    let p = next_taken job world frame in
+    from_changed p.outcome.change p.number p.clock (purged_at p.clock world.table) p.outcome packets p s refl refl refl is_there
+    (λ change change_is. own job p.number p.clock (view_of frame.link frame.bytes) world.table change change_is)
+    (λ s h. each s (from_filter (lives p.clock) world.table.states s h).0) h
+
+pub states_after : OwnChanges → (job : RunJob) (packets : List Taken) (world : World) (frames : List Frame) → ((p : Taken) → Contains (taken_after job world frames) p → Contains packets p)
+    → ((s : State) → Contains world.table.states s → IsMadeAmong packets s) → (s : State) → Contains (world_after job world frames).table.states s → IsMadeAmong packets s
+unfolding world_after
+states_after own job packets world [] among each s h = each s h
+states_after own job packets world (frame ∷ frames) among each s h =
+    let p = next_taken job world frame in
+    let rest = taken_after job (after job world frame) frames in
+    states_after own job packets (after job world frame) frames (λ q at. among q (there p rest q at)) (states_next own job packets world frame (among p (here p rest)) each) s h

@@ -1,0 +1,86 @@
+-- The packets of a run one by one, and what each of them came to.
+use Rattle.std.specs.Prelude.{◌≡◌, ℕ, ◌+◌, ◌-◌, ◌^◌, ◌==◌, ◌&&◌, min, Bool, true, false, if◌then◌else◌, List, [], ◌∷◌, Option, Some, None}
+use Rattle.std.specs.List.{Contains}
+use Rattle.pfr_headers.specs.View.{view_of}
+use Rattle.pfr_track.specs.declared.state.RuleNumber.{RuleNumber}
+use Rattle.pfr_track.specs.declared.time.Clock.{Clock}
+use Rattle.pfr_track.specs.declared.state.State.{State}
+use Rattle.pfr_packet.specs.declared.outcome.Outcome.{Outcome}
+use Rattle.pfr_packet.specs.declared.verdict.Verdict.{Verdict}
+use Rattle.pfr_packet.specs.declared.verdict.Verdict.TheVariants as verdict
+use Rattle.pfr_packet.specs.Job.{RunJob}
+use Rattle.pfr_packet.specs.Steps.{step_of}
+use Rattle.pfr_commit.specs.declared.counters.Totals.{Totals}
+use Rattle.pfr_commit.specs.Counters.{counts_for_rules, length_of}
+use Rattle.pfr_commit.specs.World.{Frame, World, after, clock_at, opening}
+
+-- a packet that was taken
+pub record Taken : Type 0 where
+  pub number : ℕ
+  pub clock : Clock
+  pub frame : Frame
+  pub outcome : Outcome
+
+-- the next one
+abbrev pub next_taken : RunJob → World → Frame → Taken
+next_taken job world frame = record {
+  number = world.count + 1;
+  clock = clock_at world.clock frame;
+  frame = frame;
+  outcome = step_of job (world.count + 1) (clock_at world.clock frame) (view_of frame.link frame.bytes) world.table;
+}
+
+-- those that follow a world
+abbrev pub taken_after : RunJob → World → List Frame → List Taken
+taken_after job world [] = []
+taken_after job world (frame ∷ frames) = next_taken job world frame ∷ taken_after job (after job world frame) frames
+
+-- those of a run
+abbrev pub taken_in : RunJob → List Frame → List Taken
+taken_in job frames = taken_after job (opening job) frames
+
+-- ---- what they leave
+
+-- one of these packets made the state: it passed at the state's clock, has its number and names it
+pub record IsMadeAmong (packets : List Taken) (state : State) : Type 0 where
+  pub packet : Taken
+  pub is_there : Contains packets packet
+  pub number_is : packet.number ≡ state.number.0
+  pub clock_is : packet.clock ≡ state.made
+  pub passed : packet.outcome.verdict ≡ verdict.Pass
+  pub named : packet.outcome.state ≡ Some state.number
+
+-- ---- what is counted of them
+
+-- a count stays at the last value that 64 bits hold
+abbrev pub held : ℕ → ℕ
+held count = min count (2 ^ 64 - 1)
+
+abbrev pub is_same_verdict : Verdict → Verdict → Bool
+is_same_verdict verdict.Pass verdict.Pass = true
+is_same_verdict verdict.Block verdict.Block = true
+is_same_verdict verdict.Return verdict.Return = true
+is_same_verdict verdict.Skip verdict.Skip = true
+is_same_verdict one other = false
+
+abbrev pub total_of : Verdict → Totals → ℕ
+total_of verdict.Pass totals = totals.passed
+total_of verdict.Block totals = totals.blocked
+total_of verdict.Return totals = totals.returned
+total_of verdict.Skip totals = totals.skipped
+
+-- the packet came to this verdict
+abbrev pub comes_to : Verdict → Taken → Bool
+comes_to verdict packet = is_same_verdict packet.outcome.verdict verdict
+
+abbrev pub is_rule : ℕ → Option RuleNumber → Bool
+is_rule rule None = false
+is_rule rule (Some named) = named.0 == rule
+
+-- its line names the filter rule, and for a reason that counts
+abbrev pub counts_for : ℕ → Taken → Bool
+counts_for rule packet = counts_for_rules packet.outcome.reason && is_rule rule packet.outcome.rule
+
+-- the bytes that it counts for the filter rule: its total length
+abbrev pub bytes_for : ℕ → Taken → ℕ
+bytes_for rule packet = if counts_for rule packet then length_of (view_of packet.frame.link packet.frame.bytes) else 0

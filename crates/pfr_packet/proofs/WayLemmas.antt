@@ -1,0 +1,313 @@
+-- The ways in which an IPv4 packet comes to its outcome.
+use Rattle.std.proofs.Common.{◌≡◌, ◌⊎◌, ◌&&◌, ℕ, min, Bool, true, false, not, List, Option, Some, None, cond, inl, inr, refl, sym, ◌∙◌}
+use Rattle.std.specs.List.{Contains, slice_get}
+use Rattle.std.proofs.lemmas.Bool.{not-false}
+use Rattle.pfr_headers.specs.declared.change.Change.{Change}
+use Rattle.pfr_headers.specs.declared.packet.Direction.{Direction}
+use Rattle.pfr_headers.specs.declared.packet.Packet.{Packet}
+use Rattle.pfr_headers.specs.declared.packet.View.TheVariants.{Ipv4}
+use Rattle.pfr_headers.specs.declared.icmp.IcmpMessage.{IcmpMessage}
+use Rattle.pfr_headers.specs.declared.icmp.IcmpMessage.TheVariants as message
+use Rattle.pfr_headers.specs.declared.transport.Transport.{Transport}
+use Rattle.pfr_headers.specs.declared.transport.Transport.TheVariants as transport
+use Rattle.pfr_headers.specs.Address.{direction_of}
+use Rattle.pfr_headers.specs.View.{has_options}
+use Rattle.pfr_flat.specs.declared.flat.FlatRule.{FlatRule}
+use Rattle.pfr_rules.specs.declared.decision.Decision.{Decision}
+use Rattle.pfr_rules.specs.declared.decision.RuleNumber.{RuleNumber}
+use Rattle.pfr_rules.specs.Filter.{decision_of, visited}
+use Rattle.pfr_track.specs.declared.key.Key.{Key}
+use Rattle.pfr_track.specs.declared.outcome.Touch.{Touch}
+use Rattle.pfr_track.specs.declared.outcome.Touch.TheVariants as touch
+use Rattle.pfr_track.specs.declared.state.RuleNumber as Rule
+use Rattle.pfr_track.specs.declared.state.State.{State}
+use Rattle.pfr_track.specs.declared.state.StateRules.{StateRules}
+use Rattle.pfr_track.specs.declared.time.Clock.{Clock}
+use Rattle.pfr_track.specs.Tracking.{made, touched}
+use Rattle.pfr_states.specs.declared.change.Side.TheVariants.{Wire, Stack}
+use Rattle.pfr_states.specs.declared.change.TableChange.{TableChange}
+use Rattle.pfr_states.specs.declared.change.TableChange.TheVariants.{Touched}
+use Rattle.pfr_states.specs.States.{StateTable}
+use Rattle.pfr_packet.specs.declared.keys.Subject.{Subject}
+use Rattle.pfr_packet.specs.declared.keys.Subject.TheVariants.{Alone, Told, Connection}
+use Rattle.pfr_packet.specs.declared.making.Passage.{Passage}
+use Rattle.pfr_packet.specs.declared.outcome.Outcome.{Outcome}
+use Rattle.pfr_packet.specs.declared.verdict.Reason.{Reason}
+use Rattle.pfr_packet.specs.declared.verdict.Reason.TheVariants as reason
+use Rattle.pfr_packet.specs.Filtering.{conduct_at, conduct_of, decided, filtered, kept, named, number_of, reason_of}
+use Rattle.pfr_packet.specs.Found.{told, tracked}
+use Rattle.pfr_packet.specs.Job.{RunJob, is_skipped, timeouts_of}
+use Rattle.pfr_packet.specs.Keys.{message_subject, side_of, subject_by, subject_of}
+use Rattle.pfr_packet.specs.Laws.{HasLeave, message_opens, opens_connection}
+use Rattle.pfr_packet.specs.Making.{making, untranslated, with_keys, with_made, with_room}
+use Rattle.pfr_packet.specs.Outcomes.{blocked, none_visited, without_leave}
+use Rattle.pfr_packet.specs.Plan.{Plan, done, found_in, has_room_in, outcome_of, purged_at}
+use Rattle.pfr_packet.specs.Steps.{by_connection, by_told, opened, packet_plan, passed_over, plan, step_of, subject_plan}
+use Rattle.pfr_packet.specs.Verdicts.{lets_pass}
+use Rattle.pfr_packet.proofs.ChangeLemmas.{found_in_states, passing}
+
+-- no state is found for the packet
+abbrev pub NoneFound : StateTable → Packet → Direction → Type 0
+NoneFound table packet direction = (key : Key) → ((subject_of direction packet ≡ Told key) ⊎ (subject_of direction packet ≡ Connection key)) → found_in table (side_of direction) key ≡ None
+
+-- what holds of the outcome, whichever way the packet goes
+pub record Ways (job : RunJob) (table : StateTable) (packet : Packet) (direction : Direction) (P : Outcome → Type 0) : Type 0 where
+  pub by_rules : NoneFound table packet direction → P (filtered job.rules packet direction)
+  pub by_error : (key : Key) (state : State) → subject_of direction packet ≡ Told key → found_in table (side_of direction) key ≡ Some state → P (told direction packet state)
+  pub by_state : (key : Key) (state : State) (t : Touch) → subject_of direction packet ≡ Connection key → found_in table (side_of direction) key ≡ Some state → P (tracked direction packet state t)
+  pub makes : (key : Key) (state : State) → subject_of direction packet ≡ Connection key → NoneFound table packet direction → lets_pass (filtered job.rules packet direction).verdict ≡ true
+      → P (with_made packet state (filtered job.rules packet direction))
+  pub has_no_place : NoneFound table packet direction → P (blocked reason.StateInsert (filtered job.rules packet direction))
+  pub has_no_room : NoneFound table packet direction → has_room_in table ≡ false → P (blocked reason.StateLimit (filtered job.rules packet direction))
+
+room_way : (job : RunJob) (table : StateTable) (packet : Packet) (direction : Direction) (P : Outcome → Type 0) → Ways job table packet direction P → (key : Key) (state : State) → subject_of direction packet ≡ Connection key
+    → NoneFound table packet direction → lets_pass (filtered job.rules packet direction).verdict ≡ true → (room : Bool) → has_room_in table ≡ room → P (outcome_of table (with_room packet state (filtered job.rules packet direction) room))
+room_way job table packet direction P w key state is none passes true room = w.makes key state is none passes
+room_way job table packet direction P w key state is none passes false room = w.has_no_room none room
+
+keys_way : (job : RunJob) (table : StateTable) (packet : Packet) (direction : Direction) (P : Outcome → Type 0) → Ways job table packet direction P → (key : Key) (state : State) → subject_of direction packet ≡ Connection key
+    → NoneFound table packet direction → lets_pass (filtered job.rules packet direction).verdict ≡ true → (wire stack : Option State) → P (outcome_of table (with_keys packet state (filtered job.rules packet direction) wire stack))
+keys_way job table packet direction P w key state is none passes None None = room_way job table packet direction P w key state is none passes (has_room_in table) refl
+keys_way job table packet direction P w key state is none passes None (Some other) = w.has_no_place none
+keys_way job table packet direction P w key state is none passes (Some other) _ = w.has_no_place none
+
+passing_way : (job : RunJob) (table : StateTable) (packet : Packet) (direction : Direction) (P : Outcome → Type 0) → Ways job table packet direction P → (key : Key) (state : State) → subject_of direction packet ≡ Connection key
+    → NoneFound table packet direction → (test : Bool) → lets_pass (filtered job.rules packet direction).verdict ≡ test
+    → P (outcome_of table (cond test (making packet state (filtered job.rules packet direction)) (done (filtered job.rules packet direction))))
+passing_way job table packet direction P w key state is none true passes = keys_way job table packet direction P w key state is none passes (found_in table Wire state.wire) (found_in table Stack state.stack)
+passing_way job table packet direction P w key state is none false passes = w.by_rules none
+
+opened_way : (job : RunJob) (number : ℕ) (clock : Clock) (table : StateTable) (packet : Packet) (direction : Direction) (passage : Passage) (P : Outcome → Type 0) → Ways job table packet direction P → (key : Key) → subject_of direction packet ≡ Connection key
+    → NoneFound table packet direction → (kept : Option StateRules) → P (outcome_of table (opened job number clock packet direction passage (filtered job.rules packet direction) kept))
+opened_way job number clock table packet direction passage P w key is none None = w.by_rules none
+opened_way job number clock table packet direction passage P w key is none (Some rules) =
+    passing_way job table packet direction P w key (made (record { 0 = number }) packet direction passage.wire passage.stack rules clock (timeouts_of job)) is none (lets_pass (filtered job.rules packet direction).verdict) refl
+
+-- the subject of a packet is one
+none_at : (table : StateTable) (packet : Packet) (direction : Direction) (subject : Subject) (key : Key) → subject_of direction packet ≡ subject → (subject ≡ Told key) ⊎ (subject ≡ Connection key)
+    → found_in table (side_of direction) key ≡ None → NoneFound table packet direction
+none_at table packet direction subject key is one none = λ other at. rw (same_key other (elim at [ inl told ↦ inl (sym is ∙ told) | inr own ↦ inr (sym is ∙ own) ]) one) none
+  where
+    same_key : (other : Key) → (subject ≡ Told other) ⊎ (subject ≡ Connection other) → (subject ≡ Told key) ⊎ (subject ≡ Connection key) → other ≡ key
+    same_key other (inl a) (inl b) = (let e : Told other ≡ Told key = sym a ∙ b in cc e)
+    same_key other (inl a) (inr b) = (let e : Told other ≡ Connection key = sym a ∙ b in absurd (cc e))
+    same_key other (inr a) (inl b) = (let e : Connection other ≡ Told key = sym a ∙ b in absurd (cc e))
+    same_key other (inr a) (inr b) = (let e : Connection other ≡ Connection key = sym a ∙ b in cc e)
+
+told_way : (job : RunJob) (table : StateTable) (packet : Packet) (direction : Direction) (P : Outcome → Type 0) → Ways job table packet direction P → (key : Key) → subject_of direction packet ≡ Told key
+    → (found : Option State) → found_in table (side_of direction) key ≡ found → P (outcome_of table (by_told job packet direction found))
+told_way job table packet direction P w key is None none = w.by_rules (none_at table packet direction (Told key) key is (inl refl) none)
+told_way job table packet direction P w key is (Some state) found = w.by_error key state is found
+
+connection_way : (job : RunJob) (number : ℕ) (clock : Clock) (table : StateTable) (packet : Packet) (direction : Direction) (P : Outcome → Type 0) → Ways job table packet direction P → (key : Key) → subject_of direction packet ≡ Connection key
+    → (found : Option State) → found_in table (side_of direction) key ≡ found → P (outcome_of table (by_connection job number clock packet direction key found))
+connection_way job number clock table packet direction P w key is None none =
+    opened_way job number clock table packet direction (untranslated key) P w key is (none_at table packet direction (Connection key) key is (inr refl) none) (kept job.rules packet direction)
+connection_way job number clock table packet direction P w key is (Some state) found = w.by_state key state (touched state packet direction clock (timeouts_of job)) is found
+
+subject_way : (job : RunJob) (number : ℕ) (clock : Clock) (table : StateTable) (packet : Packet) (direction : Direction) (P : Outcome → Type 0) → Ways job table packet direction P → (subject : Subject) → subject_of direction packet ≡ subject
+    → P (outcome_of table (subject_plan job number clock packet direction subject))
+subject_way job number clock table packet direction P w Alone is = w.by_rules (λ key at. elim at [
+  | inl told ↦ (let e : Alone ≡ Told key = sym is ∙ told in absurd (cc e))
+  | inr own ↦ (let e : Alone ≡ Connection key = sym is ∙ own in absurd (cc e))
+])
+subject_way job number clock table packet direction P w (Told key) is = told_way job table packet direction P w key is (found_in table (side_of direction) key) refl
+subject_way job number clock table packet direction P w (Connection key) is = connection_way job number clock table packet direction P w key is (found_in table (side_of direction) key) refl
+
+pub packet_way : (job : RunJob) (number : ℕ) (clock : Clock) (table : StateTable) (packet : Packet) (direction : Direction) (P : Outcome → Type 0) → Ways job table packet direction P
+    → P (outcome_of table (packet_plan job number clock packet direction))
+unfolding packet_plan
+packet_way job number clock table packet direction P w = subject_way job number clock table packet direction P w (subject_of direction packet) refl
+
+skipped_way : (table : StateTable) (P : Outcome → Type 0) (skipped : Bool) (other : Plan) → P passed_over → P (outcome_of table other) → P (outcome_of table (cond skipped (done passed_over) other))
+skipped_way table P true other over h = over
+skipped_way table P false other over h = h
+
+-- the outcome of an IPv4 packet, over the table once the states are gone whose deadline has come
+pub step_way : (job : RunJob) (number : ℕ) (clock : Clock) (table : StateTable) (packet : Packet) (P : Outcome → Type 0) → P passed_over → Ways job (purged_at clock table) packet (direction_of job.inside packet) P
+    → P (step_of job number clock (Ipv4 packet) table)
+unfolding step_of plan
+step_way job number clock table packet P over w =
+    skipped_way (purged_at clock table) P (is_skipped job) (packet_plan job number clock packet (direction_of job.inside packet)) over
+    (packet_way job number clock (purged_at clock table) packet (direction_of job.inside packet) P w)
+
+-- ---- what the filter makes of a packet
+
+-- of an outcome, or of it blocked
+either_blocked : (P : Outcome → Type 0) (test : Bool) (why : Reason) (outcome : Outcome) → (test ≡ false → P outcome) → P (blocked why outcome) → P (cond test (blocked why outcome) outcome)
+either_blocked P true why outcome one other = other
+either_blocked P false why outcome one other = one refl
+
+-- the decision before IP options are looked at
+abbrev pub decision_in : RunJob → Packet → Direction → Outcome
+decision_in job packet direction = decided direction (decision_of job.rules packet direction) (visited job.rules packet direction)
+
+-- the deciding rule allows IP options
+abbrev pub allowed_in : RunJob → Packet → Direction → Bool
+allowed_in job packet direction = (conduct_of job.rules.filter.rules (decision_of job.rules packet direction).rule).allows_options
+
+pub filtered_way : (job : RunJob) (packet : Packet) (direction : Direction) (P : Outcome → Type 0)
+    → ((lets_pass (decision_in job packet direction).verdict && (has_options packet && not (allowed_in job packet direction))) ≡ false → P (decision_in job packet direction))
+    → P (blocked reason.IpOption (decision_in job packet direction)) → P (filtered job.rules packet direction)
+unfolding filtered
+filtered_way job packet direction P one other =
+    either_blocked P (lets_pass (decision_in job packet direction).verdict && (has_options packet && not (allowed_in job packet direction))) reason.IpOption (decision_in job packet direction) one other
+
+-- ---- what holds of every outcome
+
+-- a packet that opens no connection has no key of its own
+subject_opens : (direction : Direction) (packet : Packet) (t : Transport) (key : Key) → opens_connection t ≡ false → subject_by direction packet t ≡ Connection key → ⊥
+subject_opens direction packet transport.Fragment key opens is = cc is
+subject_opens direction packet (transport.Tcp header) key opens is = cc opens
+subject_opens direction packet (transport.Udp header) key opens is = cc opens
+subject_opens direction packet (transport.Icmp header) key opens is = message_opens_none header.message opens is
+  where
+    message_opens_none : (m : IcmpMessage) → message_opens m ≡ false → message_subject direction packet m ≡ Connection key → ⊥
+    message_opens_none (message.Echo identifier) opens is = cc opens
+    message_opens_none (message.Error inner) opens is = cc is
+    message_opens_none message.Other opens is = cc is
+subject_opens direction packet transport.Other key opens is = cc opens
+
+pub no_state_of : (job : RunJob) (number : ℕ) (clock : Clock) (packet : Packet) (table : StateTable) → opens_connection packet.transport ≡ false → (step_of job number clock (Ipv4 packet) table).change ≡ None
+no_state_of job number clock packet table opens =
+    let direction = direction_of job.inside packet in
+    let by_rules : (filtered job.rules packet direction).change ≡ None = filtered_way job packet direction (λ o. o.change ≡ None) (λ free. refl) refl in
+    step_way job number clock table packet (λ o. o.change ≡ None) refl (record {
+      by_rules = λ none. by_rules;
+      by_error = λ key state is found. either_blocked (λ o. o.change ≡ None) _ reason.IpOption (passing direction packet state reason.StateError None) (λ free. refl) refl;
+      by_state = λ key state t is found. absurd (subject_opens direction packet packet.transport key opens is);
+      makes = λ key state is none passes. absurd (subject_opens direction packet packet.transport key opens is);
+      has_no_place = λ none. refl;
+      has_no_room = λ none full. refl;
+    })
+
+-- where a state is found no rule is visited
+pub none_visited_of : (job : RunJob) (number : ℕ) (clock : Clock) (packet : Packet) (table : StateTable) (key : Key) (state : State)
+    → (subject_of (direction_of job.inside packet) packet ≡ Told key) ⊎ (subject_of (direction_of job.inside packet) packet ≡ Connection key)
+    → found_in (purged_at clock table) (side_of (direction_of job.inside packet)) key ≡ Some state → (step_of job number clock (Ipv4 packet) table).visited ≡ none_visited
+none_visited_of job number clock packet table key state subject found =
+    let direction = direction_of job.inside packet in
+    let P : Outcome → Type 0 = λ o. o.visited ≡ none_visited in
+    let contradicts : NoneFound (purged_at clock table) packet direction → ⊥ = λ none. (let both : None ≡ Some state = sym (none key subject) ∙ found in cc both) in
+    step_way job number clock table packet P refl (record {
+      by_rules = λ none. absurd (contradicts none);
+      by_error = λ key state is found. either_blocked P _ reason.IpOption (passing direction packet state reason.StateError None) (λ free. refl) refl;
+      by_state = λ key state t is found. tracked_visits direction packet state t;
+      makes = λ key state is none passes. absurd (contradicts none);
+      has_no_place = λ none. absurd (contradicts none);
+      has_no_room = λ none full. absurd (contradicts none);
+    })
+  where
+    tracked_visits : (direction : Direction) (packet : Packet) (state : State) (t : Touch) → (tracked direction packet state t).visited ≡ none_visited
+    tracked_visits direction packet state (touch.Touched next) = either_blocked (λ o. o.visited ≡ none_visited) _ reason.IpOption (passing direction packet state reason.State (Some (Touched next))) (λ free. refl) refl
+    tracked_visits direction packet state touch.Mismatch = refl
+    tracked_visits direction packet state touch.Removed = refl
+
+-- a packet is blocked for want of room only where there is none
+abbrev pub LacksRoom : StateTable → Outcome → Type 0
+LacksRoom table outcome = outcome.reason ≡ reason.StateLimit → has_room_in table ≡ false
+
+reason_by : (decision : Decision) → reason_of decision.rule ≡ reason.StateLimit → ⊥
+reason_by decision is = by_rule decision.rule is
+  where
+    by_rule : (rule : Option RuleNumber) → reason_of rule ≡ reason.StateLimit → ⊥
+    by_rule None is = cc is
+    by_rule (Some number) is = cc is
+
+filtered_lacks : (job : RunJob) (table : StateTable) (packet : Packet) (direction : Direction) → LacksRoom table (filtered job.rules packet direction)
+filtered_lacks job table packet direction = filtered_way job packet direction (LacksRoom table) (λ free is. absurd (reason_by (decision_of job.rules packet direction) is)) (λ is. absurd (cc is))
+
+tracked_lacks : (table : StateTable) (direction : Direction) (packet : Packet) (state : State) (t : Touch) → LacksRoom table (tracked direction packet state t)
+tracked_lacks table direction packet state (touch.Touched next) = either_blocked (LacksRoom table) _ reason.IpOption (passing direction packet state reason.State (Some (Touched next))) (λ free is. absurd (cc is)) (λ is. absurd (cc is))
+tracked_lacks table direction packet state touch.Mismatch = λ is. absurd (cc is)
+tracked_lacks table direction packet state touch.Removed = λ is. absurd (cc is)
+
+pub limit_of : (job : RunJob) (number : ℕ) (clock : Clock) (packet : Packet) (table : StateTable) → LacksRoom (purged_at clock table) (step_of job number clock (Ipv4 packet) table)
+limit_of job number clock packet table =
+    let direction = direction_of job.inside packet in
+    let now = purged_at clock table in
+    step_way job number clock table packet (LacksRoom now) (λ is. absurd (cc is)) (record {
+      by_rules = λ none. filtered_lacks job now packet direction;
+      by_error = λ key state is found. either_blocked (LacksRoom now) _ reason.IpOption (passing direction packet state reason.StateError None) (λ free is. absurd (cc is)) (λ is. absurd (cc is));
+      by_state = λ key state t is found. tracked_lacks now direction packet state t;
+      makes = λ key state is none passes. filtered_lacks job now packet direction;
+      has_no_place = λ none is. absurd (cc is);
+      has_no_room = λ none full is. full;
+    })
+
+-- what doesn't pass isn't written
+abbrev pub Unwritten : Outcome → Type 0
+Unwritten outcome = lets_pass outcome.verdict ≡ false → outcome.bytes ≡ None
+
+tracked_unwritten : (direction : Direction) (packet : Packet) (state : State) (t : Touch) → Unwritten (tracked direction packet state t)
+tracked_unwritten direction packet state (touch.Touched next) = either_blocked Unwritten _ reason.IpOption (passing direction packet state reason.State (Some (Touched next))) (λ free stops. absurd (cc stops)) (λ stops. refl)
+tracked_unwritten direction packet state touch.Mismatch = λ stops. refl
+tracked_unwritten direction packet state touch.Removed = λ stops. refl
+
+pub unwritten_of : (job : RunJob) (number : ℕ) (clock : Clock) (packet : Packet) (table : StateTable) → Unwritten (step_of job number clock (Ipv4 packet) table)
+unwritten_of job number clock packet table =
+    let direction = direction_of job.inside packet in
+    step_way job number clock table packet Unwritten (λ stops. absurd (cc stops)) (record {
+      by_rules = λ none. filtered_way job packet direction Unwritten (λ free stops. refl) (λ stops. refl);
+      by_error = λ key state is found. either_blocked Unwritten _ reason.IpOption (passing direction packet state reason.StateError None) (λ free stops. absurd (cc stops)) (λ stops. refl);
+      by_state = λ key state t is found. tracked_unwritten direction packet state t;
+      makes = λ key state is none passes stops. (let both : true ≡ false = sym passes ∙ stops in absurd (cc both));
+      has_no_place = λ none stops. refl;
+      has_no_room = λ none full stops. refl;
+    })
+
+-- a packet with IP options passes only by leave of a rule or of a state
+abbrev pub ByLeave : List FlatRule → List State → Packet → Outcome → Type 0
+ByLeave rules states packet outcome = has_options packet ≡ true → lets_pass outcome.verdict ≡ true → (outcome.reason ≡ reason.SkipOn → ⊥) → HasLeave rules states outcome
+
+-- of a test that is false, where its first two parts are true, the third is
+third_false : (a b c : Bool) → (a && (b && not c)) ≡ false → a ≡ true → b ≡ true → c ≡ true
+third_false a b c none first second = not-false c (rw (first, second) at none)
+
+-- the deciding rule has leave
+abbrev pub RuleWithLeave : List FlatRule → Option Rule.RuleNumber → Type 0
+RuleWithLeave rules named = (place : ℕ) × (rule : FlatRule) × (slice_get rules place ≡ Some rule) × (named ≡ Some (record { 0 = min place 4294967295 })) × (rule.allow_opts ≡ true)
+
+rule_with_leave : (rules : List FlatRule) (number : Option RuleNumber) → (conduct_of rules number).allows_options ≡ true → RuleWithLeave rules (named number)
+rule_with_leave rules None is = absurd (cc is)
+rule_with_leave rules (Some number) is = at_place (slice_get rules number.0) refl is
+  where
+    at_place : (found : Option FlatRule) → slice_get rules number.0 ≡ found → (conduct_at (number_of number) found).allows_options ≡ true → RuleWithLeave rules (named (Some number))
+    at_place None got is = absurd (cc is)
+    at_place (Some rule) got is = (number.0, rule, got, refl, is)
+
+filtered_leave : (job : RunJob) (states : List State) (packet : Packet) (direction : Direction) → ByLeave job.rules.filter.rules states packet (filtered job.rules packet direction)
+filtered_leave job states packet direction = filtered_way job packet direction (ByLeave job.rules.filter.rules states packet)
+    (λ free options passes why. inl (rule_with_leave job.rules.filter.rules (decision_of job.rules packet direction).rule (third_false _ _ _ free passes options)))
+    (λ options passes why. absurd (cc passes))
+
+state_leave : (table : StateTable) (rules : List FlatRule) (direction : Direction) (packet : Packet) (state : State) (why : Reason) (change : Option TableChange) → Contains table.states state
+    → ByLeave rules table.states packet (without_leave packet state.rules.allows_options (passing direction packet state why change))
+state_leave table rules direction packet state why change is_there =
+    either_blocked (ByLeave rules table.states packet) _ reason.IpOption (passing direction packet state why change)
+    (λ free options passes skipped. inr (state, is_there, refl, third_false true (has_options packet) state.rules.allows_options free refl options))
+    (λ options passes skipped. absurd (cc passes))
+
+tracked_leave : (table : StateTable) (rules : List FlatRule) (direction : Direction) (packet : Packet) (state : State) (t : Touch) → Contains table.states state → ByLeave rules table.states packet (tracked direction packet state t)
+tracked_leave table rules direction packet state (touch.Touched next) is_there = state_leave table rules direction packet state reason.State (Some (Touched next)) is_there
+tracked_leave table rules direction packet state touch.Mismatch is_there = λ options passes skipped. absurd (cc passes)
+tracked_leave table rules direction packet state touch.Removed is_there = λ options passes skipped. absurd (cc passes)
+
+filtered_rule : (job : RunJob) (packet : Packet) (direction : Direction) → has_options packet ≡ true → lets_pass (filtered job.rules packet direction).verdict ≡ true → RuleWithLeave job.rules.filter.rules (filtered job.rules packet direction).rule
+filtered_rule job packet direction options lets =
+    filtered_way job packet direction (λ o. has_options packet ≡ true → lets_pass o.verdict ≡ true → RuleWithLeave job.rules.filter.rules o.rule)
+    (λ free options passes. rule_with_leave job.rules.filter.rules (decision_of job.rules packet direction).rule (third_false _ _ _ free passes options)) (λ options passes. absurd (cc passes)) options lets
+
+pub leave_of : (job : RunJob) (number : ℕ) (clock : Clock) (packet : Packet) (table : StateTable) → ByLeave job.rules.filter.rules (purged_at clock table).states packet (step_of job number clock (Ipv4 packet) table)
+leave_of job number clock packet table =
+    let direction = direction_of job.inside packet in
+    let now = purged_at clock table in
+    let rules = job.rules.filter.rules in
+    step_way job number clock table packet (ByLeave rules now.states packet) (λ options passes skipped. absurd (skipped refl)) (record {
+      by_rules = λ none. filtered_leave job now.states packet direction;
+      by_error = λ key state is found. state_leave now rules direction packet state reason.StateError None (found_in_states now (side_of direction) key state found);
+      by_state = λ key state t is found. tracked_leave now rules direction packet state t (found_in_states now (side_of direction) key state found);
+      makes = λ key state is none lets options passes skipped. inl (filtered_rule job packet direction options lets);
+      has_no_place = λ none options passes skipped. absurd (cc passes);
+      has_no_room = λ none full options passes skipped. absurd (cc passes);
+    })
