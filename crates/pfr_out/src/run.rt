@@ -108,9 +108,9 @@ fn replay_capture<R: Source, S: Sink>(
 /// other. At every stop they have grown by a beginning of that, and hold all that the packets write that the stop reports as
 /// committed.
 ///
-/// Ok comes only where the text means a ruleset, and a stop for the ruleset only with the text's first fault, whatever the
-/// devices. What is said of the capture holds where the source tells its bytes, and what is said of the outputs where all sinks
-/// tell theirs too.
+/// Whatever the devices, Ok comes only where the text means a ruleset, and a stop for the ruleset only with the text's first
+/// fault, or for want of memory. What is said of the capture holds where the source tells its bytes, and what is said of the
+/// outputs where all sinks tell theirs too.
 pub fn replay<H: AllocGlobal, R: Source, S: Sink>(
     rt: &H,
     source: &mut R,
