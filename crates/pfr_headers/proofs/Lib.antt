@@ -1,4 +1,5 @@
 pub mod ChecksumLemmas
+pub mod FieldLemmas
 pub mod NumberLemmas
 pub mod OptionLemmas
 pub mod RewritingLemmas

@@ -62,7 +62,7 @@ told_by_tests d protocol at end addresses port true udp a b = rw a (let most = p
 told_by_tests d protocol at end addresses port false true a b = rw (a, b) (udp_span d at end addresses port)
 told_by_tests d protocol at end addresses port false false a b = rw (a, b) (echo_span d at port)
 
-told_span : (d : List ℕ) (protocol at : ℕ) (end : End) (addresses : ℕ) (port : Port) → Spans at (at + 8) (told_words d protocol at end addresses port)
+pub told_span : (d : List ℕ) (protocol at : ℕ) (end : End) (addresses : ℕ) (port : Port) → Spans at (at + 8) (told_words d protocol at end addresses port)
 told_span d protocol at end addresses port = told_by_tests d protocol at end addresses port _ _ refl refl
 
 pub inner_span : (d : List ℕ) (at : ℕ) (inner : Inner) (end : End) (to : Endpoint) → 20 ≤ inner.header_length → Spans (at + 10) (at + inner.header_length + 8) (inner_words d at inner end to)
@@ -231,10 +231,14 @@ told_transport protocol fragment whole s (Udp u) inner is told = none_some inner
 told_transport protocol fragment whole s (Icmp i) inner is told = told_message s (slice_index s 0) s i.message inner is.2.message told
 told_transport protocol fragment whole s Other inner is told = none_some inner (told_in Other) told refl
 
+-- the packet that an error tells of is there
+pub inner_there : (d : List ℕ) (p : Packet) (inner : Inner) → packet_of d ≡ Some p → told_in p.transport ≡ Some inner → IsInner (drop 8 (drop (header_length_of d) d)) inner
+inner_there d p inner is told = told_transport (slice_index d 9) (is_fragment d) (total_length_of d - header_length_of d) (drop (header_length_of d) d) p.transport inner (packet_by d p is).transport told
+
 pub inner_room : (d : List ℕ) (p : Packet) (inner : Inner) → packet_of d ≡ Some p → told_in p.transport ≡ Some inner → InnerFits (length d) (p.header_length + 8) inner
 inner_room d p inner is told =
     let all = packet_by d p is in
-    let i = told_transport (slice_index d 9) (is_fragment d) (total_length_of d - header_length_of d) (drop (header_length_of d) d) p.transport inner all.transport told in
+    let i = inner_there d p inner is told in
     let same = all.header.header_length in
     let first = i.header_length in
     let least = i.at_least in

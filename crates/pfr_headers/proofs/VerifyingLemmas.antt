@@ -116,7 +116,7 @@ header_verifies count Destination address d are long within small some before = 
 
 -- what is written behind the header doesn't touch its words
 
-tcp_span : (d : List ℕ) (at : ℕ) (end : End) (addresses : ℕ) (port : Port) → Spans at (at + 20) (tcp_words d at end addresses port)
+pub tcp_span : (d : List ℕ) (at : ℕ) (end : End) (addresses : ℕ) (port : Port) → Spans at (at + 20) (tcp_words d at end addresses port)
 unfolding tcp_words
 tcp_span d at end addresses port =
     let most = port_most end in
@@ -127,7 +127,7 @@ echo_sum count size at d b port (message.Echo identifier) over within fits = sum
 echo_sum count size at d b port (message.Error inner) over within fits = refl
 echo_sum count size at d b port message.Other over within fits = refl
 
-all_within : (ws : List Word) (low high size : ℕ) → Spans low high ws → high ≤ size → AllWithin size ws
+pub all_within : (ws : List Word) (low high size : ℕ) → Spans low high ws → high ≤ size → AllWithin size ws
 all_within [] low high size s within = record {}
 all_within (w ∷ ws) low high size s within =
     let b = s.1 in
@@ -140,7 +140,7 @@ behind_sum count size at d b end s port (Udp u) over within fits = sum_outside c
 behind_sum count size at d b end s port (Icmp i) over within fits = echo_sum count size at d b port i.message over within fits
 behind_sum count size at d b end s port Other over within fits = refl
 
-header_within : (d : List ℕ) (header : ℕ) (end : End) (address : Ipv4Address) → header + 20 ≤ length d → length (with_words (header_words d header end address) d) ≡ length d
+pub header_within : (d : List ℕ) (header : ℕ) (end : End) (address : Ipv4Address) → header + 20 ≤ length d → length (with_words (header_words d header end address) d) ≡ length d
 header_within d header end address room = length_with_all (header_words d header end address) d (all_within (header_words d header end address) (header + 10) (header + 20) (length d) (header_span d header end address) room)
 
 packet_verifies : (count : ℕ) (d : List ℕ) (p : Packet) (end : End) (to : Endpoint) → AreSmall d → 2 * count ≡ p.header_length → 20 ≤ p.header_length → p.header_length ≤ length d → BehindFits (length d) p.header_length p.transport → to.address.0 < 4294967296 → 0 < word_at d 2 → Verifies (sum_of_words count d) → Verifies (sum_of_words count (with_words (packet_words d p end to) d))
@@ -200,7 +200,7 @@ datagram_verifies count d change there are words small before =
 
 -- and in the frame
 
-place_within : (link : ℕ) (bytes : List ℕ) (place : ℕ) → HoldsIpv4 link bytes place → place ≤ length bytes
+pub place_within : (link : ℕ) (bytes : List ℕ) (place : ℕ) → HoldsIpv4 link bytes place → place ≤ length bytes
 place_within link bytes place (inl r) = let e = r.place_is in omega arith
 place_within link bytes place (inr (inl l)) =
     let e = l.place_is in

@@ -1,5 +1,6 @@
 pub mod Address
 pub mod Checksum
+pub mod Laws
 pub mod Notation
 pub mod Rewriting
 pub mod Room

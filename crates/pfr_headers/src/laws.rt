@@ -1,9 +1,10 @@
 //! Laws of the definitions, each the contract of a function that does nothing.
-ghost use Rattle.std.specs.Prelude.{◌≡◌, ◌<◌, ◌≤◌, ◌+◌, ◌*◌, ◌^◌, List, ℕ, Some};
+ghost use Rattle.std.specs.Prelude.{◌≡◌, ◌<◌, ◌≤◌, ◌+◌, ◌-◌, ◌*◌, ◌^◌, List, length, slice_index, ℕ, Some};
 ghost use Rattle.pfr_headers.specs.declared.packet.View.{View};
 ghost use Rattle.pfr_headers.specs.declared.packet.View.TheVariants.{Ipv4};
 ghost use Rattle.pfr_headers.specs.declared.change.Change.{Change};
 ghost use Rattle.pfr_headers.specs.Checksum.{AreBytes, HeaderVerifies, Verifies, mended, mended_udp};
+ghost use Rattle.pfr_headers.specs.Laws.{IsOfEnd};
 ghost use Rattle.pfr_headers.specs.Rewriting.{rewritten};
 ghost use Rattle.pfr_headers.specs.View.{IsView, place_of, view_of};
 
@@ -26,4 +27,12 @@ pub fn header_still_verifies()
 pub fn checksums_still_verify()
     ensures any { (rest rest' brought checksum rounds : ℕ) → checksum ≤ 65535 → rest + brought ≡ rest' + 65535 * rounds → Verifies (rest + checksum) → 0 < rest' + mended checksum brought → Verifies (rest' + mended checksum brought) }
     ensures udp { (rest rest' brought checksum rounds : ℕ) → checksum ≤ 65535 → 0 < checksum → rest + brought ≡ rest' + 65535 * rounds → Verifies (rest + checksum) → Verifies (rest' + mended_udp checksum brought) }
+{}
+
+/// A frame keeps its length when its packet is rewritten, and what is no part of the address, the port or the identifier of
+/// the end that is translated, or of a checksum over them, stays as it is. An error's TCP checksum stays too, of the packet
+/// that it tells of.
+pub fn the_rest_stays()
+    ensures length { (link : ℕ) (bytes : List ℕ) (change : Change) → view_of link bytes ≡ Ipv4 change.packet → length (rewritten link change bytes) ≡ length bytes }
+    ensures bytes { (link : ℕ) (bytes : List ℕ) (change : Change) (place byte : ℕ) → view_of link bytes ≡ Ipv4 change.packet → place_of link bytes ≡ Some place → (place ≤ byte → IsOfEnd change.packet change.end (byte - place) → ⊥) → slice_index (rewritten link change bytes) byte ≡ slice_index bytes byte }
 {}

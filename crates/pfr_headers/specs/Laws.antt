@@ -1,0 +1,72 @@
+-- Words of the laws: where a translation may write into a packet, what stands at an end of a packet, and the checksums
+-- of what a packet carries.
+--
+-- IPv4 (RFC 791, section 3.1): checksum at 10, source at 12, destination at 16. Behind the header: TCP (RFC 9293, section
+-- 3.1): ports at 0 and 2, checksum at 16. UDP (RFC 768): ports at 0 and 2, checksum at 6. ICMP (RFC 792): checksum at 2, an
+-- echo's identifier at 4, the packet that an error tells of at 8.
+use Rattle.std.specs.Prelude.{◌≡◌, ◌⊎◌, ◌≤◌, ◌<◌, ℕ, ◌+◌, ◌*◌, ◌-◌, List, [], ◌∷◌, take, drop, ⊤}
+use Rattle.pfr_headers.specs.declared.change.Change.{Change}
+use Rattle.pfr_headers.specs.declared.change.End.{End}
+use Rattle.pfr_headers.specs.declared.change.End.TheVariants.{Source, Destination}
+use Rattle.pfr_headers.specs.declared.change.Endpoint.{Endpoint}
+use Rattle.pfr_headers.specs.declared.icmp.IcmpMessage.{IcmpMessage}
+use Rattle.pfr_headers.specs.declared.icmp.IcmpMessage.TheVariants as message
+use Rattle.pfr_headers.specs.declared.icmp.Inner.{Inner}
+use Rattle.pfr_headers.specs.declared.packet.Packet.{Packet}
+use Rattle.pfr_headers.specs.declared.port.Port.{Port}
+use Rattle.pfr_headers.specs.declared.transport.Transport.{Transport}
+use Rattle.pfr_headers.specs.declared.transport.Transport.TheVariants.{Fragment, Tcp, Udp, Icmp, Other}
+
+-- ---- ends
+
+-- of two things the one of an end, and the one of the other end
+abbrev pub of_end : {A : Type 0} → End → A → A → A
+of_end Source source destination = source
+of_end Destination source destination = destination
+
+abbrev pub of_other : {A : Type 0} → End → A → A → A
+of_other Source source destination = destination
+of_other Destination source destination = source
+
+-- ---- where a translation may write
+
+-- a byte of so many that begin at a place
+abbrev pub IsIn : ℕ → ℕ → ℕ → Type 0
+IsIn place size byte = (place ≤ byte) × (byte < place + size)
+
+-- of the IPv4 header that begins there: the address of an end, or the checksum
+abbrev pub IsOfHeader : ℕ → ℕ → ℕ → Type 0
+IsOfHeader at address byte = IsIn (at + address) 4 byte ⊎ IsIn (at + 10) 2 byte
+
+abbrev pub IsOfTcp : ℕ → ℕ → ℕ → Type 0
+IsOfTcp at port byte = IsIn (at + port) 2 byte ⊎ IsIn (at + 16) 2 byte
+
+abbrev pub IsOfUdp : ℕ → ℕ → ℕ → Type 0
+IsOfUdp at port byte = IsIn (at + port) 2 byte ⊎ IsIn (at + 6) 2 byte
+
+-- checksum and identifier
+abbrev pub IsOfEcho : ℕ → ℕ → Type 0
+IsOfEcho at byte = IsIn (at + 2) 4 byte
+
+-- behind the header of a packet that an error tells of: the port, and the checksum of UDP, or what an echo has
+abbrev pub IsOfTold : ℕ → ℕ → ℕ → ℕ → Type 0
+IsOfTold protocol at port byte =
+    ((protocol ≡ 6) × IsIn (at + port) 2 byte) ⊎ ((protocol ≡ 17) × IsOfUdp at port byte) ⊎ ((protocol ≡ 1) × IsOfEcho at byte)
+
+-- of a message: an error's checksum, and the packet that it tells of at its other end
+abbrev pub IsOfMessage : ℕ → End → IcmpMessage → ℕ → Type 0
+IsOfMessage at end (message.Echo identifier) byte = IsOfEcho at byte
+IsOfMessage at end (message.Error inner) byte =
+    IsIn (at + 2) 2 byte ⊎ IsOfHeader (at + 8) (of_other end 12 16) byte ⊎ IsOfTold inner.protocol.0 (at + 8 + inner.header_length) (of_other end 0 2) byte
+IsOfMessage at end message.Other byte = ⊥
+
+abbrev pub IsOfTransport : ℕ → End → Transport → ℕ → Type 0
+IsOfTransport at end (Tcp t) byte = IsOfTcp at (of_end end 0 2) byte
+IsOfTransport at end (Udp u) byte = IsOfUdp at (of_end end 0 2) byte
+IsOfTransport at end (Icmp i) byte = IsOfMessage at end i.message byte
+IsOfTransport at end Fragment byte = ⊥
+IsOfTransport at end Other byte = ⊥
+
+-- a byte of a datagram belongs to the address or the port of the end that is translated, or to a checksum over them
+abbrev pub IsOfEnd : Packet → End → ℕ → Type 0
+IsOfEnd p end byte = IsOfHeader 0 (of_end end 12 16) byte ⊎ IsOfTransport p.header_length end p.transport byte
