@@ -25,23 +25,6 @@ one_at_least : (n : ℕ) → eqb n 0 ≡ false → 1 ≤ n
 one_at_least zero e = absurd (cc)
 one_at_least (suc n) e = omega arith
 
-by_zero : (sum : ℕ) (none : Bool) → eqb sum 0 ≡ none → end_around sum ≡ 65535 → (0 < sum) × (sum % 65535 ≡ 0)
-by_zero sum true is e = absurd (let f : 0 ≡ 65535 = rw is at e in omega arith)
-by_zero sum false is e =
-    let f : (sum - 1) % 65535 + 1 ≡ 65535 = rw is at e in
-    let some = one_at_least sum is in
-    (omega arith, omega arith)
-
-all_ones : (sum : ℕ) → end_around sum ≡ 65535 → (0 < sum) × (sum % 65535 ≡ 0)
-all_ones sum e = by_zero sum _ refl e
-
-ones_by : (sum : ℕ) (none : Bool) → eqb sum 0 ≡ none → 0 < sum → sum % 65535 ≡ 0 → end_around sum ≡ 65535
-ones_by sum true is some e = absurd (let f = eqb-true sum 0 is in omega arith)
-ones_by sum false is some e = rw is (omega arith)
-
-to_ones : (sum : ℕ) → 0 < sum → sum % 65535 ≡ 0 → end_around sum ≡ 65535
-to_ones sum some e = ones_by sum _ refl some e
-
 -- a mended checksum makes up for what the changes bring, but for rounds of 65535
 pub record Mends (checksum brought new : ℕ) : Type 0 where
   pub within : new ≤ 65535
@@ -62,10 +45,9 @@ mends checksum brought =
 
 verifies_by : (rest rest' brought checksum new rounds : ℕ) → checksum ≤ 65535 → rest + brought ≡ rest' + 65535 * rounds → Mends checksum brought new → Verifies (rest + checksum) → 0 < rest' + new → Verifies (rest' + new)
 verifies_by rest rest' brought checksum new rounds within changed m before some =
-    let ones = all_ones (rest + checksum) before in
-    let whole = ones.1 in
+    let whole = before.1 in
     let mended_is = m.is in
-    to_ones (rest' + new) some (omega arith)
+    (some, omega arith)
 
 -- what verified before a change verifies after it
 pub mended_verifies : (rest rest' brought checksum rounds : ℕ) → checksum ≤ 65535 → rest + brought ≡ rest' + 65535 * rounds → Verifies (rest + checksum) → 0 < rest' + mended checksum brought → Verifies (rest' + mended checksum brought)
@@ -86,6 +68,9 @@ udp_mends checksum brought some = rw some (udp_by checksum brought _ refl)
 
 not_zero : (n : ℕ) → 0 < n → eqb n 0 ≡ false
 not_zero n some = ne_eqb n 0 (λ e. absurd (omega arith))
+
+pub udp_small : (checksum brought : ℕ) → 0 < checksum → mended_udp checksum brought ≤ 65535
+udp_small checksum brought there = (udp_mends checksum brought (not_zero checksum there)).0.within
 
 pub udp_verifies : (rest rest' brought checksum rounds : ℕ) → checksum ≤ 65535 → 0 < checksum → rest + brought ≡ rest' + 65535 * rounds → Verifies (rest + checksum) → Verifies (rest' + mended_udp checksum brought)
 udp_verifies rest rest' brought checksum rounds within there changed before =

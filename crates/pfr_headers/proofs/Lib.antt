@@ -3,6 +3,7 @@ pub mod FieldLemmas
 pub mod NumberLemmas
 pub mod OptionLemmas
 pub mod RewritingLemmas
+pub mod SumLemmas
 pub mod TransportLemmas
 pub mod VerifyingLemmas
 pub mod ViewLemmas

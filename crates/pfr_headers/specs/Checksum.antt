@@ -52,9 +52,10 @@ abbrev pub sum_of_words : ℕ → List ℕ → ℕ
 sum_of_words zero bytes = 0
 sum_of_words (suc count) bytes = word_at bytes 0 + sum_of_words count (drop 2 bytes)
 
--- a sum of words with a checksum among them verifies where it comes to all ones
+-- a sum of words with a checksum among them verifies where it comes to all ones, its carries added in: where it is a
+-- multiple of 65535, and not 0
 abbrev pub Verifies : ℕ → Type 0
-Verifies sum = end_around sum ≡ 65535
+Verifies sum = (0 < sum) × (sum % 65535 ≡ 0)
 
 -- a list of numbers below 256
 abbrev pub AreBytes : List ℕ → Type 0

@@ -1,21 +1,20 @@
--- Words of the laws: where a translation may write into a packet, what stands at an end of a packet, and the checksums
--- of what a packet carries.
+-- Words of the laws: where a translation may write into a packet, and the checksums of what a packet carries.
 --
 -- IPv4 (RFC 791, section 3.1): checksum at 10, source at 12, destination at 16. Behind the header: TCP (RFC 9293, section
 -- 3.1): ports at 0 and 2, checksum at 16. UDP (RFC 768): ports at 0 and 2, checksum at 6. ICMP (RFC 792): checksum at 2, an
 -- echo's identifier at 4, the packet that an error tells of at 8.
-use Rattle.std.specs.Prelude.{◌≡◌, ◌⊎◌, ◌≤◌, ◌<◌, ℕ, ◌+◌, ◌*◌, ◌-◌, List, [], ◌∷◌, take, drop, ⊤}
+use Rattle.std.specs.Prelude.{◌≡◌, ◌⊎◌, ◌≤◌, ◌<◌, ℕ, ◌+◌, ◌*◌, ◌-◌, ◌^◌, List, [], ◌∷◌, take, drop, Some, ⊤}
 use Rattle.pfr_headers.specs.declared.change.Change.{Change}
 use Rattle.pfr_headers.specs.declared.change.End.{End}
 use Rattle.pfr_headers.specs.declared.change.End.TheVariants.{Source, Destination}
-use Rattle.pfr_headers.specs.declared.change.Endpoint.{Endpoint}
 use Rattle.pfr_headers.specs.declared.icmp.IcmpMessage.{IcmpMessage}
 use Rattle.pfr_headers.specs.declared.icmp.IcmpMessage.TheVariants as message
-use Rattle.pfr_headers.specs.declared.icmp.Inner.{Inner}
 use Rattle.pfr_headers.specs.declared.packet.Packet.{Packet}
-use Rattle.pfr_headers.specs.declared.port.Port.{Port}
+use Rattle.pfr_headers.specs.declared.packet.View.TheVariants.{Ipv4}
 use Rattle.pfr_headers.specs.declared.transport.Transport.{Transport}
 use Rattle.pfr_headers.specs.declared.transport.Transport.TheVariants.{Fragment, Tcp, Udp, Icmp, Other}
+use Rattle.pfr_headers.specs.Checksum.{AreBytes}
+use Rattle.pfr_headers.specs.View.{place_of, view_of}
 
 -- ---- ends
 
@@ -70,3 +69,38 @@ IsOfTransport at end Other byte = ⊥
 -- a byte of a datagram belongs to the address or the port of the end that is translated, or to a checksum over them
 abbrev pub IsOfEnd : Packet → End → ℕ → Type 0
 IsOfEnd p end byte = IsOfHeader 0 (of_end end 12 16) byte ⊎ IsOfTransport p.header_length end p.transport byte
+
+-- ---- checksums
+
+-- the sum of bytes as 16-bit words, of which the first byte is the higher one; a 0 stands behind a last byte alone (RFC
+-- 1071, section 1)
+abbrev pub sum_of : List ℕ → ℕ
+sum_of [] = 0
+sum_of (high ∷ []) = 256 * high
+sum_of (high ∷ (low ∷ bytes)) = 256 * high + low + sum_of bytes
+
+-- what a packet carries, up to its total length
+abbrev pub carried : List ℕ → Packet → List ℕ
+carried d p = take (p.total_length - p.header_length) (drop p.header_length d)
+
+-- ICMP's checksum is over the message (RFC 792)
+abbrev pub message_sum : List ℕ → Packet → ℕ
+message_sum d p = sum_of (carried d p)
+
+-- those of TCP and UDP are over a pseudo header too: both addresses, the protocol, and the length of what is carried (RFC
+-- 9293, section 3.1; RFC 768)
+abbrev pub segment_sum : List ℕ → Packet → ℕ
+segment_sum d p = sum_of (take 8 (drop 12 d)) + (p.protocol.0 + (p.total_length - p.header_length)) + sum_of (carried d p)
+
+-- the packet that an error tells of lies within the error's total length, as far as it is translated
+abbrev pub CarriesTold : Packet → IcmpMessage → Type 0
+CarriesTold p (message.Error inner) = p.header_length + 8 + inner.header_length + 8 ≤ p.total_length
+CarriesTold p _ = ⊤
+
+-- a frame whose packet is translated, with the place of its datagram, and numbers as wide as their fields
+pub record IsTranslated (link : ℕ) (bytes : List ℕ) (change : Change) (place : ℕ) : Type 0 where
+  pub view : view_of link bytes ≡ Ipv4 change.packet
+  pub begins : place_of link bytes ≡ Some place
+  pub are_bytes : AreBytes bytes
+  pub address : change.to.address.0 < 2 ^ 32
+  pub port : change.to.port.0 < 2 ^ 16
