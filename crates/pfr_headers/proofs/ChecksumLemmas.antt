@@ -69,6 +69,10 @@ udp_mends checksum brought some = rw some (udp_by checksum brought _ refl)
 not_zero : (n : ℕ) → 0 < n → eqb n 0 ≡ false
 not_zero n some = ne_eqb n 0 (λ e. absurd (omega arith))
 
+pub none_stays : (checksum brought : ℕ) → checksum ≡ 0 → mended_udp checksum brought ≡ 0
+unfolding mended_udp
+none_stays checksum brought none = rw none refl
+
 pub udp_small : (checksum brought : ℕ) → 0 < checksum → mended_udp checksum brought ≤ 65535
 udp_small checksum brought there = (udp_mends checksum brought (not_zero checksum there)).0.within
 

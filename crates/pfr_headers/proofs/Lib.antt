@@ -1,3 +1,4 @@
+pub mod CarriedLemmas
 pub mod ChecksumLemmas
 pub mod FieldLemmas
 pub mod NumberLemmas

@@ -29,7 +29,7 @@ address_least : (end : End) → 12 ≤ address_place end
 address_least Source = omega arith
 address_least Destination = omega arith
 
-address_most : (end : End) → address_place end ≤ 16
+pub address_most : (end : End) → address_place end ≤ 16
 address_most Source = omega arith
 address_most Destination = omega arith
 

@@ -27,7 +27,7 @@ use Rattle.pfr_headers.proofs.RewritingLemmas.{echo_span, header_room, header_sp
 use Rattle.pfr_headers.proofs.ViewLemmas.{packet_by, place_by}
 use Rattle.pfr_headers.proofs.WordLemmas.{AllWithin, Spans, kept_behind, kept_before, length_with, length_with_all, outside, spans_append, spans_wider, with_append}
 
-word_small : (place : ℕ) (bytes : List ℕ) → AreBytes bytes → word_at bytes place ≤ 65535
+pub word_small : (place : ℕ) (bytes : List ℕ) → AreBytes bytes → word_at bytes place ≤ 65535
 word_small place bytes are =
     let below = big_from-lt 0 2 (drop place bytes) (λ k. let at = get_or-drop place bytes k 0 in rw at (are (place + k))) in
     omega arith
@@ -74,7 +74,7 @@ tenth_by (suc count) (suc n) bytes below =
 tenth_least : (count : ℕ) (bytes : List ℕ) → 6 ≤ count → word_at bytes 10 ≤ sum_of_words count bytes
 tenth_least count bytes some = tenth_by count 5 bytes (omega arith)
 
-read_at : (place value : ℕ) (bytes : List ℕ) → place + 2 ≤ length bytes → value < 65536 → word_at (with_word (word place value) bytes) place ≡ value
+pub read_at : (place value : ℕ) (bytes : List ℕ) → place + 2 ≤ length bytes → value < 65536 → word_at (with_word (word place value) bytes) place ≡ value
 unfolding with_word
 read_at place value bytes within small =
     let behind = big_bytes 2 value ++ drop (place + 2) bytes in
@@ -215,7 +215,7 @@ place_within link bytes place (inr (inr (inr t))) =
     let w = t.whole in
     omega arith
 
-bytes_behind : (place : ℕ) (bytes : List ℕ) → AreBytes bytes → AreBytes (drop place bytes)
+pub bytes_behind : (place : ℕ) (bytes : List ℕ) → AreBytes bytes → AreBytes (drop place bytes)
 bytes_behind place bytes are = λ k. let at = get_or-drop place bytes k 0 in rw at (are (place + k))
 
 pub frame_verifies : (link : ℕ) (bytes : List ℕ) (change : Change) (place : ℕ) → view_of link bytes ≡ Ipv4 change.packet → place_of link bytes ≡ Some place → AreBytes bytes → change.to.address.0 < 4294967296 → HeaderVerifies place change.packet.header_length bytes → HeaderVerifies place change.packet.header_length (rewritten link change bytes)
