@@ -73,8 +73,13 @@ pub none_stays : (checksum brought : ℕ) → checksum ≡ 0 → mended_udp chec
 unfolding mended_udp
 none_stays checksum brought none = rw none refl
 
-pub udp_small : (checksum brought : ℕ) → 0 < checksum → mended_udp checksum brought ≤ 65535
-udp_small checksum brought there = (udp_mends checksum brought (not_zero checksum there)).0.within
+within_by : (checksum brought : ℕ) (none : Bool) → eqb checksum 0 ≡ none → mended_udp checksum brought ≤ 65535
+unfolding mended_udp
+within_by checksum brought true is = rw is (omega arith)
+within_by checksum brought false is = (udp_mends checksum brought is).0.within
+
+pub udp_within : (checksum brought : ℕ) → mended_udp checksum brought ≤ 65535
+udp_within checksum brought = within_by checksum brought _ refl
 
 pub udp_verifies : (rest rest' brought checksum rounds : ℕ) → checksum ≤ 65535 → 0 < checksum → rest + brought ≡ rest' + 65535 * rounds → Verifies (rest + checksum) → Verifies (rest' + mended_udp checksum brought)
 udp_verifies rest rest' brought checksum rounds within there changed before =

@@ -6,7 +6,7 @@ use Rattle.byteorder.specs.Endian.{big_bytes, big_number}
 use Rattle.byteorder.specs.Numbers.{big_number-reads_back}
 use Rattle.pfr_headers.specs.Checksum.{Verifies, Word, difference, difference_of, mended, mended_udp, with_word, with_words, word, word_at}
 use Rattle.pfr_headers.specs.Laws.{sum_of}
-use Rattle.pfr_headers.proofs.ChecksumLemmas.{brings, mended_verifies, mends, udp_small, udp_verifies}
+use Rattle.pfr_headers.proofs.ChecksumLemmas.{brings, mended_verifies, mends, udp_verifies, udp_within}
 use Rattle.pfr_headers.proofs.WordLemmas.{behind, kept, length_with}
 
 -- ---- a word among bytes that are summed
@@ -160,7 +160,7 @@ pub mending_udp : (sum : List ℕ → ℕ) (size place brought : ℕ) (old now :
 mending_udp sum size place brought old now c is_old is_now moved same within there before =
     let checksum = word_at old place in
     let new = mended_udp checksum brought in
-    let small = udp_small checksum brought there in
+    let small = udp_within checksum brought in
     let q = c.is now new is_now (omega arith) in
     let m = moved.is in
     let first = least sum size place old c is_old in
