@@ -1,10 +1,14 @@
 //! Laws of the definitions, each the contract of a function that does nothing.
-ghost use Rattle.std.specs.Prelude.{◌≡◌, ◌<◌, ◌≤◌, ◌+◌, ◌-◌, ◌*◌, ◌^◌, List, length, slice_index, ℕ, Some};
+ghost use Rattle.std.specs.Prelude.{◌≡◌, ◌<◌, ◌≤◌, ◌+◌, ◌-◌, ◌*◌, ◌^◌, List, drop, length, slice_index, ℕ, Some};
 ghost use Rattle.pfr_headers.specs.declared.packet.View.{View};
 ghost use Rattle.pfr_headers.specs.declared.packet.View.TheVariants.{Ipv4};
 ghost use Rattle.pfr_headers.specs.declared.change.Change.{Change};
-ghost use Rattle.pfr_headers.specs.Checksum.{AreBytes, HeaderVerifies, Verifies, mended, mended_udp};
-ghost use Rattle.pfr_headers.specs.Laws.{IsOfEnd};
+ghost use Rattle.pfr_headers.specs.declared.icmp.IcmpHeader.{IcmpHeader};
+ghost use Rattle.pfr_headers.specs.declared.tcp.TcpHeader.{TcpHeader};
+ghost use Rattle.pfr_headers.specs.declared.transport.Transport.TheVariants.{Icmp, Tcp, Udp};
+ghost use Rattle.pfr_headers.specs.declared.udp.UdpHeader.{UdpHeader};
+ghost use Rattle.pfr_headers.specs.Checksum.{AreBytes, HeaderVerifies, Verifies, mended, mended_udp, word_at};
+ghost use Rattle.pfr_headers.specs.Laws.{CarriesTold, IsOfEnd, IsTranslated, message_sum, segment_sum};
 ghost use Rattle.pfr_headers.specs.Rewriting.{rewritten};
 ghost use Rattle.pfr_headers.specs.View.{IsView, place_of, view_of};
 
@@ -35,4 +39,15 @@ pub fn checksums_still_verify()
 pub fn the_rest_stays()
     ensures length { (link : ℕ) (bytes : List ℕ) (change : Change) → view_of link bytes ≡ Ipv4 change.packet → length (rewritten link change bytes) ≡ length bytes }
     ensures bytes { (link : ℕ) (bytes : List ℕ) (change : Change) (place byte : ℕ) → view_of link bytes ≡ Ipv4 change.packet → place_of link bytes ≡ Some place → (place ≤ byte → IsOfEnd change.packet change.end (byte - place) → ⊥) → slice_index (rewritten link change bytes) byte ≡ slice_index bytes byte }
+{}
+
+/// The checksum of what a packet carries still verifies after the packet was rewritten: that of TCP, that of UDP where there is
+/// one (where there is none, there is none afterwards), and that of ICMP, of an error with all that changes in the packet that
+/// it tells of. The one exception is an ICMP message of which all words come out as 0, and an error whose total length ends
+/// before what is translated in it.
+pub fn carried_checksums_still_verify()
+    ensures tcp { (link place : ℕ) (bytes : List ℕ) (change : Change) (t : TcpHeader) → IsTranslated link bytes change place → change.packet.transport ≡ Tcp t → Verifies (segment_sum (drop place bytes) change.packet) → Verifies (segment_sum (drop place (rewritten link change bytes)) change.packet) }
+    ensures udp { (link place : ℕ) (bytes : List ℕ) (change : Change) (u : UdpHeader) → IsTranslated link bytes change place → change.packet.transport ≡ Udp u → 0 < word_at (drop place bytes) (change.packet.header_length + 6) → Verifies (segment_sum (drop place bytes) change.packet) → Verifies (segment_sum (drop place (rewritten link change bytes)) change.packet) }
+    ensures udp_without { (link place : ℕ) (bytes : List ℕ) (change : Change) (u : UdpHeader) → IsTranslated link bytes change place → change.packet.transport ≡ Udp u → word_at (drop place bytes) (change.packet.header_length + 6) ≡ 0 → word_at (drop place (rewritten link change bytes)) (change.packet.header_length + 6) ≡ 0 }
+    ensures icmp { (link place : ℕ) (bytes : List ℕ) (change : Change) (i : IcmpHeader) → IsTranslated link bytes change place → change.packet.transport ≡ Icmp i → CarriesTold change.packet i.message → Verifies (message_sum (drop place bytes) change.packet) → 0 < message_sum (drop place (rewritten link change bytes)) change.packet → Verifies (message_sum (drop place (rewritten link change bytes)) change.packet) }
 {}
