@@ -21,7 +21,7 @@ brings_by old new false is within = record { rounds = 1; at_most = omega arith; 
 pub brings : (old new : ℕ) → old ≤ 65535 → Brings old new (difference old new)
 brings old new within = brings_by old new _ refl within
 
-one_at_least : (n : ℕ) → eqb n 0 ≡ false → 1 ≤ n
+pub one_at_least : (n : ℕ) → eqb n 0 ≡ false → 1 ≤ n
 one_at_least zero e = absurd (cc)
 one_at_least (suc n) e = omega arith
 

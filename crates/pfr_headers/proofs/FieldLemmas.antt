@@ -191,7 +191,7 @@ within_append : (size : ℕ) (xs ys : List Word) → AllWithin size xs → AllWi
 within_append size [] ys a b = b
 within_append size (x ∷ xs) ys a b = (a.0, within_append size xs ys a.1 b)
 
-pub header_lies : (size : ℕ) (d : List ℕ) (at : ℕ) (end : End) (address : Ipv4Address) → at + 20 ≤ size → AllWithin size (header_words d at end address)
+header_lies : (size : ℕ) (d : List ℕ) (at : ℕ) (end : End) (address : Ipv4Address) → at + 20 ≤ size → AllWithin size (header_words d at end address)
 header_lies size d at end address room = all_within _ (at + 10) (at + 20) size (header_span d at end address) room
 
 echo_lies : (size : ℕ) (d : List ℕ) (at : ℕ) (port : Port) (m : IcmpMessage) → at + 8 ≤ size → AllWithin size (echo_or_none d at port m)
@@ -211,7 +211,7 @@ unfolding outer_words
 outer_lies size d p inner end to true e room = rw e (header_lies size d 0 end to.address room)
 outer_lies size d p inner end to false e room = rw e (record {})
 
-words_lie : (d : List ℕ) (change : Change) (told : Option Inner) → told_in change.packet.transport ≡ told → packet_of d ≡ Some change.packet → AllWithin (length d) (words_for d change told)
+pub words_lie : (d : List ℕ) (change : Change) (told : Option Inner) → told_in change.packet.transport ≡ told → packet_of d ≡ Some change.packet → AllWithin (length d) (words_for d change told)
 unfolding error_words packet_words
 words_lie d change None is there =
     let room = header_room d change.packet there in

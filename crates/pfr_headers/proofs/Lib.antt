@@ -4,6 +4,7 @@ pub mod FieldLemmas
 pub mod NumberLemmas
 pub mod OptionLemmas
 pub mod RewritingLemmas
+pub mod StandingLemmas
 pub mod SumLemmas
 pub mod TransportLemmas
 pub mod VerifyingLemmas

@@ -1,4 +1,5 @@
--- Words of the laws: where a translation may write into a packet, and the checksums of what a packet carries.
+-- Words of the laws: what stands at an end of a packet, where a translation may write, and the checksums of what a packet
+-- carries.
 --
 -- IPv4 (RFC 791, section 3.1): checksum at 10, source at 12, destination at 16. Behind the header: TCP (RFC 9293, section
 -- 3.1): ports at 0 and 2, checksum at 16. UDP (RFC 768): ports at 0 and 2, checksum at 6. ICMP (RFC 792): checksum at 2, an
@@ -7,6 +8,7 @@ use Rattle.std.specs.Prelude.{◌≡◌, ◌⊎◌, ◌≤◌, ◌<◌, ℕ, ◌
 use Rattle.pfr_headers.specs.declared.change.Change.{Change}
 use Rattle.pfr_headers.specs.declared.change.End.{End}
 use Rattle.pfr_headers.specs.declared.change.End.TheVariants.{Source, Destination}
+use Rattle.pfr_headers.specs.declared.change.Endpoint.{Endpoint}
 use Rattle.pfr_headers.specs.declared.icmp.IcmpMessage.{IcmpMessage}
 use Rattle.pfr_headers.specs.declared.icmp.IcmpMessage.TheVariants as message
 use Rattle.pfr_headers.specs.declared.packet.Packet.{Packet}
@@ -26,6 +28,20 @@ of_end Destination source destination = destination
 abbrev pub of_other : {A : Type 0} → End → A → A → A
 of_other Source source destination = destination
 of_other Destination source destination = source
+
+-- what stands at an end of a packet: its address, and its port or an echo's identifier; in an error it is what stands at the
+-- other end of the packet that it tells of
+abbrev pub StandsInMessage : Packet → End → Endpoint → IcmpMessage → Type 0
+StandsInMessage p end to (message.Echo identifier) = to ≡ record { address = of_end end p.source p.destination; port = record { 0 = identifier } }
+StandsInMessage p end to (message.Error inner) = to ≡ record { address = of_other end inner.source inner.destination; port = of_other end inner.source_port inner.destination_port }
+StandsInMessage p end to message.Other = to.address ≡ of_end end p.source p.destination
+
+abbrev pub StandsIn : Packet → End → Endpoint → Transport → Type 0
+StandsIn p end to (Tcp t) = to ≡ record { address = of_end end p.source p.destination; port = of_end end t.source t.destination }
+StandsIn p end to (Udp u) = to ≡ record { address = of_end end p.source p.destination; port = of_end end u.source u.destination }
+StandsIn p end to (Icmp i) = StandsInMessage p end to i.message
+StandsIn p end to Fragment = to.address ≡ of_end end p.source p.destination
+StandsIn p end to Other = to.address ≡ of_end end p.source p.destination
 
 -- ---- where a translation may write
 

@@ -8,7 +8,7 @@ ghost use Rattle.pfr_headers.specs.declared.tcp.TcpHeader.{TcpHeader};
 ghost use Rattle.pfr_headers.specs.declared.transport.Transport.TheVariants.{Icmp, Tcp, Udp};
 ghost use Rattle.pfr_headers.specs.declared.udp.UdpHeader.{UdpHeader};
 ghost use Rattle.pfr_headers.specs.Checksum.{AreBytes, HeaderVerifies, Verifies, mended, mended_udp, word_at};
-ghost use Rattle.pfr_headers.specs.Laws.{CarriesTold, IsOfEnd, IsTranslated, message_sum, segment_sum};
+ghost use Rattle.pfr_headers.specs.Laws.{CarriesTold, IsOfEnd, IsTranslated, StandsIn, message_sum, segment_sum};
 ghost use Rattle.pfr_headers.specs.Rewriting.{rewritten};
 ghost use Rattle.pfr_headers.specs.View.{IsView, place_of, view_of};
 
@@ -50,4 +50,9 @@ pub fn carried_checksums_still_verify()
     ensures udp { (link place : ℕ) (bytes : List ℕ) (change : Change) (u : UdpHeader) → IsTranslated link bytes change place → change.packet.transport ≡ Udp u → 0 < word_at (drop place bytes) (change.packet.header_length + 6) → Verifies (segment_sum (drop place bytes) change.packet) → Verifies (segment_sum (drop place (rewritten link change bytes)) change.packet) }
     ensures udp_without { (link place : ℕ) (bytes : List ℕ) (change : Change) (u : UdpHeader) → IsTranslated link bytes change place → change.packet.transport ≡ Udp u → word_at (drop place bytes) (change.packet.header_length + 6) ≡ 0 → word_at (drop place (rewritten link change bytes)) (change.packet.header_length + 6) ≡ 0 }
     ensures icmp { (link place : ℕ) (bytes : List ℕ) (change : Change) (i : IcmpHeader) → IsTranslated link bytes change place → change.packet.transport ≡ Icmp i → CarriesTold change.packet i.message → Verifies (message_sum (drop place bytes) change.packet) → 0 < message_sum (drop place (rewritten link change bytes)) change.packet → Verifies (message_sum (drop place (rewritten link change bytes)) change.packet) }
+{}
+
+/// A packet that is rewritten to what stands at that end of it is the same, byte for byte.
+pub fn what_stands_there_changes_nothing()
+    ensures { (link : ℕ) (bytes : List ℕ) (change : Change) → view_of link bytes ≡ Ipv4 change.packet → AreBytes bytes → StandsIn change.packet change.end change.to change.packet.transport → rewritten link change bytes ≡ bytes }
 {}
