@@ -8,8 +8,8 @@ ghost use Rattle.pfr_expand.specs.declared.ruleset.Ruleset.{Ruleset};
 ghost use Rattle.pfr_rules.specs.Filter.{hit, visited};
 ghost use Rattle.pfr_rules.specs.Laws.{GoesTheSameWay, IsSameBut, IsSameUpTo};
 
-/// What stands behind a quick rule that hits says nothing of the packet: rules and anchors may be put there or taken out, also
-/// at the end of an anchor that the quick rule stands in.
+/// What stands behind a quick rule that hits says nothing of the packet: rules and anchors may be put there or taken out,
+/// also at the end of an anchor that the quick rule stands in.
 pub fn rules_behind_a_quick_hit_say_nothing()
     ensures { (flat other : Ruleset) (packet : Packet) (direction : Direction) (place : ℕ) (rule : FlatRule)
         → slice_get flat.filter.rules place ≡ Some rule → rule.is_quick ≡ true → hit flat packet direction place ≡ true
