@@ -3,7 +3,7 @@ use Rattle.std.proofs.Common.{◌≡◌, ◌↔◌, ◌≤◌, ◌<◌, ◌&&◌
 use Rattle.std.specs.Prelude.{IsTrue}
 use Rattle.std.specs.List.{All, Contains, list_any, list_all}
 use Rattle.std.proofs.lemmas.Bool.{leb-true, le-leb}
-use Rattle.std.proofs.lemmas.List.Elements.{All-nil, All-cons, All-head, All-tail, Contains-append_left, Contains-append_right, Contains-push}
+use Rattle.std.proofs.lemmas.List.Elements.{All-nil, All-cons, All-head, All-tail, All-weaker, All-contains, All-contains_itself, Contains-append_left, Contains-append_right, Contains-push}
 use Rattle.pfr_tables.specs.declared.table.Entry.{Entry}
 use Rattle.pfr_tables.specs.Tables.{IsMember, bits_of, holds}
 use Rattle.pfr_criteria.specs.Hosts.{has, says_yes, is_longest}
@@ -84,3 +84,16 @@ same false false forth back = refl
 
 pub has_is : (b : Bool) (entries : List Entry) (address : ℕ) → (IsTrue b ↔ IsMember entries address) → b ≡ has entries address
 has_is b entries address decides = same b (has entries address) (λ held. member_has entries address (decides.0 held)) (λ held. decides.1 (has_member entries address held))
+
+-- a table of the same entries has the same addresses
+
+all_of : {X : Type 0} (P : X → Type 0) (xs ys : List X) → ((y : X) → Contains ys y → Contains xs y) → All P xs → All P ys
+all_of P xs ys within all = All-weaker (Contains ys) P (λ y there. All-contains P xs y all (within y there)) ys (All-contains_itself ys)
+
+member_same : (entries others : List Entry) → ((e : Entry) → Contains entries e → Contains others e) → ((e : Entry) → Contains others e → Contains entries e) → (address : ℕ) → IsMember entries address → IsMember others address
+member_same entries others forth back address (e, there, held, plain, all) = (e, forth e there, held, plain, all_of (NoLonger address e) entries others back all)
+
+pub has_same : (entries others : List Entry) → ((e : Entry) → Contains entries e → Contains others e) → ((e : Entry) → Contains others e → Contains entries e) → (address : ℕ) → has entries address ≡ has others address
+has_same entries others forth back address = same (has entries address) (has others address)
+    (λ held. member_has others address (member_same entries others forth back address (has_member entries address held)))
+    (λ held. member_has entries address (member_same others entries back forth address (has_member others address held)))

@@ -6,6 +6,7 @@
 #![tactic(auto)]
 
 pub mod hosts;
+pub mod laws;
 pub mod packets;
 pub mod transports;
 

@@ -1,3 +1,6 @@
+pub mod Agreeing
+pub mod BehindLemmas
 pub mod Places
 pub mod Stops
+pub mod UnvisitedLemmas
 pub mod Walking

@@ -1,3 +1,4 @@
 pub mod Counts
 pub mod Filter
+pub mod Laws
 pub mod Numbers

@@ -7,6 +7,7 @@
 
 pub mod counts;
 pub mod decision;
+pub mod laws;
 pub mod visits;
 mod walk;
 
