@@ -1,11 +1,12 @@
 -- The ways in which an IPv4 packet comes to its outcome.
-use Rattle.std.proofs.Common.{◌≡◌, ◌⊎◌, ◌&&◌, ℕ, min, Bool, true, false, not, List, Option, Some, None, cond, inl, inr, refl, sym, ◌∙◌}
+use Rattle.std.proofs.Common.{◌≡◌, ◌⊎◌, ◌&&◌, ℕ, min, Bool, true, false, not, List, [], Option, Some, None, cond, inl, inr, refl, sym, ◌∙◌}
 use Rattle.std.specs.List.{Contains, slice_get}
 use Rattle.std.proofs.lemmas.Bool.{not-false}
 use Rattle.pfr_headers.specs.declared.change.Change.{Change}
 use Rattle.pfr_headers.specs.declared.packet.Direction.{Direction}
 use Rattle.pfr_headers.specs.declared.packet.Packet.{Packet}
-use Rattle.pfr_headers.specs.declared.packet.View.TheVariants.{Ipv4}
+use Rattle.pfr_headers.specs.declared.packet.View.{View}
+use Rattle.pfr_headers.specs.declared.packet.View.TheVariants.{Ipv4, Skip, Short}
 use Rattle.pfr_headers.specs.declared.icmp.IcmpMessage.{IcmpMessage}
 use Rattle.pfr_headers.specs.declared.icmp.IcmpMessage.TheVariants as message
 use Rattle.pfr_headers.specs.declared.transport.Transport.{Transport}
@@ -38,11 +39,11 @@ use Rattle.pfr_packet.specs.Filtering.{conduct_at, conduct_of, decided, filtered
 use Rattle.pfr_packet.specs.Found.{told, tracked}
 use Rattle.pfr_packet.specs.Job.{RunJob, is_skipped, timeouts_of}
 use Rattle.pfr_packet.specs.Keys.{message_subject, side_of, subject_by, subject_of}
-use Rattle.pfr_packet.specs.Laws.{HasLeave, message_opens, opens_connection}
+use Rattle.pfr_packet.specs.Laws.{HasLeave, IsUntouched, message_opens, opens_connection}
 use Rattle.pfr_packet.specs.Making.{making, untranslated, with_keys, with_made, with_room}
 use Rattle.pfr_packet.specs.Outcomes.{blocked, none_visited, without_leave}
 use Rattle.pfr_packet.specs.Plan.{Plan, done, found_in, has_room_in, outcome_of, purged_at}
-use Rattle.pfr_packet.specs.Steps.{by_connection, by_told, opened, packet_plan, passed_over, plan, step_of, subject_plan}
+use Rattle.pfr_packet.specs.Steps.{asked_of, by_connection, by_told, opened, packet_plan, passed_over, plan, step_of, subject_plan}
 use Rattle.pfr_packet.specs.Verdicts.{lets_pass}
 use Rattle.pfr_packet.proofs.ChangeLemmas.{found_in_states, passing}
 
@@ -311,3 +312,12 @@ leave_of job number clock packet table =
       has_no_place = λ none options passes skipped. absurd (cc passes);
       has_no_room = λ none full options passes skipped. absurd (cc passes);
     })
+
+-- what is passed over
+pub untouched_of : (job : RunJob) (number : ℕ) (clock : Clock) (view : View) (table : StateTable) → (view ≡ Skip) ⊎ (is_skipped job ≡ true) → IsUntouched (step_of job number clock view table) × (asked_of job number clock view table ≡ [])
+unfolding step_of asked_of plan
+untouched_of job number clock Skip table over = (record { change_is = refl; bytes_are = refl; state_is = refl; rule_is = refl; translation_is = refl; visited_is = refl }, refl)
+untouched_of job number clock Short table (inl is) = absurd (cc is)
+untouched_of job number clock Short table (inr is) = rw is (record { change_is = refl; bytes_are = refl; state_is = refl; rule_is = refl; translation_is = refl; visited_is = refl }, refl)
+untouched_of job number clock (Ipv4 packet) table (inl is) = absurd (cc is)
+untouched_of job number clock (Ipv4 packet) table (inr is) = rw is (record { change_is = refl; bytes_are = refl; state_is = refl; rule_is = refl; translation_is = refl; visited_is = refl }, refl)

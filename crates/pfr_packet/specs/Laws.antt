@@ -1,5 +1,5 @@
 -- Words of the laws: what becomes of the one state that a packet makes, touches or ends.
-use Rattle.std.specs.Prelude.{◌≡◌, ◌⊎◌, ℕ, min, Bool, true, false, List, Option, Some, None}
+use Rattle.std.specs.Prelude.{◌≡◌, ◌⊎◌, ℕ, min, Bool, true, false, List, [], Option, Some, None}
 use Rattle.std.specs.List.{Contains, slice_get}
 use Rattle.pfr_headers.specs.declared.icmp.IcmpMessage.{IcmpMessage}
 use Rattle.pfr_headers.specs.declared.icmp.IcmpMessage.TheVariants as message
@@ -65,6 +65,18 @@ only_removes None = true
 only_removes (Some (Made state)) = false
 only_removes (Some (Touched state)) = false
 only_removes (Some (Removed number)) = true
+
+-- ---- packets that are passed over
+
+-- an outcome that leaves the table and the packet as they are, and names neither rule nor state
+pub record IsUntouched (outcome : Outcome) : Type 0 where
+  pub change_is : outcome.change ≡ None
+  pub bytes_are : outcome.bytes ≡ None
+  pub state_is : outcome.state ≡ None
+  pub rule_is : outcome.rule ≡ None
+  pub translation_is : outcome.translation ≡ None
+  -- no rule of either kind is visited
+  pub visited_is : outcome.visited ≡ record { translation = []; filter = [] }
 
 -- ---- packets of no connection
 

@@ -1,10 +1,10 @@
 //! Laws of the definitions, each the contract of a function that does nothing.
-ghost use Rattle.std.specs.Prelude.{◌≡◌, ◌⊎◌, ℕ, true, false, Some, None};
+ghost use Rattle.std.specs.Prelude.{◌≡◌, ◌⊎◌, ℕ, true, false, [], Some, None};
 ghost use Rattle.std.specs.List.{All};
 ghost use Rattle.pfr_headers.specs.declared.change.Change.{Change};
 ghost use Rattle.pfr_headers.specs.declared.packet.Packet.{Packet};
 ghost use Rattle.pfr_headers.specs.declared.packet.View.{View};
-ghost use Rattle.pfr_headers.specs.declared.packet.View.TheVariants.{Ipv4};
+ghost use Rattle.pfr_headers.specs.declared.packet.View.TheVariants.{Ipv4, Skip};
 ghost use Rattle.pfr_headers.specs.Address.{direction_of};
 ghost use Rattle.pfr_headers.specs.View.{has_options};
 ghost use Rattle.pfr_track.specs.declared.key.Key.{Key};
@@ -14,9 +14,9 @@ ghost use Rattle.pfr_states.specs.declared.change.TableChange.{TableChange};
 ghost use Rattle.pfr_states.specs.States.{IsTable, StateTable, purged, refusal};
 ghost use Rattle.pfr_packet.specs.declared.keys.Subject.TheVariants.{Connection, Told};
 ghost use Rattle.pfr_packet.specs.declared.verdict.Reason.TheVariants.{SkipOn, StateLimit};
-ghost use Rattle.pfr_packet.specs.Job.{RunJob};
+ghost use Rattle.pfr_packet.specs.Job.{RunJob, is_skipped};
 ghost use Rattle.pfr_packet.specs.Keys.{side_of, subject_of};
-ghost use Rattle.pfr_packet.specs.Laws.{HasLeave, IsOwnChange, only_removes, opens_connection};
+ghost use Rattle.pfr_packet.specs.Laws.{HasLeave, IsOwnChange, IsUntouched, only_removes, opens_connection};
 ghost use Rattle.pfr_packet.specs.Outcomes.{none_visited};
 ghost use Rattle.pfr_packet.specs.Plan.{SameAnswer, found_in, has_room_in, purged_at};
 ghost use Rattle.pfr_packet.specs.Steps.{asked_of, step_of};
@@ -69,6 +69,14 @@ pub fn what_is_blocked_only_removes()
 {
     what_a_packet_leaves();
 }
+
+/// What is no IPv4 packet, and all packets where those of the interface aren't filtered, are passed over: nothing is asked of
+/// the table, and nothing changes.
+pub fn what_is_passed_over_changes_nothing()
+    ensures { (job : RunJob) (number : ℕ) (clock : Clock) (view : View) (table : StateTable)
+        → (view ≡ Skip) ⊎ (is_skipped job ≡ true)
+        → IsUntouched (step_of job number clock view table) × (asked_of job number clock view table ≡ []) }
+{}
 
 /// A part of a packet, an ICMP error and any other ICMP message than an echo make no state and touch none.
 pub fn what_opens_no_connection_leaves_the_table()
