@@ -5,10 +5,14 @@ use Rattle.std.proofs.lemmas.Bool.{cases_Bool, cases_lt, eqb-true, eq-eqb, false
 use Rattle.std.proofs.lemmas.List.{append_assoc, append-nil, get_or-replicate, get_or-set_other, get_or-set_same, length-replicate, length-set}
 use Rattle.std.proofs.lemmas.List.Elements.{All-cons, All-head}
 use Rattle.std.proofs.lemmas.List.Sums.{sum_by-cons}
+use Rattle.pfr_headers.specs.declared.packet.View.{View}
+use Rattle.pfr_headers.specs.declared.packet.View.TheVariants.{Ipv4, Skip, Short}
 use Rattle.pfr_headers.specs.View.{view_of}
 use Rattle.pfr_rules.specs.Counts.{added}
 use Rattle.pfr_track.specs.declared.state.RuleNumber.{RuleNumber}
 use Rattle.pfr_packet.specs.declared.outcome.Outcome.{Outcome}
+use Rattle.pfr_packet.specs.declared.verdict.Reason.{Reason}
+use Rattle.pfr_packet.specs.declared.verdict.Reason.TheVariants as reason
 use Rattle.pfr_packet.specs.declared.verdict.Verdict.{Verdict}
 use Rattle.pfr_packet.specs.declared.verdict.Verdict.TheVariants as verdict
 use Rattle.pfr_packet.specs.Job.{RunJob}
@@ -17,7 +21,7 @@ use Rattle.pfr_commit.specs.declared.counters.Counters.{Counters}
 use Rattle.pfr_commit.specs.declared.counters.Totals.{Totals}
 use Rattle.pfr_commit.specs.Counters.{added_to, counted, counts_for_rules, length_of, no_totals, with_named, with_verdict}
 use Rattle.pfr_commit.specs.Lines.{verdict_line}
-use Rattle.pfr_commit.specs.Runs.{Taken, bytes_for, comes_to, counts_for, held, is_rule, is_same_verdict, next_taken, taken_after, taken_in, total_of}
+use Rattle.pfr_commit.specs.Runs.{Taken, bytes_for, comes_to, counts_for, held, is_rule, is_same_verdict, next_taken, reason_counts, taken_after, taken_in, total_length_of, total_of}
 use Rattle.pfr_commit.specs.World.{Frame, World, after, opening, packet_text, with_outcome, with_texts, world_after, world_of}
 use Rattle.pfr_commit.proofs.WorldLemmas.{world_count}
 
@@ -172,6 +176,25 @@ added_at (Some rule) amount k counts below few = elim (cases_Bool (rule.0 == k))
       rw other (stays ∙ (let same : get_or counts k 0 ≡ held (get_or counts k 0 + 0) = omega arith in same))
 ]
 
+-- the reasons that count are those with these words
+same_reasons : (why : Reason) → reason_counts why ≡ counts_for_rules why
+same_reasons reason.Rule = refl
+same_reasons reason.Default = refl
+same_reasons reason.NotIp = refl
+same_reasons reason.SkipOn = refl
+same_reasons reason.Short = refl
+same_reasons reason.IpOption = refl
+same_reasons reason.State = refl
+same_reasons reason.StateError = refl
+same_reasons reason.StateMismatch = refl
+same_reasons reason.StateInsert = refl
+same_reasons reason.StateLimit = refl
+
+same_length : (view : View) → length_of view ≡ total_length_of view
+same_length (Ipv4 packet) = refl
+same_length Skip = refl
+same_length Short = refl
+
 -- what a packet leaves of a list of counts
 abbrev counted_to : Outcome → ℕ → List ℕ → List ℕ
 counted_to outcome amount counts = cond (counts_for_rules outcome.reason) (added_to outcome.rule amount counts) counts
@@ -180,10 +203,10 @@ length_counted : (outcome : Outcome) (amount : ℕ) (counts : List ℕ) → leng
 length_counted outcome amount counts = elim (cases_Bool (counts_for_rules outcome.reason)) [ inl it ↦ rw it (length_added outcome.rule amount counts) | inr not_it ↦ rw not_it refl ]
 
 counted_at : (outcome : Outcome) (amount k : ℕ) (counts : List ℕ) → k < length counts → get_or counts k 0 ≤ 2 ^ 64 - 1
-    → get_or (counted_to outcome amount counts) k 0 ≡ held (get_or counts k 0 + cond (counts_for_rules outcome.reason && is_rule k outcome.rule) amount 0)
+    → get_or (counted_to outcome amount counts) k 0 ≡ held (get_or counts k 0 + cond (reason_counts outcome.reason && is_rule k outcome.rule) amount 0)
 counted_at outcome amount k counts below few = elim (cases_Bool (counts_for_rules outcome.reason)) [
-  | inl it ↦ rw it (added_at outcome.rule amount k counts below few)
-  | inr not_it ↦ rw not_it (let same : get_or counts k 0 ≡ held (get_or counts k 0 + 0) = omega arith in same)
+  | inl it ↦ rw (same_reasons outcome.reason, it) (added_at outcome.rule amount k counts below few)
+  | inr not_it ↦ rw (same_reasons outcome.reason, not_it) (let same : get_or counts k 0 ≡ held (get_or counts k 0 + 0) = omega arith in same)
 ]
 
 packets_next : (job : RunJob) (world : World) (frame : Frame) → (after job world frame).counters.filter.packets ≡ counted_to (next_taken job world frame).outcome 1 world.counters.filter.packets
@@ -191,9 +214,9 @@ unfolding after with_outcome counted
 packets_next job world frame = elim (cases_Bool (counts_for_rules (next_taken job world frame).outcome.reason)) [ inl it ↦ rw it refl | inr not_it ↦ rw not_it refl ]
 
 bytes_next : (job : RunJob) (world : World) (frame : Frame)
-    → (after job world frame).counters.filter.bytes ≡ counted_to (next_taken job world frame).outcome (length_of (view_of frame.link frame.bytes)) world.counters.filter.bytes
+    → (after job world frame).counters.filter.bytes ≡ counted_to (next_taken job world frame).outcome (total_length_of (view_of frame.link frame.bytes)) world.counters.filter.bytes
 unfolding after with_outcome counted
-bytes_next job world frame = elim (cases_Bool (counts_for_rules (next_taken job world frame).outcome.reason)) [ inl it ↦ rw it refl | inr not_it ↦ rw not_it refl ]
+bytes_next job world frame = rw (← same_length (view_of frame.link frame.bytes)) (elim (cases_Bool (counts_for_rules (next_taken job world frame).outcome.reason)) [ inl it ↦ rw it refl | inr not_it ↦ rw not_it refl ])
 
 pub rule_packets_after : (k : ℕ) (job : RunJob) (world : World) (frames : List Frame) → k < length world.counters.filter.packets → get_or world.counters.filter.packets k 0 ≤ 2 ^ 64 - 1
     → get_or (world_after job world frames).counters.filter.packets k 0 ≡ held (get_or world.counters.filter.packets k 0 + count_by (counts_for k) (taken_after job world frames))
@@ -214,7 +237,7 @@ unfolding world_after
 rule_bytes_after k job world [] below few = omega arith
 rule_bytes_after k job world (frame ∷ frames) below few =
     let p = next_taken job world frame in
-    let amount = length_of (view_of frame.link frame.bytes) in
+    let amount = total_length_of (view_of frame.link frame.bytes) in
     let long : length (after job world frame).counters.filter.bytes ≡ length world.counters.filter.bytes = ap length (bytes_next job world frame) ∙ length_counted p.outcome amount world.counters.filter.bytes in
     let next : get_or (after job world frame).counters.filter.bytes k 0 ≡ held (get_or world.counters.filter.bytes k 0 + bytes_for k p) =
     ap (λ (counts : List ℕ). get_or counts k 0) (bytes_next job world frame) ∙ counted_at p.outcome amount k world.counters.filter.bytes below few in

@@ -1,17 +1,21 @@
 -- The packets of a run one by one, and what each of them came to.
-use Rattle.std.specs.Prelude.{◌≡◌, ℕ, ◌+◌, ◌-◌, ◌^◌, ◌==◌, ◌&&◌, min, Bool, true, false, if◌then◌else◌, List, [], ◌∷◌, Option, Some, None}
+use Rattle.std.specs.Prelude.{◌≡◌, ℕ, ◌+◌, ◌-◌, ◌^◌, ◌==◌, ◌&&◌, ◌||◌, min, Bool, true, false, if◌then◌else◌, List, [], ◌∷◌, Option, Some, None, codes}
 use Rattle.std.specs.List.{Contains}
+use Rattle.std.specs.Str.{bytes_eq}
+use Rattle.pfr_headers.specs.declared.packet.View.{View}
+use Rattle.pfr_headers.specs.declared.packet.View.TheVariants.{Ipv4}
 use Rattle.pfr_headers.specs.View.{view_of}
 use Rattle.pfr_track.specs.declared.state.RuleNumber.{RuleNumber}
 use Rattle.pfr_track.specs.declared.time.Clock.{Clock}
 use Rattle.pfr_track.specs.declared.state.State.{State}
 use Rattle.pfr_packet.specs.declared.outcome.Outcome.{Outcome}
+use Rattle.pfr_packet.specs.declared.verdict.Reason.{Reason}
 use Rattle.pfr_packet.specs.declared.verdict.Verdict.{Verdict}
 use Rattle.pfr_packet.specs.declared.verdict.Verdict.TheVariants as verdict
 use Rattle.pfr_packet.specs.Job.{RunJob}
 use Rattle.pfr_packet.specs.Steps.{step_of}
+use Rattle.pfr_packet.specs.Verdicts.{reason_text}
 use Rattle.pfr_commit.specs.declared.counters.Totals.{Totals}
-use Rattle.pfr_commit.specs.Counters.{counts_for_rules, length_of}
 use Rattle.pfr_commit.specs.World.{Frame, World, after, clock_at, opening}
 
 -- a packet that was taken
@@ -77,10 +81,19 @@ abbrev pub is_rule : ℕ → Option RuleNumber → Bool
 is_rule rule None = false
 is_rule rule (Some named) = named.0 == rule
 
+-- the reasons that count for a rule, by their words in the line
+abbrev pub reason_counts : Reason → Bool
+reason_counts reason = bytes_eq (reason_text reason) (codes "rule") || bytes_eq (reason_text reason) (codes "state") || bytes_eq (reason_text reason) (codes "state-error")
+
 -- its line names the filter rule, and for a reason that counts
 abbrev pub counts_for : ℕ → Taken → Bool
-counts_for rule packet = counts_for_rules packet.outcome.reason && is_rule rule packet.outcome.rule
+counts_for rule packet = reason_counts packet.outcome.reason && is_rule rule packet.outcome.rule
 
--- the bytes that it counts for the filter rule: its total length
+-- the total length of an IPv4 packet; what is none, or was cut, has none
+abbrev pub total_length_of : View → ℕ
+total_length_of (Ipv4 packet) = packet.total_length
+total_length_of _ = 0
+
+-- the bytes that it counts for the filter rule
 abbrev pub bytes_for : ℕ → Taken → ℕ
-bytes_for rule packet = if counts_for rule packet then length_of (view_of packet.frame.link packet.frame.bytes) else 0
+bytes_for rule packet = if counts_for rule packet then total_length_of (view_of packet.frame.link packet.frame.bytes) else 0
