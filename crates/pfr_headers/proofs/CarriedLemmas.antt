@@ -337,15 +337,19 @@ header_ready from n size d Source address are enough room small =
     let checksum = mended (word_at d (from + 8 + 10)) (difference_of d (address_words (from + 8 + 12) address)) in
     let within = (mends (word_at d (from + 8 + 10)) (difference_of d (address_words (from + 8 + 12) address))).within in (
       ready_at from n 10 size d (from + 8 + 12) (address.0 / 65536) are (omega arith) (omega arith) (omega arith) (omega arith),
-      (ready_at from n 11 size d (from + 8 + 12 + 2) (address.0 % 65536) are (omega arith) (omega arith) (omega arith) (omega arith),
-      (ready_at from n 9 size d (from + 8 + 10) checksum are (omega arith) (omega arith) (omega arith) (omega arith), record {})),
+      (
+        ready_at from n 11 size d (from + 8 + 12 + 2) (address.0 % 65536) are (omega arith) (omega arith) (omega arith) (omega arith),
+        (ready_at from n 9 size d (from + 8 + 10) checksum are (omega arith) (omega arith) (omega arith) (omega arith), record {}),
+      ),
     )
 header_ready from n size d Destination address are enough room small =
     let checksum = mended (word_at d (from + 8 + 10)) (difference_of d (address_words (from + 8 + 16) address)) in
     let within = (mends (word_at d (from + 8 + 10)) (difference_of d (address_words (from + 8 + 16) address))).within in (
       ready_at from n 12 size d (from + 8 + 16) (address.0 / 65536) are (omega arith) (omega arith) (omega arith) (omega arith),
-      (ready_at from n 13 size d (from + 8 + 16 + 2) (address.0 % 65536) are (omega arith) (omega arith) (omega arith) (omega arith),
-      (ready_at from n 9 size d (from + 8 + 10) checksum are (omega arith) (omega arith) (omega arith) (omega arith), record {})),
+      (
+        ready_at from n 13 size d (from + 8 + 16 + 2) (address.0 % 65536) are (omega arith) (omega arith) (omega arith) (omega arith),
+        (ready_at from n 9 size d (from + 8 + 10) checksum are (omega arith) (omega arith) (omega arith) (omega arith), record {}),
+      ),
     )
 
 port_ready : (from n half at size : ℕ) (d : List ℕ) (end : End) (port : Port) → AreBytes d → at ≡ from + 2 * half → 2 * half + 8 ≤ n → at + 8 ≤ size → port.0 < 65536 → Ready (part_sum from n) size d (word (at + port_place end) port.0)
@@ -476,8 +480,8 @@ message_verifies d change i (message.Echo identifier) there kind is are address 
     let now = with_words header d in
     let none : told_in p.transport ≡ None = rw (kind, is) refl in
     let joined : with_words (words_of d change) d ≡ with_words (echo_words d p.header_length to.port) now =
-      ap (λ (ws : List Word). with_words ws d) (alone d change none)
-      ∙ (rw (kind, is) (with_append header (echo_words d p.header_length to.port) d)) in
+    ap (λ (ws : List Word). with_words ws d) (alone d change none)
+    ∙ (rw (kind, is) (with_append header (echo_words d p.header_length to.port) d)) in
     let same = message_same header d p (0 + 10) (0 + 20) (header_span d 0 change.end to.address) (omega arith) (omega (arith, fits)) in
     let v = echo_datagram d p to.port now are (header_within d 0 change.end to.address (omega (arith, fits))) same (same_behind d change.end to.address p.header_length long (omega (arith, fits))) fits (icmp_room d p i there kind) port before
     (subst (λ (t : List ℕ). 0 < message_sum t p) joined some) in
@@ -501,8 +505,8 @@ message_verifies d change i message.Other there kind is are address port carries
     let header = header_words d 0 change.end to.address in
     let none : told_in p.transport ≡ None = rw (kind, is) refl in
     let joined : with_words (words_of d change) d ≡ with_words header d =
-      ap (λ (ws : List Word). with_words ws d) (alone d change none)
-      ∙ (rw (kind, is) (with_append header [] d)) in
+    ap (λ (ws : List Word). with_words ws d) (alone d change none)
+    ∙ (rw (kind, is) (with_append header [] d)) in
     let same = message_same header d p (0 + 10) (0 + 20) (header_span d 0 change.end to.address) (omega arith) (omega arith) in
     subst Verifies (sym (ap (λ (t : List ℕ). message_sum t p) joined ∙ same)) before
 

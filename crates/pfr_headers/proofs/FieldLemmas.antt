@@ -41,9 +41,9 @@ past w bytes byte within after =
     let at : w.place + 2 + (byte - (w.place + 2)) ≡ byte = omega arith in
     let same = behind w bytes (w.place + 2) within (omega arith) in
     subst (λ (n : ℕ). slice_index (with_word w bytes) n ≡ slice_index bytes n) at (
-      sym (get_or-drop (w.place + 2) (with_word w bytes) (byte - (w.place + 2)) 0)
-      ∙ ap (λ (t : List ℕ). slice_index t (byte - (w.place + 2))) same
-      ∙ get_or-drop (w.place + 2) bytes (byte - (w.place + 2)) 0)
+    sym (get_or-drop (w.place + 2) (with_word w bytes) (byte - (w.place + 2)) 0)
+    ∙ ap (λ (t : List ℕ). slice_index t (byte - (w.place + 2))) same
+    ∙ get_or-drop (w.place + 2) bytes (byte - (w.place + 2)) 0)
 
 -- a word whose two bytes are of those that may be written
 abbrev AreOf : (ℕ → Type 0) → Word → Type 0
@@ -158,8 +158,7 @@ error_of d p inner end to told known =
     all_append (IsOfEnd p end) carried _
     (all_wider (IsOfInner (p.header_length + 8) inner (of_end (other_end end) 12 16) (of_end (other_end end) 0 2)) (IsOfEnd p end) carried
     (λ byte of. inr (of_error byte (inr (subst (λ (n : ℕ). IsOfInner (p.header_length + 8) inner n (of_other end 0 2) byte) (other_is end 12 16) (subst (λ (n : ℕ). IsOfInner (p.header_length + 8) inner (of_end (other_end end) 12 16) n byte) (other_is end 0 2) of)))))
-    (inner_of d (p.header_length + 8) inner (other_end end) to known))
-    (
+    (inner_of d (p.header_length + 8) inner (other_end end) to known)) (
       (inr (of_error (p.header_length + 2) (inl (omega arith, omega arith))), inr (of_error (p.header_length + 2 + 1) (inl (omega arith, omega arith)))),
       all_wider (IsOfHeader 0 (of_end end 12 16)) (IsOfEnd p end) _ (λ byte of. inl of) (outer_of d p inner end to _ refl),
     )

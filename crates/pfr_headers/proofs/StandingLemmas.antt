@@ -254,8 +254,8 @@ unfolding inner_words
 inner_stands d at inner end to are is address port =
     let behind : drop (4 * (slice_index (drop at d) 0 % 16)) (drop at d) ≡ drop (at + inner.header_length) d = drop-drop (4 * (slice_index (drop at d) 0 % 16)) at d ∙ ap (λ (n : ℕ). drop (at + n) d) (sym is.header_length) in
     let ports : InnerPorts inner.protocol.0 (drop (at + inner.header_length) d) inner.source_port.0 inner.destination_port.0 =
-      subst (λ (t : List ℕ). InnerPorts inner.protocol.0 t inner.source_port.0 inner.destination_port.0) behind
-      (subst (λ (n : ℕ). InnerPorts n (drop (4 * (slice_index (drop at d) 0 % 16)) (drop at d)) inner.source_port.0 inner.destination_port.0) (sym is.protocol) is.ports) in
+    subst (λ (t : List ℕ). InnerPorts inner.protocol.0 t inner.source_port.0 inner.destination_port.0) behind
+    (subst (λ (n : ℕ). InnerPorts n (drop (4 * (slice_index (drop at d) 0 % 16)) (drop at d)) inner.source_port.0 inner.destination_port.0) (sym is.protocol) is.ports) in
     let own = address_at d at end inner.source inner.destination to.address address (is.source ∙ number_behind at 12 d) (is.destination ∙ number_behind at 16 d) in
     let nothing = nothing_brought d (address_words (at + address_place end) to.address) (address_stands d (at + address_place end) to.address are own) in
     stand_append d (header_words d at end to.address) _ (header_stands d at end to.address are own)

@@ -57,8 +57,8 @@ pub sum_behind : (from n place value : ℕ) (bytes : List ℕ) → from + n ≤ 
 sum_behind from n place value bytes over there =
     let at : from + (place - from) ≡ place = omega arith in
     subst (λ (p : ℕ). sum_of (take n (drop from (with_word (word p value) bytes))) ≡ sum_of (take n (drop from bytes))) at (
-      ap (λ (t : List ℕ). sum_of (take n t)) (shifted from (place - from) value bytes (omega arith))
-      ∙ ap sum_of (past n (place - from) value (drop from bytes) (omega arith) (omega (arith, length-drop from bytes))))
+    ap (λ (t : List ℕ). sum_of (take n t)) (shifted from (place - from) value bytes (omega arith))
+    ∙ ap sum_of (past n (place - from) value (drop from bytes) (omega arith) (omega (arith, length-drop from bytes))))
 
 -- ---- what a sum over bytes makes of a written word
 

@@ -135,7 +135,7 @@ module _ (flat other : Ruleset) (packet : Packet) (direction : Direction) (place
   stops_before k below =
       let own = own_same (slice_get flat.filter.rules k) (slice_get other.filter.rules k) (here k) (there k) (s.rules_are k (omega (arith, below))) (hits_kept k (omega (arith, below))) in
       let anchors : list_any (ends here k) other.filter.anchors ≡ list_any (ends here k) flat.filter.anchors =
-          sym (ends_up_to here place k other.filter.anchors below) ∙ rw s.anchors_are (ends_up_to here place k flat.filter.anchors below) in
+      sym (ends_up_to here place k other.filter.anchors below) ∙ rw s.anchors_are (ends_up_to here place k flat.filter.anchors below) in
       stop_same here there flat.filter.rules other.filter.rules flat.filter.anchors other.filter.anchors k (λ j within. hits_kept j (omega (arith, within, below))) own anchors
 
   there_at : slice_get other.filter.rules place ≡ Some rule
