@@ -1,7 +1,7 @@
 -- The checksums of what a packet carries still verify after it is rewritten.
 use Rattle.std.specs.Prelude.{⊤}
-use Rattle.std.proofs.Common.{◌≡◌, ◌⊎◌, inl, inr, ◌≤◌, ◌<◌, ◌-◌, ◌+◌, ◌*◌, ◌/◌, ◌%◌, ◌^◌, ◌++◌, ℕ, Bool, true, false, eqb, List, [], ◌∷◌, length, take, drop, slice_index, Option, Some, None, refl, sym, ◌∙◌, ap, subst, arith}
-use Rattle.std.proofs.lemmas.List.{append_assoc, get_or-drop, length-drop, length-take-le}
+use Rattle.std.proofs.Common.{◌≡◌, ◌⊎◌, inl, inr, ◌≤◌, ◌<◌, ◌-◌, ◌+◌, ◌*◌, ◌/◌, ◌%◌, ◌++◌, ℕ, Bool, true, false, eqb, List, [], ◌∷◌, length, take, drop, slice_index, Some, None, refl, sym, ◌∙◌, ap, subst, arith}
+use Rattle.std.proofs.lemmas.List.{length-take-le}
 use Rattle.std.proofs.Math.Seq.{drop-append_seam}
 use Rattle.pfr_headers.specs.declared.address.Ipv4Address.{Ipv4Address}
 use Rattle.pfr_headers.specs.declared.change.Change.{Change}
@@ -17,12 +17,12 @@ use Rattle.pfr_headers.specs.declared.packet.View.TheVariants.{Ipv4}
 use Rattle.pfr_headers.specs.declared.port.Port.{Port}
 use Rattle.pfr_headers.specs.declared.tcp.TcpHeader.{TcpHeader}
 use Rattle.pfr_headers.specs.declared.transport.Transport.{Transport}
-use Rattle.pfr_headers.specs.declared.transport.Transport.TheVariants.{Fragment, Tcp, Udp, Icmp, Other}
+use Rattle.pfr_headers.specs.declared.transport.Transport.TheVariants.{Tcp, Udp, Icmp}
 use Rattle.pfr_headers.specs.declared.udp.UdpHeader.{UdpHeader}
 use Rattle.pfr_headers.specs.Checksum.{AreBytes, Verifies, Word, difference, difference_of, mended, mended_udp, with_word, with_words, word, word_at}
-use Rattle.pfr_headers.specs.Laws.{CarriesTold, IsTranslated, carried, message_sum, segment_sum, sum_of}
-use Rattle.pfr_headers.specs.Rewriting.{address_place, address_words, behind_words, echo_or_none, echo_words, end_address, error_words, header_words, inner_words, other_end, outer_words, packet_words, port_place, rewritten, tcp_words, told_by, told_in, told_words, udp_words, words_for, words_of}
-use Rattle.pfr_headers.specs.Room.{BehindFits, InnerFits}
+use Rattle.pfr_headers.specs.Laws.{CarriesTold, IsTranslated, message_sum, segment_sum, sum_of}
+use Rattle.pfr_headers.specs.Rewriting.{address_place, address_words, echo_words, end_address, error_words, header_words, inner_words, other_end, outer_words, packet_words, port_place, rewritten, tcp_words, told_in, told_words, udp_words, words_of}
+use Rattle.pfr_headers.specs.Room.{BehindFits}
 use Rattle.pfr_headers.specs.Transport.{IsTransport}
 use Rattle.pfr_headers.specs.View.{header_length_of, is_fragment, packet_of, place_of, total_length_of, view_of}
 use Rattle.pfr_headers.proofs.ChecksumLemmas.{mends, none_stays, udp_within}

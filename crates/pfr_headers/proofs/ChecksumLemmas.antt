@@ -1,11 +1,10 @@
 -- A checksum that verifies before a packet is rewritten verifies after.
-use Rattle.std.specs.Prelude.{⊤}
-use Rattle.std.proofs.Common.{◌≡◌, ◌⊎◌, inl, inr, ◌≤◌, ◌<◌, ◌-◌, ◌+◌, ◌*◌, ◌/◌, ◌%◌, ◌++◌, ℕ, Bool, true, false, eqb, zero, suc, List, [], ◌∷◌, length, take, drop, refl, sym, ◌∙◌, ap, subst, arith, cond}
+use Rattle.std.proofs.Common.{◌≡◌, ◌≤◌, ◌<◌, ◌-◌, ◌+◌, ◌*◌, ◌/◌, ◌++◌, ℕ, Bool, true, false, eqb, zero, suc, List, [], ◌∷◌, length, take, drop, refl, sym, ◌∙◌, ap, subst, arith, cond}
 use Rattle.std.proofs.lemmas.Bool.{eqb-true, ne_eqb}
 use Rattle.std.proofs.lemmas.List.{drop-append-le, drop-drop, drop-take, length-drop, length-take-le}
 use Rattle.byteorder.specs.Endian.{big_bytes, big_number}
 use Rattle.byteorder.specs.Numbers.{big_number-reads_back}
-use Rattle.pfr_headers.specs.Checksum.{Verifies, Word, complement, difference, difference_of, end_around, mended, mended_udp, sum_of_words, with_word, with_words, word, word_at}
+use Rattle.pfr_headers.specs.Checksum.{Verifies, Word, difference, end_around, mended, mended_udp, sum_of_words, with_word, with_words, word, word_at}
 use Rattle.pfr_headers.proofs.WordLemmas.{Spans, behind, kept_before, length_with}
 
 -- what a change brings is the new value without the old, but for a round of 65535

@@ -1,7 +1,7 @@
 -- What a translation doesn't write stays.
 use Rattle.std.specs.Prelude.{⊤}
 use Rattle.std.proofs.Common.{◌≡◌, ◌⊎◌, inl, inr, ◌≤◌, ◌<◌, ◌-◌, ◌+◌, ◌*◌, ◌%◌, ◌++◌, ℕ, Bool, true, false, eqb, List, [], ◌∷◌, length, take, drop, slice_index, Option, Some, None, refl, sym, ◌∙◌, ap, subst, arith}
-use Rattle.std.proofs.lemmas.Bool.{cases_lt, cases_order, eqb-true}
+use Rattle.std.proofs.lemmas.Bool.{cases_lt, cases_order}
 use Rattle.std.proofs.lemmas.List.{get_or-append-add, get_or-drop, get_or-take, get_or_append_left, length-append, length-drop, length-take-le}
 use Rattle.byteorder.specs.Endian.{big_bytes}
 use Rattle.pfr_headers.specs.declared.address.Ipv4Address.{Ipv4Address}
@@ -17,10 +17,10 @@ use Rattle.pfr_headers.specs.declared.packet.View.TheVariants.{Ipv4}
 use Rattle.pfr_headers.specs.declared.port.Port.{Port}
 use Rattle.pfr_headers.specs.declared.transport.Transport.{Transport}
 use Rattle.pfr_headers.specs.declared.transport.Transport.TheVariants.{Fragment, Tcp, Udp, Icmp, Other}
-use Rattle.pfr_headers.specs.Checksum.{Word, difference_of, with_word, with_words, word}
+use Rattle.pfr_headers.specs.Checksum.{Word, with_word, with_words, word}
 use Rattle.pfr_headers.specs.Laws.{IsIn, IsOfEcho, IsOfEnd, IsOfHeader, IsOfMessage, IsOfTcp, IsOfTold, IsOfTransport, IsOfUdp, of_end, of_other}
-use Rattle.pfr_headers.specs.Rewriting.{address_place, address_words, behind_words, echo_or_none, echo_words, end_address, error_words, header_words, inner_words, other_end, outer_words, packet_words, port_place, rewritten, tcp_words, told_by, told_in, told_words, udp_words, words_for, words_of}
-use Rattle.pfr_headers.specs.Room.{BehindFits, InnerFits}
+use Rattle.pfr_headers.specs.Rewriting.{behind_words, echo_or_none, echo_words, end_address, error_words, header_words, inner_words, other_end, outer_words, packet_words, port_place, rewritten, tcp_words, told_by, told_in, told_words, udp_words, words_for, words_of}
+use Rattle.pfr_headers.specs.Room.{BehindFits}
 use Rattle.pfr_headers.specs.Transport.{InnerPorts, IsInner}
 use Rattle.pfr_headers.specs.View.{header_length_of, packet_of, place_of, view_of}
 use Rattle.pfr_headers.proofs.RewritingLemmas.{echo_span, header_room, header_span, inner_room, inner_span, inner_there, packet_there, transport_room, udp_span}

@@ -1,5 +1,5 @@
 -- More fuel than bytes reads the same window scale, so an option can be stepped over.
-use Rattle.std.proofs.Common.{◌≡◌, ◌&&◌, ◌||◌, ◌≤◌, ◌<◌, ◌-◌, ◌+◌, ℕ, zero, suc, Bool, true, false, not, eqb, ltb, List, [], ◌∷◌, length, drop, Option, None, Some, refl, sym, ◌∙◌, ap, cond, arith, min, slice_index}
+use Rattle.std.proofs.Common.{◌≡◌, ◌&&◌, ◌||◌, ◌≤◌, ℕ, zero, suc, Bool, true, false, not, eqb, ltb, List, [], ◌∷◌, length, drop, None, Some, refl, sym, cond, arith, min, slice_index}
 use Rattle.std.proofs.lemmas.Bool.{or_parts, ltb-false}
 use Rattle.std.proofs.lemmas.List.{length-drop}
 use Rattle.pfr_headers.specs.TcpOptions.{ends, is_scale, option_length, scale_of, scale_within}

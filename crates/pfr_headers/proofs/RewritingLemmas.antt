@@ -1,6 +1,5 @@
 -- Words that are written one after the other are those of the whole change, each by what stood there before.
-use Rattle.std.specs.Prelude.{⊤}
-use Rattle.std.proofs.Common.{◌≡◌, ◌⊎◌, inl, inr, ◌≤◌, ◌<◌, ◌-◌, ◌+◌, ◌++◌, ℕ, Bool, true, false, eqb, zero, suc, List, [], ◌∷◌, length, take, drop, slice_index, Option, Some, None, refl, sym, ◌∙◌, ap, subst, arith, cond}
+use Rattle.std.proofs.Common.{◌≡◌, inl, inr, ◌≤◌, ◌-◌, ◌+◌, ◌++◌, ℕ, Bool, true, false, eqb, List, [], ◌∷◌, length, take, drop, slice_index, Option, Some, None, refl, sym, ◌∙◌, ap, subst, arith}
 use Rattle.std.proofs.lemmas.List.{append_assoc, length-drop}
 use Rattle.std.proofs.Math.ListN.{drop_of_length-le}
 use Rattle.pfr_headers.specs.declared.address.Ipv4Address.{Ipv4Address}
@@ -14,16 +13,16 @@ use Rattle.pfr_headers.specs.declared.packet.Packet.{Packet}
 use Rattle.pfr_headers.specs.declared.port.Port.{Port}
 use Rattle.pfr_headers.specs.declared.transport.Transport.{Transport}
 use Rattle.pfr_headers.specs.declared.transport.Transport.TheVariants.{Fragment, Tcp, Udp, Icmp, Other}
-use Rattle.pfr_headers.specs.Checksum.{Word, difference, difference_of, mended, mended_udp, with_word, with_words, word, word_at}
+use Rattle.pfr_headers.specs.Checksum.{Word, difference_of, mended, with_word, with_words, word, word_at}
 use Rattle.pfr_headers.specs.Rewriting.{address_place, address_words, behind_words, echo_or_none, echo_words, end_address, error_words, header_words, inner_words, other_end, outer_words, packet_words, port_place, rewritten, tcp_words, told_by, told_in, told_words, udp_words, words_of}
 use Rattle.pfr_headers.specs.declared.change.Change.{Change}
-use Rattle.pfr_headers.specs.declared.packet.View.TheVariants.{Ipv4, Skip, Short}
+use Rattle.pfr_headers.specs.declared.packet.View.TheVariants.{Ipv4}
 use Rattle.pfr_headers.specs.Transport.{IsInner, IsMessage, IsTransport}
-use Rattle.pfr_headers.specs.View.{IsHeader, IsPacket, header_length_of, is_fragment, packet_of, place_of, seen, total_length_of, view_of}
+use Rattle.pfr_headers.specs.View.{IsHeader, header_length_of, is_fragment, packet_of, place_of, seen, total_length_of, view_of}
 use Rattle.pfr_headers.proofs.TransportLemmas.{none_some, same_some}
 use Rattle.pfr_headers.proofs.ViewLemmas.{packet_by}
 use Rattle.pfr_headers.specs.Room.{BehindFits, InnerFits}
-use Rattle.pfr_headers.proofs.WordLemmas.{Spans, difference_append, difference_same, length_with_all, outside, spans_append, spans_wider, with_append}
+use Rattle.pfr_headers.proofs.WordLemmas.{Spans, difference_append, difference_same, outside, spans_append, spans_wider, with_append}
 
 address_least : (end : End) → 12 ≤ address_place end
 address_least Source = omega arith

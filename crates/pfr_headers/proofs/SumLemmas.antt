@@ -1,13 +1,12 @@
 -- Sums over parts of a datagram, and what written words bring to them.
-use Rattle.std.specs.Prelude.{⊤}
-use Rattle.std.proofs.Common.{◌≡◌, ◌⊎◌, inl, inr, ◌≤◌, ◌<◌, ◌-◌, ◌+◌, ◌*◌, ◌/◌, ◌%◌, ◌++◌, ℕ, zero, suc, List, [], ◌∷◌, length, take, drop, refl, sym, ◌∙◌, ap, subst, arith}
+use Rattle.std.proofs.Common.{◌≡◌, ◌≤◌, ◌<◌, ◌-◌, ◌+◌, ◌*◌, ◌++◌, ℕ, zero, suc, List, [], ◌∷◌, length, take, drop, refl, sym, ◌∙◌, ap, subst, arith}
 use Rattle.std.proofs.lemmas.List.{drop-append-le, drop-drop, drop-take, length-drop, length-take-le, take-append-le, take-take}
 use Rattle.byteorder.specs.Endian.{big_bytes, big_number}
 use Rattle.byteorder.specs.Numbers.{big_number-reads_back}
-use Rattle.pfr_headers.specs.Checksum.{Verifies, Word, difference, difference_of, mended, mended_udp, with_word, with_words, word, word_at}
+use Rattle.pfr_headers.specs.Checksum.{Verifies, difference, mended, mended_udp, with_word, word, word_at}
 use Rattle.pfr_headers.specs.Laws.{sum_of}
 use Rattle.pfr_headers.proofs.ChecksumLemmas.{brings, mended_verifies, mends, udp_verifies, udp_within}
-use Rattle.pfr_headers.proofs.WordLemmas.{behind, kept, length_with}
+use Rattle.pfr_headers.proofs.WordLemmas.{behind}
 
 -- ---- a word among bytes that are summed
 

@@ -1,7 +1,7 @@
 -- What stands behind an IPv4 header is what the functions compute, and nothing else.
-use Rattle.std.proofs.Common.{◌≡◌, ◌≢◌, ◌⊎◌, inl, inr, ◌≤◌, ◌<◌, ◌+◌, ◌*◌, ◌/◌, ◌%◌, ◌-◌, ◌&&◌, ◌||◌, ℕ, Bool, true, false, not, eqb, ltb, List, length, take, drop, slice_index, Option, None, Some, refl, sym, ◌∙◌, ap, subst, cond, arith, T}
+use Rattle.std.proofs.Common.{◌≡◌, ◌≢◌, ◌⊎◌, inl, inr, ◌≤◌, ◌+◌, ◌*◌, ◌/◌, ◌%◌, ◌&&◌, ◌||◌, ℕ, Bool, true, false, not, eqb, ltb, List, length, drop, slice_index, Option, None, Some, refl, sym, ◌∙◌, ap, subst, arith, T}
 use Rattle.std.proofs.Math.Dec.{eqb_refl}
-use Rattle.std.proofs.lemmas.Bool.{and_parts, or_parts, eqb-true, ltb-true, ltb-false, lt-ltb, le-ltb, ne_eqb}
+use Rattle.std.proofs.lemmas.Bool.{and_parts, or_parts, eqb-true, ltb-false, le-ltb, ne_eqb}
 use Rattle.byteorder.specs.Endian.{big_number}
 use Rattle.pfr_headers.specs.declared.transport.Transport.{Transport}
 use Rattle.pfr_headers.specs.declared.transport.Transport.TheVariants.{Fragment, Tcp, Udp, Icmp, Other}
@@ -11,7 +11,7 @@ use Rattle.pfr_headers.specs.declared.icmp.IcmpHeader.{IcmpHeader}
 use Rattle.pfr_headers.specs.declared.icmp.IcmpMessage.{IcmpMessage}
 use Rattle.pfr_headers.specs.declared.icmp.IcmpMessage.TheVariants as message
 use Rattle.pfr_headers.specs.declared.icmp.Inner.{Inner}
-use Rattle.pfr_headers.specs.Transport.{IsIcmp, IsInner, IsMessage, IsTcp, IsTransport, IsUdp, InnerPorts, as_icmp, as_tcp, as_udp, has_eight, has_inner, has_tcp, icmp_of, icmp_with, inner_behind, inner_of, inner_with, is_echo, is_error, message_of, scale_offered, tcp_fields, tcp_flags_of, tcp_length_of, tcp_of, told_of, transport_of, udp_fields, udp_of}
+use Rattle.pfr_headers.specs.Transport.{IsIcmp, IsInner, IsMessage, IsTcp, IsTransport, IsUdp, InnerPorts, as_icmp, as_tcp, as_udp, has_eight, has_inner, has_tcp, icmp_of, icmp_with, inner_behind, inner_of, inner_with, is_echo, is_error, message_of, tcp_fields, tcp_length_of, tcp_of, told_of, transport_of, udp_fields, udp_of}
 
 pub not_true : (a : Bool) → not a ≡ true → a ≡ false
 not_true true e = absurd (cc)

@@ -1,13 +1,12 @@
 -- A frame has one view.
-use Rattle.std.proofs.Common.{◌≡◌, ◌⊎◌, inl, inr, ◌≤◌, ◌<◌, ◌-◌, ◌/◌, ◌&&◌, ◌||◌, ℕ, Bool, true, false, not, eqb, ltb, List, length, drop, slice_index, Option, None, Some, refl, sym, ◌∙◌, ap, subst, cond, arith}
+use Rattle.std.proofs.Common.{◌≡◌, ◌⊎◌, inl, inr, ◌-◌, ◌||◌, ℕ, Bool, true, false, not, eqb, ltb, List, length, drop, slice_index, Option, None, Some, refl, sym, ◌∙◌, ap, subst, cond, arith}
 use Rattle.std.proofs.lemmas.Bool.{and_parts, or_parts, eqb-true, ltb-true, ltb-false, lt-ltb, le-ltb}
 use Rattle.byteorder.specs.Endian.{big_number, little_number}
 use Rattle.pfr_headers.specs.declared.packet.Packet.{Packet}
 use Rattle.pfr_headers.specs.declared.packet.View.{View}
 use Rattle.pfr_headers.specs.declared.packet.View.TheVariants.{Ipv4, Skip, Short}
 use Rattle.pfr_headers.specs.declared.transport.Transport.{Transport}
-use Rattle.pfr_headers.specs.Transport.{IsTransport, transport_of}
-use Rattle.pfr_headers.specs.View.{HoldsIpv4, IsEthernet, IsHeader, IsLoopback, IsPacket, IsRaw, IsTagged, IsView, fields_of, has_header, header_length_of, is_ethernet, is_fragment, is_loopback, is_raw, is_tagged, packet_of, place_of, seen, seen_at, total_length_of, transport_behind, version_of, view_of, with_transport}
+use Rattle.pfr_headers.specs.View.{HoldsIpv4, IsHeader, IsLoopback, IsPacket, IsTagged, IsView, fields_of, has_header, header_length_of, is_ethernet, is_fragment, is_loopback, is_raw, is_tagged, packet_of, place_of, seen, seen_at, total_length_of, transport_behind, version_of, view_of, with_transport}
 use Rattle.pfr_headers.proofs.TransportLemmas.{none_some, not_false, not_true, same_some, transport_by, transport_is}
 
 -- the header

@@ -1,13 +1,13 @@
 -- Words written into bytes leave the others alone.
 use Rattle.std.specs.Prelude.{⊤}
-use Rattle.std.proofs.Common.{◌≡◌, ◌⊎◌, inl, inr, ◌≤◌, ◌<◌, ◌-◌, ◌+◌, ◌++◌, ℕ, zero, suc, List, [], ◌∷◌, length, take, drop, refl, sym, ◌∙◌, ap, subst, arith}
+use Rattle.std.proofs.Common.{◌≡◌, ◌⊎◌, inl, inr, ◌≤◌, ◌-◌, ◌+◌, ◌++◌, ℕ, List, [], ◌∷◌, length, take, drop, refl, sym, ◌∙◌, ap, subst, arith}
 use Rattle.std.proofs.lemmas.List.{append_assoc, drop-append-le, drop-drop, length-append, length-drop, length-take-le, take-append-drop}
 use Rattle.std.proofs.Math.Seq.{drop-append-add}
 use Rattle.byteorder.specs.Endian.{big_bytes, big_number}
 use Rattle.byteorder.specs.Numbers.{big_from-append, length-bytes_high_first}
 use Rattle.pfr_headers.specs.declared.address.Ipv4Address.{Ipv4Address}
 use Rattle.pfr_headers.specs.Rewriting.{address_words}
-use Rattle.pfr_headers.specs.Checksum.{Word, difference, difference_of, with_word, with_words, word, word_at}
+use Rattle.pfr_headers.specs.Checksum.{Word, difference_of, with_word, with_words, word, word_at}
 
 -- a word lies beside a place of two bytes, and within the bytes
 pub record Beside (size place : ℕ) (w : Word) : Type 0 where

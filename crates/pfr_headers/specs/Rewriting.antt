@@ -5,7 +5,7 @@
 -- section 3.1): ports at 0 and 2, checksum at 16. UDP (RFC 768): ports at 0 and 2, checksum at 6. Both checksums are
 -- over the addresses too. ICMP (RFC 792): checksum at 2, an echo's identifier at 4, the packet that an error tells of
 -- at 8.
-use Rattle.std.specs.Prelude.{ℕ, ◌+◌, ◌/◌, ◌%◌, Bool, ◌==◌, if◌then◌else◌, List, [], ◌∷◌, ◌++◌, take, drop, Option, Some, None}
+use Rattle.std.specs.Prelude.{ℕ, ◌+◌, ◌/◌, ◌%◌, ◌==◌, if◌then◌else◌, List, [], ◌∷◌, ◌++◌, take, drop, Option, Some, None}
 use Rattle.pfr_headers.specs.declared.address.Ipv4Address.{Ipv4Address}
 use Rattle.pfr_headers.specs.declared.change.Change.{Change}
 use Rattle.pfr_headers.specs.declared.change.End.{End}
@@ -17,7 +17,7 @@ use Rattle.pfr_headers.specs.declared.icmp.Inner.{Inner}
 use Rattle.pfr_headers.specs.declared.packet.Packet.{Packet}
 use Rattle.pfr_headers.specs.declared.port.Port.{Port}
 use Rattle.pfr_headers.specs.declared.transport.Transport.{Transport}
-use Rattle.pfr_headers.specs.declared.transport.Transport.TheVariants.{Fragment, Tcp, Udp, Icmp, Other}
+use Rattle.pfr_headers.specs.declared.transport.Transport.TheVariants.{Tcp, Udp, Icmp}
 use Rattle.pfr_headers.specs.Checksum.{Word, difference, difference_of, mended, mended_udp, with_words, word, word_at}
 use Rattle.pfr_headers.specs.View.{place_of}
 

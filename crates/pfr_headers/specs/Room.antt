@@ -1,7 +1,5 @@
 -- That what a change writes lies within what was captured.
 use Rattle.std.specs.Prelude.{ℕ, ◌+◌, ◌≤◌, ⊤}
-use Rattle.pfr_headers.specs.declared.icmp.IcmpMessage.{IcmpMessage}
-use Rattle.pfr_headers.specs.declared.icmp.IcmpMessage.TheVariants as message
 use Rattle.pfr_headers.specs.declared.icmp.Inner.{Inner}
 use Rattle.pfr_headers.specs.declared.transport.Transport.{Transport}
 use Rattle.pfr_headers.specs.declared.transport.Transport.TheVariants.{Tcp, Udp, Icmp}

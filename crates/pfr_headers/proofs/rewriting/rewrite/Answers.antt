@@ -1,4 +1,4 @@
-use Rattle.std.proofs.Common.{◌≡◌, ◌∙◌, ◌++◌, List, ℕ, take, sym, ap}
+use Rattle.std.proofs.Common.{sym}
 use Rattle.std.proofs.lemmas.List.{append-nil, take_rest}
 use Rattle.pfr_headers.proofs.RewritingLemmas.{frame_written, nothing_behind, nowhere, packet_there}
 use Rattle.pfr_headers.proofs.rewriting.rewrite.Goals as goal

@@ -1,4 +1,3 @@
-use Rattle.std.proofs.Common.{◌≡◌}
 use Rattle.pfr_headers.proofs.RewritingLemmas.{inner_brings, inner_written}
 use Rattle.pfr_headers.proofs.rewriting.rewrite_inner.Goals as goal
 

@@ -1,4 +1,3 @@
-use Rattle.std.proofs.Common.{◌≡◌}
 use Rattle.pfr_headers.proofs.RewritingLemmas.{packet_written}
 use Rattle.pfr_headers.proofs.rewriting.rewrite_packet.Goals as goal
 
