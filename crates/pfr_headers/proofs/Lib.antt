@@ -1,9 +1,11 @@
 pub mod CarriedLemmas
 pub mod ChecksumLemmas
 pub mod FieldLemmas
+pub mod MessageLemmas
 pub mod NumberLemmas
 pub mod OptionLemmas
 pub mod RewritingLemmas
+pub mod SegmentLemmas
 pub mod StandingLemmas
 pub mod SumLemmas
 pub mod TransportLemmas
