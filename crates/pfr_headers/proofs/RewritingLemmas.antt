@@ -24,7 +24,7 @@ use Rattle.pfr_headers.proofs.ViewLemmas.{packet_by}
 use Rattle.pfr_headers.specs.Room.{BehindFits, InnerFits}
 use Rattle.pfr_headers.proofs.WordLemmas.{Spans, difference_append, difference_same, outside, spans_append, spans_wider, with_append}
 
-address_least : (end : End) → 12 ≤ address_place end
+pub address_least : (end : End) → 12 ≤ address_place end
 address_least Source = omega arith
 address_least Destination = omega arith
 

@@ -1,5 +1,5 @@
 -- The checksums of TCP and UDP still verify after a packet is rewritten, and that of an echo.
-use Rattle.std.proofs.Common.{◌≡◌, inl, ◌≤◌, ◌<◌, ◌-◌, ◌+◌, ◌*◌, ◌/◌, ◌%◌, ℕ, List, length, drop, slice_index, Some, refl, ◌∙◌, subst, arith}
+use Rattle.std.proofs.Common.{◌≡◌, inl, ◌≤◌, ◌<◌, ◌-◌, ◌+◌, ◌*◌, ℕ, List, length, drop, slice_index, Some, refl, ◌∙◌, subst, arith}
 use Rattle.pfr_headers.specs.declared.address.Ipv4Address.{Ipv4Address}
 use Rattle.pfr_headers.specs.declared.change.End.{End}
 use Rattle.pfr_headers.specs.declared.change.End.TheVariants.{Source, Destination}
@@ -19,10 +19,10 @@ use Rattle.pfr_headers.specs.Transport.{IsTransport}
 use Rattle.pfr_headers.specs.View.{header_length_of, is_fragment, packet_of, total_length_of}
 use Rattle.pfr_headers.proofs.ChecksumLemmas.{none_stays}
 use Rattle.pfr_headers.proofs.RewritingLemmas.{address_most, header_room, header_span, port_most, transport_room}
-use Rattle.pfr_headers.proofs.SumLemmas.{Covers, Moves, Passes, covers, covers_first, covers_second, covers_with, mending, mending_udp, moves_past, moves_then, moves_word, part_sum, passes_before, passes_behind, passes_both, passes_with}
+use Rattle.pfr_headers.proofs.SumLemmas.{Covers, Moves, Passes, address_moves, covers, covers_first, covers_second, covers_with, mending, mending_udp, moves_past, moves_then, moves_word, part_sum, passes_before, passes_behind, passes_both, passes_with}
 use Rattle.pfr_headers.proofs.VerifyingLemmas.{header_within, read_at, word_small}
 use Rattle.pfr_headers.proofs.ViewLemmas.{packet_by}
-use Rattle.pfr_headers.proofs.WordLemmas.{kept_before, kept_behind, length_with, outside, with_append}
+use Rattle.pfr_headers.proofs.WordLemmas.{kept_before, kept_behind, length_with, length_with_all, outside, with_append}
 
 -- ---- an address of a header
 
@@ -33,21 +33,12 @@ unfolding header_words
 header_moves sum d header end address are room small first second none =
     let place = header + address_place end in
     let most = address_most end in
-    let high = word place (address.0 / 65536) in
-    let low = word (place + 2) (address.0 % 65536) in
-    let one = with_word high d in
-    let two = with_word low one in
-    let size_one = length_with high d (omega arith) in
-    let size_two = length_with low one (omega (arith, size_one)) in
-    let same : word_at one (place + 2) ≡ word_at d (place + 2) = kept_behind place (address.0 / 65536) (place + 2) d (omega arith) (omega arith) in
-    let a = moves_word sum (length d) place (address.0 / 65536) d first refl (word_small place d are) (omega arith) in
-    let b = moves_word sum (length d) (place + 2) (address.0 % 65536) one second size_one (rw same (word_small (place + 2) d are)) (omega arith) in
-    let b' = subst (λ (n : ℕ). Moves sum one two (difference n (address.0 % 65536))) same b in
-    let c = moves_past sum (length d) (header + 10) (mended (word_at d (header + 10)) (difference_of d (address_words place address))) two none (size_two ∙ size_one) in
+    let size = length_with_all (address_words place address) d (omega arith, (omega arith, record {})) in
+    let a = address_moves sum (length d) place address d refl (omega arith) (word_small place d are) (word_small (place + 2) d are) small first second in
+    let b = moves_past sum (length d) (header + 10) (mended (word_at d (header + 10)) (difference_of d (address_words place address))) (with_words (address_words place address) d) none size in
     let p = a.is in
-    let q = b'.is in
-    let r = c.is in
-    record { rounds = a.rounds + b'.rounds + c.rounds; is = omega (arith, p, q, r) }
+    let q = b.is in
+    record { rounds = a.rounds + b.rounds; is = omega (arith, p, q) }
 
 -- ---- ports and checksums behind it
 

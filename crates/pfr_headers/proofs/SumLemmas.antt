@@ -1,12 +1,14 @@
 -- Sums over parts of a datagram, and what written words bring to them.
-use Rattle.std.proofs.Common.{◌≡◌, ◌≤◌, ◌<◌, ◌-◌, ◌+◌, ◌*◌, ◌++◌, ℕ, zero, suc, List, [], ◌∷◌, length, take, drop, refl, sym, ◌∙◌, ap, subst, arith}
+use Rattle.std.proofs.Common.{◌≡◌, ◌≤◌, ◌<◌, ◌-◌, ◌+◌, ◌*◌, ◌/◌, ◌%◌, ◌++◌, ℕ, zero, suc, List, [], ◌∷◌, length, take, drop, refl, sym, ◌∙◌, ap, subst, arith}
 use Rattle.std.proofs.lemmas.List.{drop-append-le, drop-drop, drop-take, length-drop, length-take-le, take-append-le, take-take}
 use Rattle.byteorder.specs.Endian.{big_bytes, big_number}
 use Rattle.byteorder.specs.Numbers.{big_number-reads_back}
-use Rattle.pfr_headers.specs.Checksum.{Verifies, difference, mended, mended_udp, with_word, word, word_at}
+use Rattle.pfr_headers.specs.declared.address.Ipv4Address.{Ipv4Address}
+use Rattle.pfr_headers.specs.Checksum.{Verifies, difference, difference_of, mended, mended_udp, with_word, with_words, word, word_at}
 use Rattle.pfr_headers.specs.Laws.{sum_of}
+use Rattle.pfr_headers.specs.Rewriting.{address_words}
 use Rattle.pfr_headers.proofs.ChecksumLemmas.{brings, mended_verifies, mends, udp_verifies, udp_within}
-use Rattle.pfr_headers.proofs.WordLemmas.{behind}
+use Rattle.pfr_headers.proofs.WordLemmas.{behind, length_with, next_kept}
 
 -- ---- a word among bytes that are summed
 
@@ -133,8 +135,22 @@ moves_past sum size place value bytes p is =
     let q = p.is bytes value is in
     record { rounds = 0; is = omega (arith, q) }
 
+-- the two words of an address
+pub address_moves : (sum : List ℕ → ℕ) (size place : ℕ) (address : Ipv4Address) (bytes : List ℕ) → length bytes ≡ size → place + 4 ≤ size → word_at bytes place ≤ 65535 → word_at bytes (place + 2) ≤ 65535 → address.0 < 4294967296 → Covers sum size place → Covers sum size (place + 2)
+    → Moves sum bytes (with_words (address_words place address) bytes) (difference_of bytes (address_words place address))
+address_moves sum size place address bytes is room within_high within_low small first second =
+    let one = with_word (word place (address.0 / 65536)) bytes in
+    let two = with_word (word (place + 2) (address.0 % 65536)) one in
+    let size_one = length_with (word place (address.0 / 65536)) bytes (omega (arith, is)) in
+    let same : word_at one (place + 2) ≡ word_at bytes (place + 2) = next_kept place (address.0 / 65536) bytes (omega (arith, is)) in
+    let a = moves_word sum size place (address.0 / 65536) bytes first is within_high (omega arith) in
+    let b = subst (λ (n : ℕ). Moves sum one two (difference n (address.0 % 65536))) same (moves_word sum size (place + 2) (address.0 % 65536) one second (size_one ∙ is) (rw same within_low) (omega arith)) in
+    let p = a.is in
+    let q = b.is in
+    record { rounds = a.rounds + b.rounds; is = omega (arith, p, q) }
+
 -- a word that is summed is no more than the sum
-least : (sum : List ℕ → ℕ) (size place : ℕ) (bytes : List ℕ) → Covers sum size place → length bytes ≡ size → word_at bytes place ≤ sum bytes
+pub least : (sum : List ℕ → ℕ) (size place : ℕ) (bytes : List ℕ) → Covers sum size place → length bytes ≡ size → word_at bytes place ≤ sum bytes
 least sum size place bytes c is = let q = c.is bytes 0 is (omega arith) in omega (arith, q)
 
 -- a checksum that is mended for what was brought

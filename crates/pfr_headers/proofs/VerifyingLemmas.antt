@@ -1,6 +1,6 @@
 -- The checksum of an IPv4 header still verifies after its packet is rewritten.
-use Rattle.std.proofs.Common.{◌≡◌, inl, inr, ◌≤◌, ◌<◌, ◌-◌, ◌+◌, ◌*◌, ◌/◌, ◌%◌, ◌++◌, ℕ, Bool, true, false, eqb, zero, suc, List, [], ◌∷◌, length, take, drop, Option, Some, None, refl, sym, ◌∙◌, ap, subst, arith}
-use Rattle.std.proofs.lemmas.List.{append_assoc, drop-drop, get_or-drop, length-take-le}
+use Rattle.std.proofs.Common.{◌≡◌, inl, inr, ◌≤◌, ◌<◌, ◌+◌, ◌*◌, ◌++◌, ℕ, Bool, true, false, eqb, List, [], ◌∷◌, length, take, drop, Option, Some, None, refl, sym, ◌∙◌, ap, subst, arith}
+use Rattle.std.proofs.lemmas.List.{append_assoc, get_or-drop, length-take-le}
 use Rattle.std.proofs.Math.Seq.{drop-append_seam}
 use Rattle.byteorder.specs.Numbers.{big_from-lt, big_number-reads_back}
 use Rattle.byteorder.specs.Endian.{big_bytes, big_number}
@@ -16,15 +16,16 @@ use Rattle.pfr_headers.specs.declared.packet.Packet.{Packet}
 use Rattle.pfr_headers.specs.declared.port.Port.{Port}
 use Rattle.pfr_headers.specs.declared.transport.Transport.{Transport}
 use Rattle.pfr_headers.specs.declared.transport.Transport.TheVariants.{Fragment, Tcp, Udp, Icmp, Other}
-use Rattle.pfr_headers.specs.Checksum.{AreBytes, HeaderVerifies, Verifies, Word, difference, difference_of, mended, sum_of_words, with_word, with_words, word, word_at}
+use Rattle.pfr_headers.specs.Checksum.{AreBytes, HeaderVerifies, Verifies, Word, difference_of, mended, sum_of_words, with_word, with_words, word, word_at}
 use Rattle.pfr_headers.specs.Rewriting.{address_place, address_words, behind_words, echo_or_none, echo_words, end_address, error_words, header_words, inner_words, other_end, outer_words, packet_words, rewritten, tcp_words, told_in, udp_words, words_for, words_of}
 use Rattle.pfr_headers.specs.Room.{BehindFits, InnerFits}
 use Rattle.pfr_headers.specs.declared.packet.View.TheVariants.{Ipv4}
 use Rattle.pfr_headers.specs.View.{HoldsIpv4, packet_of, place_of, view_of}
-use Rattle.pfr_headers.proofs.ChecksumLemmas.{brings, mended_verifies, mends, sum_outside, sum_with}
-use Rattle.pfr_headers.proofs.RewritingLemmas.{echo_span, header_room, header_span, inner_room, inner_span, outer_same, packet_there, port_most, transport_room, udp_span}
+use Rattle.pfr_headers.proofs.ChecksumLemmas.{sum_outside, sum_with}
+use Rattle.pfr_headers.proofs.SumLemmas.{Covers, address_moves, least, mending}
+use Rattle.pfr_headers.proofs.RewritingLemmas.{address_least, address_most, echo_span, header_room, header_span, inner_room, inner_span, outer_same, packet_there, port_most, transport_room, udp_span}
 use Rattle.pfr_headers.proofs.ViewLemmas.{packet_by, place_by}
-use Rattle.pfr_headers.proofs.WordLemmas.{AllWithin, Spans, kept_behind, kept_before, length_with, length_with_all, outside, spans_append, spans_wider, with_append}
+use Rattle.pfr_headers.proofs.WordLemmas.{AllWithin, Spans, address_kept, kept_before, length_with, length_with_all, outside, spans_append, spans_wider, with_append}
 
 pub word_small : (place : ℕ) (bytes : List ℕ) → AreBytes bytes → word_at bytes place ≤ 65535
 word_small place bytes are =
@@ -38,41 +39,6 @@ AreSmall bytes = (place : ℕ) → place ≤ 18 → word_at bytes place ≤ 6553
 small_words : (bytes : List ℕ) → AreBytes bytes → AreSmall bytes
 small_words bytes are = λ place within. word_small place bytes are
 
--- the second word is one of those that are summed
-second_least : (count : ℕ) (bytes : List ℕ) → 2 ≤ count → word_at bytes 2 ≤ sum_of_words count bytes
-second_least zero bytes some = absurd (omega arith)
-second_least (suc zero) bytes some = absurd (omega arith)
-second_least (suc (suc count)) bytes some = omega arith
-
--- an address and the checksum are written among the words
-sum_of_three : (count place a b c : ℕ) (bytes : List ℕ) → 6 ≤ place → place + 1 < count → 2 * count ≤ length bytes → a < 65536 → b < 65536 → c < 65536
-    → sum_of_words count (with_word (word 10 c) (with_word (word (2 * (place + 1)) b) (with_word (word (2 * place) a) bytes))) + (word_at bytes (2 * place) + (word_at bytes (2 * (place + 1)) + word_at bytes 10)) ≡ sum_of_words count bytes + (a + (b + c))
-sum_of_three count place a b c bytes least below within small_a small_b small_c =
-    let one = with_word (word (2 * place) a) bytes in
-    let two = with_word (word (2 * (place + 1)) b) one in
-    let length_one : length one ≡ length bytes = length_with (word (2 * place) a) bytes (omega arith) in
-    let length_two : length two ≡ length one = length_with (word (2 * (place + 1)) b) one (omega arith) in
-    let first = sum_with place count a bytes (omega arith) within small_a in
-    let second = sum_with (place + 1) count b one below (omega arith) small_b in
-    let third = sum_with 5 count c two (omega arith) (omega arith) small_c in
-    let at_second : word_at one (2 * (place + 1)) ≡ word_at bytes (2 * (place + 1)) = kept_behind (2 * place) a (2 * (place + 1)) bytes (omega arith) (omega arith) in
-    let at_third : word_at two 10 ≡ word_at bytes 10 = kept_before (2 * (place + 1)) b 10 one (omega arith) (omega arith) ∙ kept_before (2 * place) a 10 bytes (omega arith) (omega arith) in
-    omega (arith, first, second, third, at_second, at_third)
-
--- the checksum is mended for the address
--- so is the checksum's
-tenth_by : (count n : ℕ) (bytes : List ℕ) → n < count → word_at bytes (2 * n) ≤ sum_of_words count bytes
-tenth_by zero n bytes below = absurd (omega arith)
-tenth_by (suc count) zero bytes below = omega arith
-tenth_by (suc count) (suc n) bytes below =
-    let rest = tenth_by count n (drop 2 bytes) (omega arith) in
-    let place : 2 + 2 * n ≡ 2 * suc n = omega arith in
-    let at : word_at (drop 2 bytes) (2 * n) ≡ word_at bytes (2 * suc n) = ap (λ (t : List ℕ). big_number 2 t) (drop-drop (2 * n) 2 bytes) ∙ ap (λ (m : ℕ). big_number 2 (drop m bytes)) place in
-    omega (arith, rest, at)
-
-tenth_least : (count : ℕ) (bytes : List ℕ) → 6 ≤ count → word_at bytes 10 ≤ sum_of_words count bytes
-tenth_least count bytes some = tenth_by count 5 bytes (omega arith)
-
 pub read_at : (place value : ℕ) (bytes : List ℕ) → place + 2 ≤ length bytes → value < 65536 → word_at (with_word (word place value) bytes) place ≡ value
 unfolding with_word
 read_at place value bytes within small =
@@ -80,38 +46,33 @@ read_at place value bytes within small =
     let seam : drop place (take place bytes ++ behind) ≡ behind = subst (λ (n : ℕ). drop n (take place bytes ++ behind) ≡ behind) (length-take-le place bytes (omega arith)) (drop-append_seam (take place bytes) behind) in
     ap (λ (t : List ℕ). big_number 2 t) seam ∙ big_number-reads_back 2 value (drop (place + 2) bytes) small
 
-three_verify : (count place a b : ℕ) (bytes : List ℕ) → AreSmall bytes → 6 ≤ place → place ≤ 8 → place + 1 < count → 2 * count ≤ length bytes → a < 65536 → b < 65536 → 0 < word_at bytes 2
-    → Verifies (sum_of_words count bytes)
-    → Verifies (sum_of_words count (with_word (word 10 (mended (word_at bytes 10) (difference (word_at bytes (2 * place)) a + (difference (word_at bytes (2 * (place + 1))) b + 0)))) (with_word (word (2 * (place + 1)) b) (with_word (word (2 * place) a) bytes))))
-three_verify count place a b bytes are least most below within small_a small_b some before =
-    let brought = difference (word_at bytes (2 * place)) a + (difference (word_at bytes (2 * (place + 1))) b + 0) in
-    let checksum = mended (word_at bytes 10) brought in
-    let m = mends (word_at bytes 10) brought in
-    let small_c = m.within in
-    let high = brings (word_at bytes (2 * place)) a (are (2 * place) (omega arith)) in
-    let low = brings (word_at bytes (2 * (place + 1))) b (are (2 * (place + 1)) (omega arith)) in
-    let high_is = high.is in
-    let low_is = low.is in
-    let checksum_small = are 10 (omega arith) in
-    let three = sum_of_three count place a b checksum bytes least below within small_a small_b (omega arith) in
-    let new = with_word (word 10 checksum) (with_word (word (2 * (place + 1)) b) (with_word (word (2 * place) a) bytes)) in
-    let kept : word_at new 2 ≡ word_at bytes 2 = outside (word (2 * place) a ∷ (word (2 * (place + 1)) b ∷ (word 10 checksum ∷ []))) bytes 10 (2 * count) 2
-    (omega arith, omega arith, (omega arith, omega arith, (omega arith, omega arith, record {}))) within (inr (omega arith)) in
-    let second = second_least count new (omega arith) in
-    let sized = length_with_all (word (2 * place) a ∷ (word (2 * (place + 1)) b ∷ [])) bytes (omega arith, (omega arith, record {})) in
-    let read = read_at 10 checksum (with_word (word (2 * (place + 1)) b) (with_word (word (2 * place) a) bytes)) (omega (arith, sized)) (omega arith) in
-    let tenth_new = tenth_least count new (omega arith) in
-    let tenth = tenth_least count bytes (omega arith) in
-    let rest : sum_of_words count bytes ≡ (sum_of_words count bytes - word_at bytes 10) + word_at bytes 10 = omega arith in
-    let rest_new : sum_of_words count new ≡ (sum_of_words count new - checksum) + checksum = omega (arith, read, tenth_new) in
-    let v = mended_verifies (sum_of_words count bytes - word_at bytes 10) (sum_of_words count new - checksum) brought (word_at bytes 10) (high.rounds + low.rounds) checksum_small (omega (arith, three, tenth, read, tenth_new, high_is, low_is)) (rw rest at before) (omega (arith, rest_new, kept, second, some)) in
-    rw rest_new v
+-- the words that are summed
+header_covers : (count k size : ℕ) → k < count → 2 * count ≤ size → Covers (sum_of_words count) size (2 * k)
+header_covers count k size below within = record { is = λ bytes value is small. sum_with k count value bytes below (omega (arith, is)) small }
+
+high_covered : (count size : ℕ) (end : End) → 10 ≤ count → 2 * count ≤ size → Covers (sum_of_words count) size (0 + address_place end)
+high_covered count size Source long within = header_covers count 6 size (omega arith) within
+high_covered count size Destination long within = header_covers count 8 size (omega arith) within
+
+low_covered : (count size : ℕ) (end : End) → 10 ≤ count → 2 * count ≤ size → Covers (sum_of_words count) size (0 + address_place end + 2)
+low_covered count size Source long within = header_covers count 7 size (omega arith) within
+low_covered count size Destination long within = header_covers count 9 size (omega arith) within
 
 -- so the header's checksum verifies after an address of it was written
 header_verifies : (count : ℕ) (end : End) (address : Ipv4Address) (d : List ℕ) → AreSmall d → 10 ≤ count → 2 * count ≤ length d → address.0 < 4294967296 → 0 < word_at d 2 → Verifies (sum_of_words count d) → Verifies (sum_of_words count (with_words (header_words d 0 end address) d))
 unfolding header_words
-header_verifies count Source address d are long within small some before = three_verify count 6 (address.0 / 65536) (address.0 % 65536) d are (omega arith) (omega arith) (omega arith) within (omega arith) (omega arith) some before
-header_verifies count Destination address d are long within small some before = three_verify count 8 (address.0 / 65536) (address.0 % 65536) d are (omega arith) (omega arith) (omega arith) within (omega arith) (omega arith) some before
+header_verifies count end address d are long within small some before =
+    let place = 0 + address_place end in
+    let least_place = address_least end in
+    let most = address_most end in
+    let two = with_words (address_words place address) d in
+    let brought = difference_of d (address_words place address) in
+    let size : length two ≡ length d = length_with_all (address_words place address) d (omega arith, (omega arith, record {})) in
+    let checksum = word 10 (mended (word_at d 10) brought) in
+    let moved = address_moves (sum_of_words count) (length d) place address d refl (omega arith) (are place (omega arith)) (are (place + 2) (omega arith)) small (high_covered count (length d) end long within) (low_covered count (length d) end long within) in
+    let total : word_at (with_word checksum two) 2 ≡ word_at d 2 = kept_before 10 checksum.value 2 two (omega (arith, size)) (omega arith) ∙ address_kept place 2 address d (omega arith) (omega arith) in
+    let counted = least (sum_of_words count) (length d) 2 (with_word checksum two) (header_covers count 1 (length d) (omega arith) within) (length_with checksum two (omega (arith, size)) ∙ size) in
+    mending (sum_of_words count) (length d) 10 brought d two (header_covers count 5 (length d) (omega arith) within) refl size moved (address_kept place 10 address d (omega arith) (omega arith)) (are 10 (omega arith)) before (omega (arith, total, counted, some))
 
 -- what is written behind the header doesn't touch its words
 
