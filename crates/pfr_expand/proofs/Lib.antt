@@ -1,2 +1,5 @@
+pub mod CountLemmas
 pub mod Depths
 pub mod Places
+pub mod RuleLemmas
+pub mod RulesetLemmas
