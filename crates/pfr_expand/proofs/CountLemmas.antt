@@ -1,5 +1,5 @@
 -- How many rules the lists of a statement make.
-use Rattle.std.proofs.Common.{◌≡◌, ◌≤◌, ◌+◌, ◌*◌, ◌||◌, ℕ, Bool, true, false, nat_lt, if◌then◌else◌, List, [], ◌∷◌, ◌++◌, length, map, Option, Some, None, Result, Ok, Err, refl, sym, ap, ◌∙◌, subst, arith}
+use Rattle.std.proofs.Common.{◌≡◌, ◌≤◌, ◌+◌, ◌*◌, ℕ, Bool, true, false, nat_lt, if◌then◌else◌, List, [], ◌∷◌, length, map, Option, Some, None, Result, Ok, Err, refl, arith}
 use Rattle.std.proofs.lemmas.Bool.{ltb-false, or_parts}
 use Rattle.std.proofs.lemmas.List.{length-append, length-map}
 use Rattle.std.proofs.lemmas.Nat.{mul-le}
@@ -26,7 +26,6 @@ use Rattle.pfr_elements.specs.declared.definition.Taken.TheVariants as taken
 use Rattle.pfr_elements.specs.declared.element.Elements as E
 use Rattle.pfr_elements.specs.declared.hosts.HostCriterion.{HostCriterion}
 use Rattle.pfr_elements.specs.declared.scope.Scope.{Scope}
-use Rattle.pfr_elements.specs.declared.terms.InterfaceCriterion.{InterfaceCriterion}
 use Rattle.pfr_elements.specs.Elements.{elements_from, fault_at, listed, most_elements, none_yet, turned_if, with_element, with_fault, with_list_by, with_meaning, with_taken, with_written}
 use Rattle.pfr_elements.specs.Hosts.{host_criterion, host_lists, host_negated, host_tables, host_turned, host_use}
 use Rattle.pfr_elements.specs.Single.{criterion_of, single_sources, source_single, with_source}

@@ -24,7 +24,7 @@ use Rattle.pfr_flat.specs.Counts.{counted}
 use Rattle.pfr_flat.specs.Lists.{choices_or_fault, lists_of, product}
 use Rattle.pfr_expand.specs.declared.body.Body.{Body}
 use Rattle.pfr_expand.specs.declared.body.Setting.{Setting}
-use Rattle.pfr_expand.specs.Bodies.{Adding, action_of, anchor_by, and_then, body_from, copied_if, counted_anchor, empty_body, flat_anchor, flat_rule, has_rules, made_if, or_fault, rule_by, rule_of, statement, statement_by, with_anchor, with_body, with_copies, with_copy, with_made, with_rule}
+use Rattle.pfr_expand.specs.Bodies.{Adding, action_of, anchor_by, and_then, body_from, copied_if, counted_anchor, empty_body, flat_anchor, flat_rule, has_rules, made_if, or_fault, rule_by, rule_of, statement, statement_by, with_anchor, with_copies, with_copy, with_made, with_rule}
 use Rattle.pfr_expand.specs.Laws.{AreByForm, AreInTurn, AreOfFilter, IsAsWritten, IsOfRule, copies}
 use Rattle.pfr_expand.proofs.CountLemmas.{AreCounted, combinations_few, lists_counted, within}
 

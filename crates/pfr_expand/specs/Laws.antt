@@ -1,12 +1,11 @@
 -- Words of the laws: of which statements the filter rules of a ruleset are.
-use Rattle.std.specs.Prelude.{◌≡◌, ◌≢◌, ⊤, ℕ, zero, suc, List, [], ◌∷◌, ◌++◌, All, Some, None}
+use Rattle.std.specs.Prelude.{◌≡◌, ◌≢◌, ℕ, zero, suc, List, [], ◌∷◌, ◌++◌, All, Some, None}
 use Rattle.pfr_conf.specs.declared.policy.BlockPolicy.TheVariants.{Drop, Return}
 use Rattle.pfr_conf.specs.declared.filter.Action.{Action}
 use Rattle.pfr_conf.specs.declared.filter.Action.TheVariants.{Pass, Block}
 use Rattle.pfr_conf.specs.declared.filter.FilterRule.{FilterRule}
 use Rattle.pfr_conf.specs.declared.anchor.FilterStatement.{FilterStatement, out-FilterStatement}
 use Rattle.pfr_conf.specs.declared.anchor.FilterStatement.TheOpen.{FilterStatement-F}
-use Rattle.pfr_conf.specs.declared.anchor.AnchorRule.{AnchorRule}
 use Rattle.pfr_conf.specs.declared.statement.Statement.{Statement}
 use Rattle.pfr_conf.specs.declared.statement.Statement.TheVariants.{Filter}
 use Rattle.pfr_flat.specs.declared.flat.FilterAction.{FilterAction}
