@@ -26,7 +26,7 @@ use Rattle.pfr_elements.specs.declared.definition.Taken.TheVariants as taken
 use Rattle.pfr_elements.specs.declared.element.Elements as E
 use Rattle.pfr_elements.specs.declared.hosts.HostCriterion.{HostCriterion}
 use Rattle.pfr_elements.specs.declared.scope.Scope.{Scope}
-use Rattle.pfr_elements.specs.Elements.{elements_from, fault_at, listed, most_elements, none_yet, turned_if, with_element, with_fault, with_list_by, with_meaning, with_taken, with_written}
+use Rattle.pfr_elements.specs.Elements.{elements_from, fault_at, first_fault, listed, most_elements, none_yet, turned_if, with_element, with_fault, with_list_by, with_meaning, with_taken, with_written}
 use Rattle.pfr_elements.specs.Hosts.{host_criterion, host_lists, host_negated, host_tables, host_turned, host_use}
 use Rattle.pfr_elements.specs.Single.{criterion_of, single_sources, source_single, with_source}
 use Rattle.pfr_elements.specs.Terms.{icmp_lists, interface_lists, interface_meaning, interface_negated, interface_turned, interface_use, itself, never, no_table, port_lists, protocol_lists, same, use_in}
@@ -43,6 +43,10 @@ use Rattle.pfr_flat.proofs.Order.{combination_count}
 -- a list that isn't too long has no more items than it counts
 abbrev pub IsCounted : {A : Type 0} → E.Elements A → Type 0
 IsCounted found = found.count ≤ 1048576 → length found.items ≤ found.count
+
+pub is_fault : (first : Option ConfError) (e : ConfError) → first_fault first e ≡ None → ⊥
+is_fault (Some first) e none = cc none
+is_fault None e none = cc none
 
 fault_counted : {A : Type 0} (e : ConfError) (found : E.Elements A) → IsCounted found → IsCounted (with_fault e found)
 fault_counted e found before = λ few. let least : length found.items ≤ found.count = before (omega (arith, few)) in omega (arith, least)
@@ -169,7 +173,7 @@ choices_are_few l are short =
     let g = mul-le _ _ _ _ f (choices_few l.destination_ports are.destination_ports seventh.1) in
     rw (combination_count (choices l)) g
 
-no_other : (c d : C.Choices) (fault : Option ConfError) → or_choices c fault ≡ Ok d → d ≡ c
+pub no_other : (c d : C.Choices) (fault : Option ConfError) → or_choices c fault ≡ Ok d → d ≡ c
 no_other c d None is = cc is
 no_other c d (Some e) is = absurd (cc is)
 

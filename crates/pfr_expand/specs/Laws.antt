@@ -1,9 +1,16 @@
--- Words of the laws: of which statements the filter rules of a ruleset are.
-use Rattle.std.specs.Prelude.{◌≡◌, ◌≢◌, ℕ, zero, suc, List, [], ◌∷◌, ◌++◌, All, Some, None}
+-- Words of the laws: of which statements the filter rules of a ruleset are, and how many.
+use Rattle.std.specs.Prelude.{◌≡◌, ◌≢◌, ⊤, ℕ, zero, suc, ◌*◌, List, [], ◌∷◌, ◌++◌, length, All, Option, Some, None}
+use Rattle.pfr_terms.specs.declared.address.Address.{Address}
+use Rattle.pfr_terms.specs.declared.address.Address.TheVariants as a
+use Rattle.pfr_terms.specs.declared.hosts.Criteria.{Criteria}
+use Rattle.pfr_terms.specs.declared.hosts.Part.{Part}
+use Rattle.pfr_terms.specs.declared.name.Written.{Written}
+use Rattle.pfr_terms.specs.declared.name.Written.TheVariants.{Item, Macro}
 use Rattle.pfr_conf.specs.declared.policy.BlockPolicy.TheVariants.{Drop, Return}
 use Rattle.pfr_conf.specs.declared.filter.Action.{Action}
 use Rattle.pfr_conf.specs.declared.filter.Action.TheVariants.{Pass, Block}
 use Rattle.pfr_conf.specs.declared.filter.FilterRule.{FilterRule}
+use Rattle.pfr_conf.specs.declared.anchor.AnchorRule.{AnchorRule}
 use Rattle.pfr_conf.specs.declared.anchor.FilterStatement.{FilterStatement, out-FilterStatement}
 use Rattle.pfr_conf.specs.declared.anchor.FilterStatement.TheOpen.{FilterStatement-F}
 use Rattle.pfr_conf.specs.declared.statement.Statement.{Statement}
@@ -11,6 +18,48 @@ use Rattle.pfr_conf.specs.declared.statement.Statement.TheVariants.{Filter}
 use Rattle.pfr_flat.specs.declared.flat.FilterAction.{FilterAction}
 use Rattle.pfr_flat.specs.declared.flat.FilterAction.TheVariants as does
 use Rattle.pfr_flat.specs.declared.flat.FlatRule.{FlatRule}
+
+-- ---- lists as they are written
+
+-- an element that isn't the use of a macro
+abbrev pub IsPlain : {A : Type 0} → Written A → Type 0
+IsPlain (Item x) = ⊤
+IsPlain (Macro found) = ⊥
+
+-- the same of an address
+abbrev pub IsPlainAddress : Address → Type 0
+IsPlainAddress (a.Macro found) = ⊥
+IsPlainAddress other = ⊤
+
+-- all elements of a list, if it is written
+abbrev pub AllWritten : {A : Type 0} → (A → Type 0) → Option (List A) → Type 0
+AllWritten P None = ⊤
+AllWritten P (Some list) = All P list
+
+-- a source or a destination whose lists use no macro
+abbrev pub IsPlainPart : Option Part → Type 0
+IsPlainPart None = ⊤
+IsPlainPart (Some part) = AllWritten (λ m. IsPlainAddress m.address) part.addresses × AllWritten IsPlain part.ports
+
+-- criteria whose lists use no macro
+abbrev pub ArePlain : Criteria → Type 0
+ArePlain criteria = AllWritten (λ m. IsPlain m.interface) criteria.interfaces × AllWritten IsPlain criteria.protocols × IsPlainPart criteria.hosts.source × IsPlainPart criteria.hosts.destination
+
+-- how many elements may be chosen of a list; where none is written there is one choice
+abbrev pub choices_in : {A : Type 0} → Option (List A) → ℕ
+choices_in None = 1
+choices_in (Some list) = length list
+
+-- how many combinations the addresses and ports of a source or a destination make
+abbrev pub choices_in_part : Option Part → ℕ
+choices_in_part None = 1
+choices_in_part (Some part) = choices_in part.addresses * choices_in part.ports
+
+-- how many combinations the lists of criteria make
+abbrev pub combinations_in : Criteria → ℕ
+combinations_in criteria = choices_in criteria.interfaces * choices_in criteria.protocols * choices_in_part criteria.hosts.source * choices_in_part criteria.hosts.destination
+
+-- ---- a filter rule
 
 -- what a flat rule does is what is written; `block` alone leaves open which way it blocks
 abbrev pub IsAsWritten : Action → FilterAction → Type 0
@@ -26,6 +75,13 @@ pub record IsOfRule (rule : FilterRule) (flat : FlatRule) : Type 0 where
   pub quick : flat.is_quick ≡ rule.is_quick
   pub options : flat.allow_opts ≡ rule.options.allow_opts
 
+-- all flat rules of a written one; where its lists use no macro there is one for each combination of their elements
+pub record AreOfRule (rule : FilterRule) (rules : List FlatRule) : Type 0 where
+  pub each : All (IsOfRule rule) rules
+  pub count : ArePlain rule.criteria → AllWritten IsPlain rule.options.icmp_types → length rules ≡ combinations_in rule.criteria * choices_in rule.options.icmp_types
+
+-- ---- anchors, and all statements
+
 -- rules of several things: those of the first, and behind them those of the others in their order
 abbrev pub AreInTurn : {X : Type 0} → (X → List FlatRule → Type 0) → List X → List FlatRule → Type 0
 AreInTurn AreOf [] rules = rules ≡ []
@@ -36,11 +92,19 @@ abbrev pub copies : ℕ → List FlatRule → List FlatRule
 copies zero rules = []
 copies (suc more) rules = rules ++ copies more rules
 
--- the rules of a filter rule are all of it; those of an anchor are copies of its body's, and `AreOfBody` says which
--- these are
+-- the rules of an anchor: copies of those of its body; where its lists use no macro there is one for each combination
+-- of their elements
+pub record AreOfAnchor (AreOfBody : List FlatRule → Type 0) (anchor : AnchorRule) (rules : List FlatRule) : Type 0 where
+  pub body : List FlatRule
+  pub are_body : AreOfBody body
+  pub times : ℕ
+  pub are_copies : rules ≡ copies times body
+  pub count : ArePlain anchor.criteria → times ≡ combinations_in anchor.criteria
+
+-- the rules of a filter rule, or of an anchor where it is told which are rules of its body
 abbrev pub AreByForm : (List FilterStatement → List FlatRule → Type 0) → FilterStatement-F FilterStatement → List FlatRule → Type 0
-AreByForm AreOfBody (FilterStatement-F.Rule rule) rules = All (IsOfRule rule) rules
-AreByForm AreOfBody (FilterStatement-F.Anchor anchor body) rules = (one : List FlatRule) × (times : ℕ) × AreOfBody body one × (rules ≡ copies times one)
+AreByForm AreOfBody (FilterStatement-F.Rule rule) rules = AreOfRule rule rules
+AreByForm AreOfBody (FilterStatement-F.Anchor anchor body) rules = AreOfAnchor (AreOfBody body) anchor rules
 
 -- the rules of a filter rule or an anchor in which at most so many anchors stand in one another
 abbrev pub AreOfFilter : ℕ → FilterStatement → List FlatRule → Type 0
