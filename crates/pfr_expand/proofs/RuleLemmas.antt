@@ -1,15 +1,20 @@
 -- The rules of a filter rule and of an anchor: of what they are, and that they are as many as are counted, at most.
-use Rattle.std.proofs.Common.{◌≡◌, ◌≤◌, ◌+◌, ◌*◌, ◌==◌, ℕ, zero, suc, Bool, true, false, if◌then◌else◌, List, [], ◌∷◌, ◌++◌, length, map, fold, All, Option, Some, None, Result, Ok, Err, append_assoc, append-nil, refl, sym, ap, ◌∙◌, subst, arith}
+use Rattle.std.proofs.Common.{◌≡◌, ◌≤◌, ◌+◌, ◌*◌, ◌==◌, ℕ, zero, suc, Bool, true, false, if◌then◌else◌, List, [], ◌∷◌, ◌++◌, length, map, fold, All, Option, Some, None, IfSome, Result, Ok, Err, append_assoc, append-nil, refl, sym, ap, ◌∙◌, subst, arith}
 use Rattle.std.proofs.lemmas.Bool.{eqb-true}
 use Rattle.std.proofs.lemmas.List.{length-append, length-map}
 use Rattle.std.proofs.lemmas.List.Elements.{All-nil, All-cons}
 use Rattle.std.proofs.lemmas.Nat.{mul-le}
 use Rattle.pfr_terms.specs.declared.error.ConfError.{ConfError}
+use Rattle.pfr_terms.specs.declared.flags.FlagsMatch.{FlagsMatch}
+use Rattle.pfr_terms.specs.declared.flags.FlagsMatch.TheVariants as flags
 use Rattle.pfr_conf.specs.declared.policy.BlockPolicy.{BlockPolicy}
 use Rattle.pfr_conf.specs.declared.policy.BlockPolicy.TheVariants as b
 use Rattle.pfr_conf.specs.declared.filter.Action.{Action}
 use Rattle.pfr_conf.specs.declared.filter.Action.TheVariants as a
 use Rattle.pfr_conf.specs.declared.filter.FilterRule.{FilterRule}
+use Rattle.pfr_conf.specs.declared.policy.Binding.{Binding}
+use Rattle.pfr_conf.specs.declared.rule_options.StateKeeping.{StateKeeping}
+use Rattle.pfr_conf.specs.declared.rule_options.StateKeeping.TheVariants as k
 use Rattle.pfr_conf.specs.declared.anchor.AnchorRule.{AnchorRule}
 use Rattle.pfr_conf.specs.declared.anchor.FilterStatement.{FilterStatement, out-FilterStatement}
 use Rattle.pfr_conf.specs.declared.anchor.FilterStatement.TheOpen.{FilterStatement-F}
@@ -18,14 +23,15 @@ use Rattle.pfr_flat.specs.declared.choices.Choices as C
 use Rattle.pfr_flat.specs.declared.flat.FlatAnchor.{FlatAnchor}
 use Rattle.pfr_flat.specs.declared.flat.FlatRule.{FlatRule}
 use Rattle.pfr_flat.specs.declared.flat.PacketMatch.{PacketMatch}
+use Rattle.pfr_flat.specs.declared.flat.StateRule.{StateRule}
 use Rattle.pfr_flat.specs.declared.lists.Lists as L
 use Rattle.pfr_flat.specs.Choices.{combinations}
 use Rattle.pfr_flat.specs.Counts.{counted}
 use Rattle.pfr_flat.specs.Lists.{choices_or_fault, has_long_list, lists_of, product}
 use Rattle.pfr_expand.specs.declared.body.Body.{Body}
 use Rattle.pfr_expand.specs.declared.body.Setting.{Setting}
-use Rattle.pfr_expand.specs.Bodies.{Adding, action_of, anchor_by, and_then, body_from, copied_if, counted_anchor, empty_body, flat_anchor, flat_rule, has_rules, made_if, or_fault, rule_by, rule_of, statement, statement_by, with_anchor, with_copies, with_copy, with_made, with_rule}
-use Rattle.pfr_expand.specs.Laws.{AllWritten, AreByForm, AreInTurn, AreOfAnchor, AreOfFilter, AreOfRule, ArePlain, IsAsWritten, IsOfRule, IsPlain, choices_in, combinations_in, copies}
+use Rattle.pfr_expand.specs.Bodies.{Adding, action_of, anchor_by, and_then, binding_of, body_from, copied_if, counted_anchor, empty_body, flat_anchor, flags_of, flat_rule, has_rules, made_if, or_fault, rule_by, rule_of, state_of, statement, statement_by, with_anchor, with_copies, with_copy, with_made, with_rule}
+use Rattle.pfr_expand.specs.Laws.{AllWritten, AsksAsWritten, AreByForm, AreInTurn, AreOfAnchor, AreOfFilter, AreOfRule, ArePlain, IsAsWritten, IsOfRule, IsPlain, KeepsAsWritten, choices_in, combinations_in, copies}
 use Rattle.pfr_expand.proofs.CountLemmas.{AreCounted, combinations_few, is_fault, lists_counted, within}
 use Rattle.pfr_expand.proofs.PlainLemmas.{anchor_exact, rule_exact}
 
@@ -43,16 +49,34 @@ Grows AreMade old new = new.fault ≡ None → Extends AreMade old new
 
 -- ---- one rule
 
-as_written : (policy : BlockPolicy) (written : Action) → IsAsWritten written (action_of policy written)
-as_written policy a.Pass = refl
-as_written policy (a.Block (Some b.Drop)) = refl
-as_written policy (a.Block (Some b.Return)) = refl
-as_written b.Drop (a.Block None) = λ passes. cc passes
-as_written b.Return (a.Block None) = λ passes. cc passes
+done_as_written : (policy : BlockPolicy) (written : Action) → IsAsWritten written (action_of policy written)
+done_as_written policy a.Pass = refl
+done_as_written policy (a.Block (Some b.Drop)) = refl
+done_as_written policy (a.Block (Some b.Return)) = refl
+done_as_written b.Drop (a.Block None) = λ passes. cc passes
+done_as_written b.Return (a.Block None) = λ passes. cc passes
+
+bound_as_written : (policy : Binding) (written : Option Binding) → IfSome written (λ (binding : Binding). binding_of policy written ≡ binding)
+bound_as_written policy None = record {}
+bound_as_written policy (Some written) = refl
+
+kept_as_written : (policy : Binding) (action : Action) (keeping : Option StateKeeping) → KeepsAsWritten action keeping (state_of policy action keeping)
+kept_as_written policy (a.Block written) keeping = refl
+kept_as_written policy a.Pass None = refl
+kept_as_written policy a.Pass (Some k.No) = refl
+kept_as_written policy a.Pass (Some (k.Keep options)) = (refl, bound_as_written policy options.binding)
+
+asked_as_written : (state : Option StateRule) (written : Option FlagsMatch) → AsksAsWritten written state (flags_of state written)
+asked_as_written None None = refl
+asked_as_written (Some kept) None = refl
+asked_as_written None (Some flags.Any) = refl
+asked_as_written (Some kept) (Some flags.Any) = refl
+asked_as_written None (Some (flags.Of set mask)) = refl
+asked_as_written (Some kept) (Some (flags.Of set mask)) = refl
 
 of_rule : (setting : Setting) (rule : FilterRule) (m : PacketMatch) → IsOfRule rule (record (flat_rule setting rule) { packet = m })
 unfolding flat_rule
-of_rule setting rule m = record { action = as_written setting.block_policy rule.action; direction = refl; quick = refl; options = refl }
+of_rule setting rule m = record { action = done_as_written setting.block_policy rule.action; direction = refl; quick = refl; options = refl; state = kept_as_written setting.state_policy rule.action rule.options.state; flags = asked_as_written (state_of setting.state_policy rule.action rule.options.state) rule.options.flags }
 
 all_of_rule : (setting : Setting) (rule : FilterRule) (matches : List PacketMatch) → All (IsOfRule rule) (map (λ m. record (flat_rule setting rule) { packet = m }) matches)
 all_of_rule setting rule [] = All-nil (IsOfRule rule)

@@ -1,7 +1,9 @@
 -- Words of the laws: of which statements the filter rules of a ruleset are, and how many.
-use Rattle.std.specs.Prelude.{◌≡◌, ◌≢◌, ⊤, ℕ, zero, suc, ◌*◌, List, [], ◌∷◌, ◌++◌, length, All, Option, Some, None}
+use Rattle.std.specs.Prelude.{◌≡◌, ◌≢◌, ⊤, ℕ, zero, suc, ◌*◌, List, [], ◌∷◌, ◌++◌, length, All, false, Option, Some, None, IsSomeAnd, IfSome}
 use Rattle.pfr_terms.specs.declared.address.Address.{Address}
 use Rattle.pfr_terms.specs.declared.address.Address.TheVariants as a
+use Rattle.pfr_terms.specs.declared.flags.FlagsMatch.{FlagsMatch}
+use Rattle.pfr_terms.specs.declared.flags.FlagsMatch.TheVariants as flags
 use Rattle.pfr_terms.specs.declared.hosts.Criteria.{Criteria}
 use Rattle.pfr_terms.specs.declared.hosts.Part.{Part}
 use Rattle.pfr_terms.specs.declared.name.Written.{Written}
@@ -13,11 +15,16 @@ use Rattle.pfr_conf.specs.declared.filter.FilterRule.{FilterRule}
 use Rattle.pfr_conf.specs.declared.anchor.AnchorRule.{AnchorRule}
 use Rattle.pfr_conf.specs.declared.anchor.FilterStatement.{FilterStatement, out-FilterStatement}
 use Rattle.pfr_conf.specs.declared.anchor.FilterStatement.TheOpen.{FilterStatement-F}
+use Rattle.pfr_conf.specs.declared.rule_options.StateKeeping.{StateKeeping}
+use Rattle.pfr_conf.specs.declared.rule_options.StateKeeping.TheVariants.{No, Keep}
 use Rattle.pfr_conf.specs.declared.statement.Statement.{Statement}
 use Rattle.pfr_conf.specs.declared.statement.Statement.TheVariants.{Filter}
 use Rattle.pfr_flat.specs.declared.flat.FilterAction.{FilterAction}
 use Rattle.pfr_flat.specs.declared.flat.FilterAction.TheVariants as does
+use Rattle.pfr_flat.specs.declared.flat.FlagsCriterion.{FlagsCriterion}
+use Rattle.pfr_flat.specs.declared.flat.FlagsCriterion.TheVariants as asks
 use Rattle.pfr_flat.specs.declared.flat.FlatRule.{FlatRule}
+use Rattle.pfr_flat.specs.declared.flat.StateRule.{StateRule}
 
 -- ---- lists as they are written
 
@@ -68,12 +75,29 @@ IsAsWritten (Block (Some Drop)) action = action ≡ does.Drop
 IsAsWritten (Block (Some Return)) action = action ≡ does.Return
 IsAsWritten (Block None) action = action ≢ does.Pass
 
+-- the state that a flat rule keeps is what is written: a block rule keeps none, a pass rule one unless it says `no state`,
+-- which is told to others unless it says otherwise, and bound as it says
+abbrev pub KeepsAsWritten : Action → Option StateKeeping → Option StateRule → Type 0
+KeepsAsWritten (Block written) keeping state = state ≡ None
+KeepsAsWritten Pass (Some No) state = state ≡ None
+KeepsAsWritten Pass None state = IsSomeAnd state (λ kept. kept.no_sync ≡ false)
+KeepsAsWritten Pass (Some (Keep options)) state = IsSomeAnd state (λ kept. (kept.no_sync ≡ options.no_sync) × IfSome options.binding (λ written. kept.binding ≡ written))
+
+-- the flags that it asks for are those that are written; where none are, S/SA if it keeps state
+abbrev pub AsksAsWritten : Option FlagsMatch → Option StateRule → FlagsCriterion → Type 0
+AsksAsWritten (Some flags.Any) state asked = asked ≡ asks.Any
+AsksAsWritten (Some (flags.Of set mask)) state asked = asked ≡ asks.Written set mask
+AsksAsWritten None (Some kept) asked = asked ≡ asks.Default
+AsksAsWritten None None asked = asked ≡ asks.Any
+
 -- a flat rule of a written one
 pub record IsOfRule (rule : FilterRule) (flat : FlatRule) : Type 0 where
   pub action : IsAsWritten rule.action flat.action
   pub direction : flat.direction ≡ rule.direction
   pub quick : flat.is_quick ≡ rule.is_quick
   pub options : flat.allow_opts ≡ rule.options.allow_opts
+  pub state : KeepsAsWritten rule.action rule.options.state flat.state
+  pub flags : AsksAsWritten rule.options.flags flat.state flat.flags
 
 -- all flat rules of a written one; where its lists use no macro there is one for each combination of their elements
 pub record AreOfRule (rule : FilterRule) (rules : List FlatRule) : Type 0 where
