@@ -1,8 +1,9 @@
 -- Lists that use no macro come to as many things as are written, so there are as many combinations.
-use Rattle.std.proofs.Common.{◌≡◌, ◌≤◌, ◌<◌, ◌+◌, ◌*◌, ℕ, suc, Bool, true, false, nat_lt, if◌then◌else◌, List, [], ◌∷◌, length, All, Option, Some, None, Result, Ok, Err, refl, sym, ◌∙◌, subst, arith}
+use Rattle.std.proofs.Common.{◌≡◌, ◌≤◌, ◌<◌, ◌+◌, ◌*◌, ℕ, suc, Bool, true, false, nat_lt, if◌then◌else◌, List, [], ◌∷◌, length, All, Contains, slice_get, slice_index_or, Option, Some, None, Result, Ok, Err, refl, sym, ◌∙◌, subst, arith}
 use Rattle.std.proofs.lemmas.Bool.{ltb-true, ltb-false, or_parts}
 use Rattle.std.proofs.lemmas.List.{length-append, length-map}
-use Rattle.std.proofs.lemmas.List.Elements.{All-head, All-tail}
+use Rattle.std.proofs.lemmas.List.Elements.{All-nil, All-cons, All-head, All-map, All-push, All-tail, Contains-get_or}
+use Rattle.std.proofs.lemmas.Option.{get_or_from_slice_get, slice_get-get_or, slice_get_within}
 use Rattle.pfr_terms.specs.declared.address.Address.{Address}
 use Rattle.pfr_terms.specs.declared.address.Address.TheVariants as a
 use Rattle.pfr_terms.specs.declared.address.AddressMatch.{AddressMatch}
@@ -21,6 +22,7 @@ use Rattle.pfr_terms.specs.Input.{Parser}
 use Rattle.pfr_terms.specs.Lists as lists
 use Rattle.pfr_terms.specs.Ports as ports
 use Rattle.pfr_terms.specs.Terms as terms
+use Rattle.pfr_conf.specs.declared.filter.FilterRule.{FilterRule}
 use Rattle.pfr_elements.specs.declared.definition.ListMeaning.{ListMeaning}
 use Rattle.pfr_elements.specs.declared.definition.ListMeanings.{ListMeanings}
 use Rattle.pfr_elements.specs.declared.element.Elements as E
@@ -30,11 +32,13 @@ use Rattle.pfr_elements.specs.Elements.{elements_from, most_elements, none_yet, 
 use Rattle.pfr_elements.specs.Hosts.{host_criterion, host_lists, host_negated, host_tables, host_turned, host_use, host_use_by}
 use Rattle.pfr_elements.specs.Terms.{icmp_lists, interface_lists, interface_meaning, interface_negated, interface_turned, interface_use, itself, never, no_table, port_lists, protocol_lists, same, use_in}
 use Rattle.pfr_flat.specs.declared.choices.Choices as C
+use Rattle.pfr_flat.specs.declared.flat.PacketMatch.{PacketMatch}
 use Rattle.pfr_flat.specs.declared.lists.Lists as L
 use Rattle.pfr_flat.specs.Choices.{combinations}
 use Rattle.pfr_flat.specs.Lists.{addresses_in, choices, choices_of, choices_or_fault, fault_of, has_long_list, host_list, hosts_of, icmp_types, if_written, interfaces, is_long, items_of, lists_of, lists_with, or_choices, or_fault, port_list, ports_in, protocols}
+use Rattle.pfr_flat.proofs.Digits.{choices_at}
 use Rattle.pfr_flat.proofs.Order.{combination_count}
-use Rattle.pfr_expand.specs.Laws.{AllWritten, ArePlain, IsPlain, IsPlainAddress, IsPlainPart, choices_in, choices_in_part, combinations_in}
+use Rattle.pfr_expand.specs.Laws.{AllWritten, ArePlain, AsksFrom, IsFrom, IsPlain, IsPlainAddress, IsPlainPart, choices_in, choices_in_part, combinations_in, ports_of}
 use Rattle.pfr_expand.proofs.CountLemmas.{is_fault, no_other}
 
 -- ---- a list
@@ -190,3 +194,63 @@ pub anchor_exact : (scope : Scope) (keeps : Bool) (criteria : Criteria) (c : C.C
 anchor_exact scope keeps criteria c plain short is =
     let exact : length (combinations c) ≡ combinations_in criteria * 1 = rule_exact scope keeps criteria None c plain (record {}) short is in
     omega (arith, exact)
+
+-- ---- what a combination asks for
+
+module _ {A : Type 0} (form : Parser (Written A)) (list_in : ListMeanings → ListMeaning A) (scope : Scope) (keeps : Bool) where
+  abbrev itself_more : E.Elements A → Written A → E.Elements A
+  itself_more = with_element use_in never itself form no_table list_in same scope keeps
+
+  one_from : (list : List (Written A)) (found : E.Elements A) (x : Written A) → IsPlain x × Contains list x → All (λ (y : A). Contains list (w.Item y)) found.items → All (λ (y : A). Contains list (w.Item y)) (itself_more found x).items
+  unfolding with_element
+  one_from list found (w.Item y) is all = All-push (λ (y : A). Contains list (w.Item y)) found.items y all is.1
+  one_from list found (w.Macro u) is all = absurd is.0
+
+  all_from : (list : List (Written A)) (found : E.Elements A) (xs : List (Written A)) → All (λ (x : Written A). IsPlain x × Contains list x) xs → All (λ (y : A). Contains list (w.Item y)) found.items → All (λ (y : A). Contains list (w.Item y)) (elements_from itself_more found xs).items
+  all_from list found [] are all = all
+  all_from list found (x ∷ xs) are all =
+      by_length (all_from list (itself_more found x) xs (All-tail (λ (x : Written A). IsPlain x × Contains list x) x xs are) (one_from list found x (All-head (λ (x : Written A). IsPlain x × Contains list x) x xs are) all)) (nat_lt most_elements found.count)
+    where
+      by_length : All (λ (y : A). Contains list (w.Item y)) (elements_from itself_more (itself_more found x) xs).items → (long : Bool) → All (λ (y : A). Contains list (w.Item y)) (if long then found else elements_from itself_more (itself_more found x) xs).items
+      by_length others true = all
+      by_length others false = others
+
+  choices_from : (list : Option (List (Written A))) → All (IsFrom list) (choices_of (items_of (if_written (elements_from itself_more none_yet) list)))
+  choices_from None =
+      let none : Option (List (Written A)) = None in
+      let nothing : Option A = None in
+      All-cons (IsFrom none) nothing [] refl (All-nil (IsFrom none))
+  choices_from (Some list) =
+      let some : A → Option A = Some in
+      All-map (IsFrom (Some list)) some (elements_from itself_more none_yet list).items
+      (λ k d below plain. (
+          slice_index_or (elements_from itself_more none_yet list).items k d,
+          all_from list none_yet list (λ k d below. (plain k d below, Contains-get_or list k d below)) (All-nil (λ (y : A). Contains list (w.Item y))) k d below,
+          refl))
+
+chosen : {A : Type 0} (P : A → Type 0) (xs : List A) (i : ℕ) (x : A) → All P xs → slice_get xs i ≡ Some x → P x
+chosen P xs i x all is = subst P (get_or_from_slice_get xs i x x is) (all i x (slice_get_within xs i x is))
+
+ports_from : (scope : Scope) (keeps : Bool) (part : Option Part) → All (IsFrom (ports_of part)) (choices_of (items_of (if_written (port_list scope keeps) (ports_in part))))
+ports_from scope keeps None = choices_from (lists.written ports.port_match) port_lists scope keeps None
+ports_from scope keeps (Some part) = choices_from (lists.written ports.port_match) port_lists scope keeps part.ports
+
+asked_of : (scope : Scope) (keeps : Bool) (rule : FilterRule) → All (AsksFrom rule) (combinations (choices (lists_of scope keeps rule.criteria rule.options.icmp_types)))
+unfolding lists_with
+asked_of scope keeps rule = λ i m below. (
+    let c : C.Choices = choices (lists_of scope keeps rule.criteria rule.options.icmp_types) in
+    let asked : PacketMatch = slice_index_or (combinations c) i m in
+    let at = choices_at c asked i (slice_get-get_or (combinations c) i m below) in
+    record {
+      protocol = chosen (IsFrom rule.criteria.protocols) c.protocols _ asked.protocol (choices_from (lists.written terms.protocol) protocol_lists scope keeps rule.criteria.protocols) at.5;
+      icmp = chosen (IsFrom rule.options.icmp_types) c.icmp_types _ asked.icmp (choices_from (lists.written terms.icmp_match) icmp_lists scope keeps rule.options.icmp_types) at.4;
+      source_port = chosen (IsFrom (ports_of rule.criteria.hosts.source)) c.source_ports _ asked.source_port (ports_from scope keeps rule.criteria.hosts.source) at.2;
+      destination_port = chosen (IsFrom (ports_of rule.criteria.hosts.destination)) c.destination_ports _ asked.destination_port (ports_from scope keeps rule.criteria.hosts.destination) at.0;
+    })
+
+-- the combinations of a filter rule ask for what is written
+pub rule_asks : (scope : Scope) (keeps : Bool) (rule : FilterRule) (c : C.Choices) → choices_or_fault (lists_of scope keeps rule.criteria rule.options.icmp_types) ≡ Ok c → All (AsksFrom rule) (combinations c)
+unfolding choices_or_fault
+rule_asks scope keeps rule c is =
+    let l : L.Lists = lists_of scope keeps rule.criteria rule.options.icmp_types in
+    rw (no_other (choices l) c (fault_of l) is) (asked_of scope keeps rule)

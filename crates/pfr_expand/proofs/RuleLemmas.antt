@@ -2,7 +2,7 @@
 use Rattle.std.proofs.Common.{◌≡◌, ◌≤◌, ◌+◌, ◌*◌, ◌==◌, ℕ, zero, suc, Bool, true, false, if◌then◌else◌, List, [], ◌∷◌, ◌++◌, length, map, fold, All, Option, Some, None, IfSome, Result, Ok, Err, append_assoc, append-nil, refl, sym, ap, ◌∙◌, subst, arith}
 use Rattle.std.proofs.lemmas.Bool.{eqb-true}
 use Rattle.std.proofs.lemmas.List.{length-append, length-map}
-use Rattle.std.proofs.lemmas.List.Elements.{All-nil, All-cons}
+use Rattle.std.proofs.lemmas.List.Elements.{All-nil, All-cons, All-head, All-tail}
 use Rattle.std.proofs.lemmas.Nat.{mul-le}
 use Rattle.pfr_terms.specs.declared.error.ConfError.{ConfError}
 use Rattle.pfr_terms.specs.declared.flags.FlagsMatch.{FlagsMatch}
@@ -31,9 +31,9 @@ use Rattle.pfr_flat.specs.Lists.{choices_or_fault, has_long_list, lists_of, prod
 use Rattle.pfr_expand.specs.declared.body.Body.{Body}
 use Rattle.pfr_expand.specs.declared.body.Setting.{Setting}
 use Rattle.pfr_expand.specs.Bodies.{Adding, action_of, anchor_by, and_then, binding_of, body_from, copied_if, counted_anchor, empty_body, flat_anchor, flags_of, flat_rule, has_rules, made_if, or_fault, rule_by, rule_of, state_of, statement, statement_by, with_anchor, with_copies, with_copy, with_made, with_rule}
-use Rattle.pfr_expand.specs.Laws.{AllWritten, AsksAsWritten, AreByForm, AreInTurn, AreOfAnchor, AreOfFilter, AreOfRule, ArePlain, IsAsWritten, IsOfRule, IsPlain, KeepsAsWritten, choices_in, combinations_in, copies}
+use Rattle.pfr_expand.specs.Laws.{AllWritten, AsksAsWritten, AsksFrom, AreByForm, AreInTurn, AreOfAnchor, AreOfFilter, AreOfRule, ArePlain, IsAsWritten, IsOfRule, IsPlain, KeepsAsWritten, choices_in, combinations_in, copies}
 use Rattle.pfr_expand.proofs.CountLemmas.{AreCounted, combinations_few, is_fault, lists_counted, within}
-use Rattle.pfr_expand.proofs.PlainLemmas.{anchor_exact, rule_exact}
+use Rattle.pfr_expand.proofs.PlainLemmas.{anchor_exact, rule_asks, rule_exact}
 
 -- rules behind those that there were, of what is told, and no more than are counted
 pub record Extends (AreMade : List FlatRule → Type 0) (old new : Body) : Type 0 where
@@ -74,19 +74,20 @@ asked_as_written (Some kept) (Some flags.Any) = refl
 asked_as_written None (Some (flags.Of set mask)) = refl
 asked_as_written (Some kept) (Some (flags.Of set mask)) = refl
 
-of_rule : (setting : Setting) (rule : FilterRule) (m : PacketMatch) → IsOfRule rule (record (flat_rule setting rule) { packet = m })
+of_rule : (setting : Setting) (rule : FilterRule) (m : PacketMatch) → AsksFrom rule m → IsOfRule rule (record (flat_rule setting rule) { packet = m })
 unfolding flat_rule
-of_rule setting rule m = record { action = done_as_written setting.block_policy rule.action; direction = refl; quick = refl; options = refl; state = kept_as_written setting.state_policy rule.action rule.options.state; flags = asked_as_written (state_of setting.state_policy rule.action rule.options.state) rule.options.flags }
+of_rule setting rule m asked = record { action = done_as_written setting.block_policy rule.action; direction = refl; quick = refl; options = refl; state = kept_as_written setting.state_policy rule.action rule.options.state; flags = asked_as_written (state_of setting.state_policy rule.action rule.options.state) rule.options.flags; packet = asked }
 
-all_of_rule : (setting : Setting) (rule : FilterRule) (matches : List PacketMatch) → All (IsOfRule rule) (map (λ m. record (flat_rule setting rule) { packet = m }) matches)
-all_of_rule setting rule [] = All-nil (IsOfRule rule)
-all_of_rule setting rule (m ∷ matches) = All-cons (IsOfRule rule) (record (flat_rule setting rule) { packet = m }) _ (of_rule setting rule m) (all_of_rule setting rule matches)
+all_of_rule : (setting : Setting) (rule : FilterRule) (matches : List PacketMatch) → All (AsksFrom rule) matches → All (IsOfRule rule) (map (λ m. record (flat_rule setting rule) { packet = m }) matches)
+all_of_rule setting rule [] asked = All-nil (IsOfRule rule)
+all_of_rule setting rule (m ∷ matches) asked = All-cons (IsOfRule rule) (record (flat_rule setting rule) { packet = m }) _ (of_rule setting rule m (All-head (AsksFrom rule) m matches asked)) (all_of_rule setting rule matches (All-tail (AsksFrom rule) m matches asked))
 
--- how many rules a filter rule makes, where its lists use no macro
-abbrev pub IsCountOfRule : FilterRule → ℕ → Type 0
-IsCountOfRule rule n = ArePlain rule.criteria → AllWritten IsPlain rule.options.icmp_types → n ≡ combinations_in rule.criteria * choices_in rule.options.icmp_types
+-- what the rules of a filter rule ask of packets, and how many there are where its lists use no macro
+pub record AreMatches (rule : FilterRule) (matches : List PacketMatch) : Type 0 where
+  pub asked : All (AsksFrom rule) matches
+  pub count : ArePlain rule.criteria → AllWritten IsPlain rule.options.icmp_types → length matches ≡ combinations_in rule.criteria * choices_in rule.options.icmp_types
 
-made_extends : (setting : Setting) (rule : FilterRule) (found : Result C.Choices ConfError) (out : Body) (count : ℕ) → ((c : C.Choices) → found ≡ Ok c → out.count + length (combinations c) ≤ count) → ((c : C.Choices) → found ≡ Ok c → IsCountOfRule rule (length (combinations c)))
+made_extends : (setting : Setting) (rule : FilterRule) (found : Result C.Choices ConfError) (out : Body) (count : ℕ) → ((c : C.Choices) → found ≡ Ok c → out.count + length (combinations c) ≤ count) → ((c : C.Choices) → found ≡ Ok c → AreMatches rule (combinations c))
     → Grows (AreOfRule rule) out (with_made (flat_rule setting rule) found (record out { count = count }))
 made_extends setting rule (Err e) out count few exact = λ sound. absurd (is_fault out.fault e sound)
 made_extends setting rule (Ok c) out count few exact = by_fault out.fault refl
@@ -99,8 +100,8 @@ made_extends setting rule (Ok c) out count few exact = by_fault out.fault refl
       rules = refl;
       few = (let least = few c refl in let long = length-map (combinations c) (λ m. record (flat_rule setting rule) { packet = m }) in omega (arith, least, long));
       made = record {
-        each = all_of_rule setting rule (combinations c);
-        count = λ plain types. length-map (combinations c) (λ m. record (flat_rule setting rule) { packet = m }) ∙ exact c refl plain types;
+        each = all_of_rule setting rule (combinations c) (exact c refl).asked;
+        count = λ plain types. length-map (combinations c) (λ m. record (flat_rule setting rule) { packet = m }) ∙ (exact c refl).count plain types;
       };
     }
 
@@ -117,7 +118,7 @@ pub record Adds (used : ℕ) (AreMade : List FlatRule → Type 0) (old new : Bod
   pub grows : Grows AreMade old new
   pub few : used + new.count ≤ 65536
 
-rule_adds : (setting : Setting) (rule : FilterRule) (lists : L.Lists) (out new : Body) → AreCounted lists → (has_long_list lists ≡ false → (c : C.Choices) → choices_or_fault lists ≡ Ok c → IsCountOfRule rule (length (combinations c))) → rule_of setting rule lists out ≡ Ok new → Adds setting.used (AreOfRule rule) out new
+rule_adds : (setting : Setting) (rule : FilterRule) (lists : L.Lists) (out new : Body) → AreCounted lists → (has_long_list lists ≡ false → (c : C.Choices) → choices_or_fault lists ≡ Ok c → AreMatches rule (combinations c)) → rule_of setting rule lists out ≡ Ok new → Adds setting.used (AreOfRule rule) out new
 rule_adds setting rule lists out new are exact is = by_count (counted setting.used setting.line lists out.count 1) refl is
   where
     by_count : (found : Result ℕ ConfError) → counted setting.used setting.line lists out.count 1 ≡ found → rule_by setting rule lists out found ≡ Ok new → Adds setting.used (AreOfRule rule) out new
@@ -262,7 +263,7 @@ with_anchor_adds AreOfBody scope setting anchor (Ok inner) out new body is = anc
 
 with_rule_adds : (scope : Scope) (setting : Setting) (rule : FilterRule) (out new : Body) → with_rule scope setting rule out ≡ Ok new → Adds setting.used (AreOfRule rule) out new
 unfolding with_rule
-with_rule_adds scope setting rule out new is = rule_adds setting rule (lists_of scope true rule.criteria rule.options.icmp_types) out new (lists_counted scope true rule.criteria rule.options.icmp_types) (λ short c found plain types. rule_exact scope true rule.criteria rule.options.icmp_types c plain types short found) is
+with_rule_adds scope setting rule out new is = rule_adds setting rule (lists_of scope true rule.criteria rule.options.icmp_types) out new (lists_counted scope true rule.criteria rule.options.icmp_types) (λ short c found. record { asked = rule_asks scope true rule c found; count = λ plain types. rule_exact scope true rule.criteria rule.options.icmp_types c plain types short found }) is
 
 form_adds : (AreOfBody : List FilterStatement → List FlatRule → Type 0) (anchored : AnchorRule → List FilterStatement → Body → Result Body ConfError) (scope : Scope) (setting : Setting)
     → ((anchor : AnchorRule) (body : List FilterStatement) (out new : Body) → anchored anchor body out ≡ Ok new → Adds setting.used (AreOfAnchor (AreOfBody body) anchor) out new)

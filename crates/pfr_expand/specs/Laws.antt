@@ -1,5 +1,5 @@
 -- Words of the laws: of which statements the filter rules of a ruleset are, and how many.
-use Rattle.std.specs.Prelude.{◌≡◌, ◌≢◌, ⊤, ℕ, zero, suc, ◌*◌, List, [], ◌∷◌, ◌++◌, length, All, false, Option, Some, None, IsSomeAnd, IfSome}
+use Rattle.std.specs.Prelude.{◌≡◌, ◌≢◌, ⊤, ℕ, zero, suc, ◌*◌, List, [], ◌∷◌, ◌++◌, length, All, Contains, false, Option, Some, None, IsSomeAnd, IfSome}
 use Rattle.pfr_terms.specs.declared.address.Address.{Address}
 use Rattle.pfr_terms.specs.declared.address.Address.TheVariants as a
 use Rattle.pfr_terms.specs.declared.flags.FlagsMatch.{FlagsMatch}
@@ -8,6 +8,7 @@ use Rattle.pfr_terms.specs.declared.hosts.Criteria.{Criteria}
 use Rattle.pfr_terms.specs.declared.hosts.Part.{Part}
 use Rattle.pfr_terms.specs.declared.name.Written.{Written}
 use Rattle.pfr_terms.specs.declared.name.Written.TheVariants.{Item, Macro}
+use Rattle.pfr_terms.specs.declared.port.PortMatch.{PortMatch}
 use Rattle.pfr_conf.specs.declared.policy.BlockPolicy.TheVariants.{Drop, Return}
 use Rattle.pfr_conf.specs.declared.filter.Action.{Action}
 use Rattle.pfr_conf.specs.declared.filter.Action.TheVariants.{Pass, Block}
@@ -24,6 +25,7 @@ use Rattle.pfr_flat.specs.declared.flat.FilterAction.TheVariants as does
 use Rattle.pfr_flat.specs.declared.flat.FlagsCriterion.{FlagsCriterion}
 use Rattle.pfr_flat.specs.declared.flat.FlagsCriterion.TheVariants as asks
 use Rattle.pfr_flat.specs.declared.flat.FlatRule.{FlatRule}
+use Rattle.pfr_flat.specs.declared.flat.PacketMatch.{PacketMatch}
 use Rattle.pfr_flat.specs.declared.flat.StateRule.{StateRule}
 
 -- ---- lists as they are written
@@ -90,6 +92,23 @@ AsksAsWritten (Some (flags.Of set mask)) state asked = asked ≡ asks.Written se
 AsksAsWritten None (Some kept) asked = asked ≡ asks.Default
 AsksAsWritten None None asked = asked ≡ asks.Any
 
+-- what is asked for is an element of a list that is written and uses no macro, and nothing where none is written
+abbrev pub IsFrom : {A : Type 0} → Option (List (Written A)) → Option A → Type 0
+IsFrom None asked = asked ≡ None
+IsFrom {A = A} (Some list) asked = All IsPlain list → (x : A) × Contains list (Item x) × (asked ≡ Some x)
+
+-- the ports that are written of a source or a destination
+abbrev pub ports_of : Option Part → Option (List (Written PortMatch))
+ports_of None = None
+ports_of (Some part) = part.ports
+
+-- what a flat rule asks of a packet's protocol, its ICMP type and its ports is from the lists of these
+pub record AsksFrom (rule : FilterRule) (asked : PacketMatch) : Type 0 where
+  pub protocol : IsFrom rule.criteria.protocols asked.protocol
+  pub icmp : IsFrom rule.options.icmp_types asked.icmp
+  pub source_port : IsFrom (ports_of rule.criteria.hosts.source) asked.source_port
+  pub destination_port : IsFrom (ports_of rule.criteria.hosts.destination) asked.destination_port
+
 -- a flat rule of a written one
 pub record IsOfRule (rule : FilterRule) (flat : FlatRule) : Type 0 where
   pub action : IsAsWritten rule.action flat.action
@@ -98,6 +117,7 @@ pub record IsOfRule (rule : FilterRule) (flat : FlatRule) : Type 0 where
   pub options : flat.allow_opts ≡ rule.options.allow_opts
   pub state : KeepsAsWritten rule.action rule.options.state flat.state
   pub flags : AsksAsWritten rule.options.flags flat.state flat.flags
+  pub packet : AsksFrom rule flat.packet
 
 -- all flat rules of a written one; where its lists use no macro there is one for each combination of their elements
 pub record AreOfRule (rule : FilterRule) (rules : List FlatRule) : Type 0 where
