@@ -1,4 +1,5 @@
 pub mod Bodies
+pub mod Laws
 pub mod Options
 pub mod Rulesets
 pub mod Tables

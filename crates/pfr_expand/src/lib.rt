@@ -6,6 +6,7 @@
 
 pub mod body;
 pub mod expansion;
+pub mod laws;
 pub mod options;
 pub mod ruleset;
 pub mod tables;
