@@ -15,7 +15,7 @@ use Rattle.pfr_rules.proofs.Places.{first_found, first_none, none_first}
 abbrev pub AgreeBelow : ℕ → (ℕ → Bool) → (ℕ → Bool) → Type 0
 AgreeBelow n p q = (k : ℕ) → k < n → q k ≡ p k
 
-last_same : (n : ℕ) (p q : ℕ → Bool) → AgreeBelow n p q → last_below q n ≡ last_below p n
+pub last_same : (n : ℕ) (p q : ℕ → Bool) → AgreeBelow n p q → last_below q n ≡ last_below p n
 last_same zero p q same = refl
 last_same (suc n) p q same =
     let here = same n (omega arith) in
@@ -28,6 +28,13 @@ some_same (suc n) p q same =
     let here = same n (omega arith) in
     let rest = some_same n p q (λ k below. same k (omega (arith, below))) in
     rw (here, rest) refl
+
+pub none_below : (p : ℕ → Bool) (n : ℕ) → ((k : ℕ) → k < n → p k ≡ false) → some_below p n ≡ false
+none_below p zero fails = refl
+none_below p (suc n) fails =
+    let here = fails n (omega arith) in
+    let rest = none_below p n (λ k below. fails k (omega (arith, below))) in
+    rw (rest, here) refl
 
 one_same : (p q : ℕ → Bool) (n : ℕ) → q n ≡ p n → filter q (n ∷ []) ≡ filter p (n ∷ [])
 one_same p q n here = rw here refl

@@ -1,5 +1,5 @@
 -- What stands behind a quick rule that hits changes nothing.
-use Rattle.std.proofs.Common.{◌≡◌, ◌∙◌, ◌<◌, ◌≤◌, ◌+◌, ◌&&◌, ◌||◌, ◌==◌, inl, inr, ℕ, zero, suc, min, nat_le, Bool, true, false, not, List, [], ◌∷◌, length, Option, Some, sym, refl, arith}
+use Rattle.std.proofs.Common.{◌≡◌, ◌∙◌, ◌<◌, ◌≤◌, ◌+◌, ◌&&◌, ◌||◌, ◌==◌, inl, inr, ℕ, min, nat_le, Bool, true, false, not, List, [], ◌∷◌, length, Option, Some, sym, refl, arith}
 use Rattle.std.specs.List.{slice_get, list_any, list_all}
 use Rattle.std.proofs.lemmas.Bool.{cases_lt, eqb-true, ne_eqb, le-leb, lt-leb, leb-false}
 use Rattle.std.proofs.lemmas.Option.{slice_get_within}
@@ -9,9 +9,9 @@ use Rattle.pfr_flat.specs.declared.flat.FlatRule.{FlatRule}
 use Rattle.pfr_flat.specs.declared.flat.FlatAnchor.{FlatAnchor}
 use Rattle.pfr_expand.specs.declared.ruleset.Ruleset.{Ruleset}
 use Rattle.pfr_criteria.specs.Packets.{anchor_holds}
-use Rattle.pfr_rules.specs.Filter.{some_below, some_in, ends, is_inside, is_quick, is_round, is_stop, anchored, hit, passes, deciding, reach, reach_by, visited}
+use Rattle.pfr_rules.specs.Filter.{some_in, ends, is_inside, is_quick, is_round, is_stop, anchored, hit, passes, deciding, reach, reach_by, visited}
 use Rattle.pfr_rules.specs.Laws.{GoesTheSameWay, IsSameUpTo, anchors_up_to, begins_by, cut_at}
-use Rattle.pfr_rules.proofs.Agreeing.{AgreeBelow, AreSameWalks, and_left, and_right, by_place, first_moves, inside_same, own_same, same_walks, stop_same}
+use Rattle.pfr_rules.proofs.Agreeing.{AgreeBelow, AreSameWalks, and_left, and_right, by_place, first_moves, inside_same, none_below, own_same, same_walks, stop_same}
 
 -- ---- tests of the anchors up to a place
 
@@ -68,13 +68,6 @@ ends_cut p place k a before = elim (cases_lt a.last place) [
       let long : (a.last == k) ≡ false = ne_eqb a.last k (λ e. omega (arith, e, beyond, before)) in
       rw (short, long) refl
 ]
-
-none_below : (p : ℕ → Bool) (n : ℕ) → ((k : ℕ) → k < n → p k ≡ false) → some_below p n ≡ false
-none_below p zero fails = refl
-none_below p (suc n) fails =
-    let here = fails n (omega arith) in
-    let rest = none_below p n (λ k below. fails k (omega (arith, below))) in
-    rw (rest, here) refl
 
 ends_none_one : (p : ℕ → Bool) (k : ℕ) (a : FlatAnchor) → k < a.first → (at : Bool) → (a.last == k) ≡ at → (at && some_in p a) ≡ false
 ends_none_one p k a before true is =

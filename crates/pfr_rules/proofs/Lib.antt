@@ -1,4 +1,5 @@
 pub mod Agreeing
+pub mod AnchorLemmas
 pub mod BehindLemmas
 pub mod Places
 pub mod Stops

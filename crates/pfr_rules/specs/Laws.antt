@@ -1,11 +1,12 @@
--- Words of the laws: rulesets that are the same up to a place, or but for one rule, and packets that go the same way.
-use Rattle.std.specs.Prelude.{◌≡◌, ◌≢◌, ◌≤◌, ℕ, min, Bool, nat_le, List, length, map}
-use Rattle.std.specs.List.{slice_get, filter}
+-- Words of the laws: rulesets that are the same up to a place, or but for one rule or one anchor; packets that go the same
+-- way, and rules that they pass by.
+use Rattle.std.specs.Prelude.{◌≡◌, ◌≢◌, ◌≤◌, ℕ, min, Bool, false, nat_le, List, ◌∷◌, ◌++◌, length, map, Some}
+use Rattle.std.specs.List.{Contains, slice_get, filter}
 use Rattle.pfr_headers.specs.declared.packet.Packet.{Packet}
 use Rattle.pfr_headers.specs.declared.packet.Direction.{Direction}
 use Rattle.pfr_flat.specs.declared.flat.FlatAnchor.{FlatAnchor}
 use Rattle.pfr_expand.specs.declared.ruleset.Ruleset.{Ruleset}
-use Rattle.pfr_rules.specs.Filter.{deciding, visited}
+use Rattle.pfr_rules.specs.Filter.{hit, deciding, visited}
 
 -- ---- rulesets that are the same up to a place
 
@@ -47,7 +48,41 @@ pub record IsSameBut (place : ℕ) (flat other : Ruleset) : Type 0 where
   -- the rules at all other places
   pub rules_are : (at : ℕ) → at ≢ place → slice_get other.filter.rules at ≡ slice_get flat.filter.rules at
 
+-- ---- rulesets that are the same but for one anchor
+
+-- the same anchor, quick or not
+abbrev pub quick_or_not : Bool → FlatAnchor → FlatAnchor
+quick_or_not quick anchor = record anchor { is_quick = quick }
+
+-- the same anchor, asking for what another one asks for
+abbrev pub asking_like : FlatAnchor → FlatAnchor → FlatAnchor
+asking_like asked anchor = record anchor { direction = asked.direction; packet = asked.packet }
+
+-- another anchor stands for one, and nothing else that a filter asks for may differ
+pub record IsSameButAnchor (anchor changed : FlatAnchor) (flat other : Ruleset) : Type 0 where
+  -- the interface's name is the same
+  pub name_is : other.interface.name ≡ flat.interface.name
+  -- and all tables
+  pub tables_are : other.tables ≡ flat.tables
+  -- all rules
+  pub rules_are : other.filter.rules ≡ flat.filter.rules
+  -- the anchors before the one, and those behind it
+  pub before : List FlatAnchor
+  pub behind : List FlatAnchor
+  -- the one stands between them, or the other
+  pub anchors_are : flat.filter.anchors ≡ before ++ anchor ∷ behind
+  pub others_are : other.filter.anchors ≡ before ++ changed ∷ behind
+
 -- ---- packets
+
+-- no rule in an anchor hits
+abbrev pub NoneHits : FlatAnchor → Ruleset → Packet → Direction → Type 0
+NoneHits anchor flat packet direction = (place : ℕ) → anchor.first ≤ place → place ≤ anchor.last → hit flat packet direction place ≡ false
+
+-- the rule at a place doesn't decide on a packet, and isn't visited
+pub record PassesBy (flat : Ruleset) (packet : Packet) (direction : Direction) (place : ℕ) : Type 0 where
+  pub decides : deciding flat packet direction ≢ Some place
+  pub visits : Contains (visited flat packet direction) place → ⊥
 
 -- the same rule decides on a packet, and the same rules are visited
 pub record GoesTheSameWay (flat other : Ruleset) (packet : Packet) (direction : Direction) : Type 0 where
