@@ -1,3 +1,5 @@
 pub mod Lines
+pub mod Stays
 pub mod TermLines
+pub mod TermStays
 pub mod Turns
