@@ -1,3 +1,4 @@
+pub mod FaultLemmas
 pub mod Lines
 pub mod Stays
 pub mod TermLines
