@@ -205,9 +205,11 @@ pub stays_bind : {A B : Type 0} {before to sees : Bool} {closing : ℕ} (first :
     → ((a : A) (j n : ℕ) → Fewer (first a) j n → n < count → j < bound a)
     → ((a : A) (b : B) (k j n : ℕ) → Fewer (first a) j n → Fewer (second a b) k j → Fewer (eaten b) k n)
     → Stays before to closing sees eaten count (p >>= f) (q >>= g)
-stays_bind {before = before} {to = to} {closing = closing} first second {eaten = eaten} bound {p = p} {q = q} {f = f} {g = g} some more below less = record { from = λ line ys i fine braces sees within.
-  follows_then line ys before to closing first second eaten (closers i.words) (length i.words) bound (p i) (q (longer line ys i)) f g
-    (some.from line ys i fine (omega arith) sees within) more (λ a j fewer. below a j _ fewer within) (λ a b k j. less a b k j _) braces }
+stays_bind {before = before} {to = to} {closing = closing} first second {eaten = eaten} bound {p = p} {q = q} {f = f} {g = g} some more below less = record {
+  from = λ line ys i fine braces sees within.
+      follows_then line ys before to closing first second eaten (closers i.words) (length i.words) bound (p i) (q (longer line ys i)) f g
+      (some.from line ys i fine (omega arith) sees within) more (λ a j fewer. below a j _ fewer within) (λ a b k j. less a b k j _) braces;
+}
 
 pub stays_then : {A B : Type 0} {before to sees : Bool} {closing : ℕ} {eaten : B → Bool} {count : ℕ} {p q : Parser A} {f g : A → Parser B}
     → Stays before before 0 sees (λ a. false) count p q → ((a : A) → Stays before to closing false eaten count (f a) (g a))
@@ -238,7 +240,7 @@ pub stays_told : {A B : Type 0} {before to sees : Bool} {closing : ℕ} (taken :
     → Stays before before 0 sees taken (suc count) p q → ((a : A) → Stays before to closing false (λ b. if taken a then false else eaten b) (if taken a then count else suc count) (f a) (g a))
     → Stays before to closing sees eaten (suc count) (p >>= f) (q >>= g)
 stays_told taken {eaten = eaten} {count = count} first more = stays_bind taken (λ a b. if taken a then false else eaten b) (λ a. if taken a then count else suc count) first more
-  (λ a j n fewer below. either_count (taken a) count j n fewer below) (λ a b k j n fewer then_fewer. either_fewer (taken a) (eaten b) k j n fewer then_fewer)
+    (λ a j n fewer below. either_count (taken a) count j n fewer below) (λ a b k j n fewer then_fewer. either_fewer (taken a) (eaten b) k j n fewer then_fewer)
 
 same_count : (taken : Bool) (count j n : ℕ) → Fewer taken j n → n < count → j < count
 same_count taken count j n fewer below = let any = fewer_any taken j n fewer in omega (arith, any, below)
@@ -247,12 +249,17 @@ pub stays_told_so : {A B : Type 0} {before to sees : Bool} {closing : ℕ} (take
     → Stays before before 0 sees taken count p q → ((a : A) → Stays before to closing false (λ b. if taken a then false else eaten b) count (f a) (g a))
     → Stays before to closing sees eaten count (p >>= f) (q >>= g)
 stays_told_so taken {eaten = eaten} {count = count} first more = stays_bind taken (λ a b. if taken a then false else eaten b) (λ a. count) first more
-  (λ a j n fewer below. same_count (taken a) count j n fewer below) (λ a b k j n fewer then_fewer. either_fewer (taken a) (eaten b) k j n fewer then_fewer)
+    (λ a j n fewer below. same_count (taken a) count j n fewer below) (λ a b k j n fewer then_fewer. either_fewer (taken a) (eaten b) k j n fewer then_fewer)
 
 pub stays_pure_told : {A : Type 0} {inside sees : Bool} {count : ℕ} {eaten : A → Bool} (a : A) → eaten a ≡ false → Stays inside inside 0 sees eaten count (pure a) (pure a)
-stays_pure_told {eaten = eaten} a none = record { from = λ line ys i fine braces sees within. record {
-  same = refl; fine = fine; braces = omega arith;
-  fewer = subst (λ (strictly : Bool). Fewer strictly (length i.words) (length i.words)) (sym none) (omega arith) } }
+stays_pure_told {eaten = eaten} a none = record {
+  from = λ line ys i fine braces sees within. record {
+    same = refl;
+    fine = fine;
+    braces = omega arith;
+    fewer = subst (λ (strictly : Bool). Fewer strictly (length i.words) (length i.words)) (sym none) (omega arith);
+  };
+}
 
 pub stays_pure : {A : Type 0} {inside sees : Bool} {count : ℕ} (a : A) → Stays inside inside 0 sees (λ (b : A). false) count (pure a) (pure a)
 stays_pure a = stays_pure_told a refl
@@ -454,8 +461,10 @@ unfolding blame
 blame_fails e i ends = rw ends refl
 
 pub stays_blamed : {before to sees : Bool} {closing count : ℕ} {eaten : Unit {0} → Bool} (f : Input → ConfError) → Sight f → Stays before to closing sees eaten count (blamed f) (blamed f)
-stays_blamed {to = to} {closing = closing} {eaten = eaten} f sight = record { from = λ line ys i fine braces sees within.
-  follows_err line ys to closing eaten _ _ _ _ (f i) (blame_fails (f i) i fine.ends) (blame_fails (f (longer line ys i)) (longer line ys i) fine.ends ∙ ap Err (sight.alike line ys i)) }
+stays_blamed {to = to} {closing = closing} {eaten = eaten} f sight = record {
+  from = λ line ys i fine braces sees within.
+      follows_err line ys to closing eaten _ _ _ _ (f i) (blame_fails (f i) i fine.ends) (blame_fails (f (longer line ys i)) (longer line ys i) fine.ends ∙ ap Err (sight.alike line ys i));
+}
 
 pub stays_blamed_fault : {before to sees : Bool} {closing count : ℕ} {eaten : Unit {0} → Bool} (kind : ConfErrorKind) → Stays before to closing sees eaten count (blamed (fault kind)) (blamed (fault kind))
 stays_blamed_fault kind = stays_blamed (fault kind) (fault_sight kind)
@@ -469,8 +478,10 @@ unfolding pass_over
 pass_over_fails i ends = pass_over_fails_by (plain_ahead i) i ends
 
 pub stays_pass_over : {before to sees : Bool} {closing count : ℕ} {eaten : Unit {0} → Bool} → Stays before to closing sees eaten count pass_over pass_over
-stays_pass_over {to = to} {closing = closing} {eaten = eaten} = record { from = λ line ys i fine braces sees within.
-  follows_err line ys to closing eaten _ _ _ _ (refusal i) (pass_over_fails i fine.ends) (pass_over_fails (longer line ys i) fine.ends ∙ ap Err (refusal_sight.alike line ys i)) }
+stays_pass_over {to = to} {closing = closing} {eaten = eaten} = record {
+  from = λ line ys i fine braces sees within.
+      follows_err line ys to closing eaten _ _ _ _ (refusal i) (pass_over_fails i fine.ends) (pass_over_fails (longer line ys i) fine.ends ∙ ap Err (refusal_sight.alike line ys i));
+}
 
 -- ---- single words
 
@@ -508,8 +519,10 @@ stays_taken {eaten = eaten} = record { from = λ line ys i fine braces sees with
 
 pub stays_named : {inside : Bool} {count : ℕ} {eaten : Name → Bool} (text : List ℕ) → Stays inside inside 0 true eaten count (named text) (named text)
 unfolding named
-stays_named {eaten = eaten} text = record { from = λ line ys i fine braces sees within.
-  rw (line_sight.alike line ys i) (past_word line ys eaten (record { line = line_ahead i; text = text }) i _ _ fine (next_moves line ys i fine sees)) }
+stays_named {eaten = eaten} text = record {
+  from = λ line ys i fine braces sees within.
+      rw (line_sight.alike line ys i) (past_word line ys eaten (record { line = line_ahead i; text = text }) i _ _ fine (next_moves line ys i fine sees));
+}
 
 eat_follows : {inside : Bool} (line : ℕ) (ys : List Word) (i : Input) (found : Bool) → Fine inside i → (found ≡ true → Starts i.words)
     → Follows line ys inside 0 (λ (b : Bool). b) (closers i.words) (length i.words) (Ok (found, if found then next i else i)) (Ok (found, if found then next (longer line ys i) else longer line ys i))
@@ -525,8 +538,10 @@ unfolding eat_word
 stays_eat_word_so word = record { from = λ line ys i fine braces sees within. rw ((word_sight word).alike line ys i) (eat_follows line ys i (sees_word word i) fine ((word_tells word).starts i)) }
 
 pub stays_any : {A : Type 0} {before to sees : Bool} {closing count : ℕ} (eaten : A → Bool) {p q : Parser A} → Stays before to closing sees eaten count p q → Stays before to closing sees (λ a. false) count p q
-stays_any {to = to} {closing = closing} eaten {p = p} {q = q} stays = record { from = λ line ys i fine braces sees within.
-  weaker line ys to closing eaten (λ a. false) _ _ _ _ (p i) (q (longer line ys i)) (stays.from line ys i fine braces sees within) refl (λ a k. fewer_any (eaten a) k _) }
+stays_any {to = to} {closing = closing} eaten {p = p} {q = q} stays = record {
+  from = λ line ys i fine braces sees within.
+      weaker line ys to closing eaten (λ a. false) _ _ _ _ (p i) (q (longer line ys i)) (stays.from line ys i fine braces sees within) refl (λ a k. fewer_any (eaten a) k _);
+}
 
 pub stays_blind : {A : Type 0} {before to sees : Bool} {closing count : ℕ} {eaten : A → Bool} {p q : Parser A} → Stays before to closing false eaten count p q → Stays before to closing sees eaten count p q
 stays_blind stays = record { from = λ line ys i fine braces sees within. stays.from line ys i fine braces tt within }
@@ -571,8 +586,10 @@ more_turns line ys i = let all = length-append i.words (record { line = line; to
 pub stays_loop : {S A : Type 0} {before to sees : Bool} {closing count : ℕ} (turn : (S → Parser A) → S → Parser A) (s : S)
     → ((count : ℕ) (more other : S → Parser A) → ((s : S) → Stays before to closing false (λ a. false) count (more s) (other s)) → (s : S) → Stays before to closing false (λ a. false) (suc count) (turn more s) (turn other s))
     → Stays before to closing sees (λ a. false) count (loop turn s) (loop turn s)
-stays_loop turn s each = record { from = λ line ys i fine braces sees within.
-  (loop_from_stays turn each (suc (length i.words)) (turns i) (turns (longer line ys i)) (omega arith) (more_turns line ys i) s).from line ys i fine braces tt (omega arith) }
+stays_loop turn s each = record {
+  from = λ line ys i fine braces sees within.
+      (loop_from_stays turn each (suc (length i.words)) (turns i) (turns (longer line ys i)) (omega arith) (more_turns line ys i) s).from line ys i fine braces tt (omega arith);
+}
 
 -- ---- braces
 
@@ -628,8 +645,10 @@ pub stays_open_list : {A : Type 0} {sees : Bool} {count : ℕ} {eaten : A → Bo
     → Stays true false 1 false (λ a. false) count (f true) (g true) → Stays false false 0 sees eaten count (f false) (g false)
     → Stays false false 0 sees eaten count (open_list >>= f) (open_list >>= g)
 unfolding open_list
-stays_open_list {eaten = eaten} f g one other = record { from = λ line ys i fine braces sees within.
-  rw ((sees_sight s.OpenBrace).alike line ys i) (open_list_follows f g line ys i (sees_sign s.OpenBrace i) refl one other fine sees within) }
+stays_open_list {eaten = eaten} f g one other = record {
+  from = λ line ys i fine braces sees within.
+      rw ((sees_sight s.OpenBrace).alike line ys i) (open_list_follows f g line ys i (sees_sign s.OpenBrace i) refl one other fine sees within);
+}
 
 open_body_follows : {A : Type 0} {sees : Bool} {count : ℕ} {eaten : A → Bool} (f g : Bool → Parser A) (line : ℕ) (ys : List Word) (i : Input) (found : Bool) → sees_sign s.OpenBrace i ≡ found
     → Stays false false 1 false (λ a. false) count (f true) (g true) → Stays false false 0 sees eaten count (f false) (g false)
@@ -646,8 +665,10 @@ pub stays_open_body : {A : Type 0} {sees : Bool} {count : ℕ} {eaten : A → Bo
     → Stays false false 1 false (λ a. false) count (f true) (g true) → Stays false false 0 sees eaten count (f false) (g false)
     → Stays false false 0 sees eaten count (eat_sign s.OpenBrace >>= f) (eat_sign s.OpenBrace >>= g)
 unfolding eat_sign
-stays_open_body {eaten = eaten} f g one other = record { from = λ line ys i fine braces sees within.
-  rw ((sees_sight s.OpenBrace).alike line ys i) (open_body_follows f g line ys i (sees_sign s.OpenBrace i) refl one other fine sees within) }
+stays_open_body {eaten = eaten} f g one other = record {
+  from = λ line ys i fine braces sees within.
+      rw ((sees_sight s.OpenBrace).alike line ys i) (open_body_follows f g line ys i (sees_sign s.OpenBrace i) refl one other fine sees within);
+}
 
 closed_after : {A : Type 0} (line : ℕ) (ys : List Word) (eaten : A → Bool) (a : A) (i j other : Input) → i.gathers ≡ false → 1 ≤ closers i.words → Moves line ys (closers i.words - 1) (length i.words) (record i { in_list = false }) j other
     → After line ys false 1 eaten (closers i.words) (length i.words) (a, j) (Ok (a, other))
@@ -669,8 +690,10 @@ close_list_follows a q q' line ys i false is other fine braces within = other.fr
 pub stays_close_list : {A : Type 0} {count : ℕ} {q q' : Parser A} (a : A) → Stays true false 1 false (λ a. false) count q q'
     → Stays true false 1 false (λ a. false) count (close_list >>= (λ found. if found then pure a else q)) (close_list >>= (λ found. if found then pure a else q'))
 unfolding close_list
-stays_close_list {q = q} {q' = q'} a other = record { from = λ line ys i fine braces sees within.
-  rw ((sees_sight s.CloseBrace).alike line ys i) (close_list_follows a q q' line ys i (sees_sign s.CloseBrace i) refl other fine braces within) }
+stays_close_list {q = q} {q' = q'} a other = record {
+  from = λ line ys i fine braces sees within.
+      rw ((sees_sight s.CloseBrace).alike line ys i) (close_list_follows a q q' line ys i (sees_sign s.CloseBrace i) refl other fine braces within);
+}
 
 close_body_follows : {A : Type 0} {count : ℕ} (a : A) (q q' : Parser A) (line : ℕ) (ys : List Word) (i : Input) (inside found : Bool) → i.in_list ≡ inside → inside ≡ false → sees_sign s.CloseBrace i ≡ found
     → Stays false false 1 false (λ a. false) count q q' → Fine false i → 1 ≤ closers i.words → length i.words < count
@@ -686,8 +709,10 @@ close_body_follows a q q' line ys i false false listed outside is other fine bra
 pub stays_close_body : {A : Type 0} {count : ℕ} {q q' : Parser A} (a : A) → Stays false false 1 false (λ a. false) count q q'
     → Stays false false 1 false (λ a. false) count (eat_sign s.CloseBrace >>= (λ found. if found then pure a else q)) (eat_sign s.CloseBrace >>= (λ found. if found then pure a else q'))
 unfolding eat_sign next
-stays_close_body {q = q} {q' = q'} a other = record { from = λ line ys i fine braces sees within.
-  rw ((sees_sight s.CloseBrace).alike line ys i) (close_body_follows a q q' line ys i i.in_list (sees_sign s.CloseBrace i) refl fine.in_list refl other fine braces within) }
+stays_close_body {q = q} {q' = q'} a other = record {
+  from = λ line ys i fine braces sees within.
+      rw ((sees_sight s.CloseBrace).alike line ys i) (close_body_follows a q q' line ys i i.in_list (sees_sign s.CloseBrace i) refl fine.in_list refl other fine braces within);
+}
 
 -- ---- more readers
 

@@ -56,8 +56,8 @@ stays_members {item = item} stays = stays_loop (lists.member item) _ (λ count m
 pub stays_list : {A : Type 0} {sees : Bool} {count : ℕ} {item : Parser A} → ((inside : Bool) (count : ℕ) → Stays inside inside 0 false (λ a. true) count item item) → Stays false false 0 sees (λ a. false) count (lists.list item) (lists.list item)
 unfolding lists.list
 stays_list {count = count} {item = item} stays = stays_open_list (λ is_braced. if is_braced then lists.members item else (do
-    x ← item
-    pure (x ∷ []))) _ (stays_members (stays true)) (stays_first (stays_blind (stays false count)) (λ x. stays_pure _))
+  x ← item
+  pure (x ∷ []))) _ (stays_members (stays true)) (stays_first (stays_blind (stays false count)) (λ x. stays_pure _))
 
 -- ---- addresses
 
