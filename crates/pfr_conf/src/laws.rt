@@ -1,10 +1,24 @@
 //! Laws of the definitions, each the contract of a function that does nothing.
-ghost use Rattle.std.specs.Prelude.{◌≡◌, ◌≤◌, ◌+◌, List, ℕ, Err};
-ghost use Rattle.pfr_words.specs.Words.{newlines};
+ghost use Rattle.std.specs.Prelude.{◌≡◌, ◌≢◌, ◌≤◌, ◌+◌, ◌-◌, ◌++◌, ◌∷◌, [], List, ℕ, Err, Ok, length, slice_index};
+ghost use Rattle.std.specs.List.{All};
+ghost use Rattle.pfr_words.specs.declared.word.Token.TheVariants.{LineEnd};
+ghost use Rattle.pfr_words.specs.declared.word.Word.{Word};
+ghost use Rattle.pfr_words.specs.Words.{newlines, pieces, words, words_on};
 ghost use Rattle.pfr_terms.specs.declared.error.ConfError.{ConfError};
 ghost use Rattle.pfr_conf.specs.Statements.{statements_of};
 
 /// A fault's line is a line of the text.
 pub fn fault_is_on_a_line()
     ensures { (text : List ℕ) (e : ConfError) → statements_of text ≡ Err e → (1 ≤ e.line) × (e.line ≤ 1 + newlines text) }
+{}
+
+/// A text's first fault stays the first when text is put behind it, where the first text doesn't end in a backslash
+/// and closes each brace that it opens.
+pub fn a_fault_stays_the_first()
+    ensures { (first second : List ℕ) (e : ConfError) → slice_index first (length first - 1) ≢ 92 → words first ≡ words_on 1 (pieces first) → statements_of first ≡ Err e → statements_of (first ++ 10 ∷ second) ≡ Err e }
+{}
+
+/// A text whose words are only ends of lines has no statements.
+pub fn blank_lines_and_comments_say_nothing()
+    ensures { (text : List ℕ) → All (λ (w : Word). w.token ≡ LineEnd) (words text) → statements_of text ≡ Ok (record { statements = [] }) }
 {}

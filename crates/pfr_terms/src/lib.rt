@@ -11,6 +11,7 @@ pub mod error;
 pub mod flags;
 pub mod hosts;
 pub mod interface;
+pub mod laws;
 pub mod lists;
 pub mod name;
 pub mod notation;

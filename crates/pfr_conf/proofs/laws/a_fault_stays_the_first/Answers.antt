@@ -1,0 +1,5 @@
+use Rattle.pfr_conf.proofs.TextStays.{fault_stays}
+use Rattle.pfr_conf.proofs.laws.a_fault_stays_the_first.Goals as goal
+
+pub returns : goal.returns
+returns c = fault_stays
