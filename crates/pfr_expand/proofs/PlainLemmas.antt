@@ -172,13 +172,13 @@ choices_exact scope keeps criteria types plain plain_types short none =
     let sound_interfaces = sound_parts None (if_written (interfaces scope keeps) criteria.interfaces) sound_protocols.0 in
     combination_count (choices (lists_of scope keeps criteria types))
     ∙ products_same _ _ _ _ _ _ _ (choices_in criteria.interfaces) (choices_in criteria.protocols) (choices_in types) (choices_in (addresses_in criteria.hosts.source)) (choices_in (ports_in criteria.hosts.source)) (choices_in (addresses_in criteria.hosts.destination)) (choices_in (ports_in criteria.hosts.destination))
-        (interface_choices scope keeps criteria.interfaces plain.0 sound_interfaces.1 second.0)
-        (protocol_choices scope keeps criteria.protocols plain.1 sound_protocols.1 second.1)
-        (type_choices scope keeps types plain_types sound_types.1 third.1)
-        (host_choices scope keeps (addresses_in criteria.hosts.source) (plain_addresses criteria.hosts.source plain.2) sound_sources.1 fourth.1)
-        (port_choices scope keeps (ports_in criteria.hosts.source) (plain_ports criteria.hosts.source plain.2) sound_source_ports.1 fifth.1)
-        (host_choices scope keeps (addresses_in criteria.hosts.destination) (plain_addresses criteria.hosts.destination plain.3) sound_destinations.1 sixth.1)
-        (port_choices scope keeps (ports_in criteria.hosts.destination) (plain_ports criteria.hosts.destination plain.3) sound_destination_ports.1 seventh.1)
+    (interface_choices scope keeps criteria.interfaces plain.0 sound_interfaces.1 second.0)
+    (protocol_choices scope keeps criteria.protocols plain.1 sound_protocols.1 second.1)
+    (type_choices scope keeps types plain_types sound_types.1 third.1)
+    (host_choices scope keeps (addresses_in criteria.hosts.source) (plain_addresses criteria.hosts.source plain.2) sound_sources.1 fourth.1)
+    (port_choices scope keeps (ports_in criteria.hosts.source) (plain_ports criteria.hosts.source plain.2) sound_source_ports.1 fifth.1)
+    (host_choices scope keeps (addresses_in criteria.hosts.destination) (plain_addresses criteria.hosts.destination plain.3) sound_destinations.1 sixth.1)
+    (port_choices scope keeps (ports_in criteria.hosts.destination) (plain_ports criteria.hosts.destination plain.3) sound_destination_ports.1 seventh.1)
     ∙ regrouped (choices_in criteria.interfaces) (choices_in criteria.protocols) (choices_in types) _ _ _ _ (choices_in_part criteria.hosts.source) (choices_in_part criteria.hosts.destination) (part_choices criteria.hosts.source) (part_choices criteria.hosts.destination)
 
 -- as many combinations as the lists of a filter rule make
@@ -224,9 +224,10 @@ module _ {A : Type 0} (form : Parser (Written A)) (list_in : ListMeanings → Li
       let some : A → Option A = Some in
       All-map (IsFrom (Some list)) some (elements_from itself_more none_yet list).items
       (λ k d below plain. (
-          slice_index_or (elements_from itself_more none_yet list).items k d,
-          all_from list none_yet list (λ k d below. (plain k d below, Contains-get_or list k d below)) (All-nil (λ (y : A). Contains list (w.Item y))) k d below,
-          refl))
+        slice_index_or (elements_from itself_more none_yet list).items k d,
+        all_from list none_yet list (λ k d below. (plain k d below, Contains-get_or list k d below)) (All-nil (λ (y : A). Contains list (w.Item y))) k d below,
+        refl,
+      ))
 
 chosen : {A : Type 0} (P : A → Type 0) (xs : List A) (i : ℕ) (x : A) → All P xs → slice_get xs i ≡ Some x → P x
 chosen P xs i x all is = subst P (get_or_from_slice_get xs i x x is) (all i x (slice_get_within xs i x is))

@@ -174,6 +174,7 @@ module _ (AreOfBody : List FlatRule → Type 0) (written : AnchorRule) (inner ou
     where
       own_made : AreOfBody inner.rules
       own_made = subst AreOfBody (sym body.rules) body.made
+
       by_size : (none : Bool) → (length inner.rules == 0) ≡ none → Extends (AreOfAnchor AreOfBody written) out (if none then over else fold (with_copy (flat_anchor written) inner) over (combinations c))
       by_size true none = record {
         own = [];
@@ -278,5 +279,5 @@ statement_adds zero scope setting x out new is = form_adds (λ body one. ⊥) _ 
 statement_adds (suc depth) scope setting x out new is =
     form_adds (AreInTurn (AreOfFilter depth)) _ scope setting
     (λ anchor body out new is. with_anchor_adds (AreInTurn (AreOfFilter depth) body) scope setting anchor (body_from (statement depth scope setting) empty_body body) out new
-        (λ inner found. body_grows setting.used (AreOfFilter depth) (statement depth scope setting) (statement_adds depth scope setting) body empty_body inner found) is)
+    (λ inner found. body_grows setting.used (AreOfFilter depth) (statement depth scope setting) (statement_adds depth scope setting) body empty_body inner found) is)
     (out-FilterStatement x) out new is

@@ -102,6 +102,7 @@ table_stays d work next is = by_count (nat_lt most_elements (filling_of d work).
     by_fault : (fault : Option ConfError) → table_by work d (filling_of d work) fault ≡ Ok next → Stays work next
     by_fault (Some e) is = absurd (cc is)
     by_fault None is = same_work work next _ is (record { rules = refl; count = refl; translations = refl })
+
     by_count : (large : Bool) → (if large then Err (too_many d.line) else table_by work d (filling_of d work) (filling_of d work).found.fault) ≡ Ok next → Stays work next
     by_count true is = absurd (cc is)
     by_count false is = by_fault (filling_of d work).found.fault is
@@ -182,6 +183,7 @@ translation_translates rule work next is = by_count (counted (used_in work) rule
           rules = refl;
           few = λ before. (let least = before.translations in record { all = omega (arith, limit); translations = omega (arith, least, more, total) });
         })
+
     by_count : (found : Result ℕ ConfError) → counted (used_in work) rule.line (translation_lists work.scope rule) 0 1 ≡ found → translation_by work rule (translation_lists work.scope rule) found ≡ Ok next → Translates work next
     by_count (Err e) count_is is = absurd (cc is)
     by_count (Ok count) count_is is = by_choices count count_is (with_choices work.scope work.translations rule (choices_or_fault (translation_lists work.scope rule)) work.flat.translations) refl is
@@ -213,6 +215,7 @@ filter_advances x work next is = by_body (filter_statement 16 work.scope (settin
           made = subst (AreOfFilter 16 x) (sym own.rules) own.made;
           few = λ before. (let least = before.translations in record { all = omega (arith, limit, own_few, long, both); translations = least });
         })
+
     by_body : (found : Result Body ConfError) → filter_statement 16 work.scope (setting_of work (line_of x)) x empty_body ≡ found → filter_by work found ≡ Ok next → Advances (AreOfFilter 16 x) work next
     by_body (Err e) body_is is = absurd (cc is)
     by_body (Ok body) body_is is = by_fault body (statement_adds 16 work.scope (setting_of work (line_of x)) x empty_body body body_is) body.fault refl is

@@ -61,7 +61,7 @@ module _ (flat other : Ruleset) (packet : Packet) (direction : Direction) (a b :
     stops_kept k =
         let own = own_same (slice_get flat.filter.rules k) (slice_get other.filter.rules k) (here k) (there k) (ap (λ rules. slice_get rules k) s.rules_are) (hits k) in
         let anchors : list_any (ends here k) other.filter.anchors ≡ list_any (ends here k) flat.filter.anchors =
-            ap (list_any (ends here k)) s.others_are ∙ any_for (ends here k) a b s.before s.behind (alike k) ∙ sym (ap (list_any (ends here k)) s.anchors_are) in
+        ap (list_any (ends here k)) s.others_are ∙ any_for (ends here k) a b s.before s.behind (alike k) ∙ sym (ap (list_any (ends here k)) s.anchors_are) in
         stop_same here there flat.filter.rules other.filter.rules flat.filter.anchors other.filter.anchors k (λ j within. hits j) own anchors
 
     reached_kept : reach_by there other.filter ≡ reach_by here flat.filter
@@ -166,5 +166,5 @@ passes_by flat packet direction anchor place among fails from to =
     let missed : hit flat packet direction place ≡ false = and_left (inside place) (passes (ruled flat packet direction) (slice_get flat.filter.rules place)) out in
     record {
       decides = λ is. (let last = last_within (hit flat packet direction) reached place is in let held = last.1 in absurd (cc (held, missed)));
-      visits = λ there. (let held : inside place ≡ true = All-contains (λ k. inside k ≡ true) (filter inside (numbers_below reached)) place (filter_passes inside (numbers_below reached)) there in absurd (cc (held, out)))
+      visits = λ there. (let held : inside place ≡ true = All-contains (λ k. inside k ≡ true) (filter inside (numbers_below reached)) place (filter_passes inside (numbers_below reached)) there in absurd (cc (held, out)));
     }
