@@ -316,8 +316,8 @@ leave_of job number clock packet table =
 -- what is passed over
 pub untouched_of : (job : RunJob) (number : ℕ) (clock : Clock) (view : View) (table : StateTable) → (view ≡ Skip) ⊎ (is_skipped job ≡ true) → IsUntouched (step_of job number clock view table) × (asked_of job number clock view table ≡ [])
 unfolding step_of asked_of plan
-untouched_of job number clock Skip table over = (record { change_is = refl; bytes_are = refl; state_is = refl; rule_is = refl; translation_is = refl; visited_is = refl }, refl)
+untouched_of job number clock Skip table over = (record { goes_on = inr refl; change_is = refl; bytes_are = refl; state_is = refl; rule_is = refl; translation_is = refl; visited_is = refl }, refl)
 untouched_of job number clock Short table (inl is) = absurd (cc is)
-untouched_of job number clock Short table (inr is) = rw is (record { change_is = refl; bytes_are = refl; state_is = refl; rule_is = refl; translation_is = refl; visited_is = refl }, refl)
+untouched_of job number clock Short table (inr is) = rw is (record { goes_on = inl refl; change_is = refl; bytes_are = refl; state_is = refl; rule_is = refl; translation_is = refl; visited_is = refl }, refl)
 untouched_of job number clock (Ipv4 packet) table (inl is) = absurd (cc is)
-untouched_of job number clock (Ipv4 packet) table (inr is) = rw is (record { change_is = refl; bytes_are = refl; state_is = refl; rule_is = refl; translation_is = refl; visited_is = refl }, refl)
+untouched_of job number clock (Ipv4 packet) table (inr is) = rw is (record { goes_on = inl refl; change_is = refl; bytes_are = refl; state_is = refl; rule_is = refl; translation_is = refl; visited_is = refl }, refl)

@@ -12,7 +12,7 @@ use Rattle.pfr_track.specs.declared.time.Clock.{Clock}
 use Rattle.pfr_states.specs.declared.change.TableChange.{TableChange}
 use Rattle.pfr_states.specs.declared.change.TableChange.TheVariants.{Made, Touched, Removed}
 use Rattle.pfr_packet.specs.declared.outcome.Outcome.{Outcome}
-use Rattle.pfr_packet.specs.declared.verdict.Verdict.TheVariants.{Pass, Block}
+use Rattle.pfr_packet.specs.declared.verdict.Verdict.TheVariants.{Pass, Block, Skip}
 
 -- the state that packet `number` makes
 pub record IsMadeBy (number : ℕ) (clock : Clock) (outcome : Outcome) (state : State) : Type 0 where
@@ -68,8 +68,9 @@ only_removes (Some (Removed number)) = true
 
 -- ---- packets that are passed over
 
--- an outcome that leaves the table and the packet as they are, and names neither rule nor state
+-- an outcome by which a packet goes on, and which leaves the table and the packet as they are and names neither rule nor state
 pub record IsUntouched (outcome : Outcome) : Type 0 where
+  pub goes_on : (outcome.verdict ≡ Pass) ⊎ (outcome.verdict ≡ Skip)
   pub change_is : outcome.change ≡ None
   pub bytes_are : outcome.bytes ≡ None
   pub state_is : outcome.state ≡ None

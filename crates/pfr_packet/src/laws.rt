@@ -70,8 +70,8 @@ pub fn what_is_blocked_only_removes()
     what_a_packet_leaves();
 }
 
-/// What is no IPv4 packet, and all packets where those of the interface aren't filtered, are passed over: nothing is asked of
-/// the table, and nothing changes.
+/// What is no IPv4 packet, and all packets where those of the interface aren't filtered, are passed over: they go on as they
+/// are, nothing is asked of the table, and nothing changes.
 pub fn what_is_passed_over_changes_nothing()
     ensures { (job : RunJob) (number : ℕ) (clock : Clock) (view : View) (table : StateTable)
         → (view ≡ Skip) ⊎ (is_skipped job ≡ true)
