@@ -3,6 +3,7 @@ pub mod RuleLines
 pub mod RuleStays
 pub mod StatementLines
 pub mod StatementStays
+pub mod TextGoesOn
 pub mod TextStays
 pub mod TranslationLines
 pub mod WordLines

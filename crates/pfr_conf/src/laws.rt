@@ -5,6 +5,8 @@ ghost use Rattle.pfr_words.specs.declared.word.Token.TheVariants.{LineEnd};
 ghost use Rattle.pfr_words.specs.declared.word.Word.{Word};
 ghost use Rattle.pfr_words.specs.Words.{newlines, pieces, words, words_on};
 ghost use Rattle.pfr_terms.specs.declared.error.ConfError.{ConfError};
+ghost use Rattle.pfr_conf.specs.declared.statement.Statement.{Statement};
+ghost use Rattle.pfr_conf.specs.declared.statement.Statements.{Statements};
 ghost use Rattle.pfr_conf.specs.Statements.{statements_of};
 
 /// A fault's line is a line of the text.
@@ -21,4 +23,16 @@ pub fn a_fault_stays_the_first()
 /// A text whose words are only ends of lines has no statements.
 pub fn blank_lines_and_comments_say_nothing()
     ensures { (text : List ℕ) → All (λ (w : Word). w.token ≡ LineEnd) (words text) → statements_of text ≡ Ok (record { statements = [] }) }
+{}
+
+/// Of two texts one behind the other the statements of the first come first, where both together are read. The first
+/// text doesn't end in a backslash and closes each brace that it opens.
+pub fn statements_stay_the_first()
+    ensures { (first second : List ℕ) (a b : Statements) → slice_index first (length first - 1) ≢ 92 → words first ≡ words_on 1 (pieces first) → statements_of first ≡ Ok a → statements_of (first ++ 10 ∷ second) ≡ Ok b → (more : List Statement) × (b.statements ≡ a.statements ++ more) }
+{}
+
+/// A text that is read stays read, with the same statements, when blank lines and comments are put behind it. It
+/// doesn't end in a backslash and closes each brace that it opens.
+pub fn blank_lines_and_comments_behind_say_nothing()
+    ensures { (first second : List ℕ) (a : Statements) → slice_index first (length first - 1) ≢ 92 → words first ≡ words_on 1 (pieces first) → All (λ (w : Word). w.token ≡ LineEnd) (words second) → statements_of first ≡ Ok a → statements_of (first ++ 10 ∷ second) ≡ Ok a }
 {}
