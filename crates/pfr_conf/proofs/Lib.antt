@@ -1,9 +1,12 @@
 pub mod Depths
+pub mod FirstWords
 pub mod RuleLines
 pub mod RuleStays
 pub mod StatementLines
+pub mod StatementShifts
 pub mod StatementStays
 pub mod TextGoesOn
 pub mod TextStays
 pub mod TranslationLines
+pub mod TwoTexts
 pub mod WordLines

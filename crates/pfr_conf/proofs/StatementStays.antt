@@ -1,14 +1,12 @@
 -- The readers of statements read the same where lines stand behind what they read.
-use Rattle.std.proofs.Common.{◌≡◌, ◌≤◌, ◌<◌, ◌+◌, ℕ, zero, suc, if◌then◌else◌, Bool, true, false, not, List, [], ◌∷◌, ◌++◌, length, Option, Some, None, Ok, Err, codes, refl, sym, ◌∙◌, ap, arith}
+use Rattle.std.proofs.Common.{◌≡◌, ◌≤◌, ◌<◌, ℕ, zero, suc, if◌then◌else◌, Bool, true, false, not, List, [], ◌∷◌, ◌++◌, length, Option, Some, None, Ok, Err, codes, refl, sym, ◌∙◌, ap, arith}
 use Rattle.pfr_words.specs.declared.sign.Sign.TheVariants as s
 use Rattle.pfr_words.specs.declared.word.Token.{Token}
 use Rattle.pfr_words.specs.declared.word.Token.TheVariants as t
 use Rattle.pfr_words.specs.declared.word.Word.{Word}
 use Rattle.pfr_words.specs.Names.{is_name}
 use Rattle.pfr_words.specs.Words.{closers, closers_before}
-use Rattle.pfr_terms.specs.declared.error.ConfError.{ConfError}
 use Rattle.pfr_terms.specs.declared.name.Name.{Name}
-use Rattle.pfr_terms.specs.declared.name.MacroUse.{MacroUse}
 use Rattle.pfr_terms.specs.declared.address.TableEntry.{TableEntry}
 use Rattle.pfr_conf.specs.declared.filter.Action as A
 use Rattle.pfr_conf.specs.declared.anchor.AnchorRule.{AnchorRule}
@@ -20,7 +18,7 @@ use Rattle.pfr_conf.specs.declared.macros.MacroDefinition.{MacroDefinition}
 use Rattle.pfr_conf.specs.declared.table.TableDefinition.{TableDefinition}
 use Rattle.pfr_conf.specs.declared.statement.Statement.{Statement}
 use Rattle.pfr_conf.specs.declared.statement.Statement.TheVariants as st
-use Rattle.pfr_terms.specs.Input.{Input, Outcome, Parser, and_then, ◌>>=◌, pure, refuse, taken, is_line_end, ends_line, skip_line_ends, stepped, next, at_line_end, plain_ahead, quoted_ahead, macro_ahead, line_ahead, sees_word, eat_sign, close_list, faulty, named, unknown_word}
+use Rattle.pfr_terms.specs.Input.{Input, Outcome, Parser, and_then, ◌>>=◌, pure, refuse, taken, is_line_end, ends_line, skip_line_ends, stepped, next, at_line_end, plain_ahead, quoted_ahead, macro_ahead, line_ahead, sees_word, eat_sign, close_list, faulty, unknown_word}
 use Rattle.pfr_terms.specs.declared.error.ConfErrorKind.TheVariants.{OutOfOrder}
 use Rattle.pfr_terms.specs.Lists.{members}
 use Rattle.pfr_terms.specs.Addresses.{table_entry}
@@ -30,7 +28,7 @@ use Rattle.pfr_conf.specs.Anchors as anchors
 use Rattle.pfr_conf.specs.Macros as macros
 use Rattle.pfr_conf.specs.Tables as tables
 use Rattle.pfr_conf.specs.Statements as statements
-use Rattle.pfr_terms.proofs.Stays.{longer, Closed, Fine, Starts, Sees, Sight, Tells, After, Follows, Stays, skip_longer, skip_closers, skip_closed, skip_length, stays_pure, stays_pure_told, stays_then, stays_first, stays_turn, stays_told, stays_found, stays_if, stays_any, stays_blind, stays_by, stays_at, stays_test, either_follows, stays_fault, stays_loop, stays_eat_word, stays_eat_word_so, stays_eat_sign, stays_expect_sign, stays_named, stays_taken, stays_refuse, stays_faulty, stays_open_list, stays_close_list, stays_open_body, stays_close_body, plain_sight, plain_shows, quoted_sight, quoted_shows, macro_sight, macro_shows, line_sight, refusal_sight, left_out_sight, end_sight, word_sight, word_tells, named_sight}
+use Rattle.pfr_terms.proofs.Stays.{longer, mode, Closed, Fine, Sees, Sight, Tells, Follows, Stays, skip_longer, skip_closers, skip_closed, skip_length, stays_pure, stays_then, stays_first, stays_turn, stays_told, stays_found, stays_if, stays_any, stays_by, stays_at, stays_test, either_follows, stays_fault, stays_loop, stays_eat_word, stays_eat_word_so, stays_eat_sign, stays_expect_sign, stays_named, stays_taken, stays_refuse, stays_faulty, stays_open_list, stays_close_list, stays_open_body, stays_close_body, plain_sight, plain_shows, quoted_sight, quoted_shows, macro_sight, macro_shows, line_sight, refusal_sight, left_out_sight, end_sight, word_sight, word_tells, named_sight}
 use Rattle.pfr_terms.proofs.TermStays.{stays_members, stays_table_name, stays_table_entry, stays_criteria}
 use Rattle.pfr_conf.proofs.RuleStays.{is_there, stays_name_ahead, stays_direction, stays_set_option, stays_action, stays_filter_rule}
 
@@ -72,7 +70,7 @@ record Ended (line : ℕ) (ys : List Word) (all count : ℕ) (i other : Input) (
   braces : closers j.words ≡ all
   fewer : length j.words < count
 
-ended_by : (line : ℕ) (ys ws : List Word) (inside : Bool) (i : Input) → i.in_list ≡ inside → inside ≡ false → i.gathers ≡ false → Closed ws → 1 ≤ closers ws → ends_line ws ≡ true
+ended_by : (line : ℕ) (ys ws : List Word) (inside : Bool) (i : Input) → i.in_list ≡ inside → inside ≡ false → mode i ≡ (false, None) → Closed ws → 1 ≤ closers ws → ends_line ws ≡ true
     → Ended line ys (closers ws) (length ws) i (longer line ys i) (if inside then skip_line_ends (stepped ws i) else stepped ws i) (if inside then skip_line_ends (stepped (ws ++ record { line = line; token = t.LineEnd } ∷ ys) (longer line ys i)) else stepped (ws ++ record { line = line; token = t.LineEnd } ∷ ys) (longer line ys i))
 ended_by line ys ws true i listed outside ends closed some is = absurd (cc)
 ended_by line ys [] false i listed outside ends closed some is = absurd (omega arith)

@@ -1,5 +1,6 @@
 pub mod Anchors
 pub mod Filters
+pub mod Following
 pub mod Macros
 pub mod Names
 pub mod Options

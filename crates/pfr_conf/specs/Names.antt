@@ -1,5 +1,5 @@
 -- Names of labels and anchors.
-use Rattle.std.specs.Prelude.{ℕ, Bool, if◌then◌else◌, List, Option, Some, None}
+use Rattle.std.specs.Prelude.{ℕ, if◌then◌else◌, List, Option, Some, None}
 use Rattle.pfr_terms.specs.declared.name.Name.{Name}
 use Rattle.pfr_terms.specs.Input.{Parser, ◌>>=◌, pure, refuse, named, is_free, plain_ahead, quoted_ahead}
 

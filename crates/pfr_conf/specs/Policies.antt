@@ -1,5 +1,5 @@
 -- Single words that rules and options of pf.conf(5) have alike.
-use Rattle.std.specs.Prelude.{Bool, true, false, if◌then◌else◌, Option, Some, None, codes}
+use Rattle.std.specs.Prelude.{if◌then◌else◌, Option, Some, None, codes}
 use Rattle.pfr_conf.specs.declared.policy.Direction.{Direction}
 use Rattle.pfr_conf.specs.declared.policy.Direction.TheVariants.{In, Out}
 use Rattle.pfr_conf.specs.declared.policy.BlockPolicy.{BlockPolicy}

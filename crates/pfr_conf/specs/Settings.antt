@@ -1,5 +1,5 @@
 -- Timeouts and limits, as `set` writes them.
-use Rattle.std.specs.Prelude.{ℕ, ◌||◌, Bool, if◌then◌else◌, List, map, Option, Some, None, Err, codes}
+use Rattle.std.specs.Prelude.{ℕ, ◌||◌, if◌then◌else◌, List, map, Option, Some, None, Err, codes}
 use Rattle.pfr_words.specs.Names.{entry_of}
 use Rattle.pfr_terms.specs.declared.error.ConfError.{ConfError}
 use Rattle.pfr_conf.specs.declared.settings.Timeout.{Timeout}

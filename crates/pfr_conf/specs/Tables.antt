@@ -1,5 +1,5 @@
 -- Definitions of tables.
-use Rattle.std.specs.Prelude.{ℕ, Bool, true, false, not, if◌then◌else◌, List, [], Option, Some, None, codes}
+use Rattle.std.specs.Prelude.{ℕ, Bool, true, not, if◌then◌else◌, List, [], codes}
 use Rattle.pfr_words.specs.declared.sign.Sign.TheVariants as s
 use Rattle.pfr_terms.specs.declared.address.TableEntry.{TableEntry}
 use Rattle.pfr_conf.specs.declared.table.TableDefinition.{TableDefinition}

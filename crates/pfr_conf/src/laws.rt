@@ -3,11 +3,12 @@ ghost use Rattle.std.specs.Prelude.{◌≡◌, ◌≢◌, ◌≤◌, ◌+◌, �
 ghost use Rattle.std.specs.List.{All};
 ghost use Rattle.pfr_words.specs.declared.word.Token.TheVariants.{LineEnd};
 ghost use Rattle.pfr_words.specs.declared.word.Word.{Word};
-ghost use Rattle.pfr_words.specs.Words.{newlines, pieces, words, words_on};
+ghost use Rattle.pfr_words.specs.Words.{moved, newlines, pieces, words, words_on};
 ghost use Rattle.pfr_terms.specs.declared.error.ConfError.{ConfError};
 ghost use Rattle.pfr_conf.specs.declared.statement.Statement.{Statement};
 ghost use Rattle.pfr_conf.specs.declared.statement.Statements.{Statements};
-ghost use Rattle.pfr_conf.specs.Statements.{statements_of};
+ghost use Rattle.pfr_conf.specs.Following.{MayFollow};
+ghost use Rattle.pfr_conf.specs.Statements.{statements_in, statements_of};
 
 /// A fault's line is a line of the text.
 pub fn fault_is_on_a_line()
@@ -35,4 +36,17 @@ pub fn statements_stay_the_first()
 /// doesn't end in a backslash and closes each brace that it opens.
 pub fn blank_lines_and_comments_behind_say_nothing()
     ensures { (first second : List ℕ) (a : Statements) → slice_index first (length first - 1) ≢ 92 → words first ≡ words_on 1 (pieces first) → All (λ (w : Word). w.token ≡ LineEnd) (words second) → statements_of first ≡ Ok a → statements_of (first ++ 10 ∷ second) ≡ Ok a }
+{}
+
+/// The statements of two texts, one behind the other, are those of the first and those of the second, where both are
+/// read and no option of the second stands behind a rule of the first. The second text is read on the lines where it
+/// then stands. The first text doesn't end in a backslash and closes each brace that it opens.
+pub fn two_texts_say_what_both_say()
+    ensures { (first second : List ℕ) (a b : Statements) → slice_index first (length first - 1) ≢ 92 → words first ≡ words_on 1 (pieces first) → statements_of first ≡ Ok a → statements_in (moved (1 + newlines first) (words second)) ≡ Ok b → MayFollow a.statements b.statements → statements_of (first ++ 10 ∷ second) ≡ Ok (record { statements = a.statements ++ b.statements }) }
+{}
+
+/// The same with blank lines and comments between the two texts, which say nothing. They don't end in a backslash
+/// either.
+pub fn blank_lines_and_comments_between_say_nothing()
+    ensures { (first between second : List ℕ) (a b : Statements) → slice_index first (length first - 1) ≢ 92 → words first ≡ words_on 1 (pieces first) → slice_index between (length between - 1) ≢ 92 → All (λ (w : Word). w.token ≡ LineEnd) (words between) → statements_of first ≡ Ok a → statements_in (moved (2 + newlines first + newlines between) (words second)) ≡ Ok b → MayFollow a.statements b.statements → statements_of (first ++ 10 ∷ (between ++ 10 ∷ second)) ≡ Ok (record { statements = a.statements ++ b.statements }) }
 {}

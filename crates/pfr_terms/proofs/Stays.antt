@@ -18,6 +18,10 @@ use Rattle.pfr_terms.proofs.Lines.{either}
 abbrev pub longer : ℕ → List Word → Input → Input
 longer line ys i = record i { words = i.words ++ record { line = line; token = t.LineEnd } ∷ ys }
 
+-- whether reading goes on behind faults, and the lowest of those behind which it went on
+abbrev pub mode : Input → Bool × Option ConfError
+mode i = (i.gathers, i.gathered)
+
 -- each brace that these words open is closed behind it
 abbrev pub Closed : List Word → Type 0
 Closed [] = Unit {0}
@@ -28,7 +32,7 @@ pub record Fine (listed : Bool) (i : Input) : Type 0 where
   pub closed : Closed i.words
   pub in_list : i.in_list ≡ listed
   pub inside : listed ≡ true → 1 ≤ closers i.words
-  pub ends : i.gathers ≡ false
+  pub ends : mode i ≡ (false, None)
 
 -- a word that neither ends a line nor is a brace
 abbrev pub is_inner : Token → Bool
@@ -142,7 +146,7 @@ pub record Moves (line : ℕ) (ys : List Word) (all count : ℕ) (i j other : In
   pub same : other ≡ longer line ys j
   pub closed : Closed j.words
   pub in_list : j.in_list ≡ i.in_list
-  pub gathers : j.gathers ≡ i.gathers
+  pub gathers : mode j ≡ mode i
   pub braces : closers j.words ≡ all
   pub fewer : length j.words < count
 
@@ -456,9 +460,9 @@ stays_leave_out name = stays_fault (left_out name) (left_out_sight name)
 follows_err : {A : Type 0} (line : ℕ) (ys : List Word) (to : Bool) (closing : ℕ) (eaten : A → Bool) (all count : ℕ) (x y : Outcome A) (e : ConfError) → x ≡ Err e → y ≡ Err e → Follows line ys to closing eaten all count x y
 follows_err line ys to closing eaten all count x y e is other = rw is other
 
-blame_fails : (e : ConfError) (i : Input) → i.gathers ≡ false → blame e i ≡ Err e
+blame_fails : (e : ConfError) (i : Input) → mode i ≡ (false, None) → blame e i ≡ Err e
 unfolding blame
-blame_fails e i ends = rw ends refl
+blame_fails e i ends = rw (ap (λ (m : Bool × Option ConfError). m.0) ends) refl
 
 pub stays_blamed : {before to sees : Bool} {closing count : ℕ} {eaten : Unit {0} → Bool} (f : Input → ConfError) → Sight f → Stays before to closing sees eaten count (blamed f) (blamed f)
 stays_blamed {to = to} {closing = closing} {eaten = eaten} f sight = record {
@@ -469,11 +473,11 @@ stays_blamed {to = to} {closing = closing} {eaten = eaten} f sight = record {
 pub stays_blamed_fault : {before to sees : Bool} {closing count : ℕ} {eaten : Unit {0} → Bool} (kind : ConfErrorKind) → Stays before to closing sees eaten count (blamed (fault kind)) (blamed (fault kind))
 stays_blamed_fault kind = stays_blamed (fault kind) (fault_sight kind)
 
-pass_over_fails_by : (found : Option (List ℕ)) (i : Input) → i.gathers ≡ false → pass_over_by found i ≡ Err (refusal i)
+pass_over_fails_by : (found : Option (List ℕ)) (i : Input) → mode i ≡ (false, None) → pass_over_by found i ≡ Err (refusal i)
 pass_over_fails_by None i ends = refl
-pass_over_fails_by (Some word) i ends = rw ends refl
+pass_over_fails_by (Some word) i ends = rw (ap (λ (m : Bool × Option ConfError). m.0) ends) refl
 
-pass_over_fails : (i : Input) → i.gathers ≡ false → pass_over i ≡ Err (refusal i)
+pass_over_fails : (i : Input) → mode i ≡ (false, None) → pass_over i ≡ Err (refusal i)
 unfolding pass_over
 pass_over_fails i ends = pass_over_fails_by (plain_ahead i) i ends
 
@@ -622,7 +626,7 @@ closing_too line ys eaten all within n m (Ok r) y after e fewer = record {
 closing_too line ys eaten all within n m (Err f) y same e fewer = same
 
 opened : {A : Type 0} {inside : Bool} {count : ℕ} (line : ℕ) (ys : List Word) (eaten : A → Bool) (p q : Parser A) (i k j other : Input)
-    → Stays inside false 1 false (λ a. false) count p q → Moves line ys (suc (closers i.words)) (length i.words) k j other → k.in_list ≡ inside → k.gathers ≡ false → length i.words < count
+    → Stays inside false 1 false (λ a. false) count p q → Moves line ys (suc (closers i.words)) (length i.words) k j other → k.in_list ≡ inside → mode k ≡ (false, None) → length i.words < count
     → Follows line ys false 0 eaten (closers i.words) (length i.words) (p j) (q other)
 opened {inside = inside} line ys eaten p q i k j other stays m in_list ends within =
     let braces = m.braces in
@@ -670,7 +674,7 @@ stays_open_body {eaten = eaten} f g one other = record {
       rw ((sees_sight s.OpenBrace).alike line ys i) (open_body_follows f g line ys i (sees_sign s.OpenBrace i) refl one other fine sees within);
 }
 
-closed_after : {A : Type 0} (line : ℕ) (ys : List Word) (eaten : A → Bool) (a : A) (i j other : Input) → i.gathers ≡ false → 1 ≤ closers i.words → Moves line ys (closers i.words - 1) (length i.words) (record i { in_list = false }) j other
+closed_after : {A : Type 0} (line : ℕ) (ys : List Word) (eaten : A → Bool) (a : A) (i j other : Input) → mode i ≡ (false, None) → 1 ≤ closers i.words → Moves line ys (closers i.words - 1) (length i.words) (record i { in_list = false }) j other
     → After line ys false 1 eaten (closers i.words) (length i.words) (a, j) (Ok (a, other))
 closed_after line ys eaten a i j other ends some m = record {
   same = ap (λ k. Ok (a, k)) m.same;
