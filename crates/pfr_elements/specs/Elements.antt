@@ -1,14 +1,14 @@
 -- What the elements of a list come to: each means one thing, and the use of a macro all things of its value.
-use Rattle.std.specs.Prelude.{ℕ, ◌+◌, Bool, true, false, nat_lt, nat_le, if◌then◌else◌, List, [], ◌∷◌, ◌++◌, length, map, fold, max, min, Option, Some, None, Result, Ok, Err}
+use Rattle.std.specs.Prelude.{◌≡◌, ◌≢◌, ℕ, ◌+◌, Bool, true, false, nat_lt, nat_le, if◌then◌else◌, List, [], ◌∷◌, ◌++◌, length, map, fold, max, min, Option, Some, None, Result, Ok, Err}
 use Rattle.std.specs.Option.{option_map}
 use Rattle.pfr_words.specs.declared.sign.Sign.TheVariants as s
 use Rattle.pfr_words.specs.Words.{words}
 use Rattle.pfr_words.specs.declared.word.Word.{Word}
 use Rattle.pfr_terms.specs.declared.error.ConfError.{ConfError}
-use Rattle.pfr_terms.specs.declared.error.ConfErrorKind.TheVariants.{UndefinedTable}
+use Rattle.pfr_terms.specs.declared.error.ConfErrorKind.TheVariants.{UndefinedTable, Memory}
 use Rattle.pfr_terms.specs.Faults.{lower}
 use Rattle.pfr_terms.specs.declared.name.MacroUse.{MacroUse}
-use Rattle.pfr_terms.specs.Input.{Parser, Outcome, ◌>>=◌, pure, loop, note, finish, eat_sign, open_list, close_list, of_value, unknown_word}
+use Rattle.pfr_terms.specs.Input.{Input, Parser, Outcome, ◌>>=◌, pure, loop, note, finish, eat_sign, open_list, close_list, of_value, unknown_word}
 use Rattle.pfr_elements.specs.declared.definition.ListMeaning.{ListMeaning}
 use Rattle.pfr_elements.specs.declared.definition.ListMeanings.{ListMeanings}
 use Rattle.pfr_elements.specs.declared.definition.Taken.{Taken}
@@ -57,24 +57,38 @@ abbrev pub with_some : {A : Type 0} → List A → Option A → List A
 with_some found None = found
 with_some found (Some x) = found ++ x ∷ []
 
+-- one thing more behind those that were found
+unfoldable pub put_item : {A : Type 0} → Parser (Option A) → List A → Parser (List A)
+put_item item found = do
+  x ← item
+  pure (with_some found x)
+
 abbrev pub value_member : {A : Type 0} → Parser (Option A) → (List A → Parser (List A)) → List A → Parser (List A)
 value_member item more found = do
-  x ← item
+  longer ← put_item item found
   is_end ← close_list
-  if is_end then pure (with_some found x) else (do
+  if is_end then pure longer else (do
     _ ← eat_sign s.Comma
-    more (with_some found x))
+    more longer)
 
-abbrev pub value_members : {A : Type 0} → Parser (Option A) → Parser (List A)
-value_members item = loop (value_member item) []
+abbrev pub members_behind : {A : Type 0} → Parser (Option A) → List A → Parser (List A)
+members_behind item found = loop (value_member item) found
 
--- one thing, or several in braces, and nothing behind them
-unfoldable pub value_items : {A : Type 0} → Parser (Option A) → Parser (List A)
-value_items item = do
+-- one thing more, or several in braces, and nothing behind them
+unfoldable pub items_behind : {A : Type 0} → Parser (Option A) → List A → Parser (List A)
+items_behind item found = do
   is_braced ← open_list
-  found ← (if is_braced then value_members item else (do x ← item; pure (with_some [] x)))
+  longer ← (if is_braced then members_behind item found else put_item item found)
   _ ← finish
-  pure found
+  pure longer
+
+unfoldable pub value_items : {A : Type 0} → Parser (Option A) → Parser (List A)
+value_items item = items_behind item []
+
+-- what a function promises that reads, and puts what it reads into a list: the outcome, unless memory is refused
+abbrev pub Puts : {A R : Type 0} → Outcome A → Result R ConfError → A → Input → Type 0
+Puts outcome (Ok done) found new = outcome ≡ Ok (found, new)
+Puts outcome (Err e) found new = e.kind ≢ Memory → outcome ≡ Err e
 
 -- the same fault on this line
 abbrev pub at_line : ℕ → ConfError → ConfError
@@ -84,6 +98,10 @@ at_line line e = record { line = line; kind = e.kind }
 abbrev pub list_meaning : {A : Type 0} → (A → ℕ) → Outcome (List A) → ListMeaning A
 list_meaning tables (Ok p) = record { items = p.0; tables = fold (λ most x. max most (tables x)) 0 p.0; fault = p.1.gathered }
 list_meaning tables (Err e) = record { items = []; tables = 0; fault = Some e }
+
+-- what a value means that is at fault
+abbrev pub faulty : {A : Type 0} → ConfError → ListMeaning A
+faulty e = record { items = []; tables = 0; fault = Some e }
 
 abbrev pub undefined_table : ℕ → ConfError
 undefined_table line = record { line = line; kind = UndefinedTable }

@@ -6,6 +6,7 @@ use Rattle.pfr_terms.specs.Lists as lists
 use Rattle.pfr_terms.specs.Terms as terms
 use Rattle.pfr_terms.specs.Ports as ports
 use Rattle.pfr_terms.specs.Addresses as addresses
+use Rattle.pfr_elements.specs.declared.definition.ListMeaning.{ListMeaning}
 use Rattle.pfr_elements.specs.declared.definition.ListMeanings.{ListMeanings}
 use Rattle.pfr_elements.specs.declared.definition.Meanings.{Meanings}
 use Rattle.pfr_elements.specs.declared.definition.Definition.{Definition}
@@ -20,6 +21,13 @@ use Rattle.pfr_elements.specs.Hosts.{form_read, host_criterion, host_tables, ent
 use Rattle.pfr_elements.specs.Single.{single_read}
 use Rattle.pfr_elements.specs.Terms.{itself, skipped, interface_meaning, no_table}
 use Rattle.pfr_elements.specs.Values.{is_sound, only_plain}
+
+abbrev pub no_list : {A : Type 0} → ListMeaning A
+no_list = record { items = []; tables = 0; fault = None }
+
+-- lists without things
+abbrev pub no_lists : ListMeanings
+no_lists = record { interfaces = no_list; skipped = no_list; protocols = no_list; icmp_types = no_list; hosts = no_list; entries = no_list; ports = no_list }
 
 unfoldable pub list_meanings : Scope → List Word → ListMeanings
 list_meanings scope ws = record {

@@ -1,5 +1,5 @@
 -- The values of macros, as pf.conf(5) has them: text, whose words stand where the macro is used.
-use Rattle.std.specs.Prelude.{◌≡◌, ℕ, ◌+◌, ◌-◌, ◌==◌, ◌&&◌, ◌||◌, Bool, true, false, not, nat_lt, nat_le, if◌then◌else◌, List, [], ◌∷◌, ◌++◌, length, Option, Some, None, Result, Ok, Err}
+use Rattle.std.specs.Prelude.{◌≡◌, ◌≢◌, ℕ, ◌+◌, ◌-◌, ◌==◌, ◌&&◌, ◌||◌, Bool, true, false, not, nat_lt, nat_le, if◌then◌else◌, List, [], ◌∷◌, ◌++◌, length, Option, Some, None, Result, Ok, Err}
 use Rattle.std.specs.List.{slice_get}
 use Rattle.pfr_words.specs.declared.sign.Sign.TheVariants as s
 use Rattle.pfr_words.specs.declared.word.Token.{Token}
@@ -25,6 +25,11 @@ use Rattle.pfr_elements.specs.Names.{last_place}
 abbrev pub Makes : {A : Type 0} → A → Result A ConfError → Type 0
 Makes made (Ok a) = a ≡ made
 Makes made (Err e) = e.kind ≡ Memory
+
+-- the same for what this fault comes to, which isn't that memory was refused
+abbrev pub MakesUnless : {A : Type 0} → ConfError → A → Result A ConfError → Type 0
+MakesUnless fault made (Ok a) = (fault.kind ≢ Memory) × (a ≡ made)
+MakesUnless fault made (Err e) = e.kind ≡ Memory
 
 -- ---- words of a value
 

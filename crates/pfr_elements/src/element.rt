@@ -1,5 +1,5 @@
 //! The elements of lists.
-ghost use Rattle.std.specs.Prelude.{◌≡◌, ◌<◌, ◌≤◌, ◌+◌, ◌++◌, ℕ, List, map, fold, max, length, Option, Result, Bool, Ok, OnOk, IfOk, IfErr};
+ghost use Rattle.std.specs.Prelude.{◌≡◌, ◌<◌, ◌≤◌, ◌+◌, ◌++◌, ℕ, List, map, fold, max, length, Option, Result, Bool, Ok, Err, OnOk, IfOk, IfErr};
 ghost use Rattle.pfr_terms.specs.declared.error.ConfError.{ConfError};
 ghost use Rattle.pfr_terms.specs.declared.name.MacroUse.{MacroUse};
 ghost use Rattle.pfr_terms.specs.declared.error.ConfErrorKind.TheVariants.{Memory};
@@ -12,7 +12,9 @@ ghost use Rattle.pfr_words.specs.declared.word.Word.{Word};
 ghost use Rattle.pfr_elements.specs.Elements.{listed};
 ghost use Rattle.pfr_elements.specs.Meanings.{list_meanings};
 ghost use Rattle.pfr_elements.specs.Elements as spec;
-ghost use Rattle.pfr_elements.specs.Values.{Makes};
+ghost use Rattle.pfr_elements.specs.Elements.{Puts};
+ghost use Rattle.pfr_elements.specs.Values.{Makes, MakesUnless};
+ghost use Rattle.pfr_words.specs.Words.{words};
 
 use crate::definition::{ListMeaning, ListMeanings, Taken};
 use crate::faults::{at_line, copied_at, undefined_table, unknown_word};
@@ -95,7 +97,7 @@ pub trait Element: Sized {
 }
 
 /// Whether memory was refused.
-pub(crate) fn is_memory(fault: &ConfError) -> bool
+fn is_memory(fault: &ConfError) -> bool
     ensures { Decides result (fault.now.kind ≡ Memory) }
 {
     match fault.kind {
@@ -129,25 +131,57 @@ fn put_some<T: Copy>(found: &mut Items<T>, flat: Option<T>) -> Result<(), AllocE
     }
 }
 
-/// What the things of a value mean up to the closing brace, of which there is at least one.
-#[tactic(auto, using(pfr_terms::proofs::Turns::one_turn, pfr_terms::proofs::Turns::no_turn))]
-fn value_members<T: Element>(
+/// Reads one thing of a value, and puts what it means behind the others.
+#[tactic(auto, unfolding(crate::specs::Elements::put_item))]
+fn put_item<T: Element>(
     alloc: Global,
     scope: &Scope<'_>,
     reader: &mut Reader<'_, '_>,
-) -> Result<Items<T::Flat>, ConfError>
-    ensures { Reads (spec.value_members (spec.value_item T.meaning T.form scope.now) reader.old) result reader.new }
+    found: &mut Items<T::Flat>,
+) -> Result<(), ConfError>
+    ensures { Puts (spec.put_item (spec.value_item T.meaning T.form scope.now) found.old reader.old) result found.new reader.new }
 {
-    let mut found = Items::new(alloc);
+    let flat = T::read_one(alloc, scope, reader)?;
+    put_some(found, flat)?;
+    Ok(())
+}
+
+/// Puts what the things of a value mean behind the others, up to the closing brace, of which there is at least one.
+#[tactic(auto, using(pfr_terms::proofs::Turns::one_turn, pfr_terms::proofs::Turns::no_turn))]
+fn put_members<T: Element>(
+    alloc: Global,
+    scope: &Scope<'_>,
+    reader: &mut Reader<'_, '_>,
+    found: &mut Items<T::Flat>,
+) -> Result<(), ConfError>
+    ensures { Puts (spec.members_behind (spec.value_item T.meaning T.form scope.now) found.old reader.old) result found.new reader.new }
+{
     for _turn in 0..reader.turns() {
-        let flat = T::read_one(alloc, scope, reader)?;
-        put_some(&mut found, flat)?;
+        put_item::<T>(alloc, scope, reader, found)?;
         if reader.close_list() {
-            return Ok(found);
+            return Ok(());
         }
         reader.eat_sign(Sign::Comma);
     }
     Err(reader.refuse(alloc))
+}
+
+/// Puts what the things of a value mean behind the others.
+#[tactic(auto, unfolding(crate::specs::Elements::items_behind))]
+fn put_items<T: Element>(
+    alloc: Global,
+    scope: &Scope<'_>,
+    reader: &mut Reader<'_, '_>,
+    found: &mut Items<T::Flat>,
+) -> Result<(), ConfError>
+    ensures { Puts (spec.items_behind (spec.value_item T.meaning T.form scope.now) found.old reader.old) result found.new reader.new }
+{
+    if reader.open_list() {
+        put_members::<T>(alloc, scope, reader, found)?;
+        return reader.finish(alloc);
+    }
+    put_item::<T>(alloc, scope, reader, found)?;
+    reader.finish(alloc)
 }
 
 /// What the things of a value mean.
@@ -159,15 +193,20 @@ pub(crate) fn value_items<T: Element>(
 ) -> Result<Items<T::Flat>, ConfError>
     ensures { Reads (spec.value_items (spec.value_item T.meaning T.form scope.now) reader.old) result reader.new }
 {
-    let found = if reader.open_list() {
-        value_members::<T>(alloc, scope, reader)?
-    } else {
-        let mut only = Items::new(alloc);
-        put_some(&mut only, T::read_one(alloc, scope, reader)?)?;
-        only
-    };
-    reader.finish(alloc)?;
+    let mut found = Items::new(alloc);
+    put_items::<T>(alloc, scope, reader, &mut found)?;
     Ok(found)
+}
+
+/// What the one thing of a value means at this fault, unless memory was refused. It stands on the line of the use.
+pub(crate) fn one_fault<T>(line: usize, fault: ConfError) -> Result<Result<T, ConfError>, ConfError>
+    ensures { MakesUnless fault (Err (spec.at_line line fault)) result }
+{
+    if is_memory(&fault) {
+        Err(fault)
+    } else {
+        Ok(Err(at_line(line, fault)))
+    }
 }
 
 /// What the one thing of a value means; a fault that was gathered stands on the line of the use.
@@ -258,6 +297,20 @@ fn tables_of<T: Element>(items: &[T::Flat]) -> usize
     most
 }
 
+/// What a value means at this fault, unless memory was refused.
+fn faulty<T>(alloc: Global, fault: ConfError) -> Result<ListMeaning<T>, ConfError>
+    ensures { MakesUnless fault (spec.faulty fault) result }
+{
+    if is_memory(&fault) {
+        return Err(fault);
+    }
+    Ok(ListMeaning {
+        items: Items::new(alloc),
+        tables: 0,
+        fault: Some(fault),
+    })
+}
+
 /// What the words of a value mean as a list.
 pub(crate) fn list_meaning<T: Element>(
     alloc: Global,
@@ -273,12 +326,7 @@ pub(crate) fn list_meaning<T: Element>(
             fault: reader.into_gathered(),
             items,
         }),
-        Err(fault) if is_memory(&fault) => Err(fault),
-        Err(fault) => Ok(ListMeaning {
-            items: Items::new(alloc),
-            tables: 0,
-            fault: Some(fault),
-        }),
+        Err(fault) => faulty(alloc, fault),
     }
 }
 
@@ -318,9 +366,10 @@ fn add_list<T: Element>(
     found: &mut Elements<T::Flat>,
     used: ListUse,
     meant: &ListMeaning<T::Flat>,
-) -> Result<(), AllocError>
+) -> Result<(), ConfError>
     requires { found.old.count ≤ 1048576 }
-    ensures { OnOk result (found.new ≡ spec.with_list used.line used.defined used.keeps (spec.turned_if used.is_negated T.turned) meant.now found.old) }
+    ensures made { OnOk result (found.new ≡ spec.with_list used.line used.defined used.keeps (spec.turned_if used.is_negated T.turned) meant.now found.old) }
+    ensures refused { IfErr result (λ e. e.kind ≡ Memory) }
 {
     match fault_at(alloc, used.line, used.defined, meant)? {
         Some(fault) => found.add_fault(fault),
@@ -329,6 +378,60 @@ fn add_list<T: Element>(
             if used.keeps {
                 put_values::<T>(found, meant.items.as_slice(), used.is_negated)?;
             }
+        }
+    }
+    Ok(())
+}
+
+/// What the words of a text mean as a list.
+fn text_meaning<T: Element>(
+    alloc: Global,
+    scope: &Scope<'_>,
+    text: &[u8],
+) -> Result<ListMeaning<T::Flat>, ConfError>
+    ensures { Makes (spec.listed T.meaning T.form T.tables scope.now (words text.now)) result }
+{
+    let value = words(alloc, text)?;
+    list_meaning::<T>(alloc, scope, value.as_slice())
+}
+
+/// The elements that a word with a suffix stands for.
+fn add_word<T: Element>(
+    alloc: Global,
+    scope: &Scope<'_>,
+    found: &mut Elements<T::Flat>,
+    used: ListUse,
+    word: &[u8],
+) -> Result<(), ConfError>
+    requires { found.old.count ≤ 1048576 }
+    ensures made { OnOk result (found.new ≡ spec.with_list used.line used.defined used.keeps (spec.turned_if used.is_negated T.turned) (spec.listed T.meaning T.form T.tables scope.now (words word.now)) found.old) }
+    ensures refused { IfErr result (λ e. e.kind ≡ Memory) }
+{
+    let meant = text_meaning::<T>(alloc, scope, word)?;
+    add_list::<T>(alloc, found, used, &meant)
+}
+
+/// The elements that what a use stands for means.
+fn add_taken<T: Element>(
+    alloc: Global,
+    scope: &Scope<'_>,
+    found: &mut Elements<T::Flat>,
+    used: ListUse,
+    taken: &Taken<'_>,
+) -> Result<(), ConfError>
+    requires { found.old.count ≤ 1048576 }
+    ensures made { OnOk result (found.new ≡ spec.with_taken (spec.listed T.meaning T.form T.tables scope.now) T.list_in (spec.turned_if used.is_negated T.turned) used.keeps used.defined used.line (Ok taken.now) found.old) }
+    ensures refused { IfErr result (λ e. e.kind ≡ Memory) }
+{
+    match taken {
+        Taken::TooLong(true) => found.count += MOST_ELEMENTS + 1,
+        Taken::TooLong(false) => found.add_fault(unknown_word(used.line)),
+        Taken::Word(word) => {
+            return add_word::<T>(alloc, scope, found, used, word.as_slice());
+        }
+        Taken::Whole(text) => {
+            let meant = T::list_in(&text.get().meanings.lists);
+            return add_list::<T>(alloc, found, used, meant);
         }
     }
     Ok(())
@@ -354,24 +457,12 @@ fn add_use<T: Element>(
         keeps,
     };
     match scope.macros.taken_at(alloc, used, is_negated)? {
-        Err(fault) => found.add_fault(fault),
-        Ok(Taken::TooLong(true)) => found.count += MOST_ELEMENTS + 1,
-        Ok(Taken::TooLong(false)) => found.add_fault(unknown_word(used.line)),
-        Ok(Taken::Word(text)) => {
-            let value = words(alloc, text.as_slice())?;
-            let meant = list_meaning::<T>(alloc, scope, value.as_slice())?;
-            add_list::<T>(alloc, found, list_use, &meant)?;
-        }
-        Ok(Taken::Whole(text)) => {
-            add_list::<T>(
-                alloc,
-                found,
-                list_use,
-                T::list_in(&text.get().meanings.lists),
-            )?;
+        Ok(taken) => add_taken::<T>(alloc, scope, found, list_use, &taken),
+        Err(fault) => {
+            found.add_fault(fault);
+            Ok(())
         }
     }
-    Ok(())
 }
 
 /// One more element of a list. Where nothing is made of the list, what macros stand for is only counted.

@@ -7,14 +7,15 @@ ghost use Rattle.pfr_elements.specs.Names.{last_place};
 ghost use Rattle.pfr_elements.specs.Terms as terms;
 ghost use Rattle.std.specs.Prelude.{List};
 ghost use Rattle.pfr_words.specs.declared.word.Word.{Word};
+ghost use Rattle.pfr_words.specs.Words.{words};
 ghost use Rattle.pfr_elements.specs.declared.scope.Scope.{Scope};
 ghost use Rattle.pfr_elements.specs.Meanings.{list_meanings};
 ghost use Rattle.pfr_elements.specs.Values.{Makes};
 ghost use Rattle.pfr_terms.specs.Input.{Reads};
 
 use crate::definition::{ListMeaning, ListMeanings, Taken};
-use crate::element::{Element, is_memory, noted, one_gathered};
-use crate::faults::{at_line, copied_on, left_out, undefined_table, unknown_word};
+use crate::element::{Element, noted, one_fault, one_gathered};
+use crate::faults::{copied_on, left_out, undefined_table, unknown_word};
 use crate::interface::{Interface, masked, whole};
 use crate::scope::Scope;
 use crate::terms::{copied, misplaced, use_in};
@@ -88,12 +89,39 @@ pub(crate) fn form_read(
     ensures { Makes (spec.form_read interface.now line value.now) result }
 {
     let mut reader = Reader::of_value(value);
-    let found = match value_form(alloc, interface, &mut reader) {
-        Ok(found) => found,
-        Err(fault) if is_memory(&fault) => return Err(fault),
-        Err(fault) => return Ok(Err(at_line(line, fault))),
-    };
-    Ok(one_gathered(line, found, reader.into_gathered()))
+    match value_form(alloc, interface, &mut reader) {
+        Ok(found) => Ok(one_gathered(line, found, reader.into_gathered())),
+        Err(fault) => one_fault(line, fault),
+    }
+}
+
+/// What the words of a text mean in round brackets.
+fn text_form(
+    alloc: Global,
+    interface: &Interface,
+    line: usize,
+    text: &[u8],
+) -> Result<Result<Network, ConfError>, ConfError>
+    ensures { Makes (spec.form_read interface.now line (words text.now)) result }
+{
+    let value = words(alloc, text)?;
+    form_read(alloc, interface, line, value.as_slice())
+}
+
+/// What that which a use stands for means in round brackets.
+fn taken_form(
+    alloc: Global,
+    interface: &Interface,
+    line: usize,
+    taken: &Taken<'_>,
+) -> Result<Result<Network, ConfError>, ConfError>
+    ensures { Makes (spec.form_in interface.now line (Ok taken.now)) result }
+{
+    match taken {
+        Taken::TooLong(_) => Ok(Err(unknown_word(line))),
+        Taken::Word(text) => text_form(alloc, interface, line, text.as_slice()),
+        Taken::Whole(text) => Ok(copied_on(alloc, line, &text.get().meanings.form)?),
+    }
 }
 
 /// What the use of a macro means in round brackets.
@@ -106,13 +134,8 @@ fn used_form(
     ensures { Makes (spec.used_form scope.now found.now) result }
 {
     match scope.macros.taken_at(alloc, found, false)? {
+        Ok(taken) => taken_form(alloc, &scope.interface, found.line, &taken),
         Err(fault) => Ok(Err(fault)),
-        Ok(Taken::TooLong(_)) => Ok(Err(unknown_word(found.line))),
-        Ok(Taken::Word(text)) => {
-            let value = words(alloc, text.as_slice())?;
-            form_read(alloc, &scope.interface, found.line, value.as_slice())
-        }
-        Ok(Taken::Whole(text)) => Ok(copied_on(alloc, found.line, &text.get().meanings.form)?),
     }
 }
 

@@ -1,5 +1,5 @@
 //! The macros that are defined, and what their uses stand for.
-ghost use Rattle.std.specs.Prelude.{◌≡◌, ◌<◌, ◌≤◌, Some, OnOk, IfOk};
+ghost use Rattle.std.specs.Prelude.{◌≡◌, ◌<◌, ◌≤◌, ◌++◌, Ok, Some, OnOk, IfOk};
 ghost use Rattle.std.specs.Option.{is_some, option_copied};
 ghost use Rattle.pfr_elements.specs.Meanings as meanings;
 ghost use Rattle.pfr_elements.specs.Values as spec;
@@ -38,6 +38,15 @@ fn latest<'m>(macros: &'m Macros<'_>, name: &[u8]) -> Option<&'m Definition>
     }
 }
 
+/// A word with a suffix.
+fn joined(alloc: Global, word: &[u8], suffix: &[u8]) -> Result<Items<u8>, AllocError>
+    ensures { IfOk result (λ text. text ≡ word.now ++ suffix.now) }
+{
+    let mut text = Items::copied(alloc, word)?;
+    text.extend_from_slice(suffix)?;
+    Ok(text)
+}
+
 /// The word of a value with the suffix of a use.
 fn with_suffix<'m>(
     alloc: Global,
@@ -46,15 +55,13 @@ fn with_suffix<'m>(
 ) -> Result<Result<Taken<'m>, ConfError>, ConfError>
     ensures { Makes (spec.with_suffix found.now word.now) result }
 {
-    let Some(word) = word else {
-        return Ok(Err(unknown_word(found.line)));
-    };
-    if word.len() > LONGEST_WORD {
-        return Ok(Err(unknown_word(found.line)));
+    match word {
+        Some(word) if word.len() <= LONGEST_WORD => {
+            let text = joined(alloc, word.as_slice(), found.suffix.as_slice())?;
+            Ok(Ok(Taken::Word(text)))
+        }
+        _ => Ok(Err(unknown_word(found.line))),
     }
-    let mut text = Items::copied(alloc, word.as_slice())?;
-    text.extend_from_slice(found.suffix.as_slice())?;
-    Ok(Ok(Taken::Word(text)))
 }
 
 /// What a use of a macro stands for that has this text.
@@ -82,6 +89,26 @@ fn is_plain(alloc: Global, text: &[u8]) -> Result<bool, AllocError>
 {
     let found = words(alloc, text)?;
     Ok(only_plain(found.as_slice()).is_some())
+}
+
+/// Whether what a use on this line stands for is one plain word, or else what is wrong with it.
+fn plain_word(
+    alloc: Global,
+    line: usize,
+    taken: &Taken<'_>,
+) -> Result<Result<(), ConfError>, ConfError>
+    ensures { Makes (spec.plain_word_by line (Ok taken.now)) result }
+{
+    let is_plain = match taken {
+        Taken::TooLong(_) => false,
+        Taken::Word(text) => is_plain(alloc, text.as_slice())?,
+        Taken::Whole(text) => text.get().meanings.word.is_some(),
+    };
+    if is_plain {
+        Ok(Ok(()))
+    } else {
+        Ok(Err(unknown_word(line)))
+    }
 }
 
 impl<'a> Macros<'a> {
@@ -156,16 +183,9 @@ impl<'a> Macros<'a> {
     ) -> Result<Result<(), ConfError>, ConfError>
         ensures { Makes (spec.plain_word_at self.now found.now) result }
     {
-        let is_plain = match self.taken_at(alloc, found, false)? {
-            Err(fault) => return Ok(Err(fault)),
-            Ok(Taken::TooLong(_)) => false,
-            Ok(Taken::Word(text)) => is_plain(alloc, text.as_slice())?,
-            Ok(Taken::Whole(text)) => text.get().meanings.word.is_some(),
-        };
-        if is_plain {
-            Ok(Ok(()))
-        } else {
-            Ok(Err(unknown_word(found.line)))
+        match self.taken_at(alloc, found, false)? {
+            Ok(taken) => plain_word(alloc, found.line, &taken),
+            Err(fault) => Ok(Err(fault)),
         }
     }
 }

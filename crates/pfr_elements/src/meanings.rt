@@ -22,21 +22,66 @@ use pfr_words::{Bytes, Items, Word};
 use std::alloc::{AllocError, Global};
 use std::mem::replace;
 
-/// What words mean as lists of two kinds.
-fn two_lists<A: Element, B: Element>(
+/// Lists without things.
+fn no_lists(alloc: Global) -> ListMeanings
+    ensures { result ≡ spec.no_lists }
+{
+    ListMeanings {
+        interfaces: no_list(alloc),
+        skipped: no_list(alloc),
+        protocols: no_list(alloc),
+        icmp_types: no_list(alloc),
+        hosts: no_list(alloc),
+        entries: no_list(alloc),
+        ports: no_list(alloc),
+    }
+}
+
+fn no_list<T>(alloc: Global) -> ListMeaning<T>
+    ensures { result ≡ spec.no_list }
+{
+    ListMeaning {
+        items: Items::new(alloc),
+        tables: 0,
+        fault: None,
+    }
+}
+
+/// Puts what words mean as a list of one kind.
+fn put_list<T: Element>(
     alloc: Global,
     scope: &Scope<'_>,
     value: &[Word<'_>],
-) -> Result<(ListMeaning<A::Flat>, ListMeaning<B::Flat>), ConfError>
-    ensures { Makes (listed A.meaning A.form A.tables scope.now value.now, listed B.meaning B.form B.tables scope.now value.now) result }
+    out: &mut ListMeaning<T::Flat>,
+) -> Result<(), ConfError>
+    ensures made { OnOk result (out.new ≡ listed T.meaning T.form T.tables scope.now value.now) }
+    ensures refused { IfErr result (λ e. e.kind ≡ Memory) }
 {
-    let first = list_meaning::<A>(alloc, scope, value)?;
-    let second = list_meaning::<B>(alloc, scope, value)?;
-    Ok((first, second))
+    *out = list_meaning::<T>(alloc, scope, value)?;
+    Ok(())
+}
+
+/// Puts what words mean as a list of each kind.
+#[tactic(auto, unfolding(crate::specs::Meanings::list_meanings))]
+fn put_lists(
+    alloc: Global,
+    scope: &Scope<'_>,
+    value: &[Word<'_>],
+    out: &mut ListMeanings,
+) -> Result<(), ConfError>
+    ensures made { OnOk result (out.new ≡ spec.list_meanings scope.now value.now) }
+    ensures refused { IfErr result (λ e. e.kind ≡ Memory) }
+{
+    put_list::<Written<'_, PortMatch>>(alloc, scope, value, &mut out.ports)?;
+    put_list::<InterfaceMatch<'_>>(alloc, scope, value, &mut out.interfaces)?;
+    put_list::<Written<'_, InterfaceName<'_>>>(alloc, scope, value, &mut out.skipped)?;
+    put_list::<Written<'_, Protocol>>(alloc, scope, value, &mut out.protocols)?;
+    put_list::<Written<'_, IcmpMatch>>(alloc, scope, value, &mut out.icmp_types)?;
+    put_list::<AddressMatch<'_>>(alloc, scope, value, &mut out.hosts)?;
+    put_list::<TableEntry<'_>>(alloc, scope, value, &mut out.entries)
 }
 
 /// What words mean as a list of each kind.
-#[tactic(auto, unfolding(crate::specs::Meanings::list_meanings))]
 fn list_meanings(
     alloc: Global,
     scope: &Scope<'_>,
@@ -44,23 +89,9 @@ fn list_meanings(
 ) -> Result<ListMeanings, ConfError>
     ensures { Makes (spec.list_meanings scope.now value.now) result }
 {
-    let ports = list_meaning::<Written<'_, PortMatch>>(alloc, scope, value)?;
-    let (interfaces, skipped) = two_lists::<InterfaceMatch<'_>, Written<'_, InterfaceName<'_>>>(
-        alloc, scope, value,
-    )?;
-    let (protocols, icmp_types) = two_lists::<Written<'_, Protocol>, Written<'_, IcmpMatch>>(
-        alloc, scope, value,
-    )?;
-    let (hosts, entries) = two_lists::<AddressMatch<'_>, TableEntry<'_>>(alloc, scope, value)?;
-    Ok(ListMeanings {
-        interfaces,
-        skipped,
-        protocols,
-        icmp_types,
-        hosts,
-        entries,
-        ports,
-    })
+    let mut lists = no_lists(alloc);
+    put_lists(alloc, scope, value, &mut lists)?;
+    Ok(lists)
 }
 
 /// A copy of a word.

@@ -7,8 +7,8 @@ ghost use Rattle.pfr_words.specs.Words.{words};
 ghost use Rattle.pfr_terms.specs.Input.{Reads};
 
 use crate::definition::{Meanings, Taken};
-use crate::element::{Elements, MOST_ELEMENTS, is_memory, noted, one_gathered, value_items};
-use crate::faults::{at_line, copied_on, left_out, unknown_word};
+use crate::element::{Elements, MOST_ELEMENTS, noted, one_fault, one_gathered, value_items};
+use crate::faults::{copied_on, left_out, unknown_word};
 use crate::hosts::{HostCriterion, HostSet, host_meaning};
 use crate::interface::whole;
 use crate::scope::Scope;
@@ -169,12 +169,10 @@ pub(crate) fn single_read(
     ensures { Makes (spec.single_read has_tables scope.now line value.now) result }
 {
     let mut reader = Reader::of_value(value);
-    let found = match value_single(alloc, scope, &mut reader, has_tables) {
-        Ok(found) => found,
-        Err(fault) if is_memory(&fault) => return Err(fault),
-        Err(fault) => return Ok(Err(at_line(line, fault))),
-    };
-    Ok(one_gathered(line, found, reader.into_gathered()))
+    match value_single(alloc, scope, &mut reader, has_tables) {
+        Ok(found) => Ok(one_gathered(line, found, reader.into_gathered())),
+        Err(fault) => one_fault(line, fault),
+    }
 }
 
 /// The address that a word with a suffix stands for. All its faults stand on the line of the use.
@@ -202,6 +200,27 @@ fn single_of(meanings: &Meanings, has_tables: bool) -> &Result<Ipv4Address, Conf
     }
 }
 
+/// The address that what a use stands for means.
+fn taken_single(
+    alloc: Global,
+    scope: &Scope<'_>,
+    has_tables: bool,
+    line: usize,
+    taken: &Taken<'_>,
+) -> Result<Result<Ipv4Address, ConfError>, ConfError>
+    ensures { Makes (spec.single_in has_tables scope.now line (Ok taken.now)) result }
+{
+    match taken {
+        Taken::TooLong(true) => Ok(Err(pool(alloc, line)?)),
+        Taken::TooLong(false) => Ok(Err(unknown_word(line))),
+        Taken::Word(text) => word_read(alloc, scope, has_tables, line, text.as_slice()),
+        Taken::Whole(text) => {
+            let meant = single_of(&text.get().meanings, has_tables);
+            Ok(copied_on(alloc, line, meant)?)
+        }
+    }
+}
+
 /// The address that the use of a macro stands for.
 #[tactic(auto, unfolding(crate::specs::Single::used_single))]
 fn used_single(
@@ -213,16 +232,8 @@ fn used_single(
     ensures { Makes (spec.used_single has_tables scope.now found.now) result }
 {
     match scope.macros.taken_at(alloc, found, false)? {
+        Ok(taken) => taken_single(alloc, scope, has_tables, found.line, &taken),
         Err(fault) => Ok(Err(fault)),
-        Ok(Taken::TooLong(true)) => Ok(Err(pool(alloc, found.line)?)),
-        Ok(Taken::TooLong(false)) => Ok(Err(unknown_word(found.line))),
-        Ok(Taken::Word(text)) => {
-            word_read(alloc, scope, has_tables, found.line, text.as_slice())
-        }
-        Ok(Taken::Whole(text)) => {
-            let meant = single_of(&text.get().meanings, has_tables);
-            Ok(copied_on(alloc, found.line, meant)?)
-        }
     }
 }
 

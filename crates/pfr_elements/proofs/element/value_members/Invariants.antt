@@ -1,7 +1,0 @@
-use Rattle.std.proofs.Common.{◌≡◌, ◌-◌}
-use Rattle.pfr_terms.specs.Input.{loop_from}
-use Rattle.pfr_elements.specs.Elements as spec
-use Rattle.pfr_elements.proofs.element.value_members.Given as goal
-
-abbrev pub invariant-loop-turn : goal.invariant-loop-turn
-invariant-loop-turn g l = spec.value_members (spec.value_item g.T.Element.meaning g.T.Element.form l.scope) l.fn.reader ≡ loop_from (spec.value_member (spec.value_item g.T.Element.meaning g.T.Element.form l.scope)) (l._turn-end - l._turn) l.found l.reader
