@@ -120,6 +120,10 @@ choices l = record {
   destination_ports = choices_of (items_of l.destination_ports);
 }
 
+-- nothing may be chosen yet
+abbrev pub no_choices : C.Choices
+no_choices = record { interfaces = []; protocols = []; icmp_types = []; sources = []; source_ports = []; destinations = []; destination_ports = [] }
+
 abbrev pub or_choices : C.Choices → Option ConfError → Result C.Choices ConfError
 or_choices c None = Ok c
 or_choices c (Some e) = Err e

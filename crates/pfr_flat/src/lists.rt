@@ -1,6 +1,7 @@
 //! What the lists of a rule or an anchor come to.
-ghost use Rattle.std.specs.Prelude.{◌≡◌, ◌≤◌, ◌*◌, IfOk, min};
+ghost use Rattle.std.specs.Prelude.{◌≡◌, ◌≤◌, ◌*◌, ◌++◌, [], map, Some, IfOk, IfErr, OnOk, min};
 ghost use Rattle.std.specs.Option.{option_map};
+ghost use Rattle.pfr_terms.specs.declared.error.ConfErrorKind.TheVariants.{Memory};
 ghost use Rattle.pfr_elements.specs.Elements.{elements_from, with_element, none_yet};
 ghost use Rattle.pfr_elements.specs.Values.{Makes};
 ghost use Rattle.pfr_flat.specs.Lists as spec;
@@ -16,6 +17,7 @@ use pfr_elements::{
     Element, Elements, HostCriterion, InterfaceCriterion, MOST_ELEMENTS, Scope, elements_of,
 };
 use std::alloc::{AllocError, Global};
+use std::mem::swap;
 
 /// The elements of the lists that are written, in the order of the text.
 #[derive(Drop)]
@@ -29,19 +31,22 @@ pub struct Lists {
     pub icmp_types: Option<Elements<IcmpMatch>>,
 }
 
-/// The elements of a list, if it is written.
-fn if_written<T: Element>(
+/// Puts the elements of a list, if it is written.
+fn put_list<T: Element>(
     alloc: Global,
     scope: &Scope<'_>,
     keeps: bool,
     list: Option<&[T]>,
-) -> Result<Option<Elements<T::Flat>>, ConfError>
-    ensures { Makes (spec.if_written (elements_from (with_element T.use_in T.negated T.meaning T.form T.tables T.list_in T.turned scope.now keeps) none_yet) (option_map (λ l. l.now) list.entry)) result }
+    out: &mut Option<Elements<T::Flat>>,
+) -> Result<(), ConfError>
+    ensures made { OnOk result (out.new ≡ spec.if_written (elements_from (with_element T.use_in T.negated T.meaning T.form T.tables T.list_in T.turned scope.now keeps) none_yet) (option_map (λ l. l.now) list.entry)) }
+    ensures refused { IfErr result (λ e. e.kind ≡ Memory) }
 {
-    match list {
-        Some(list) => Ok(Some(elements_of(alloc, scope, keeps, list)?)),
-        None => Ok(None),
-    }
+    *out = match list {
+        Some(list) => Some(elements_of(alloc, scope, keeps, list)?),
+        None => None,
+    };
+    Ok(())
 }
 
 /// The items of a list, if it is written.
@@ -73,64 +78,34 @@ fn ports_in<'p, 'a>(part: &'p Option<Part<'a>>) -> Option<&'p [Written<'a, PortM
     }
 }
 
-fn interface_list<'a>(
+/// Puts what the lists of criteria come to, and those of ICMP types, beside the addresses of the source.
+#[tactic(auto, unfolding(crate::specs::Lists::lists_with))]
+fn put_lists<'a>(
     alloc: Global,
     scope: &Scope<'_>,
     keeps: bool,
-    list: Option<&[InterfaceMatch<'a>]>,
-) -> Result<Option<Elements<InterfaceCriterion>>, ConfError>
-    ensures { Makes (spec.if_written (spec.interfaces scope.now keeps) (option_map (λ l. l.now) list.entry)) result }
+    criteria: &Criteria<'a>,
+    types: Option<&[Written<'a, IcmpMatch>]>,
+    out: &mut Lists,
+) -> Result<(), ConfError>
+    ensures made { OnOk result (out.new ≡ spec.lists_with scope.now keeps criteria.now (option_map (λ l. l.now) types.entry) out.old.sources) }
+    ensures refused { IfErr result (λ e. e.kind ≡ Memory) }
 {
-    if_written::<InterfaceMatch<'a>>(alloc, scope, keeps, list)
-}
-
-fn protocol_list<'a>(
-    alloc: Global,
-    scope: &Scope<'_>,
-    keeps: bool,
-    list: Option<&[Written<'a, Protocol>]>,
-) -> Result<Option<Elements<Protocol>>, ConfError>
-    ensures { Makes (spec.if_written (spec.protocols scope.now keeps) (option_map (λ l. l.now) list.entry)) result }
-{
-    if_written::<Written<'a, Protocol>>(alloc, scope, keeps, list)
-}
-
-fn icmp_list<'a>(
-    alloc: Global,
-    scope: &Scope<'_>,
-    keeps: bool,
-    list: Option<&[Written<'a, IcmpMatch>]>,
-) -> Result<Option<Elements<IcmpMatch>>, ConfError>
-    ensures { Makes (spec.if_written (spec.icmp_types scope.now keeps) (option_map (λ l. l.now) list.entry)) result }
-{
-    if_written::<Written<'a, IcmpMatch>>(alloc, scope, keeps, list)
-}
-
-fn port_list<'a>(
-    alloc: Global,
-    scope: &Scope<'_>,
-    keeps: bool,
-    list: Option<&[Written<'a, PortMatch>]>,
-) -> Result<Option<Elements<PortMatch>>, ConfError>
-    ensures { Makes (spec.if_written (spec.port_list scope.now keeps) (option_map (λ l. l.now) list.entry)) result }
-{
-    if_written::<Written<'a, PortMatch>>(alloc, scope, keeps, list)
-}
-
-fn host_list<'a>(
-    alloc: Global,
-    scope: &Scope<'_>,
-    keeps: bool,
-    list: Option<&[AddressMatch<'a>]>,
-) -> Result<Option<Elements<HostCriterion>>, ConfError>
-    ensures { Makes (spec.if_written (spec.host_list scope.now keeps) (option_map (λ l. l.now) list.entry)) result }
-{
-    if_written::<AddressMatch<'a>>(alloc, scope, keeps, list)
+    let interfaces = slice_of(&criteria.interfaces);
+    put_list::<InterfaceMatch<'a>>(alloc, scope, keeps, interfaces, &mut out.interfaces)?;
+    let protocols = slice_of(&criteria.protocols);
+    put_list::<Written<'a, Protocol>>(alloc, scope, keeps, protocols, &mut out.protocols)?;
+    let source_ports = ports_in(&criteria.hosts.source);
+    put_list::<Written<'a, PortMatch>>(alloc, scope, keeps, source_ports, &mut out.source_ports)?;
+    let destinations = addresses_in(&criteria.hosts.destination);
+    put_list::<AddressMatch<'a>>(alloc, scope, keeps, destinations, &mut out.destinations)?;
+    let ports = ports_in(&criteria.hosts.destination);
+    put_list::<Written<'a, PortMatch>>(alloc, scope, keeps, ports, &mut out.destination_ports)?;
+    put_list::<Written<'a, IcmpMatch>>(alloc, scope, keeps, types, &mut out.icmp_types)
 }
 
 /// What the lists of criteria come to, and those of ICMP types, where the addresses of the source come to these. Where
 /// nothing is made of them (`keeps` is false), what macros stand for is only counted.
-#[tactic(auto, unfolding(crate::specs::Lists::lists_with))]
 pub fn lists_with<'a>(
     alloc: Global,
     scope: &Scope<'_>,
@@ -141,16 +116,17 @@ pub fn lists_with<'a>(
 ) -> Result<Lists, ConfError>
     ensures { Makes (spec.lists_with scope.now keeps criteria.now (option_map (λ l. l.now) types.entry) sources) result }
 {
-    let destination = &criteria.hosts.destination;
-    Ok(Lists {
-        interfaces: interface_list(alloc, scope, keeps, slice_of(&criteria.interfaces))?,
-        protocols: protocol_list(alloc, scope, keeps, slice_of(&criteria.protocols))?,
+    let mut lists = Lists {
+        interfaces: None,
+        protocols: None,
         sources,
-        source_ports: port_list(alloc, scope, keeps, ports_in(&criteria.hosts.source))?,
-        destinations: host_list(alloc, scope, keeps, addresses_in(destination))?,
-        destination_ports: port_list(alloc, scope, keeps, ports_in(destination))?,
-        icmp_types: icmp_list(alloc, scope, keeps, types)?,
-    })
+        source_ports: None,
+        destinations: None,
+        destination_ports: None,
+        icmp_types: None,
+    };
+    put_lists(alloc, scope, keeps, criteria, types, &mut lists)?;
+    Ok(lists)
 }
 
 /// What the lists of criteria come to, and those of ICMP types. Where nothing is made of them (`keeps` is false), what
@@ -164,7 +140,9 @@ pub fn lists_of<'a>(
 ) -> Result<Lists, ConfError>
     ensures { Makes (spec.lists_of scope.now keeps criteria.now (option_map (λ l. l.now) types.entry)) result }
 {
-    let sources = host_list(alloc, scope, keeps, addresses_in(&criteria.hosts.source))?;
+    let mut sources = None;
+    let written = addresses_in(&criteria.hosts.source);
+    put_list::<AddressMatch<'a>>(alloc, scope, keeps, written, &mut sources)?;
     lists_with(alloc, scope, keeps, criteria, types, sources)
 }
 
@@ -223,52 +201,105 @@ impl Lists {
     }
 }
 
-/// The items of a list, and the first fault so far.
-fn opened<T>(
-    list: Option<Elements<T>>,
-    fault: Option<ConfError>,
-) -> (Option<Items<T>>, Option<ConfError>)
-    ensures { result ≡ (spec.items_of list, spec.or_fault fault list) }
+/// The first fault so far, or else that of a list, which is taken out of it.
+fn or_fault<T>(fault: Option<ConfError>, list: &mut Option<Elements<T>>) -> Option<ConfError>
+    ensures fault { result ≡ spec.or_fault fault list.old }
+    ensures items { spec.items_of list.new ≡ spec.items_of list.old }
 {
     match list {
-        None => (None, fault),
-        Some(list) => (Some(list.items), fault.or(list.fault)),
+        None => fault,
+        Some(list) => fault.or(list.fault.take()),
     }
 }
 
-/// What may be chosen of a list; where none is written one thing, which asks for nothing.
-fn choices_of<T: Copy>(
-    alloc: Global,
-    list: Option<Items<T>>,
-) -> Result<Items<Option<T>>, AllocError>
-    ensures { IfOk result (λ made. made ≡ spec.choices_of list) }
+/// The first fault of lists. The faults are taken out of them.
+fn first_fault(lists: &mut Lists) -> Option<ConfError>
+    ensures fault { result ≡ spec.fault_of lists.old }
+    ensures items { spec.choices lists.new ≡ spec.choices lists.old }
 {
-    let mut made = Items::new(alloc);
+    let fault = or_fault(None, &mut lists.interfaces);
+    let fault = or_fault(fault, &mut lists.protocols);
+    let fault = or_fault(fault, &mut lists.sources);
+    let fault = or_fault(fault, &mut lists.source_ports);
+    let fault = or_fault(fault, &mut lists.destinations);
+    let fault = or_fault(fault, &mut lists.destination_ports);
+    or_fault(fault, &mut lists.icmp_types)
+}
+
+fn put_items<T: Copy>(items: &[T], out: &mut Items<Option<T>>) -> Result<(), AllocError>
+    ensures { OnOk result (out.new ≡ out.old ++ map Some items.now) }
+{
+    for item in items {
+        out.push(Some(*item))?;
+    }
+    Ok(())
+}
+
+/// Puts what may be chosen of a list; where none is written one thing, which asks for nothing.
+fn put_choices<T: Copy>(
+    list: &Option<Elements<T>>,
+    out: &mut Items<Option<T>>,
+) -> Result<(), AllocError>
+    ensures { OnOk result (out.new ≡ out.old ++ spec.choices_of (spec.items_of list.now)) }
+{
     match list {
-        None => made.push(None)?,
+        None => out.push(None),
+        Some(list) => put_items(list.items.as_slice(), out),
+    }
+}
+
+/// Puts which addresses may be chosen of a list, whose items are taken out of it.
+fn put_hosts(
+    list: &mut Option<Elements<HostCriterion>>,
+    out: &mut Items<HostCriterion>,
+) -> Result<(), AllocError>
+    requires { out.old ≡ [] }
+    ensures { OnOk result (out.new ≡ spec.hosts_of (spec.items_of list.old)) }
+{
+    match list {
         Some(list) => {
-            for item in list.as_slice() {
-                made.push(Some(*item))?;
-            }
+            swap(&mut list.items, out);
+            Ok(())
         }
+        None => out.push(ANYONE),
     }
-    Ok(made)
 }
 
-fn hosts_of(
-    alloc: Global,
-    list: Option<Items<HostCriterion>>,
-) -> Result<Items<HostCriterion>, AllocError>
-    ensures { IfOk result (λ made. made ≡ spec.hosts_of list) }
+/// Puts what may be chosen of lists.
+fn put_all_choices(lists: &mut Lists, out: &mut Choices) -> Result<(), AllocError>
+    requires { out.old ≡ spec.no_choices }
+    ensures { OnOk result (out.new ≡ spec.choices lists.old) }
 {
-    match list {
-        Some(list) => Ok(list),
-        None => {
-            let mut made = Items::new(alloc);
-            made.push(ANYONE)?;
-            Ok(made)
-        }
+    put_choices(&lists.interfaces, &mut out.interfaces)?;
+    put_choices(&lists.protocols, &mut out.protocols)?;
+    put_choices(&lists.icmp_types, &mut out.icmp_types)?;
+    put_hosts(&mut lists.sources, &mut out.sources)?;
+    put_choices(&lists.source_ports, &mut out.source_ports)?;
+    put_hosts(&mut lists.destinations, &mut out.destinations)?;
+    put_choices(&lists.destination_ports, &mut out.destination_ports)
+}
+
+fn no_choices(alloc: Global) -> Choices
+    ensures { result ≡ spec.no_choices }
+{
+    Choices {
+        interfaces: Items::new(alloc),
+        protocols: Items::new(alloc),
+        icmp_types: Items::new(alloc),
+        sources: Items::new(alloc),
+        source_ports: Items::new(alloc),
+        destinations: Items::new(alloc),
+        destination_ports: Items::new(alloc),
     }
+}
+
+/// What may be chosen of lists, whose addresses are taken out of them.
+fn choices(alloc: Global, lists: &mut Lists) -> Result<Choices, AllocError>
+    ensures { IfOk result (λ made. made ≡ spec.choices lists.old) }
+{
+    let mut made = no_choices(alloc);
+    put_all_choices(lists, &mut made)?;
+    Ok(made)
 }
 
 /// What may be chosen of the lists, or the first fault of theirs.
@@ -279,23 +310,9 @@ pub fn choices_or_fault(
 ) -> Result<Result<Choices, ConfError>, AllocError>
     ensures { IfOk result (λ made. made ≡ spec.choices_or_fault lists) }
 {
-    let (interfaces, fault) = opened(lists.interfaces, None);
-    let (protocols, fault) = opened(lists.protocols, fault);
-    let (sources, fault) = opened(lists.sources, fault);
-    let (source_ports, fault) = opened(lists.source_ports, fault);
-    let (destinations, fault) = opened(lists.destinations, fault);
-    let (destination_ports, fault) = opened(lists.destination_ports, fault);
-    let (icmp_types, fault) = opened(lists.icmp_types, fault);
-    if let Some(fault) = fault {
-        return Ok(Err(fault));
+    let mut lists = lists;
+    match first_fault(&mut lists) {
+        Some(fault) => Ok(Err(fault)),
+        None => Ok(Ok(choices(alloc, &mut lists)?)),
     }
-    Ok(Ok(Choices {
-        interfaces: choices_of(alloc, interfaces)?,
-        protocols: choices_of(alloc, protocols)?,
-        icmp_types: choices_of(alloc, icmp_types)?,
-        sources: hosts_of(alloc, sources)?,
-        source_ports: choices_of(alloc, source_ports)?,
-        destinations: hosts_of(alloc, destinations)?,
-        destination_ports: choices_of(alloc, destination_ports)?,
-    }))
 }
