@@ -194,8 +194,7 @@ pub(crate) fn value_items<T: Element>(
     ensures { Reads (spec.value_items (spec.value_item T.meaning T.form scope.now) reader.old) result reader.new }
 {
     let mut found = Items::new(alloc);
-    put_items::<T>(alloc, scope, reader, &mut found)?;
-    Ok(found)
+    put_items::<T>(alloc, scope, reader, &mut found).and(Ok(found))
 }
 
 /// What the one thing of a value means at this fault, unless memory was refused. It stands on the line of the use.

@@ -43,8 +43,7 @@ fn joined(alloc: Global, word: &[u8], suffix: &[u8]) -> Result<Items<u8>, AllocE
     ensures { IfOk result (λ text. text ≡ word.now ++ suffix.now) }
 {
     let mut text = Items::copied(alloc, word)?;
-    text.extend_from_slice(suffix)?;
-    Ok(text)
+    text.extend_from_slice(suffix).and(Ok(text))
 }
 
 /// The word of a value with the suffix of a use.

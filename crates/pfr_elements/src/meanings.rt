@@ -90,8 +90,7 @@ fn list_meanings(
     ensures { Makes (spec.list_meanings scope.now value.now) result }
 {
     let mut lists = no_lists(alloc);
-    put_lists(alloc, scope, value, &mut lists)?;
-    Ok(lists)
+    put_lists(alloc, scope, value, &mut lists).and(Ok(lists))
 }
 
 /// A copy of a word.

@@ -17,7 +17,7 @@ use pfr_elements::{
     Element, Elements, HostCriterion, InterfaceCriterion, MOST_ELEMENTS, Scope, elements_of,
 };
 use std::alloc::{AllocError, Global};
-use std::mem::swap;
+use std::mem::{drop, swap};
 
 /// The elements of the lists that are written, in the order of the text.
 #[derive(Drop)]
@@ -125,8 +125,7 @@ pub fn lists_with<'a>(
         destination_ports: None,
         icmp_types: None,
     };
-    put_lists(alloc, scope, keeps, criteria, types, &mut lists)?;
-    Ok(lists)
+    put_lists(alloc, scope, keeps, criteria, types, &mut lists).and(Ok(lists))
 }
 
 /// What the lists of criteria come to, and those of ICMP types. Where nothing is made of them (`keeps` is false), what
@@ -298,12 +297,21 @@ fn choices(alloc: Global, lists: &mut Lists) -> Result<Choices, AllocError>
     ensures { IfOk result (λ made. made ≡ spec.choices lists.old) }
 {
     let mut made = no_choices(alloc);
-    put_all_choices(lists, &mut made)?;
-    Ok(made)
+    put_all_choices(lists, &mut made).and(Ok(made))
+}
+
+/// What may be chosen of lists, or the first fault of theirs. Both are taken out of them.
+#[tactic(auto, unfolding(crate::specs::Lists::choices_or_fault))]
+fn taken_choices(alloc: Global, lists: &mut Lists) -> Result<Result<Choices, ConfError>, AllocError>
+    ensures { IfOk result (λ made. made ≡ spec.choices_or_fault lists.old) }
+{
+    match first_fault(lists) {
+        Some(fault) => Ok(Err(fault)),
+        None => Ok(Ok(choices(alloc, lists)?)),
+    }
 }
 
 /// What may be chosen of the lists, or the first fault of theirs.
-#[tactic(auto, unfolding(crate::specs::Lists::choices_or_fault))]
 pub fn choices_or_fault(
     alloc: Global,
     lists: Lists,
@@ -311,8 +319,7 @@ pub fn choices_or_fault(
     ensures { IfOk result (λ made. made ≡ spec.choices_or_fault lists) }
 {
     let mut lists = lists;
-    match first_fault(&mut lists) {
-        Some(fault) => Ok(Err(fault)),
-        None => Ok(Ok(choices(alloc, &mut lists)?)),
-    }
+    let made = taken_choices(alloc, &mut lists);
+    drop(lists);
+    made
 }
