@@ -37,6 +37,18 @@ abbrev pub filled : Scope → Filling → List TableEntry → Filling
 filled scope filling [] = filling
 filled scope filling (x ∷ xs) = if nat_lt most_elements filling.found.count then filling else filled scope (with_written scope filling x) xs
 
+abbrev pub table_unless : List Entry → Option ConfError → Result (List Entry) ConfError
+table_unless table None = Ok table
+table_unless table (Some e) = Err e
+
+-- the table, or the first fault of its entries
+abbrev pub table_or_fault : Filling → Result (List Entry) ConfError
+table_or_fault filling = table_unless filling.table filling.found.fault
+
+-- whether a list has more elements than it may have, or with others more than there may be in all
+abbrev pub exceeds : ℕ → ℕ → Bool
+exceeds others count = nat_lt most_elements count || nat_lt 65536 (others + count)
+
 -- a table without entries, and a fault before the first of them
 abbrev pub unfilled : Option ConfError → Filling
 unfilled fault = record { table = []; found = record { items = []; fault = fault; count = 0 } }

@@ -21,7 +21,7 @@ use pfr_flat::{
     StateRule, choices_or_fault, combinations, counted, lists_of, put_anchors, slice_of,
 };
 use std::alloc::{AllocError, Global};
-use std::mem::replace;
+use std::mem::{drop, replace};
 
 /// What the options say of rules, how many rules stand before a statement, and the statement's line.
 #[derive(Clone, Copy)]
@@ -174,13 +174,13 @@ impl Body {
         ensures made { OnOk result (self.new ≡ spec.with_made rule choices self.old) }
         ensures placed { OnOk result (places.ArePlaced self.new.rules self.new.anchors) }
     {
-        match choices {
-            Ok(choices) => self.make_chosen(alloc, rule, &choices),
-            Err(fault) => {
-                self.add_fault(fault);
-                Ok(())
-            }
+        if let Ok(chosen) = &choices {
+            return self.make_chosen(alloc, rule, chosen);
         }
+        if let Some(fault) = choices.err() {
+            self.add_fault(fault);
+        }
+        Ok(())
     }
 }
 
@@ -200,8 +200,13 @@ pub(crate) fn counted_choices(
     ensures within { IfOk result (λ made. used + made.0 ≤ 65536) }
     ensures refused { IfErr result (λ e. e.kind ≢ Memory → counts.counted used line lists before copies ≡ Err e) }
 {
-    let count = counted(used, line, &lists, before, copies)?;
-    Ok((count, choices_or_fault(alloc, lists)?))
+    match counted(used, line, &lists, before, copies) {
+        Ok(count) => Ok((count, choices_or_fault(alloc, lists)?)),
+        Err(fault) => {
+            drop(lists);
+            Err(fault)
+        }
+    }
 }
 
 /// The rules of a rule.
@@ -337,13 +342,13 @@ fn make_copies(
     ensures count { OnOk result (out.new.count ≡ out.old.count) }
     ensures placed { OnOk result (places.ArePlaced out.new.rules out.new.anchors) }
 {
-    match choices {
-        Ok(choices) => copy_chosen(alloc, out, anchor, &choices, inner),
-        Err(fault) => {
-            out.add_fault(fault);
-            Ok(())
-        }
+    if let Ok(chosen) = &choices {
+        return copy_chosen(alloc, out, anchor, chosen, inner);
     }
+    if let Some(fault) = choices.err() {
+        out.add_fault(fault);
+    }
+    Ok(())
 }
 
 fn flat_anchor(anchor: &AnchorRule<'_>) -> FlatAnchor

@@ -1,7 +1,8 @@
 //! From statements to the flat ruleset.
-ghost use Rattle.std.specs.Prelude.{◌≡◌, ◌<◌, ◌≤◌, ◌+◌, length, OnOk, IfOk};
+ghost use Rattle.std.specs.Prelude.{◌≡◌, ◌<◌, ◌≤◌, ◌+◌, false, length, OnOk, IfOk};
 ghost use Rattle.pfr_terms.specs.Input.{Gives};
-ghost use Rattle.pfr_elements.specs.Values.{begun};
+ghost use Rattle.pfr_elements.specs.Values.{begun, taken_at};
+ghost use Rattle.pfr_expand.specs.Bodies as bodies;
 ghost use Rattle.pfr_expand.specs.Bodies.{Adds};
 ghost use Rattle.pfr_flat.specs.Places.{ArePlaced, joined};
 ghost use Rattle.pfr_expand.specs.Rulesets as spec;
@@ -9,18 +10,18 @@ ghost use Rattle.pfr_expand.specs.Rulesets as spec;
 use crate::body::{Body, Setting, add_statement, counted_choices};
 use crate::options::Options;
 use crate::ruleset::Ruleset;
-use crate::tables::{Filling, clash, fill};
+use crate::tables::{clash, exceeds, fill};
 use crate::translation::{Translations, translation_lists};
 use pfr_conf::anchor::DEEPEST_ANCHOR;
 use pfr_conf::{
-    Bytes, ConfError, FilterStatement, Items, MacroDefinition, Name, Piece, SetOption, Statement,
-    Statements, TableDefinition, TranslationRule, TranslationStatement,
+    Bytes, ConfError, FilterStatement, Items, MacroDefinition, MacroUse, Name, Piece, SetOption,
+    Statement, Statements, TableDefinition, TranslationRule, TranslationStatement,
 };
 use pfr_elements::value::Draft;
-use pfr_elements::{Elements, Interface, MOST_ELEMENTS, Macros, Names, Scope};
+use pfr_elements::{Interface, Macros, Names, Scope};
 use pfr_flat::{FilterRules, FlatAnchor, FlatRule, MOST_RULES, too_many};
 use std::alloc::{AllocError, Global};
-use std::mem::replace;
+use std::mem::{drop, replace};
 
 /// How far an expansion has come: what gives words their meaning, how many entries all tables have together, and the
 /// ruleset so far.
@@ -31,6 +32,20 @@ pub struct Work<'a> {
     /// How many translation rules of all kinds there are.
     pub translations: usize,
     pub flat: Ruleset,
+}
+
+/// Puts what the use of a macro stands for behind a macro's value.
+fn add_use(
+    alloc: Global,
+    macros: &Macros<'_>,
+    draft: &mut Draft,
+    found: &MacroUse<'_>,
+) -> Result<(), ConfError>
+    ensures { Adds (spec.with_use draft.old (taken_at macros.now false found.now)) result draft.new }
+{
+    let taken = macros.taken_at(alloc, found, false)??;
+    draft.add_taken(&taken)?;
+    Ok(())
 }
 
 /// Puts a piece behind a macro's value.
@@ -45,10 +60,7 @@ fn add_piece(
     match piece {
         Piece::Quoted(name) => draft.add_text(name.text.as_slice())?,
         Piece::Plain(name) => draft.add_text(name.text.as_slice())?,
-        Piece::Macro(found) => {
-            let taken = macros.taken_at(alloc, found, false)??;
-            draft.add_taken(&taken)?;
-        }
+        Piece::Macro(found) => add_use(alloc, macros, draft, found)?,
     }
     Ok(())
 }
@@ -162,14 +174,11 @@ impl<'a> Work<'a> {
         let fault = self.clash_of(&definition.name);
         let filling = fill(alloc, &self.scope, fault, definition.entries.as_slice())?;
         let count = filling.found.count;
-        if count > MOST_ELEMENTS || self.entries > MOST_RULES || count > MOST_RULES - self.entries {
+        if exceeds(self.entries, count) {
+            drop(filling);
             return Err(too_many(definition.line));
         }
-        let Filling { table, found } = filling;
-        let Elements { fault, .. } = found;
-        if let Some(fault) = fault {
-            return Err(fault);
-        }
+        let table = filling.into_table()?;
         self.entries += count;
         self.flat.tables.push(table)?;
         self.scope.defined = self.flat.tables.len();
@@ -184,14 +193,10 @@ impl<'a> Work<'a> {
         self.flat.options.set(alloc, &self.scope, option)
     }
 
-    #[tactic(auto, unfolding(crate::specs::Rulesets::with_filter))]
-    fn add_filter(
-        &mut self,
-        alloc: Global,
-        statement: &FilterStatement<'_>,
-    ) -> Result<(), ConfError>
-        ensures made { Adds (spec.with_filter statement.now self.old) result self.new }
-        ensures few { self.new.translations ≡ self.old.translations }
+    /// What a filter rule or an anchor comes to.
+    fn filter_body(&self, alloc: Global, statement: &FilterStatement<'_>) -> Result<Body, ConfError>
+        ensures made { Gives (bodies.statement 16 self.now.scope (spec.setting_of self.now (spec.line_of statement.now)) statement.now bodies.empty_body) result }
+        ensures placed { IfOk result (λ body. ArePlaced body.rules body.anchors) }
     {
         let setting = Setting {
             block_policy: self.flat.options.block_policy,
@@ -207,19 +212,35 @@ impl<'a> Work<'a> {
             &mut body,
             statement,
             DEEPEST_ANCHOR,
-        )?;
-        let Body {
-            rules,
-            anchors,
-            fault,
-            ..
-        } = body;
-        if let Some(fault) = fault {
+        )
+        .and(Ok(body))
+    }
+
+    /// Puts the rules of a body behind the others, or answers its fault.
+    fn add_body(&mut self, alloc: Global, body: &mut Body) -> Result<(), ConfError>
+        requires { ArePlaced body.old.rules body.old.anchors }
+        ensures made { Adds (spec.filter_if self.old body.old body.old.fault) result self.new }
+        ensures few { self.new.translations ≡ self.old.translations }
+    {
+        if let Some(fault) = body.fault.take() {
             return Err(fault);
         }
         self.flat
-            .add_rules(alloc, rules.as_slice(), anchors.as_slice())?;
+            .add_rules(alloc, body.rules.as_slice(), body.anchors.as_slice())?;
         Ok(())
+    }
+
+    #[tactic(auto, unfolding(crate::specs::Rulesets::with_filter))]
+    fn add_filter(
+        &mut self,
+        alloc: Global,
+        statement: &FilterStatement<'_>,
+    ) -> Result<(), ConfError>
+        ensures made { Adds (spec.with_filter statement.now self.old) result self.new }
+        ensures few { self.new.translations ≡ self.old.translations }
+    {
+        let mut body = self.filter_body(alloc, statement)?;
+        self.add_body(alloc, &mut body)
     }
 
     #[tactic(auto, unfolding(crate::specs::Rulesets::with_translation))]
@@ -272,6 +293,16 @@ impl<'a> Work<'a> {
             Statement::Filter(rule) => self.add_filter(alloc, rule),
         }
     }
+
+    fn add_all(&mut self, alloc: Global, statements: &[Statement<'a>]) -> Result<(), ConfError>
+        requires { self.old.translations ≤ 65536 }
+        ensures { Adds (spec.expanded_from self.old statements.now) result self.new }
+    {
+        for statement in statements {
+            self.add(alloc, statement)?;
+        }
+        Ok(())
+    }
 }
 
 /// Adds the name of the table that a statement defines, unless it is there.
@@ -309,10 +340,7 @@ fn work_of<'a>(
 {
     let names = table_names(alloc, statements)?;
     let mut work = Work::new(alloc, interface, names);
-    for statement in statements {
-        work.add(alloc, statement)?;
-    }
-    Ok(work)
+    work.add_all(alloc, statements).and(Ok(work))
 }
 
 /// The flat ruleset that statements mean for an interface, or the first fault of theirs in the order of the text: of a

@@ -4,13 +4,14 @@ ghost use Rattle.pfr_expand.specs.Bodies.{Adds};
 ghost use Rattle.pfr_expand.specs.Options as spec;
 ghost use Rattle.pfr_expand.specs.declared.options.Options as O;
 
+use crate::tables::exceeds;
 use crate::timeouts::Timeouts;
 use pfr_conf::{
     Binding, BlockPolicy, ConfError, InterfaceName, Items, Limit, LimitSetting, Name, SetOption,
     TimeoutSetting, Written,
 };
-use pfr_elements::{Elements, IfName, MOST_ELEMENTS, Scope, elements_of};
-use pfr_flat::{MOST_RULES, too_many};
+use pfr_elements::{Elements, IfName, Scope, elements_of};
+use pfr_flat::too_many;
 use std::alloc::{AllocError, Global};
 
 /// What the options of a ruleset say.
@@ -58,20 +59,16 @@ fn first_line(list: &[Written<'_, InterfaceName<'_>>]) -> usize
 }
 
 /// Adds the names of a list to those that are skipped.
-fn skip(options: &mut Options, line: usize, found: Elements<IfName>) -> Result<(), ConfError>
-    ensures { Adds (spec.with_skipped line options.old found) result options.new }
+fn skip(options: &mut Options, line: usize, found: &mut Elements<IfName>) -> Result<(), ConfError>
+    ensures { Adds (spec.with_skipped line options.old found.old) result options.new }
 {
-    if found.count > MOST_ELEMENTS || options.skipped.len() > MOST_RULES {
+    if exceeds(options.skipped.len(), found.count) {
         return Err(too_many(line));
     }
-    if found.count > MOST_RULES - options.skipped.len() {
-        return Err(too_many(line));
-    }
-    let Elements { items, fault, .. } = found;
-    if let Some(fault) = fault {
+    if let Some(fault) = found.fault.take() {
         return Err(fault);
     }
-    options.skipped.extend_from_slice(items.as_slice())?;
+    options.skipped.extend_from_slice(found.items.as_slice())?;
     Ok(())
 }
 
@@ -116,8 +113,8 @@ impl Options {
     {
         match option {
             SetOption::SkipOn(list) => {
-                let found = elements_of(alloc, scope, true, list.as_slice())?;
-                return skip(self, first_line(list.as_slice()), found);
+                let mut found = elements_of(alloc, scope, true, list.as_slice())?;
+                return skip(self, first_line(list.as_slice()), &mut found);
             }
             SetOption::Timeouts(settings) => set_timeouts(self, settings.as_slice()),
             SetOption::Limits(settings) => set_limits(self, settings.as_slice()),

@@ -1,5 +1,5 @@
 //! Tables and their entries.
-ghost use Rattle.std.specs.Prelude.{◌≡◌, ◌≤◌, drop, OnOk, IfOk, IfErr};
+ghost use Rattle.std.specs.Prelude.{◌≡◌, ◌≤◌, ◌+◌, drop, OnOk, IfOk, IfErr};
 ghost use Rattle.pfr_terms.specs.declared.error.ConfErrorKind.TheVariants.{Memory};
 ghost use Rattle.pfr_elements.specs.Values.{Makes};
 ghost use Rattle.pfr_elements.specs.Elements as faults;
@@ -8,6 +8,7 @@ ghost use Rattle.pfr_expand.specs.Tables as spec;
 use pfr_conf::{ConfError, ConfErrorKind, TableEntry};
 use pfr_elements::element::{add_element, first_fault};
 use pfr_elements::{Elements, MOST_ELEMENTS, Scope};
+use pfr_flat::MOST_RULES;
 use pfr_tables::{AddressTable, Entry};
 use std::alloc::{AllocError, Global};
 use std::mem::replace;
@@ -27,6 +28,13 @@ pub(crate) fn clash(line: usize) -> ConfError
         line,
         kind: ConfErrorKind::Clash,
     }
+}
+
+/// Whether a list has more elements than it may have, or with so many others more than there may be in all.
+pub(crate) fn exceeds(others: usize, count: usize) -> bool
+    ensures { result ≡ spec.exceeds others count }
+{
+    count > MOST_ELEMENTS || others > MOST_RULES || count > MOST_RULES - others
 }
 
 /// Puts entries that are written on this line into a table; answers the first fault.
@@ -90,6 +98,37 @@ impl Filling {
         self.found.fault = put_entries(&mut self.table, fault, entry.line, entries)?;
         Ok(())
     }
+
+    /// The table, or the first fault of its entries.
+    pub(crate) fn into_table(self) -> Result<AddressTable, ConfError>
+        ensures { result ≡ spec.table_or_fault self }
+    {
+        let Filling { table, found } = self;
+        let Elements { fault, .. } = found;
+        match fault {
+            Some(fault) => Err(fault),
+            None => Ok(table),
+        }
+    }
+
+    /// Takes entries as they are written. Those behind the one that is too many aren't looked at.
+    fn add_all(
+        &mut self,
+        alloc: Global,
+        scope: &Scope<'_>,
+        entries: &[TableEntry<'_>],
+    ) -> Result<(), ConfError>
+        ensures made { OnOk result (self.new ≡ spec.filled scope.now self.old entries.now) }
+        ensures refused { IfErr result (λ e. e.kind ≡ Memory) }
+    {
+        for entry in entries {
+            if self.found.count > MOST_ELEMENTS {
+                return Ok(());
+            }
+            self.add(alloc, scope, entry)?;
+        }
+        Ok(())
+    }
 }
 
 /// Fills a table.
@@ -102,11 +141,5 @@ pub(crate) fn fill(
     ensures { Makes (spec.filled scope.now (spec.unfilled fault) entries.now) result }
 {
     let mut filling = Filling::new(alloc, fault);
-    for entry in entries {
-        if filling.found.count > MOST_ELEMENTS {
-            return Ok(filling);
-        }
-        filling.add(alloc, scope, entry)?;
-    }
-    Ok(filling)
+    filling.add_all(alloc, scope, entries).and(Ok(filling))
 }

@@ -249,9 +249,9 @@ impl Translations {
         requires { number ≤ 65536 }
         ensures { Adds (spec.with_choices scope.now number rule.now choices self.old) result self.new }
     {
-        match choices {
-            Ok(choices) => self.add_chosen(alloc, scope, number, rule, &choices),
-            Err(fault) => Err(fault),
+        if let Ok(chosen) = &choices {
+            return self.add_chosen(alloc, scope, number, rule, chosen);
         }
+        choices.and(Ok(()))
     }
 }
