@@ -122,15 +122,6 @@ pub(crate) fn noted<T: Copy>(
     }
 }
 
-fn put_some<T: Copy>(found: &mut Items<T>, flat: Option<T>) -> Result<(), AllocError>
-    ensures { OnOk result (found.new ≡ spec.with_some found.old flat) }
-{
-    match flat {
-        Some(flat) => found.push(flat),
-        None => Ok(()),
-    }
-}
-
 /// Reads one thing of a value, and puts what it means behind the others.
 #[tactic(auto, unfolding(crate::specs::Elements::put_item))]
 fn put_item<T: Element>(
@@ -141,8 +132,9 @@ fn put_item<T: Element>(
 ) -> Result<(), ConfError>
     ensures { Puts (spec.put_item (spec.value_item T.meaning T.form scope.now) found.old reader.old) result found.new reader.new }
 {
-    let flat = T::read_one(alloc, scope, reader)?;
-    put_some(found, flat)?;
+    if let Some(flat) = T::read_one(alloc, scope, reader)? {
+        found.push(flat)?;
+    }
     Ok(())
 }
 

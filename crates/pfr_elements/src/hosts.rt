@@ -75,8 +75,7 @@ fn value_form(
     let name = reader.free_word(alloc)?;
     let meaning = form_meaning(alloc, interface, &name)?;
     let found = noted(reader, meaning);
-    reader.finish(alloc)?;
-    Ok(found)
+    reader.finish(alloc).and(Ok(found))
 }
 
 /// What the words of a macro's value mean in round brackets.

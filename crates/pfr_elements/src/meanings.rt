@@ -1,10 +1,11 @@
 //! What a value means wherever it may be used. It is read once, where its macro is defined.
-ghost use Rattle.std.specs.Prelude.{◌≡◌, OnOk, IfOk, IfErr};
+ghost use Rattle.std.specs.Prelude.{◌≡◌, Ok, OnOk, IfOk, IfErr};
 ghost use Rattle.std.specs.Option.{option_map};
 ghost use Rattle.pfr_terms.specs.declared.error.ConfErrorKind.TheVariants.{Memory};
 ghost use Rattle.pfr_elements.specs.Elements.{listed};
 ghost use Rattle.pfr_elements.specs.Meanings as spec;
 ghost use Rattle.pfr_elements.specs.Values.{Makes};
+ghost use Rattle.pfr_words.specs.Words.{words};
 
 use crate::definition::{Definition, ListMeaning, ListMeanings, Meanings, Text};
 use crate::element::{Element, list_meaning};
@@ -93,9 +94,22 @@ fn list_meanings(
     put_lists(alloc, scope, value, &mut lists).and(Ok(lists))
 }
 
+/// Two values, unless memory was refused for one of them.
+fn both<A: Drop, B: Drop>(
+    first: Result<A, ConfError>,
+    second: Result<B, ConfError>,
+) -> Result<(A, B), ConfError>
+    requires { IfErr first (λ e. e.kind ≡ Memory) × IfErr second (λ e. e.kind ≡ Memory) }
+    ensures made { IfOk result (λ made. (first ≡ Ok made.0) × (second ≡ Ok made.1)) }
+    ensures refused { IfErr result (λ e. e.kind ≡ Memory) }
+{
+    let first = first?;
+    Ok((first, second?))
+}
+
 /// A copy of a word.
-fn copied(alloc: Global, word: Option<&[u8]>) -> Result<Option<Items<u8>>, AllocError>
-    ensures { IfOk result (λ made. made ≡ option_map (λ w. w.now) word.entry) }
+fn copied(alloc: Global, word: Option<&[u8]>) -> Result<Option<Items<u8>>, ConfError>
+    ensures { Makes (option_map (λ w. w.now) word.entry) result }
 {
     match word {
         Some(word) => Ok(Some(Items::copied(alloc, word)?)),
@@ -108,14 +122,40 @@ fn copied(alloc: Global, word: Option<&[u8]>) -> Result<Option<Items<u8>>, Alloc
 fn meanings_of(alloc: Global, scope: &Scope<'_>, value: &[Word<'_>]) -> Result<Meanings, ConfError>
     ensures { Makes (spec.meanings_of scope.now value.now) result }
 {
+    let form = form_read(alloc, &scope.interface, 0, value);
+    let target = single_read(alloc, scope, true, 0, value);
+    let source = single_read(alloc, scope, false, 0, value);
+    let word = copied(alloc, only_plain(value));
+    let lists = list_meanings(alloc, scope, value);
+    let (((form, target), source), (word, lists)) = both(
+        both(both(form, target), source),
+        both(word, lists),
+    )?;
     Ok(Meanings {
         is_one_word: value.len() == 1,
-        form: form_read(alloc, &scope.interface, 0, value)?,
-        target: single_read(alloc, scope, true, 0, value)?,
-        source: single_read(alloc, scope, false, 0, value)?,
-        word: copied(alloc, only_plain(value))?,
-        lists: list_meanings(alloc, scope, value)?,
+        word,
+        lists,
+        form,
+        target,
+        source,
     })
+}
+
+/// What a text of these words means, if a use may stand for them.
+fn sound_meanings(
+    alloc: Global,
+    scope: &Scope<'_>,
+    text: &[u8],
+    found: &[Word<'_>],
+) -> Result<Option<Meanings>, ConfError>
+    requires { found.now ≡ words text.now }
+    ensures { Makes (spec.text_meanings scope.now text.now) result }
+{
+    if is_sound(text, found) {
+        Ok(Some(meanings_of(alloc, scope, found)?))
+    } else {
+        Ok(None)
+    }
 }
 
 /// What a text means, if a use may stand for its words.
@@ -127,11 +167,7 @@ fn text_meanings(
     ensures { Makes (spec.text_meanings scope.now text.now) result }
 {
     let found = words(alloc, text)?;
-    if is_sound(text, found.as_slice()) {
-        Ok(Some(meanings_of(alloc, scope, found.as_slice())?))
-    } else {
-        Ok(None)
-    }
+    sound_meanings(alloc, scope, text, found.as_slice())
 }
 
 /// What a macro of this value is defined as.
@@ -155,9 +191,9 @@ impl<'a> Scope<'a> {
         ensures kept { OnOk result (self.new ≡ self.old) }
     {
         let defined = replace(&mut self.defined, self.tables.len());
-        let definition = definition_by(alloc, self, value)?;
+        let definition = definition_by(alloc, self, value);
         self.defined = defined;
-        Ok(definition)
+        definition
     }
 
     /// Defines a macro, in the place of an earlier one of this name.

@@ -1,6 +1,8 @@
 //! One address, where pf.conf(5) would take a pool of several: the target of a translation rule, and the source of a
 //! binat rule.
-ghost use Rattle.std.specs.Prelude.{◌≡◌, ◌<◌, ◌≤◌, IfOk, Ok};
+ghost use Rattle.std.specs.Prelude.{◌≡◌, ◌<◌, ◌≤◌, IfOk, IfErr, OnOk, Ok};
+ghost use Rattle.pfr_elements.specs.Elements.{elements_from};
+ghost use Rattle.pfr_terms.specs.declared.error.ConfErrorKind.TheVariants.{Memory};
 ghost use Rattle.pfr_elements.specs.Single as spec;
 ghost use Rattle.pfr_elements.specs.Values.{Makes};
 ghost use Rattle.pfr_words.specs.Words.{words};
@@ -122,8 +124,7 @@ fn value_list(
 {
     let fault = pool(alloc, reader.line_ahead())?;
     reader.note(fault);
-    value_items::<AddressMatch<'_>>(alloc, scope, reader)?;
-    Ok(None)
+    value_items::<AddressMatch<'_>>(alloc, scope, reader).and(Ok(None))
 }
 
 fn value_host(
@@ -137,8 +138,7 @@ fn value_host(
     let written = AddressMatch::read(alloc, reader)?;
     let address = one_meaning(alloc, scope, has_tables, &written)?;
     let found = noted(reader, address);
-    reader.finish(alloc)?;
-    Ok(found)
+    reader.finish(alloc).and(Ok(found))
 }
 
 /// The one address that is the value of a macro.
@@ -289,6 +289,27 @@ fn criterion_of(address: Result<Ipv4Address, ConfError>) -> Result<HostCriterion
     }
 }
 
+/// Puts the sources of a rule on this line behind the other elements.
+fn put_sources(
+    alloc: Global,
+    scope: &Scope<'_>,
+    line: usize,
+    list: &[AddressMatch<'_>],
+    found: &mut Elements<HostCriterion>,
+) -> Result<(), ConfError>
+    ensures made { OnOk result (found.new ≡ elements_from (spec.with_source scope.now line) found.old list.now) }
+    ensures refused { IfErr result (λ e. e.kind ≡ Memory) }
+{
+    for source in list {
+        if found.count > MOST_ELEMENTS {
+            return Ok(());
+        }
+        let address = source_single(alloc, scope, line, source)?;
+        found.add_meaning(criterion_of(address))?;
+    }
+    Ok(())
+}
+
 /// The elements of the source of a rule on this line, of which each has to be one address; a table is none that may
 /// stand here. Those behind the one that is too many aren't looked at.
 pub fn single_sources(
@@ -300,12 +321,5 @@ pub fn single_sources(
     ensures { Makes (spec.single_sources scope.now line list.now) result }
 {
     let mut found = Elements::new(alloc);
-    for source in list {
-        if found.count > MOST_ELEMENTS {
-            return Ok(found);
-        }
-        let address = source_single(alloc, scope, line, source)?;
-        found.add_meaning(criterion_of(address))?;
-    }
-    Ok(found)
+    put_sources(alloc, scope, line, list, &mut found).and(Ok(found))
 }
