@@ -479,6 +479,26 @@ pub fn add_element<T: Element>(
     }
 }
 
+/// Puts the elements of a list behind others.
+fn put_elements<T: Element>(
+    alloc: Global,
+    scope: &Scope<'_>,
+    keeps: bool,
+    found: &mut Elements<T::Flat>,
+    list: &[T],
+) -> Result<(), ConfError>
+    ensures made { OnOk result (found.new ≡ spec.elements_from (spec.with_element T.use_in T.negated T.meaning T.form T.tables T.list_in T.turned scope.now keeps) found.old list.now) }
+    ensures refused { IfErr result (λ e. e.kind ≡ Memory) }
+{
+    for element in list {
+        if found.count > MOST_ELEMENTS {
+            return Ok(());
+        }
+        add_element(alloc, scope, keeps, found, element)?;
+    }
+    Ok(())
+}
+
 /// The elements of a list. Those behind the one that is too many aren't looked at. Where nothing is made of the list,
 /// what macros stand for is only counted.
 pub fn elements_of<T: Element>(
@@ -490,11 +510,5 @@ pub fn elements_of<T: Element>(
     ensures { Makes (spec.elements_from (spec.with_element T.use_in T.negated T.meaning T.form T.tables T.list_in T.turned scope.now keeps) spec.none_yet list.now) result }
 {
     let mut found = Elements::new(alloc);
-    for element in list {
-        if found.count > MOST_ELEMENTS {
-            return Ok(found);
-        }
-        add_element(alloc, scope, keeps, &mut found, element)?;
-    }
-    Ok(found)
+    put_elements(alloc, scope, keeps, &mut found, list).and(Ok(found))
 }
