@@ -101,8 +101,11 @@ abbrev pub without_effect : Scope → O.Options → Written Name → Result O.Op
 without_effect scope options (w.Item name) = Ok options
 without_effect scope options (w.Macro found) = checked options (plain_word_at scope.macros found)
 
+abbrev pub with_skipped_on : Scope → List (Written InterfaceName) → O.Options → Result O.Options ConfError
+with_skipped_on scope list options = with_skipped (first_line list) options (elements_from (with_element use_in never skipped (lists.written terms.interface_name) no_table skipped_lists same scope true) none_yet list)
+
 unfoldable pub with_option : Scope → SetOption → O.Options → Result O.Options ConfError
-with_option scope (o.SkipOn list) options = with_skipped (first_line list) options (elements_from (with_element use_in never skipped (lists.written terms.interface_name) no_table skipped_lists same scope true) none_yet list)
+with_option scope (o.SkipOn list) options = with_skipped_on scope list options
 with_option scope (o.Timeouts settings) options = Ok (fold timeout_set options settings)
 with_option scope (o.Limits settings) options = Ok (fold limit_set options settings)
 with_option scope (o.BlockPolicy policy) options = Ok (record options { block_policy = policy })

@@ -175,7 +175,9 @@ impl Body {
         ensures placed { OnOk result (places.ArePlaced self.new.rules self.new.anchors) }
     {
         if let Ok(chosen) = &choices {
-            return self.make_chosen(alloc, rule, chosen);
+            let made = self.make_chosen(alloc, rule, chosen);
+            drop(choices);
+            return made;
         }
         if let Some(fault) = choices.err() {
             self.add_fault(fault);
@@ -343,7 +345,9 @@ fn make_copies(
     ensures placed { OnOk result (places.ArePlaced out.new.rules out.new.anchors) }
 {
     if let Ok(chosen) = &choices {
-        return copy_chosen(alloc, out, anchor, chosen, inner);
+        let made = copy_chosen(alloc, out, anchor, chosen, inner);
+        drop(choices);
+        return made;
     }
     if let Some(fault) = choices.err() {
         out.add_fault(fault);
@@ -446,7 +450,9 @@ pub(crate) fn add_statement(
                 });
             }
             let mut inner = body_of(alloc, scope, setting, body.as_slice(), depth - 1)?;
-            add_anchor(alloc, scope, setting, out, anchor, &mut inner)
+            let added = add_anchor(alloc, scope, setting, out, anchor, &mut inner);
+            drop(inner);
+            added
         }
     }
 }

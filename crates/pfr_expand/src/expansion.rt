@@ -240,7 +240,9 @@ impl<'a> Work<'a> {
         ensures few { self.new.translations ≡ self.old.translations }
     {
         let mut body = self.filter_body(alloc, statement)?;
-        self.add_body(alloc, &mut body)
+        let added = self.add_body(alloc, &mut body);
+        drop(body);
+        added
     }
 
     #[tactic(auto, unfolding(crate::specs::Rulesets::with_translation))]

@@ -72,6 +72,19 @@ fn skip(options: &mut Options, line: usize, found: &mut Elements<IfName>) -> Res
     Ok(())
 }
 
+/// Adds what the elements of a list mean to the names that are skipped.
+fn skip_on<'a>(
+    options: &mut Options,
+    alloc: Global,
+    scope: &Scope<'_>,
+    list: &[Written<'a, InterfaceName<'a>>],
+) -> Result<(), ConfError>
+    ensures { Adds (spec.with_skipped_on scope.now list.now options.old) result options.new }
+{
+    let mut found = elements_of(alloc, scope, true, list)?;
+    skip(options, first_line(list), &mut found)
+}
+
 /// An option without effect, whose word may be a macro.
 fn check_word(
     alloc: Global,
@@ -113,8 +126,7 @@ impl Options {
     {
         match option {
             SetOption::SkipOn(list) => {
-                let mut found = elements_of(alloc, scope, true, list.as_slice())?;
-                return skip(self, first_line(list.as_slice()), &mut found);
+                return skip_on(self, alloc, scope, list.as_slice());
             }
             SetOption::Timeouts(settings) => set_timeouts(self, settings.as_slice()),
             SetOption::Limits(settings) => set_limits(self, settings.as_slice()),

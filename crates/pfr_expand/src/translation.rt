@@ -5,6 +5,7 @@ ghost use Rattle.pfr_elements.specs.Single as single;
 ghost use Rattle.pfr_elements.specs.Values.{Makes};
 ghost use Rattle.pfr_expand.specs.Bodies.{Adds};
 ghost use Rattle.pfr_expand.specs.Translations as spec;
+ghost use Rattle.pfr_flat.specs.Choices as choosing;
 ghost use Rattle.pfr_flat.specs.Lists.{if_written};
 
 use pfr_conf::{
@@ -18,6 +19,7 @@ use pfr_flat::{
     all_fit, combinations, lists_of, lists_with, put_translations,
 };
 use std::alloc::{AllocError, Global};
+use std::mem::drop;
 
 /// The translation rules by their kinds. All of them are numbered together, in the order in which they are written.
 #[derive(Drop)]
@@ -219,6 +221,22 @@ impl Translations {
         }
     }
 
+    /// Puts a rule for each combination behind those of its kind.
+    fn put_all(
+        &mut self,
+        alloc: Global,
+        number: usize,
+        passes: bool,
+        change: Change,
+        choices: &Choices,
+    ) -> Result<(), AllocError>
+        requires { number ≤ 65536 }
+        ensures { OnOk result (self.new ≡ spec.with_rules number passes change (choosing.combinations choices.now) self.old) }
+    {
+        let matches = combinations(alloc, choices)?;
+        self.put(number, passes, change, matches.as_slice())
+    }
+
     /// Puts the rules of a rule behind those of its kind, by what may be chosen of its lists.
     fn add_chosen(
         &mut self,
@@ -232,8 +250,7 @@ impl Translations {
         ensures { Adds (spec.with_choices scope.now number rule.now (Ok choices.now) self.old) result self.new }
     {
         let change = change_of(alloc, scope, rule, choices.destination_ports.as_slice())??;
-        let matches = combinations(alloc, choices)?;
-        self.put(number, rule.passes, change, matches.as_slice())?;
+        self.put_all(alloc, number, rule.passes, change, choices)?;
         Ok(())
     }
 
@@ -250,7 +267,9 @@ impl Translations {
         ensures { Adds (spec.with_choices scope.now number rule.now choices self.old) result self.new }
     {
         if let Ok(chosen) = &choices {
-            return self.add_chosen(alloc, scope, number, rule, chosen);
+            let added = self.add_chosen(alloc, scope, number, rule, chosen);
+            drop(choices);
+            return added;
         }
         choices.and(Ok(()))
     }
