@@ -24,7 +24,7 @@ use pfr_terms::{ConfError, ConfErrorKind, MacroUse, Reader};
 use pfr_words::spelling::words;
 use pfr_words::{Items, Sign, Word};
 use std::alloc::{AllocError, Global};
-use std::mem::replace;
+use std::mem::{drop, replace};
 
 /// The most elements that a list may have.
 pub const MOST_ELEMENTS: usize = 1048576;
@@ -399,7 +399,9 @@ fn add_word<T: Element>(
     ensures refused { IfErr result (λ e. e.kind ≡ Memory) }
 {
     let meant = text_meaning::<T>(alloc, scope, word)?;
-    add_list::<T>(alloc, found, used, &meant)
+    let added = add_list::<T>(alloc, found, used, &meant);
+    drop(meant);
+    added
 }
 
 /// The elements that what a use stands for means.
