@@ -16,16 +16,23 @@ use Rattle.pfr_commit.specs.Counters.{counted}
 use Rattle.pfr_commit.specs.Lines.{verdict_line}
 use Rattle.pfr_commit.specs.World.{Frame, Texts, World, after, changed, clock_at, packet_text, with_outcome, with_texts, world_after}
 
--- the next packet, from what its parts came to
-pub after_is : (job : RunJob) (world : World) (frame : Frame) (clock : Clock) (view : View) (outcome : Outcome) (table : StateTable) (counters : Counters) (verdicts packets : List ℕ)
-    → clock.0 ≡ max world.clock.0 frame.seconds → view ≡ view_of frame.link frame.bytes → outcome ≡ step_of job (world.count + 1) clock view world.table
-    → table ≡ changed outcome.change (purged_at clock world.table) → counters ≡ counted view outcome world.counters
+-- an outcome taken over, from what its parts came to
+pub settled_is : (world : World) (frame : Frame) (clock : Clock) (view : View) (outcome : Outcome) (table : StateTable) (counters : Counters) (verdicts packets : List ℕ)
+    → view ≡ view_of frame.link frame.bytes → table ≡ changed outcome.change (purged_at clock world.table) → counters ≡ counted view outcome world.counters
     → verdicts ≡ world.texts.verdicts ++ verdict_line (world.count + 1) clock outcome → packets ≡ world.texts.packets ++ packet_text frame outcome
-    → record { count = world.count + 1; clock = clock; table = table; counters = counters; texts = record { verdicts = verdicts; packets = packets } } ≡ after job world frame
-unfolding after with_outcome with_texts
-after_is job world frame clock view outcome table counters verdicts packets clock_is view_is outcome_is table_is counters_is verdicts_is packets_is =
+    → record { count = world.count + 1; clock = clock; table = table; counters = counters; texts = record { verdicts = verdicts; packets = packets } } ≡ with_outcome world frame clock outcome
+unfolding with_outcome with_texts
+settled_is world frame clock view outcome table counters verdicts packets view_is table_is counters_is verdicts_is packets_is =
+    rw (table_is, counters_is, verdicts_is, packets_is, view_is) refl
+
+-- the next packet, from its outcome
+pub after_is : (job : RunJob) (world : World) (frame : Frame) (clock : Clock) (view : View) (outcome : Outcome)
+    → clock.0 ≡ max world.clock.0 frame.seconds → view ≡ view_of frame.link frame.bytes → outcome ≡ step_of job (world.count + 1) clock view world.table
+    → with_outcome world frame clock outcome ≡ after job world frame
+unfolding after
+after_is job world frame clock view outcome clock_is view_is outcome_is =
     let now : clock ≡ clock_at world.clock frame = ap (λ (n : ℕ). record { 0 = n }) clock_is in
-    rw (table_is, counters_is, verdicts_is, packets_is, outcome_is, view_is, now) refl
+    rw (outcome_is, view_is, now) refl
 
 -- a text in front of what was emitted
 abbrev pub behind : Texts → World → World

@@ -2,6 +2,7 @@
 ghost use Rattle.std.specs.Prelude.{◌≡◌, ◌<◌, ◌≤◌, ◌+◌, ◌^◌, false, true, max, IfOk, IfSome, IsSome, ◌↔◌, OnOk, OnErr, None};
 ghost use Rattle.std.specs.Arc.{arc_value};
 ghost use Rattle.std.specs.String.{string_bytes};
+ghost use Rattle.pfr_headers.specs.declared.packet.View.TheVariants.{Ipv4};
 ghost use Rattle.pfr_headers.specs.View.{view_of};
 ghost use Rattle.pfr_packet.specs.Plan.{purged_at};
 ghost use Rattle.pfr_packet.specs.Steps.{step_of};
@@ -199,6 +200,35 @@ impl Book {
         }
     }
 
+    /// Takes over what the next packet came to at a clock, and puts what it adds behind what was emitted. Where memory is
+    /// refused that stays as it was.
+    fn settle(
+        &mut self,
+        clock: Clock,
+        packet: &Record,
+        view: &View,
+        outcome: &Outcome,
+        out: &mut Emitted,
+    ) -> Result<(), AllocError>
+        requires view { view.now ≡ view_of packet.now.link packet.now.bytes.items }
+        requires few { self.old.count < 2 ^ 43 }
+        requires change { IfSome outcome.now.change (λ change. refusal change self.old.table.limit (purged clock self.old.table.states) ≡ None) }
+        requires bytes { IfSome outcome.now.bytes (λ change. view_of packet.now.link packet.now.bytes.items ≡ Ipv4 change.packet) }
+        ensures world { OnOk result (world_in self.new (texts_of out.new) ≡ spec.with_outcome (world_in self.old (texts_of out.old)) (frame_of packet.now) clock outcome.now) }
+        ensures counted { OnOk result (self.new.count ≡ self.old.count + 1) }
+        ensures kept { OnErr result ((self.new.count ≡ self.old.count) × (texts_of out.new ≡ texts_of out.old)) }
+        ensures others { (self.new.job ≡ self.old.job) × (self.new.own ≡ self.old.own) × (self.new.is_over ≡ self.old.is_over) }
+    {
+        let number = self.count + 1;
+        change_table(&mut self.table, clock, outcome.change)?;
+        put_line(number, clock, outcome, &mut self.line)?;
+        out.put(self.line.as_str(), packet, outcome)?;
+        self.counters.count(view, outcome);
+        self.count = number;
+        self.clock = clock;
+        Ok(())
+    }
+
     /// Takes the next packet, and puts what it adds behind what was emitted. Where memory is refused that stays as it was.
     pub(crate) fn take(
         &mut self,
@@ -223,16 +253,12 @@ impl Book {
         let number = self.count + 1;
         let clock = later(self.clock, packet.seconds);
         let (outcome, own) = self.next(number, clock, view, speculation)?;
+        // what `settle` asks of an outcome is so of each that an evaluation has
         no_change_is_refused();
         what_is_written_is_of_the_packet();
         let _ = self.table.len();
-        change_table(&mut self.table, clock, outcome.change)?;
-        put_line(number, clock, &outcome, &mut self.line)?;
-        out.put(self.line.as_str(), packet, &outcome)?;
-        self.counters.count(view, &outcome);
-        self.count = number;
+        self.settle(clock, packet, view, &outcome, out)?;
         self.own += own;
-        self.clock = clock;
         self.is_over = false;
         Ok(())
     }

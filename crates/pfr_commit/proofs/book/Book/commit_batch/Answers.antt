@@ -61,3 +61,6 @@ loop-index-preserved c =
           ∙ ap (λ (p : Record × View). after (job_of c.args.self.now) (world_after (job_of c.args.self.now) (world_in c.args.self.now (texts_of c.args.out.now)) (map (λ packet. frame_of packet.0) (take c.loop-index.index c.args.packets.now))) (frame_of p.0)) c.index-packets-index.is
           ∙ sym (world_next (job_of c.args.self.now) (world_in c.args.self.now (texts_of c.args.out.now)) (λ packet. frame_of packet.0) c.args.packets.now c.loop-index.index c.index-packets-index.result below);
     }
+
+pub returns-then-self-clause-over : goal.returns-then-self-clause-over
+returns-then-self-clause-over c = search rules

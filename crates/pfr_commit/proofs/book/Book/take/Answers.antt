@@ -1,4 +1,4 @@
-use Rattle.std.proofs.Common.{◌++◌, ◌∙◌, List, ℕ, ap, sym}
+use Rattle.std.proofs.Common.{◌∙◌, ap, sym, rules}
 use Rattle.pfr_headers.specs.declared.change.Change.{Change}
 use Rattle.pfr_packet.specs.declared.outcome.Outcome.{Outcome}
 use Rattle.pfr_commit.specs.Books.{job_of, world_in}
@@ -7,14 +7,19 @@ use Rattle.pfr_commit.proofs.BookLemmas.{if_some}
 use Rattle.pfr_commit.proofs.WorldLemmas.{after_is}
 use Rattle.pfr_commit.proofs.book.Book.take.Goals as goal
 
-pub put-requires : goal.put-requires
-put-requires c =
+pub settle-requires-clause-bytes : goal.settle-requires-clause-bytes
+settle-requires-clause-bytes c =
     if_some _ c.in_ok-outcome.outcome.bytes (λ (change : Change) is.
     sym c.requires.view ∙ c.what_is_written_is_of_the_packet.ensures _ _ _ c.args.view.now _ change (ap (λ (o : Outcome). o.bytes) (sym c.in_ok-outcome.ensures.outcome) ∙ is))
 
 pub returns-clause-world : goal.returns-clause-world
 returns-clause-world c =
-    after_is (job_of c.args.self.now) (world_in c.args.self.now (texts_of c.args.out.now)) (frame_of c.args.packet.now) c.later-clock.result c.args.view.now c.in_ok-outcome.outcome _ _ _ _
-    c.later-clock.ensures c.requires.view c.in_ok-outcome.ensures.outcome c.in_ok-change_table.ensures c.count.ensures
-    (c.in_ok-put.ensures.verdicts ∙ ap (λ (t : List ℕ). c.args.out.now.verdicts.items ++ t) (c.as_str.ensures.value ∙ c.in_ok-put_line.ensures))
-    c.in_ok-put.ensures.packets
+    c.in_ok-settle.ensures.world
+    ∙ after_is (job_of c.args.self.now) (world_in c.args.self.now (texts_of c.args.out.now)) (frame_of c.args.packet.now) c.later-clock.result c.args.view.now c.in_ok-outcome.outcome
+    c.later-clock.ensures c.requires.view c.in_ok-outcome.ensures.outcome
+
+pub returns-clause-held : goal.returns-clause-held
+returns-clause-held c = search rules
+
+pub returns-clause-own : goal.returns-clause-own
+returns-clause-own c = search rules
