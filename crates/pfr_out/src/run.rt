@@ -96,6 +96,33 @@ fn replay_capture<R: Source, S: Sink>(
     }
 }
 
+/// Replays a capture by a job. The text of its ruleset was read.
+fn replay_job<R: Source, S: Sink>(
+    alloc: Global,
+    job: Job,
+    source: &mut R,
+    batch: usize,
+    sinks: &mut Sinks<S>,
+) -> Result<Report, Stop>
+    requires batch { (1 ≤ batch) × (batch ≤ 4096) }
+    ensures told { (R.told source.new ≡ R.told source.old) × (each_of S.told sinks.new ≡ each_of S.told sinks.old) }
+    ensures ok { IfOk result (λ report. IsTrue (R.told source.old) → Replayed job (R.unread source.old) (each_of S.told sinks.old) (each_of S.written sinks.old) (each_of S.written sinks.new) report) }
+    ensures stopped { IfErr result (λ stop. IsTrue (R.told source.old) → Stopped job batch (R.unread source.old) (R.unread source.new) (each_of S.told sinks.old) (each_of S.written sinks.old) (each_of S.written sinks.new) stop) }
+    ensures late { IfErr result (λ stop. IsLate stop) }
+    ensures no_failure { OnOk result ((R.failures source.new ≡ R.failures source.old) × (each_of S.failures sinks.new ≡ each_of S.failures sinks.old)) }
+    ensures failure { IfErr result (λ stop. StopFails stop (R.failures source.old) (R.failures source.new) (each_of S.failures sinks.old) (each_of S.failures sinks.new)) }
+{
+    let mut capture = match Capture::open(alloc, source) {
+        Ok(capture) => capture,
+        Err(refusal) => return Err(stop_for(refusal, 0)),
+    };
+    let book = match book_of(alloc, job) {
+        Ok(book) => book,
+        Err(_) => return Err(Stop::Memory(0)),
+    };
+    replay_capture(alloc, book, &mut capture, source, batch, sinks)
+}
+
 /// Replays a capture through a ruleset, as the firewall's interface would see its packets. One thread takes them in the order
 /// of the capture, a batch at a time. A packet whose source lies in an inside network goes out.
 ///
@@ -135,13 +162,5 @@ pub fn replay<H: AllocGlobal, R: Source, S: Sink>(
         Ok(job) => job,
         Err(fault) => return Err(Stop::Ruleset(fault)),
     };
-    let mut capture = match Capture::open(alloc, source) {
-        Ok(capture) => capture,
-        Err(refusal) => return Err(stop_for(refusal, 0)),
-    };
-    let book = match book_of(alloc, job) {
-        Ok(book) => book,
-        Err(_) => return Err(Stop::Memory(0)),
-    };
-    replay_capture(alloc, book, &mut capture, source, settings.batch, sinks)
+    replay_job(alloc, job, source, settings.batch, sinks)
 }
