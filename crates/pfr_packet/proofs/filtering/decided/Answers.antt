@@ -1,0 +1,5 @@
+use Rattle.std.proofs.Common.{rules}
+use Rattle.pfr_packet.proofs.filtering.decided.Goals as goal
+
+pub returns : goal.returns
+returns c = search rules
