@@ -17,12 +17,12 @@ use Rattle.pfr_commit.specs.Lines.{verdict_line}
 use Rattle.pfr_commit.specs.World.{Frame, Texts, World, after, changed, clock_at, packet_text, with_outcome, with_texts, world_after}
 
 -- an outcome taken over, from what its parts came to
-pub settled_is : (world : World) (frame : Frame) (clock : Clock) (view : View) (outcome : Outcome) (table : StateTable) (counters : Counters) (verdicts packets : List ℕ)
+pub outcome_taken : (world : World) (frame : Frame) (clock : Clock) (view : View) (outcome : Outcome) (table : StateTable) (counters : Counters) (verdicts packets : List ℕ)
     → view ≡ view_of frame.link frame.bytes → table ≡ changed outcome.change (purged_at clock world.table) → counters ≡ counted view outcome world.counters
     → verdicts ≡ world.texts.verdicts ++ verdict_line (world.count + 1) clock outcome → packets ≡ world.texts.packets ++ packet_text frame outcome
     → record { count = world.count + 1; clock = clock; table = table; counters = counters; texts = record { verdicts = verdicts; packets = packets } } ≡ with_outcome world frame clock outcome
 unfolding with_outcome with_texts
-settled_is world frame clock view outcome table counters verdicts packets view_is table_is counters_is verdicts_is packets_is =
+outcome_taken world frame clock view outcome table counters verdicts packets view_is table_is counters_is verdicts_is packets_is =
     rw (table_is, counters_is, verdicts_is, packets_is, view_is) refl
 
 -- the next packet, from its outcome

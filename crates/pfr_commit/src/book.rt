@@ -202,7 +202,7 @@ impl Book {
 
     /// Takes over what the next packet came to at a clock, and puts what it adds behind what was emitted. Where memory is
     /// refused that stays as it was.
-    fn settle(
+    fn take_outcome(
         &mut self,
         clock: Clock,
         packet: &Record,
@@ -253,11 +253,11 @@ impl Book {
         let number = self.count + 1;
         let clock = later(self.clock, packet.seconds);
         let (outcome, own) = self.next(number, clock, view, speculation)?;
-        // what `settle` asks of an outcome is so of each that an evaluation has
+        // what `take_outcome` asks of an outcome is so of each that an evaluation has
         no_change_is_refused();
         what_is_written_is_of_the_packet();
         let _ = self.table.len();
-        self.settle(clock, packet, view, &outcome, out)?;
+        self.take_outcome(clock, packet, view, &outcome, out)?;
         self.own += own;
         self.is_over = false;
         Ok(())
