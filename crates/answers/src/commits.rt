@@ -30,9 +30,8 @@ use crate::given::{Given, Words};
 use crate::printing::{put_bytes, put_fault};
 use pfr_capture::Record;
 use pfr_commit::{Book, Emitted};
-use pfr_conf::Ipv4Address;
 use pfr_expand::{IfName, Interface};
-use pfr_headers::Net;
+use pfr_net::{Ipv4Address, Net};
 use pfr_packet::Job;
 use pfr_record::{Speculation, speculate};
 use pfr_track::Clock;
@@ -155,7 +154,7 @@ impl Run {
     }
 
     fn add_network(&mut self, words: &mut Words<'_>) -> Result<(), AllocError> {
-        let address = pfr_headers::Ipv4Address(words.number().unwrap_or(0));
+        let address = Ipv4Address(words.number().unwrap_or(0));
         let bits = words.number().unwrap_or(0);
         self.inside.push(Net { address, bits })?;
         Ok(())

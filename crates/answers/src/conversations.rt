@@ -12,11 +12,11 @@ use crate::given::Given;
 use bitflags::Flags;
 use pfr_commit::StateLine;
 use pfr_headers::{
-    Direction, IcmpHeader, IcmpMessage, IcmpType, Inner, Ipv4Address, Packet, Port, Protocol,
-    TcpFlags, TcpHeader, Transport, UdpHeader,
+    IcmpHeader, IcmpMessage, IcmpType, Inner, Packet, TcpFlags, TcpHeader, Transport, UdpHeader,
 };
+use pfr_net::{Direction, Endpoint, Ipv4Address, Port, Protocol};
 use pfr_track::{
-    Clock, Endpoint, Key, RuleNumber, State, StateNumber, StateRules, Timeouts, Touch, make, touch,
+    Clock, Key, RuleNumber, State, StateNumber, StateRules, Timeouts, Touch, make, touch,
 };
 use std::alloc::AllocError;
 

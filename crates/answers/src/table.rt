@@ -21,11 +21,9 @@
 //! All lines are read before the first call, and the answers go into a text that is made before it. So from there on only the
 //! table takes memory, as long as no answer is longer than that text has room.
 use crate::given::Words;
-use pfr_headers::{Direction, Ipv4Address, Port, Protocol};
+use pfr_net::{Direction, Endpoint, Ipv4Address, Port, Protocol};
 use pfr_states::{Side, Table, TableChange};
-use pfr_track::{
-    Clock, Deadline, Endpoint, Key, Peers, State, StateNumber, StateRules, Timeout, Traffic,
-};
+use pfr_track::{Clock, Deadline, Key, Peers, State, StateNumber, StateRules, Timeout, Traffic};
 use std::alloc::{AllocError, Global};
 use std::io;
 use std::io::Write;

@@ -4,9 +4,8 @@ ghost use Rattle.std.specs.Char.{digit_value};
 ghost use Rattle.pfr_cli.specs.Seeds.{byte_at};
 
 use crate::failure::Failure;
-use pfr_conf::Ipv4Address;
 use pfr_expand::{IfName, Interface};
-use pfr_headers::Net;
+use pfr_net::Net;
 use std::alloc::{AllocError, Global};
 
 /// The form of the value behind `--interface`.
@@ -35,7 +34,7 @@ pub fn interface<'a>(name: &'a str, address: &'a str) -> Result<Interface, Failu
     match Net::parse(address.as_bytes()) {
         Some(network) if address.contains('/') => Ok(Interface {
             name: IfName::new(name.as_bytes()),
-            address: Ipv4Address(network.address.0),
+            address: network.address,
             bits: network.bits,
         }),
         _ => Err(Failure::BadValue {

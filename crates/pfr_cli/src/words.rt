@@ -5,7 +5,7 @@ use crate::values::{interface, networks, seed};
 use clap::ArgMatches;
 use clap::error::ErrorKind;
 use pfr_expand::Interface;
-use pfr_headers::Net;
+use pfr_net::Net;
 use std::alloc::{AllocError, Global};
 use std::rt::Env;
 use std::{env, io};

@@ -1,10 +1,10 @@
 -- Parts of lines. Numbers are decimal, without leading zeros; `-` stands where there is nothing.
 use Rattle.std.specs.Prelude.{ℕ, ◌/◌, ◌%◌, List, ◌++◌, Option, Some, None, codes}
 use Rattle.std.specs.Fmt.{decimal}
-use Rattle.pfr_headers.specs.declared.address.Ipv4Address.{Ipv4Address}
-use Rattle.pfr_headers.specs.declared.packet.Direction.{Direction}
-use Rattle.pfr_headers.specs.declared.packet.Direction.TheVariants.{In, Out}
-use Rattle.pfr_track.specs.declared.key.Endpoint.{Endpoint}
+use Rattle.pfr_net.specs.declared.address.Ipv4Address.{Ipv4Address}
+use Rattle.pfr_net.specs.declared.direction.Direction.{Direction}
+use Rattle.pfr_net.specs.declared.direction.Direction.TheVariants.{In, Out}
+use Rattle.pfr_net.specs.declared.endpoint.Endpoint.{Endpoint}
 use Rattle.pfr_track.specs.declared.key.Key.{Key}
 use Rattle.pfr_track.specs.declared.state.RuleNumber.{RuleNumber}
 use Rattle.pfr_track.specs.declared.state.StateNumber.{StateNumber}

@@ -6,7 +6,7 @@ use Rattle.pfr_terms.specs.declared.name.Written.{Written}
 use Rattle.pfr_terms.specs.declared.name.Written.TheVariants as w
 use Rattle.pfr_terms.specs.declared.error.ConfErrorKind.TheVariants.{BadNumber}
 use Rattle.pfr_conf.specs.declared.options.SetOption.TheVariants as o
-use Rattle.pfr_conf.specs.declared.policy.Direction.{Direction}
+use Rattle.pfr_net.specs.declared.direction.Direction.{Direction}
 use Rattle.pfr_conf.specs.declared.policy.BlockPolicy.{BlockPolicy}
 use Rattle.pfr_conf.specs.declared.policy.Binding.{Binding}
 use Rattle.pfr_conf.specs.declared.settings.Timeout.{Timeout}

@@ -14,7 +14,7 @@ use Rattle.pfr_conf.specs.declared.options.SetOption.TheVariants as o
 use Rattle.pfr_conf.specs.declared.options.OptionWord.{OptionWord}
 use Rattle.pfr_conf.specs.declared.options.OptionWord.TheVariants as word
 use Rattle.pfr_conf.specs.declared.options.TheConstants.{OPTIONS}
-use Rattle.pfr_terms.specs.Notation.{number}
+use Rattle.pfr_net.specs.Notation.{number}
 use Rattle.pfr_terms.specs.Input.{Input, Parser, ◌>>=◌, pure, refuse, faulty, fault, taken, named, plain_ahead, quoted_ahead, macro_ahead, eat_word, expect_word}
 use Rattle.pfr_terms.specs.Lists.{written, list}
 use Rattle.pfr_terms.specs.Terms.{interface_name}

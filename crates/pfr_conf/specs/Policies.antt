@@ -1,7 +1,7 @@
 -- Single words that rules and options of pf.conf(5) have alike.
 use Rattle.std.specs.Prelude.{if◌then◌else◌, Option, Some, None, codes}
-use Rattle.pfr_conf.specs.declared.policy.Direction.{Direction}
-use Rattle.pfr_conf.specs.declared.policy.Direction.TheVariants.{In, Out}
+use Rattle.pfr_net.specs.declared.direction.Direction.{Direction}
+use Rattle.pfr_net.specs.declared.direction.Direction.TheVariants.{In, Out}
 use Rattle.pfr_conf.specs.declared.policy.BlockPolicy.{BlockPolicy}
 use Rattle.pfr_conf.specs.declared.policy.BlockPolicy.TheVariants as policy
 use Rattle.pfr_conf.specs.declared.policy.Binding.{Binding}

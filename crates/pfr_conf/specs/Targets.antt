@@ -19,7 +19,7 @@ use Rattle.pfr_conf.specs.declared.targets.Target as T
 use Rattle.pfr_conf.specs.declared.targets.Target.TheVariants as t
 use Rattle.pfr_conf.specs.declared.translation.TranslationKind.{TranslationKind}
 use Rattle.pfr_conf.specs.declared.translation.TranslationKind.TheVariants as kind
-use Rattle.pfr_terms.specs.Notation.{cut_at}
+use Rattle.pfr_net.specs.Notation.{cut_at}
 use Rattle.pfr_terms.specs.Input.{Input, Parser, ◌>>=◌, pure, refuse, leave_out, left_out, left_out_at, faulty, fault, taken, is_free, line_ahead, plain_ahead, sees_sign, sees_word, eat_word}
 use Rattle.pfr_terms.specs.Lists.{written}
 use Rattle.pfr_terms.specs.Ports.{port_word, port_or_range}

@@ -6,7 +6,8 @@ ghost use Rattle.pfr_terms.specs.Input.{Reads};
 
 use crate::filter::{Action, FilterRule, action_ahead, rule_behind};
 use crate::name::name_ahead;
-use crate::policy::{Direction, direction_ahead, end_of_line};
+use crate::policy::{direction_ahead, end_of_line};
+use pfr_net::Direction;
 use pfr_terms::hosts::packet_criteria;
 use pfr_terms::{ConfError, ConfErrorKind, Criteria, Name, Reader};
 use pfr_words::{Items, Sign};

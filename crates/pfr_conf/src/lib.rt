@@ -23,13 +23,14 @@ pub use anchor::{AnchorRule, FilterStatement};
 pub use filter::{Action, FilterRule};
 pub use macros::{MacroDefinition, Piece};
 pub use options::SetOption;
+pub use pfr_net::{Direction, Ipv4Address, Net, Protocol};
 pub use pfr_terms::{
     Address, AddressMatch, Comparison, ConfError, ConfErrorKind, Criteria, FlagSet, FlagsMatch,
-    Host, Hosts, IcmpMatch, InterfaceMatch, InterfaceName, Ipv4Address, LeftOutName, MacroUse,
-    Name, Network, Part, PortMatch, Protocol, RangeOperator, TableEntry, Written,
+    Host, Hosts, IcmpMatch, InterfaceMatch, InterfaceName, LeftOutName, MacroUse, Name, Part,
+    PortMatch, RangeOperator, TableEntry, Written,
 };
 pub use pfr_words::{Bytes, Items};
-pub use policy::{Binding, BlockPolicy, Direction};
+pub use policy::{Binding, BlockPolicy};
 pub use reading::read;
 pub use rule_options::{RuleOptions, StateKeeping, StateOptions};
 pub use settings::{Limit, LimitSetting, Timeout, TimeoutSetting};

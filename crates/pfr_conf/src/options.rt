@@ -5,8 +5,8 @@ ghost use Rattle.pfr_terms.specs.Input.{Reads, Refuses};
 
 use crate::policy::{Binding, BlockPolicy, binding_ahead, block_policy_ahead};
 use crate::settings::{LimitSetting, TimeoutSetting};
+use pfr_net::notation::{TOO_LARGE, number};
 use pfr_terms::lists::{Item, list};
-use pfr_terms::notation::{TOO_LARGE, number};
 use pfr_terms::{
     ConfError, ConfErrorKind, InterfaceName, LeftOutName, MacroUse, Name, Reader, Written,
 };

@@ -3,15 +3,9 @@ ghost use Rattle.std.specs.Prelude.{◌≡◌, Ok, codes};
 ghost use Rattle.pfr_conf.specs.Policies as spec;
 ghost use Rattle.pfr_terms.specs.Input.{Reads};
 
+use pfr_net::Direction;
 use pfr_terms::{ConfError, Reader};
 use std::alloc::Global;
-
-/// Which way a packet goes through an interface.
-#[derive(Clone, Copy)]
-pub enum Direction {
-    In,
-    Out,
-}
 
 /// What becomes of a blocked packet: dropped, or answered.
 #[derive(Clone, Copy)]

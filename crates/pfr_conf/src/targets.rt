@@ -4,9 +4,9 @@ ghost use Rattle.pfr_conf.specs.Targets as spec;
 ghost use Rattle.pfr_terms.specs.Input.{Reads, Refuses};
 
 use crate::translation::TranslationKind;
+use pfr_net::notation::cut;
 use pfr_terms::error::left_out_at;
 use pfr_terms::lists::Item;
-use pfr_terms::notation::cut;
 use pfr_terms::port::{PortWord, port_or_range, port_word};
 use pfr_terms::reader::is_free;
 use pfr_terms::{ConfError, ConfErrorKind, Host, PortMatch, Reader, Written};

@@ -1,9 +1,9 @@
 -- Which addresses a criterion holds (pf.conf(5), "Parameters", "Tables").
 use Rattle.std.specs.Prelude.{ℕ, ◌==◌, ◌&&◌, ◌||◌, Bool, true, false, not, nat_le, if◌then◌else◌, List, Option, Some, None}
 use Rattle.std.specs.List.{slice_get, list_any, list_all}
-use Rattle.pfr_terms.specs.declared.address.Network.{Network}
+use Rattle.pfr_net.specs.declared.network.Net.{Net}
 use Rattle.pfr_tables.specs.declared.table.Entry.{Entry}
-use Rattle.pfr_tables.specs.Prefixes.{prefix}
+use Rattle.pfr_net.specs.Networks as networks
 use Rattle.pfr_tables.specs.Tables.{bits_of, holds}
 use Rattle.pfr_elements.specs.declared.hosts.HostSet.{HostSet}
 use Rattle.pfr_elements.specs.declared.hosts.HostSet.TheVariants as set
@@ -24,12 +24,9 @@ abbrev pub in_table : Option (List Entry) → ℕ → Bool
 in_table None address = false
 in_table (Some entries) address = has entries address
 
-abbrev pub in_network : Network → ℕ → Bool
-in_network network address = prefix network.bits address == prefix network.bits network.address.0
-
 abbrev pub among : List (List Entry) → HostSet → ℕ → Bool
 among tables set.Any address = true
-among tables (set.Network network) address = in_network network address
+among tables (set.Network network) address = networks.holds network (record { 0 = address })
 among tables (set.Range first last) address = nat_le first.0 address && nat_le address last.0
 among tables (set.Table place) address = in_table (slice_get tables place) address
 

@@ -2,11 +2,9 @@
 use Rattle.std.specs.Prelude.{ℕ, ◌==◌, ◌&&◌, Bool, true, false, not, if◌then◌else◌, List, Option, Some, None}
 use Rattle.std.specs.Str.{bytes_eq}
 use Rattle.pfr_headers.specs.declared.packet.Packet.{Packet}
-use Rattle.pfr_headers.specs.declared.packet.Direction.{Direction}
-use Rattle.pfr_headers.specs.declared.packet.Direction.TheVariants as d
-use Rattle.pfr_conf.specs.declared.policy.Direction as written
-use Rattle.pfr_conf.specs.declared.policy.Direction.TheVariants as w
-use Rattle.pfr_terms.specs.declared.protocol.Protocol.{Protocol}
+use Rattle.pfr_net.specs.declared.direction.Direction.{Direction}
+use Rattle.pfr_net.specs.declared.direction.Direction.TheVariants as d
+use Rattle.pfr_net.specs.declared.protocol.Protocol.{Protocol}
 use Rattle.pfr_tables.specs.declared.table.Entry.{Entry}
 use Rattle.pfr_elements.specs.declared.interface.IfName.{IfName}
 use Rattle.pfr_elements.specs.declared.terms.InterfaceCriterion.{InterfaceCriterion}
@@ -16,13 +14,13 @@ use Rattle.pfr_flat.specs.declared.flat.FlatAnchor.{FlatAnchor}
 use Rattle.pfr_criteria.specs.Hosts.{host_holds}
 use Rattle.pfr_criteria.specs.Transports.{port_asked, source_port, destination_port, flags_hold, icmp_holds}
 
-abbrev pub direction_is : written.Direction → Direction → Bool
-direction_is w.In d.In = true
-direction_is w.Out d.Out = true
-direction_is w.In d.Out = false
-direction_is w.Out d.In = false
+abbrev pub direction_is : Direction → Direction → Bool
+direction_is d.In d.In = true
+direction_is d.Out d.Out = true
+direction_is d.In d.Out = false
+direction_is d.Out d.In = false
 
-abbrev pub direction_holds : Option written.Direction → Direction → Bool
+abbrev pub direction_holds : Option Direction → Direction → Bool
 direction_holds None direction = true
 direction_holds (Some written) direction = direction_is written direction
 

@@ -4,23 +4,14 @@ ghost use Rattle.std.specs.Option.{option_copied};
 ghost use Rattle.pfr_criteria.specs.Hosts as spec;
 
 use pfr_elements::{HostCriterion, HostSet};
-use pfr_headers::Ipv4Address;
+use pfr_net::Ipv4Address;
 use pfr_tables::AddressTable;
-use pfr_tables::network::prefix;
-use pfr_terms::Network;
 
 /// Whether a table holds an address.
 fn has(table: &AddressTable, address: Ipv4Address) -> bool
     ensures { result ≡ spec.has table.now address.0 }
 {
-    table.has(pfr_terms::Ipv4Address(address.0))
-}
-
-/// Whether an address agrees with a network in the bits of its prefix.
-fn is_in(network: Network, address: Ipv4Address) -> bool
-    ensures { result ≡ spec.in_network network address.0 }
-{
-    prefix(network.bits, address.0) == prefix(network.bits, network.address.0)
+    table.has(address)
 }
 
 /// Whether an address is among these, by the tables of the ruleset. A place outside the tables holds none.
@@ -29,7 +20,7 @@ fn among(tables: &[AddressTable], hosts: HostSet, address: Ipv4Address) -> bool
 {
     match hosts {
         HostSet::Any => true,
-        HostSet::Network(network) => is_in(network, address),
+        HostSet::Network(network) => network.holds(address),
         HostSet::Range(first, last) => first.0 <= address.0 && address.0 <= last.0,
         HostSet::Table(place) => match tables.get(place) {
             Some(table) => has(table, address),

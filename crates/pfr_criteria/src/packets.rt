@@ -4,22 +4,21 @@ ghost use Rattle.pfr_criteria.specs.Packets as spec;
 
 use crate::hosts::host_holds;
 use crate::transports::{destination_port_holds, flags_hold, icmp_holds, source_port_holds};
-use pfr_conf::Direction as WrittenDirection;
 use pfr_elements::{IfName, InterfaceCriterion};
 use pfr_flat::{FlatAnchor, FlatRule, PacketMatch};
-use pfr_headers::{Direction, Packet};
+use pfr_headers::Packet;
+use pfr_net::{Direction, Protocol};
 use pfr_tables::AddressTable;
-use pfr_terms::Protocol;
 
-fn direction_holds(written: Option<WrittenDirection>, direction: Direction) -> bool
+fn direction_holds(written: Option<Direction>, direction: Direction) -> bool
     ensures { result ≡ spec.direction_holds written direction }
 {
     match (written, direction) {
         (None, _) => true,
-        (Some(WrittenDirection::In), Direction::In) => true,
-        (Some(WrittenDirection::Out), Direction::Out) => true,
-        (Some(WrittenDirection::In), Direction::Out) => false,
-        (Some(WrittenDirection::Out), Direction::In) => false,
+        (Some(Direction::In), Direction::In) => true,
+        (Some(Direction::Out), Direction::Out) => true,
+        (Some(Direction::In), Direction::Out) => false,
+        (Some(Direction::Out), Direction::In) => false,
     }
 }
 

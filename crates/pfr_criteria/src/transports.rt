@@ -4,7 +4,8 @@ ghost use Rattle.std.specs.Option.{option_map};
 ghost use Rattle.pfr_criteria.specs.Transports as spec;
 
 use pfr_flat::FlagsCriterion;
-use pfr_headers::{Port, Transport};
+use pfr_headers::Transport;
+use pfr_net::Port;
 use pfr_terms::port::RangeOperator;
 use pfr_terms::{Comparison, IcmpMatch, PortMatch};
 

@@ -7,7 +7,7 @@ use Rattle.pfr_terms.specs.declared.name.Name.{Name}
 use Rattle.pfr_terms.specs.declared.name.MacroUse.{MacroUse}
 use Rattle.pfr_terms.specs.declared.name.Written.{Written}
 use Rattle.pfr_terms.specs.declared.name.Written.TheVariants as w
-use Rattle.pfr_terms.specs.declared.address.Network.{Network}
+use Rattle.pfr_net.specs.declared.network.Net.{Net}
 use Rattle.pfr_terms.specs.declared.address.Host.{Host}
 use Rattle.pfr_terms.specs.declared.address.Host.TheVariants as h
 use Rattle.pfr_terms.specs.declared.address.Address.{Address}
@@ -33,16 +33,16 @@ use Rattle.pfr_elements.specs.Terms.{use_in, misplaced}
 
 -- ---- interface forms
 
-abbrev pub form_by : ℕ → Option Network → Result Network ConfError
+abbrev pub form_by : ℕ → Option Net → Result Net ConfError
 form_by line (Some network) = Ok network
 form_by line None = Err (left_out_at line (codes "host name"))
 
 -- a word that is no form of the interface is the name of a host
-unfoldable pub form_meaning : Interface → Name → Result Network ConfError
+unfoldable pub form_meaning : Interface → Name → Result Net ConfError
 form_meaning interface name = form_by name.line (form_of interface name.text)
 
 -- the one name in the value of a macro
-unfoldable pub value_form : Interface → Parser (Option Network)
+unfoldable pub value_form : Interface → Parser (Option Net)
 value_form interface = do
   name ← free_word
   found ← noted (form_meaning interface name)
@@ -50,22 +50,22 @@ value_form interface = do
   pure found
 
 -- what the words of a value mean in round brackets on this line
-abbrev pub form_read : Interface → ℕ → List Word → Result Network ConfError
+abbrev pub form_read : Interface → ℕ → List Word → Result Net ConfError
 form_read interface line ws = one_read line (value_form interface (of_value ws))
 
-abbrev pub form_in : Interface → ℕ → Result Taken ConfError → Result Network ConfError
+abbrev pub form_in : Interface → ℕ → Result Taken ConfError → Result Net ConfError
 form_in interface line (Err e) = Err e
 form_in interface line (Ok (taken.TooLong is_list)) = Err (unknown_word line)
 form_in interface line (Ok (taken.Word word)) = form_read interface line (words word)
 form_in interface line (Ok (taken.Whole text)) = fault_on line text.meanings.form
 
 -- the use of a macro in round brackets
-unfoldable pub used_form : Scope → MacroUse → Result Network ConfError
+unfoldable pub used_form : Scope → MacroUse → Result Net ConfError
 used_form scope found = form_in scope.interface found.line (taken_at scope.macros false found)
 
 -- ---- hosts
 
-unfoldable pub host_meaning : Scope → Host → Result Network ConfError
+unfoldable pub host_meaning : Scope → Host → Result Net ConfError
 host_meaning scope (h.Address address) = Ok (whole address)
 host_meaning scope (h.Network network) = Ok (masked network)
 host_meaning scope h.Own = Ok (whole scope.interface.address)
@@ -79,7 +79,7 @@ abbrev pub table_by : Name → ℕ → Option ℕ → Result HostSet ConfError
 table_by name defined (Some place) = if nat_lt place defined then Ok (set.Table place) else Err (undefined_table name.line)
 table_by name defined None = Err (undefined_table name.line)
 
-abbrev pub network_set : Result Network ConfError → Result HostSet ConfError
+abbrev pub network_set : Result Net ConfError → Result HostSet ConfError
 network_set (Ok network) = Ok (set.Network network)
 network_set (Err e) = Err e
 
@@ -123,7 +123,7 @@ host_lists m = m.hosts
 
 -- ---- entries of tables
 
-abbrev pub entry_of : Bool → Result Network ConfError → Result Entry ConfError
+abbrev pub entry_of : Bool → Result Net ConfError → Result Entry ConfError
 entry_of is_negated (Ok network) = Ok (record { network = network; is_negated = is_negated })
 entry_of is_negated (Err e) = Err e
 

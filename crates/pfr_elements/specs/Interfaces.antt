@@ -2,9 +2,9 @@
 use Rattle.std.specs.Prelude.{ℕ, ◌-◌, ◌&&◌, ◌||◌, Bool, min, nat_le, if◌then◌else◌, List, [], ◌++◌, length, take, drop, codes, Option, Some, None}
 use lib.ListN.{replicate}
 use Rattle.std.specs.Str.{bytes_eq}
-use Rattle.pfr_terms.specs.declared.address.Ipv4Address.{Ipv4Address}
-use Rattle.pfr_terms.specs.declared.address.Network.{Network}
-use Rattle.pfr_tables.specs.Prefixes.{prefix}
+use Rattle.pfr_net.specs.declared.address.Ipv4Address.{Ipv4Address}
+use Rattle.pfr_net.specs.declared.network.Net.{Net}
+use Rattle.pfr_net.specs.Networks.{prefix}
 use Rattle.pfr_elements.specs.declared.interface.IfName.{IfName}
 use Rattle.pfr_elements.specs.declared.interface.Interface.{Interface}
 
@@ -13,11 +13,11 @@ unfoldable pub if_name : List ℕ → IfName
 if_name name = let len = min (length name) 15 in record { bytes = take len name ++ replicate (16 - len) 0 }
 
 -- one address
-abbrev pub whole : Ipv4Address → Network
+abbrev pub whole : Ipv4Address → Net
 whole address = record { address = address; bits = 32 }
 
 -- a network without the bits below its prefix
-abbrev pub masked : Network → Network
+abbrev pub masked : Net → Net
 masked network = record { address = record { 0 = prefix network.bits network.address.0 }; bits = network.bits }
 
 abbrev pub is_named : Interface → List ℕ → Bool
@@ -31,7 +31,7 @@ is_named_with interface end word =
     && is_named interface (take (length word - length end) word)
 
 -- NAME and NAME:0 are the interface's address, NAME:network its network; no other word is a form of it
-unfoldable pub form_of : Interface → List ℕ → Option Network
+unfoldable pub form_of : Interface → List ℕ → Option Net
 form_of interface word =
     if is_named interface word || is_named_with interface (codes ":0") word then Some (whole interface.address)
     else if is_named_with interface (codes ":network") word then Some (masked (record { address = interface.address; bits = interface.bits }))

@@ -9,8 +9,8 @@ use Rattle.pfr_terms.specs.declared.error.ConfErrorKind.TheVariants.{BadAddress}
 use Rattle.pfr_terms.specs.declared.name.MacroUse.{MacroUse}
 use Rattle.pfr_terms.specs.declared.name.Written.{Written}
 use Rattle.pfr_terms.specs.declared.name.Written.TheVariants as w
-use Rattle.pfr_terms.specs.declared.address.Ipv4Address.{Ipv4Address}
-use Rattle.pfr_terms.specs.declared.address.Network.{Network}
+use Rattle.pfr_net.specs.declared.address.Ipv4Address.{Ipv4Address}
+use Rattle.pfr_net.specs.declared.network.Net.{Net}
 use Rattle.pfr_terms.specs.declared.address.Host.{Host}
 use Rattle.pfr_terms.specs.declared.address.Host.TheVariants as h
 use Rattle.pfr_terms.specs.declared.address.Address.{Address}
@@ -55,7 +55,7 @@ host_line line (h.Interface name) = name.line
 host_line line (h.InterfaceMacro found) = found.line
 host_line line other = line
 
-abbrev pub one_network : ℕ → Result Network ConfError → Result Ipv4Address ConfError
+abbrev pub one_network : ℕ → Result Net ConfError → Result Ipv4Address ConfError
 one_network line (Err e) = Err e
 one_network line (Ok network) = if nat_lt network.bits 32 then Err (pool line) else Ok network.address
 

@@ -6,7 +6,7 @@ use Rattle.pfr_terms.specs.declared.name.Written.{Written}
 use Rattle.pfr_terms.specs.declared.name.Written.TheVariants as w
 use Rattle.pfr_terms.specs.declared.interface.InterfaceName.{InterfaceName}
 use Rattle.pfr_terms.specs.declared.interface.InterfaceMatch.{InterfaceMatch}
-use Rattle.pfr_terms.specs.declared.protocol.Protocol.{Protocol}
+use Rattle.pfr_net.specs.declared.protocol.Protocol.{Protocol}
 use Rattle.pfr_terms.specs.declared.protocol.IcmpMatch.{IcmpMatch}
 use Rattle.pfr_terms.specs.declared.port.PortMatch.{PortMatch}
 use Rattle.pfr_terms.specs.Input.{unknown_word}

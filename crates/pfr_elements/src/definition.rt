@@ -4,8 +4,9 @@ ghost use Rattle.std.specs.Prelude.{◌≡◌};
 use crate::hosts::HostCriterion;
 use crate::interface::IfName;
 use crate::terms::InterfaceCriterion;
+use pfr_net::{Ipv4Address, Net, Protocol};
 use pfr_tables::Entry;
-use pfr_terms::{ConfError, IcmpMatch, Ipv4Address, Network, PortMatch, Protocol};
+use pfr_terms::{ConfError, IcmpMatch, PortMatch};
 use pfr_words::Items;
 use std::marker::Model;
 
@@ -40,7 +41,7 @@ pub struct Meanings {
     pub word: Option<Items<u8>>,
     pub lists: ListMeanings,
     /// As a form of the interface, in round brackets.
-    pub form: Result<Network, ConfError>,
+    pub form: Result<Net, ConfError>,
     /// As the target of a translation rule.
     pub target: Result<Ipv4Address, ConfError>,
     /// As the source of a `binat` rule.

@@ -19,11 +19,11 @@ use crate::faults::{copied_on, left_out, undefined_table, unknown_word};
 use crate::interface::{Interface, masked, whole};
 use crate::scope::Scope;
 use crate::terms::{copied, misplaced, use_in};
+use pfr_net::{Ipv4Address, Net};
 use pfr_tables::Entry;
 use pfr_terms::lists::Item;
 use pfr_terms::{
-    Address, AddressMatch, ConfError, Host, Ipv4Address, MacroUse, Name, Network, Reader,
-    TableEntry, Written,
+    Address, AddressMatch, ConfError, Host, MacroUse, Name, Reader, TableEntry, Written,
 };
 use pfr_words::Word;
 use pfr_words::spelling::words;
@@ -34,7 +34,7 @@ use std::alloc::Global;
 pub enum HostSet {
     Any,
     /// No address has a bit below the network's prefix.
-    Network(Network),
+    Network(Net),
     /// From the first address to the second.
     Range(Ipv4Address, Ipv4Address),
     /// The table at this place among the tables of the ruleset.
@@ -54,7 +54,7 @@ fn form_meaning(
     alloc: Global,
     interface: &Interface,
     name: &Name<'_>,
-) -> Result<Result<Network, ConfError>, ConfError>
+) -> Result<Result<Net, ConfError>, ConfError>
     ensures { Makes (spec.form_meaning interface.now name.now) result }
 {
     match interface.form(name.text.as_slice()) {
@@ -69,7 +69,7 @@ fn value_form(
     alloc: Global,
     interface: &Interface,
     reader: &mut Reader<'_, '_>,
-) -> Result<Option<Network>, ConfError>
+) -> Result<Option<Net>, ConfError>
     ensures { Reads (spec.value_form interface.now reader.old) result reader.new }
 {
     let name = reader.free_word(alloc)?;
@@ -84,7 +84,7 @@ pub(crate) fn form_read(
     interface: &Interface,
     line: usize,
     value: &[Word<'_>],
-) -> Result<Result<Network, ConfError>, ConfError>
+) -> Result<Result<Net, ConfError>, ConfError>
     ensures { Makes (spec.form_read interface.now line value.now) result }
 {
     let mut reader = Reader::of_value(value);
@@ -100,7 +100,7 @@ fn text_form(
     interface: &Interface,
     line: usize,
     text: &[u8],
-) -> Result<Result<Network, ConfError>, ConfError>
+) -> Result<Result<Net, ConfError>, ConfError>
     ensures { Makes (spec.form_read interface.now line (words text.now)) result }
 {
     let value = words(alloc, text)?;
@@ -113,7 +113,7 @@ fn taken_form(
     interface: &Interface,
     line: usize,
     taken: &Taken<'_>,
-) -> Result<Result<Network, ConfError>, ConfError>
+) -> Result<Result<Net, ConfError>, ConfError>
     ensures { Makes (spec.form_in interface.now line (Ok taken.now)) result }
 {
     match taken {
@@ -129,7 +129,7 @@ fn used_form(
     alloc: Global,
     scope: &Scope<'_>,
     found: &MacroUse<'_>,
-) -> Result<Result<Network, ConfError>, ConfError>
+) -> Result<Result<Net, ConfError>, ConfError>
     ensures { Makes (spec.used_form scope.now found.now) result }
 {
     match scope.macros.taken_at(alloc, found, false)? {
@@ -144,7 +144,7 @@ pub fn host_meaning(
     alloc: Global,
     scope: &Scope<'_>,
     host: &Host<'_>,
-) -> Result<Result<Network, ConfError>, ConfError>
+) -> Result<Result<Net, ConfError>, ConfError>
     ensures { Makes (spec.host_meaning scope.now host.now) result }
 {
     match host {

@@ -2,8 +2,8 @@
 ghost use Rattle.std.specs.Prelude.{◌≡◌, ◌<◌, ◌≤◌, length, codes};
 ghost use Rattle.pfr_elements.specs.Interfaces as spec;
 
-use pfr_tables::network::prefix;
-use pfr_terms::{Ipv4Address, Network};
+use pfr_net::network::prefix;
+use pfr_net::{Ipv4Address, Net};
 
 /// The longest name of an interface, in bytes.
 const LONGEST_NAME: usize = 15;
@@ -36,17 +36,17 @@ impl IfName {
 }
 
 /// A network of one address.
-pub fn whole(address: Ipv4Address) -> Network
+pub fn whole(address: Ipv4Address) -> Net
     ensures { result ≡ spec.whole address }
 {
-    Network { address, bits: 32 }
+    Net { address, bits: 32 }
 }
 
 /// A network without the bits below its prefix.
-pub fn masked(network: Network) -> Network
+pub fn masked(network: Net) -> Net
     ensures { result ≡ spec.masked network }
 {
-    Network {
+    Net {
         address: Ipv4Address(prefix(network.bits, network.address.0)),
         bits: network.bits,
     }
@@ -74,13 +74,13 @@ impl Interface {
 
     /// What a word means as a form of this interface: `NAME`, `NAME:0` or `NAME:network`.
     #[tactic(auto, unfolding(crate::specs::Interfaces::form_of))]
-    pub fn form(&self, word: &[u8]) -> Option<Network>
+    pub fn form(&self, word: &[u8]) -> Option<Net>
         ensures { result ≡ spec.form_of self.now word.now }
     {
         if self.is_named(word) || self.is_named_with(b":0", word) {
             Some(whole(self.address))
         } else if self.is_named_with(b":network", word) {
-            Some(masked(Network {
+            Some(masked(Net {
                 address: self.address,
                 bits: self.bits,
             }))

@@ -14,9 +14,10 @@ use crate::scope::Scope;
 use crate::single::single_read;
 use crate::text::{is_sound, only_plain};
 use crate::value::{Draft, Value};
+use pfr_net::Protocol;
 use pfr_terms::{
-    AddressMatch, ConfError, IcmpMatch, InterfaceMatch, InterfaceName, PortMatch, Protocol,
-    TableEntry, Written,
+    AddressMatch, ConfError, IcmpMatch, InterfaceMatch, InterfaceName, PortMatch, TableEntry,
+    Written,
 };
 use pfr_words::spelling::words;
 use pfr_words::{Bytes, Items, Word};

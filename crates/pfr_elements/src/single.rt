@@ -15,11 +15,9 @@ use crate::hosts::{HostCriterion, HostSet, host_meaning};
 use crate::interface::whole;
 use crate::scope::Scope;
 use crate::terms::misplaced;
+use pfr_net::{Ipv4Address, Net};
 use pfr_terms::lists::Item;
-use pfr_terms::{
-    Address, AddressMatch, ConfError, ConfErrorKind, Host, Ipv4Address, MacroUse, Network, Reader,
-    Written,
-};
+use pfr_terms::{Address, AddressMatch, ConfError, ConfErrorKind, Host, MacroUse, Reader, Written};
 use pfr_words::spelling::words;
 use pfr_words::{Sign, Word};
 use std::alloc::{AllocError, Global};
@@ -67,7 +65,7 @@ fn host_line(line: usize, host: &Host<'_>) -> usize
 fn one_network(
     alloc: Global,
     line: usize,
-    network: Network,
+    network: Net,
 ) -> Result<Result<Ipv4Address, ConfError>, ConfError>
     ensures { Makes (spec.one_network line (Ok network)) result }
 {

@@ -16,10 +16,10 @@ use crate::element::{Element, noted};
 use crate::faults::unknown_word;
 use crate::interface::IfName;
 use crate::scope::Scope;
+use pfr_net::Protocol;
 use pfr_terms::lists::Item;
 use pfr_terms::{
-    ConfError, IcmpMatch, InterfaceMatch, InterfaceName, MacroUse, PortMatch, Protocol, Reader,
-    Written,
+    ConfError, IcmpMatch, InterfaceMatch, InterfaceName, MacroUse, PortMatch, Reader, Written,
 };
 use pfr_words::Bytes;
 use std::alloc::Global;

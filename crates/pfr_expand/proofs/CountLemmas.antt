@@ -13,7 +13,7 @@ use Rattle.pfr_terms.specs.declared.name.MacroUse.{MacroUse}
 use Rattle.pfr_terms.specs.declared.name.Written.{Written}
 use Rattle.pfr_terms.specs.declared.port.PortMatch.{PortMatch}
 use Rattle.pfr_terms.specs.declared.protocol.IcmpMatch.{IcmpMatch}
-use Rattle.pfr_terms.specs.declared.protocol.Protocol.{Protocol}
+use Rattle.pfr_net.specs.declared.protocol.Protocol.{Protocol}
 use Rattle.pfr_terms.specs.Addresses as addresses
 use Rattle.pfr_terms.specs.Input.{Parser, unknown_word}
 use Rattle.pfr_terms.specs.Lists as lists

@@ -2,7 +2,7 @@
 use Rattle.std.specs.Prelude.{ℕ, ◌++◌, Bool, true, List, [], Option, Some, None, Result, Ok, Err, if◌then◌else◌}
 use Rattle.pfr_terms.specs.declared.error.ConfError.{ConfError}
 use Rattle.pfr_terms.specs.declared.error.ConfErrorKind.TheVariants.{BadNumber}
-use Rattle.pfr_terms.specs.declared.address.Ipv4Address.{Ipv4Address}
+use Rattle.pfr_net.specs.declared.address.Ipv4Address.{Ipv4Address}
 use Rattle.pfr_terms.specs.declared.port.PortMatch.{PortMatch}
 use Rattle.pfr_terms.specs.declared.port.PortMatch.TheVariants as p
 use Rattle.pfr_conf.specs.declared.targets.RedirectedPort.{RedirectedPort}

@@ -9,8 +9,8 @@ ghost use Rattle.pfr_flat.specs.Choices as choosing;
 ghost use Rattle.pfr_flat.specs.Lists.{if_written};
 
 use pfr_conf::{
-    AddressMatch, ConfError, ConfErrorKind, Ipv4Address, Items, NatTarget, PortMatch, RdrTarget,
-    RedirectedPort, Target, TranslationKind, TranslationRule,
+    AddressMatch, ConfError, ConfErrorKind, Items, NatTarget, PortMatch, RdrTarget, RedirectedPort,
+    Target, TranslationKind, TranslationRule,
 };
 use pfr_elements::{Elements, HostCriterion, Scope, single_sources, written_single};
 use pfr_flat::lists::addresses_in;
@@ -18,6 +18,7 @@ use pfr_flat::{
     Choices, FlatTranslation, Lists, NatAddress, PacketMatch, PortChange, PortRange, RdrAddress,
     all_fit, combinations, lists_of, lists_with, put_translations,
 };
+use pfr_net::Ipv4Address;
 use std::alloc::{AllocError, Global};
 use std::mem::drop;
 

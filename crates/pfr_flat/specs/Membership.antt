@@ -1,7 +1,7 @@
 -- Which addresses a rule's criterion holds, given the entries of each table of the ruleset.
-use Rattle.std.specs.Prelude.{◌≡◌, ◌≤◌, ℕ, Bool, true, false, List, Option, Some, None, slice_get, ⊤}
+use Rattle.std.specs.Prelude.{◌≤◌, ℕ, Bool, true, false, IsTrue, List, Option, Some, None, slice_get, ⊤}
 use Rattle.pfr_tables.specs.declared.table.Entry.{Entry}
-use Rattle.pfr_tables.specs.Prefixes.{prefix}
+use Rattle.pfr_net.specs.Networks.{holds}
 use Rattle.pfr_tables.specs.Tables.{IsMember}
 use Rattle.pfr_elements.specs.declared.hosts.HostSet.{HostSet}
 use Rattle.pfr_elements.specs.declared.hosts.HostSet.TheVariants as set
@@ -12,11 +12,11 @@ abbrev pub IsInTable : Option (List Entry) → ℕ → Type 0
 IsInTable None address = ⊥
 IsInTable (Some entries) address = IsMember entries address
 
--- any address; those that agree with the network in the bits of its prefix; those from the first to the last; those
+-- any address; those that the network holds; those from the first to the last; those
 -- of the table at this place, where a place outside the tables holds none
 abbrev pub IsAmong : List (List Entry) → HostSet → ℕ → Type 0
 IsAmong tables set.Any address = ⊤
-IsAmong tables (set.Network network) address = prefix network.bits address ≡ prefix network.bits network.address.0
+IsAmong tables (set.Network network) address = IsTrue (holds network (record { 0 = address }))
 IsAmong tables (set.Range first last) address = (first.0 ≤ address) × (address ≤ last.0)
 IsAmong tables (set.Table place) address = IsInTable (slice_get tables place) address
 

@@ -1,6 +1,7 @@
 //! Flat rules and anchors, of which each asks for one thing of a kind.
-use pfr_conf::{Binding, Direction, FlagSet, IcmpMatch, Ipv4Address, PortMatch, Protocol};
+use pfr_conf::{Binding, FlagSet, IcmpMatch, PortMatch};
 use pfr_elements::{HostCriterion, HostSet, InterfaceCriterion};
+use pfr_net::{Direction, Ipv4Address, Protocol};
 
 /// What a flat rule or anchor asks of a packet, but for its direction. None asks for nothing.
 #[derive(Clone, Copy)]

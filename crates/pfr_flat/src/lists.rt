@@ -10,12 +10,12 @@ use crate::choices::Choices;
 use crate::counts::MOST_RULES;
 use crate::flat::ANYONE;
 use pfr_conf::{
-    AddressMatch, ConfError, Criteria, IcmpMatch, InterfaceMatch, Items, Part, PortMatch, Protocol,
-    Written,
+    AddressMatch, ConfError, Criteria, IcmpMatch, InterfaceMatch, Items, Part, PortMatch, Written,
 };
 use pfr_elements::{
     Element, Elements, HostCriterion, InterfaceCriterion, MOST_ELEMENTS, Scope, elements_of,
 };
+use pfr_net::Protocol;
 use std::alloc::{AllocError, Global};
 use std::mem::{drop, swap};
 

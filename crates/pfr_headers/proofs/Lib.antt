@@ -2,7 +2,6 @@ pub mod CarriedLemmas
 pub mod ChecksumLemmas
 pub mod FieldLemmas
 pub mod MessageLemmas
-pub mod NumberLemmas
 pub mod OptionLemmas
 pub mod RewritingLemmas
 pub mod SegmentLemmas

@@ -1,9 +1,8 @@
-pub mod Address
 pub mod Checksum
 pub mod Laws
-pub mod Notation
 pub mod Rewriting
 pub mod Room
 pub mod TcpOptions
 pub mod Transport
 pub mod View
+pub mod Ways

@@ -3,8 +3,8 @@ ghost use Rattle.std.specs.Prelude.{◌≡◌, ◌≤◌, ◌<◌, ◌+◌, leng
 ghost use Rattle.pfr_headers.specs.Checksum.{difference, difference_of, end_around, mended, mended_udp, with_word, with_words, word, word_at};
 ghost use Rattle.pfr_headers.specs.Rewriting.{address_words};
 
-use crate::address::Ipv4Address;
 use byteorder::{BigEndian, ByteOrder};
+use pfr_net::Ipv4Address;
 
 /// Writes a 16-bit word, and answers what that brings to the sums over it.
 #[inline]

@@ -1,7 +1,5 @@
 //! ICMP headers.
-use crate::address::Ipv4Address;
-use crate::packet::Protocol;
-use crate::port::Port;
+use pfr_net::{Ipv4Address, Port, Protocol};
 
 /// The type of an ICMP message, by its number.
 #[derive(Clone, Copy, Debug, PartialEq, Eq, PartialOrd, Ord, Hash)]

@@ -2,11 +2,10 @@
 ghost use Rattle.std.specs.Prelude.{◌≡◌, ◌≤◌, length};
 ghost use Rattle.pfr_headers.specs.Transport.{has_inner, icmp_of, inner_of, inner_behind, is_echo, is_error, message_of};
 
-use crate::address::Ipv4Address;
 use crate::icmp::{IcmpHeader, IcmpMessage, IcmpType, Inner};
-use crate::packet::{LEAST_HEADER, Protocol};
-use crate::port::Port;
+use crate::packet::LEAST_HEADER;
 use byteorder::{BigEndian, ByteOrder};
+use pfr_net::{Ipv4Address, Port, Protocol};
 
 /// The length of an ICMP header.
 pub(crate) const ICMP_HEADER: usize = 8;

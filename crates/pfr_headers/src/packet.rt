@@ -2,23 +2,11 @@
 ghost use Rattle.std.specs.Prelude.{◌≡◌};
 ghost use Rattle.pfr_headers.specs.View.{has_options};
 
-use crate::address::Ipv4Address;
 use crate::transport::Transport;
+use pfr_net::{Ipv4Address, Protocol};
 
 /// The least length of an IPv4 header, in bytes.
 pub(crate) const LEAST_HEADER: usize = 20;
-
-/// The protocol that an IPv4 packet carries, by its number.
-#[derive(Clone, Copy, Debug, PartialEq, Eq, PartialOrd, Ord, Hash)]
-pub struct Protocol(pub u8);
-
-impl Protocol {
-    pub const ICMP: Protocol = Protocol(1);
-
-    pub const TCP: Protocol = Protocol(6);
-
-    pub const UDP: Protocol = Protocol(17);
-}
 
 /// An IPv4 packet, by its headers (RFC 791, section 3.1).
 #[derive(Clone, Copy, PartialEq, Eq)]
@@ -52,11 +40,4 @@ pub enum View {
     Skip,
     /// An IPv4 packet whose headers were not captured whole or contradict themselves.
     Short,
-}
-
-/// Which way a packet goes, seen from the firewall.
-#[derive(Clone, Copy)]
-pub enum Direction {
-    In,
-    Out,
 }

@@ -2,12 +2,12 @@
 ghost use Rattle.std.specs.Prelude.{◌≡◌, ◌≤◌, true, length};
 ghost use Rattle.pfr_headers.specs.View.{IsView, fields_of, has_header, is_fragment, packet_of, transport_behind, view_of};
 
-use crate::address::Ipv4Address;
 use crate::frame::datagram_place;
-use crate::packet::{LEAST_HEADER, Packet, Protocol, View};
+use crate::packet::{LEAST_HEADER, Packet, View};
 use crate::segment::transport;
 use crate::transport::Transport;
 use byteorder::{BigEndian, ByteOrder};
+use pfr_net::{Ipv4Address, Protocol};
 
 /// What a frame is, by the link type of its capture (0 BSD loopback, 1 Ethernet, 101 raw IP; a frame of any other
 /// is no IPv4 packet) and the bytes that were captured of it.

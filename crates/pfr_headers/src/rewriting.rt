@@ -6,15 +6,14 @@ ghost use Rattle.pfr_headers.specs.Rewriting.{address_place, address_words, behi
 ghost use Rattle.pfr_headers.specs.View.{packet_of, view_of};
 ghost use Rattle.pfr_headers.specs.Room.{BehindFits, InnerFits};
 
-use crate::address::Ipv4Address;
-use crate::change::{Change, End, Endpoint};
+use crate::change::{Change, End};
 use crate::checksum::{mend, mend_udp, put_address, put_word};
 use crate::frame::datagram_place;
 use crate::icmp::{IcmpMessage, Inner};
 use crate::message::ICMP_HEADER;
-use crate::packet::{Packet, Protocol};
-use crate::port::Port;
+use crate::packet::Packet;
 use crate::transport::Transport;
+use pfr_net::{Endpoint, Ipv4Address, Port, Protocol};
 
 /// The place of an IPv4 header's checksum.
 const CHECKSUM: usize = 10;

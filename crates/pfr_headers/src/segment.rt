@@ -4,14 +4,13 @@ ghost use Rattle.pfr_headers.specs.TcpOptions.{scale_of};
 ghost use Rattle.pfr_headers.specs.Transport.{has_tcp, tcp_of, transport_of, udp_of};
 
 use crate::message::icmp;
-use crate::packet::Protocol;
-use crate::port::Port;
 use crate::tcp::{TcpFlags, TcpHeader};
 use crate::tcp_options::window_scale;
 use crate::transport::Transport;
 use crate::udp::UdpHeader;
 use bitflags::Flags;
 use byteorder::{BigEndian, ByteOrder};
+use pfr_net::{Port, Protocol};
 
 /// The least length of a TCP header.
 const LEAST_TCP: usize = 20;

@@ -2,8 +2,8 @@
 ghost use Rattle.std.specs.Prelude.{⊤, ◌≡◌, ◌==◌, [], ◌∷◌, codes};
 ghost use Rattle.std.specs.Int.RustNames.{bit_and};
 
-use crate::port::Port;
 use bitflags::{Flag, Flags, bitflag_items};
+use pfr_net::Port;
 
 /// The flags of a TCP header (RFC 9293, section 3.1; ECE and CWR are RFC 3168's, section 6.1).
 #[derive(Clone, Copy, PartialEq, Eq)]

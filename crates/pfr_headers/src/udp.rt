@@ -1,5 +1,5 @@
 //! UDP headers.
-use crate::port::Port;
+use pfr_net::Port;
 
 /// A UDP header (RFC 768).
 #[derive(Clone, Copy, PartialEq, Eq)]

@@ -1,6 +1,6 @@
 //! How a capture is replayed.
 use pfr_expand::Interface;
-use pfr_headers::Net;
+use pfr_net::Net;
 
 /// How a capture is replayed.
 #[derive(Clone, Copy)]

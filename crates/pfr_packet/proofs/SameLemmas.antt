@@ -2,8 +2,8 @@
 use Rattle.std.proofs.Common.{rules, ◌≡◌, true, List, [], ◌∷◌, refl, ap, ◌∙◌}
 use Rattle.std.proofs.lemmas.Bool.{and_parts, and_from}
 use lib.Pointwise.{pointwise}
-use Rattle.pfr_headers.specs.declared.network.Net.{Net}
-use Rattle.pfr_headers.specs.contracts.network.NetPartialEq.TheImpl.{ghosts}
+use Rattle.pfr_net.specs.declared.network.Net.{Net}
+use Rattle.pfr_net.specs.contracts.network.NetPartialEq.TheImpl.{ghosts}
 
 pub same_network : (x y : Net) → ghosts.eq x y ≡ true → x ≡ y
 same_network x y h = Prim.search rules

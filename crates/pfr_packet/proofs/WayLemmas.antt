@@ -3,7 +3,7 @@ use Rattle.std.proofs.Common.{◌≡◌, ◌⊎◌, ◌&&◌, ℕ, min, Bool, tr
 use Rattle.std.specs.List.{Contains, slice_get}
 use Rattle.std.proofs.lemmas.Bool.{not-false}
 use Rattle.pfr_headers.specs.declared.change.Change.{Change}
-use Rattle.pfr_headers.specs.declared.packet.Direction.{Direction}
+use Rattle.pfr_net.specs.declared.direction.Direction.{Direction}
 use Rattle.pfr_headers.specs.declared.packet.Packet.{Packet}
 use Rattle.pfr_headers.specs.declared.packet.View.{View}
 use Rattle.pfr_headers.specs.declared.packet.View.TheVariants.{Ipv4, Skip, Short}
@@ -11,7 +11,7 @@ use Rattle.pfr_headers.specs.declared.icmp.IcmpMessage.{IcmpMessage}
 use Rattle.pfr_headers.specs.declared.icmp.IcmpMessage.TheVariants as message
 use Rattle.pfr_headers.specs.declared.transport.Transport.{Transport}
 use Rattle.pfr_headers.specs.declared.transport.Transport.TheVariants as transport
-use Rattle.pfr_headers.specs.Address.{direction_of}
+use Rattle.pfr_headers.specs.Ways.{direction_of}
 use Rattle.pfr_headers.specs.View.{has_options}
 use Rattle.pfr_flat.specs.declared.flat.FlatRule.{FlatRule}
 use Rattle.pfr_rules.specs.declared.decision.Decision.{Decision}

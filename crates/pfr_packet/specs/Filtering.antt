@@ -1,7 +1,7 @@
 -- What the filter makes of a packet by itself (pf.conf(5), "Packet filtering").
 use Rattle.std.specs.Prelude.{ℕ, Bool, false, not, min, List, [], Option, Some, None}
 use Rattle.std.specs.List.{slice_get}
-use Rattle.pfr_headers.specs.declared.packet.Direction.{Direction}
+use Rattle.pfr_net.specs.declared.direction.Direction.{Direction}
 use Rattle.pfr_headers.specs.declared.packet.Packet.{Packet}
 use Rattle.pfr_flat.specs.declared.flat.FilterAction.{FilterAction}
 use Rattle.pfr_flat.specs.declared.flat.FilterAction.TheVariants as action

@@ -1,20 +1,20 @@
 -- What packets are looked up by, and what is written into those whose connection is translated.
 use Rattle.std.specs.Prelude.{◌==◌, ◌&&◌, Bool, if◌then◌else◌, Option, Some, None}
-use Rattle.pfr_headers.specs.declared.address.Ipv4Address.{Ipv4Address}
+use Rattle.pfr_net.specs.declared.address.Ipv4Address.{Ipv4Address}
 use Rattle.pfr_headers.specs.declared.change.Change.{Change}
 use Rattle.pfr_headers.specs.declared.change.End.{End}
 use Rattle.pfr_headers.specs.declared.change.End.TheVariants.{Source, Destination}
 use Rattle.pfr_headers.specs.declared.icmp.IcmpMessage.{IcmpMessage}
 use Rattle.pfr_headers.specs.declared.icmp.IcmpMessage.TheVariants as message
 use Rattle.pfr_headers.specs.declared.icmp.Inner.{Inner}
-use Rattle.pfr_headers.specs.declared.packet.Direction.{Direction}
-use Rattle.pfr_headers.specs.declared.packet.Direction.TheVariants.{In, Out}
+use Rattle.pfr_net.specs.declared.direction.Direction.{Direction}
+use Rattle.pfr_net.specs.declared.direction.Direction.TheVariants.{In, Out}
 use Rattle.pfr_headers.specs.declared.packet.Packet.{Packet}
-use Rattle.pfr_headers.specs.declared.packet.Protocol.{Protocol}
-use Rattle.pfr_headers.specs.declared.port.Port.{Port}
+use Rattle.pfr_net.specs.declared.protocol.Protocol.{Protocol}
+use Rattle.pfr_net.specs.declared.port.Port.{Port}
 use Rattle.pfr_headers.specs.declared.transport.Transport.{Transport}
 use Rattle.pfr_headers.specs.declared.transport.Transport.TheVariants as transport
-use Rattle.pfr_track.specs.declared.key.Endpoint.{Endpoint}
+use Rattle.pfr_net.specs.declared.endpoint.Endpoint.{Endpoint}
 use Rattle.pfr_track.specs.declared.key.Key.{Key}
 use Rattle.pfr_states.specs.declared.change.Side.{Side}
 use Rattle.pfr_states.specs.declared.change.Side.TheVariants.{Wire, Stack}
@@ -80,4 +80,4 @@ is_same_end a b = a.address.0 == b.address.0 && a.port.0 == b.port.0
 abbrev pub written_by : Direction → Packet → Key → Key → Option Change
 written_by direction packet wire stack =
     if is_same_end wire.inside stack.inside then None
-    else Some (record { packet = packet; end = end_of direction; to = record { address = (translated_end direction wire stack).address; port = (translated_end direction wire stack).port } })
+    else Some (record { packet = packet; end = end_of direction; to = translated_end direction wire stack })

@@ -1,6 +1,6 @@
 -- What a packet comes to.
 use Rattle.std.specs.Prelude.{Bool, not, ◌&&◌, if◌then◌else◌, [], Some, None}
-use Rattle.pfr_headers.specs.declared.packet.Direction.{Direction}
+use Rattle.pfr_net.specs.declared.direction.Direction.{Direction}
 use Rattle.pfr_headers.specs.declared.packet.Packet.{Packet}
 use Rattle.pfr_headers.specs.View.{has_options}
 use Rattle.pfr_track.specs.declared.state.State.{State}

@@ -10,11 +10,11 @@
 --
 -- Packets with IP options are blocked where they would pass and their rule doesn't allow them, before a state is made.
 use Rattle.std.specs.Prelude.{ℕ, if◌then◌else◌, List, Option, Some, None}
-use Rattle.pfr_headers.specs.declared.packet.Direction.{Direction}
+use Rattle.pfr_net.specs.declared.direction.Direction.{Direction}
 use Rattle.pfr_headers.specs.declared.packet.Packet.{Packet}
 use Rattle.pfr_headers.specs.declared.packet.View.{View}
 use Rattle.pfr_headers.specs.declared.packet.View.TheVariants.{Ipv4, Skip, Short}
-use Rattle.pfr_headers.specs.Address.{direction_of}
+use Rattle.pfr_headers.specs.Ways.{direction_of}
 use Rattle.pfr_track.specs.declared.key.Key.{Key}
 use Rattle.pfr_track.specs.declared.state.State.{State}
 use Rattle.pfr_track.specs.declared.state.StateRules.{StateRules}

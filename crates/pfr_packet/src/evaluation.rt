@@ -13,7 +13,8 @@ use crate::keys::{Subject, side_of, subject_of};
 use crate::making::{Passage, make_state};
 use crate::outcome::Outcome;
 use crate::verdict::{Reason, Verdict};
-use pfr_headers::{Direction, Packet, View};
+use pfr_headers::{Packet, View, direction_of};
+use pfr_net::Direction;
 use pfr_track::{Clock, Key, State, StateNumber, make, touch};
 use std::alloc::{AllocError, Global};
 
@@ -144,7 +145,7 @@ pub fn step<A: Answers>(
                 number,
                 clock,
                 packet,
-                direction: Direction::of(packet, job.inside()),
+                direction: direction_of(packet, job.inside()),
             };
             arrival.outcome(answers)
         }

@@ -9,7 +9,7 @@ use crate::ruleset::ruleset_of;
 use pfr_conf::{ConfError, ConfErrorKind, Items};
 use pfr_criteria::is_named;
 use pfr_expand::{Interface, Ruleset};
-use pfr_headers::Net;
+use pfr_net::Net;
 use pfr_track::Timeouts;
 use std::alloc::Global;
 use std::marker::Model;

@@ -2,11 +2,10 @@
 ghost use Rattle.std.specs.Prelude.{◌≡◌, ◌&&◌, ◌==◌};
 ghost use Rattle.pfr_packet.specs.Keys as spec;
 
-use pfr_headers::{
-    Change, Direction, End, IcmpMessage, Inner, Ipv4Address, Packet, Port, Protocol, Transport,
-};
+use pfr_headers::{Change, End, IcmpMessage, Inner, Packet, Transport};
+use pfr_net::{Direction, Endpoint, Ipv4Address, Port, Protocol};
 use pfr_states::Side;
-use pfr_track::{Endpoint, Key};
+use pfr_track::Key;
 
 /// What the table of states is asked about a packet.
 #[derive(Clone, Copy)]
@@ -168,13 +167,9 @@ pub fn written_by(direction: Direction, packet: &Packet, wire: &Key, stack: &Key
     if is_same_end(&wire.inside, &stack.inside) {
         return None;
     }
-    let to = translated_end(direction, wire, stack);
     Some(Change {
         packet: *packet,
         end: end_of(direction),
-        to: pfr_headers::Endpoint {
-            address: to.address,
-            port: to.port,
-        },
+        to: translated_end(direction, wire, stack),
     })
 }

@@ -5,7 +5,7 @@ ghost use Rattle.pfr_headers.specs.declared.change.Change.{Change};
 ghost use Rattle.pfr_headers.specs.declared.packet.Packet.{Packet};
 ghost use Rattle.pfr_headers.specs.declared.packet.View.{View};
 ghost use Rattle.pfr_headers.specs.declared.packet.View.TheVariants.{Ipv4, Skip};
-ghost use Rattle.pfr_headers.specs.Address.{direction_of};
+ghost use Rattle.pfr_headers.specs.Ways.{direction_of};
 ghost use Rattle.pfr_headers.specs.View.{has_options};
 ghost use Rattle.pfr_track.specs.declared.key.Key.{Key};
 ghost use Rattle.pfr_track.specs.declared.state.State.{State};

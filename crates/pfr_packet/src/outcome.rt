@@ -3,7 +3,8 @@ ghost use Rattle.std.specs.Prelude.{◌≡◌};
 ghost use Rattle.pfr_packet.specs.Outcomes as spec;
 
 use crate::verdict::{Reason, Verdict};
-use pfr_headers::{Change, Direction, Packet};
+use pfr_headers::{Change, Packet};
+use pfr_net::Direction;
 use pfr_rules::Visits;
 use pfr_states::TableChange;
 use pfr_track::{RuleNumber, State, StateNumber};

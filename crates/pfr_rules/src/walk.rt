@@ -9,7 +9,8 @@ use crate::visits::Visits;
 use pfr_criteria::{anchor_holds, rule_holds};
 use pfr_expand::Ruleset;
 use pfr_flat::{FilterAction, FlatAnchor, FlatRule};
-use pfr_headers::{Direction, Packet};
+use pfr_headers::Packet;
+use pfr_net::Direction;
 use std::alloc::{AllocError, Global};
 
 /// What the rule at a place decides.

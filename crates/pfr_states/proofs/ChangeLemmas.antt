@@ -5,7 +5,7 @@ use Rattle.std.specs.Map.{lookup, remove_entry, values_of}
 use Rattle.std.specs.BTreeMap.{insert_entry, is_at}
 use Rattle.std.specs.Option.{option_map}
 use Rattle.std.proofs.lemmas.Bool.{and_cases, and_parts, both_ways, eq-eqb, eqb-true, false_from_ne_true, or_left, or_parts, or_right}
-use Rattle.pfr_track.specs.declared.key.Endpoint.{Endpoint}
+use Rattle.pfr_net.specs.declared.endpoint.Endpoint.{Endpoint}
 use Rattle.pfr_track.specs.declared.key.Key.{Key}
 use Rattle.pfr_track.specs.declared.state.State.{State}
 use Rattle.pfr_track.specs.declared.state.StateNumber.{StateNumber}

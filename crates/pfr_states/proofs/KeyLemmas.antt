@@ -1,7 +1,7 @@
 -- Keys, whichever of two states comes first.
 use Rattle.std.proofs.Common.{◌≡◌, ◌==◌, ℕ, sym, refl, ◌∙◌, inl, inr}
 use Rattle.std.proofs.lemmas.Bool.{eq-eqb, cases_eq, ne_eqb}
-use Rattle.pfr_track.specs.declared.key.Endpoint.{Endpoint}
+use Rattle.pfr_net.specs.declared.endpoint.Endpoint.{Endpoint}
 use Rattle.pfr_track.specs.declared.key.Key.{Key}
 use Rattle.pfr_track.specs.declared.state.State.{State}
 use Rattle.pfr_states.specs.States.{is_same_end, is_same_key, shares_key}

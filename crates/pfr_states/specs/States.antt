@@ -2,7 +2,7 @@
 -- key, and of which there are at most so many.
 use Rattle.std.specs.Prelude.{◌≡◌, ℕ, ◌≤◌, ◌==◌, ◌&&◌, ◌||◌, Bool, true, false, not, nat_lt, if◌then◌else◌, List, [], ◌∷◌, length, map, fold, Option, Some, None}
 use Rattle.std.specs.List.{filter, find, list_all, list_any}
-use Rattle.pfr_track.specs.declared.key.Endpoint.{Endpoint}
+use Rattle.pfr_net.specs.declared.endpoint.Endpoint.{Endpoint}
 use Rattle.pfr_track.specs.declared.key.Key.{Key}
 use Rattle.pfr_track.specs.declared.state.State.{State}
 use Rattle.pfr_track.specs.declared.state.StateNumber.{StateNumber}

@@ -7,7 +7,7 @@ use Rattle.std.specs.Ordering.{is_eq}
 use Rattle.std.specs.declared.cmp.Ordering.TheVariants.{Equal}
 use Rattle.std.proofs.lemmas.Bool.{and_parts, or_cases, true≢false, false≢true}
 use Rattle.std.proofs.lemmas.List.Elements.{Contains-append_left, Contains-append_right, Contains-push, Contains-push_cases}
-use Rattle.pfr_terms.specs.declared.address.Network.{Network}
+use Rattle.pfr_net.specs.declared.network.Net.{Net}
 use Rattle.pfr_tables.specs.declared.table.Entry.{Entry}
 use Rattle.pfr_tables.specs.Keys.{entry_at, key_cmp, key_of}
 use Rattle.pfr_tables.specs.Tables.{kept, order, clashes, with_entry, table_from, table_of, HasClash}
@@ -82,7 +82,7 @@ abbrev OneSign : List Entry → Type 0
 OneSign table = (g h : Entry) → Contains table g → Contains table h → g.network ≡ h.network → g.is_negated ≡ h.is_negated
 
 is_level : (e f : Entry) → (kept e).network ≡ f.network → is_eq (order (kept e) f) ≡ true
-is_level e f same = subst (λ (n : Network). is_eq (key_cmp (key_of e.network) (n.bits, n.address.0)) ≡ true) same (ap is_eq (tied_itself key_order (key_of e.network)))
+is_level e f same = subst (λ (n : Net). is_eq (key_cmp (key_of e.network) (n.bits, n.address.0)) ≡ true) same (ap is_eq (tied_itself key_order (key_of e.network)))
 
 sign_by : (level other : Bool) → (level && other) ≡ false → level ≡ true → other ≡ false
 sign_by true other none is = none

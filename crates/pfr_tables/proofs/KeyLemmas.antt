@@ -13,7 +13,7 @@ use Rattle.std.proofs.lemmas.Map.Keys.{sorted_head, sorted_tail}
 use Rattle.std.proofs.lemmas.Map.Lookups.{CmpEqualImpliesEq, exact_pairs, exact_unsigned}
 use Rattle.std.proofs.lemmas.Map.Views.{All-keys-insert_entry}
 use Rattle.std.specs.Ordering.{nat_cmp}
-use Rattle.pfr_terms.specs.declared.address.Network.{Network}
+use Rattle.pfr_net.specs.declared.network.Net.{Net}
 use Rattle.pfr_tables.specs.declared.table.Entry.{Entry}
 use Rattle.pfr_tables.specs.Keys.{entry_at, key_of, key_cmp, IsKey, AreInOrder, is_other}
 use Rattle.pfr_tables.specs.Tables.{clashes, with_entry}
@@ -25,7 +25,7 @@ key_order = then_total (on_total (λ k. k.0) nat_cmp_total) (on_total (λ k. k.1
 pub key_exact : CmpEqualImpliesEq key_cmp
 key_exact = exact_pairs nat_cmp nat_cmp exact_unsigned exact_unsigned
 
-pub is_key : (network : Network) → IsKey (key_of network)
+pub is_key : (network : Net) → IsKey (key_of network)
 is_key network = (omega arith, rw prefix-min (prefix-prefix network.bits network.address.0))
 
 -- ---- one more entry
@@ -40,7 +40,7 @@ pub puts : (es : List ((ℕ × ℕ) × Bool)) (e : Entry) → map entry_at (inse
 puts [] e = refl
 puts (x ∷ es) e = puts_by (key_cmp (key_of e.network) x.0) (key_of e.network) e.is_negated x es (insert_entry key_cmp es (key_of e.network) e.is_negated) (with_entry (map entry_at es) e) refl (puts es e)
 
-pub puts_in_order : (es : List ((ℕ × ℕ) × Bool)) (network : Network) (is_negated : Bool) → AreInOrder es → IsStrictlySortedBy key_cmp (keys_of (insert_entry key_cmp es (key_of network) is_negated))
+pub puts_in_order : (es : List ((ℕ × ℕ) × Bool)) (network : Net) (is_negated : Bool) → AreInOrder es → IsStrictlySortedBy key_cmp (keys_of (insert_entry key_cmp es (key_of network) is_negated))
     → AreInOrder (insert_entry key_cmp es (key_of network) is_negated)
 puts_in_order es network is_negated old sorted = record {
   sorted = sorted;

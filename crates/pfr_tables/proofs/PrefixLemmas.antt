@@ -2,7 +2,7 @@
 use Rattle.std.proofs.Common.{◌≡◌, ◌-◌, ◌*◌, ◌/◌, ◌^◌, ℕ, min, refl, ap, arith}
 use Rattle.std.proofs.Math.Nat.{mul-div_cancel}
 use Rattle.std.proofs.lemmas.Nat.{pow_pos}
-use Rattle.pfr_tables.specs.Prefixes.{prefix}
+use Rattle.pfr_net.specs.Networks.{prefix}
 
 pub prefix-prefix : (bits address : ℕ) → prefix bits (prefix bits address) ≡ prefix bits address
 unfolding prefix

@@ -6,16 +6,16 @@ use Rattle.std.specs.List.Sorted.{IsStrictlySortedBy}
 use Rattle.std.specs.Map.{keys_of}
 use Rattle.std.specs.Ordering.{nat_cmp, ordering_then}
 use Rattle.std.specs.declared.cmp.Ordering.{Ordering}
-use Rattle.pfr_terms.specs.declared.address.Network.{Network}
+use Rattle.pfr_net.specs.declared.network.Net.{Net}
 use Rattle.pfr_tables.specs.declared.table.Entry.{Entry}
-use Rattle.pfr_tables.specs.Prefixes.{prefix}
+use Rattle.pfr_net.specs.Networks.{prefix}
 
 -- the entry of a key and its sign
 abbrev pub entry_at : (ℕ × ℕ) × Bool → Entry
 entry_at e = record { network = record { address = record { 0 = e.0.1 }; bits = e.0.0 }; is_negated = e.1 }
 
 -- the key of a network: its bits, 32 at most, and its address without those below its prefix
-abbrev pub key_of : Network → ℕ × ℕ
+abbrev pub key_of : Net → ℕ × ℕ
 key_of network = (min network.bits 32, prefix network.bits network.address.0)
 
 -- fewer bits first, then lesser addresses

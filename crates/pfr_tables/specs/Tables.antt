@@ -5,7 +5,8 @@ use Rattle.std.specs.List.{All, Contains, list_any}
 use Rattle.std.specs.Ordering.{nat_cmp, ordering_then, is_eq, match_ordering}
 use Rattle.std.specs.declared.cmp.Ordering.{Ordering}
 use Rattle.pfr_tables.specs.declared.table.Entry.{Entry}
-use Rattle.pfr_tables.specs.Prefixes.{prefix}
+use Rattle.pfr_net.specs.Networks.{prefix}
+use Rattle.pfr_net.specs.Networks as networks
 
 -- ---- what a table holds
 
@@ -15,7 +16,7 @@ bits_of e = min e.network.bits 32
 
 -- whether an entry's network holds an address: the two agree in the bits of the prefix
 abbrev pub holds : ℕ → Entry → Bool
-holds address e = prefix e.network.bits address == prefix e.network.bits e.network.address.0
+holds address e = networks.holds e.network (record { 0 = address })
 
 -- of the entries that hold the address the longest decides by its sign; none says no
 abbrev pub IsMember : List Entry → ℕ → Type 0

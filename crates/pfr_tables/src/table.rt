@@ -4,8 +4,9 @@ ghost use Rattle.std.specs.Option.{option_copied};
 ghost use Rattle.pfr_tables.specs.Keys as keys;
 ghost use Rattle.pfr_tables.specs.Tables as spec;
 
-use crate::network::{key, prefix};
-use pfr_terms::{Ipv4Address, Network};
+use crate::network::key;
+use pfr_net::network::prefix;
+use pfr_net::{Ipv4Address, Net};
 use pfr_words::Items;
 use std::alloc::{AllocError, Global};
 use std::collections::BTreeMap;
@@ -14,7 +15,7 @@ use std::marker::Model;
 /// An entry of a table; with `!` the table doesn't hold its addresses, but where a longer entry does.
 #[derive(Clone, Copy, PartialEq, Eq)]
 pub struct Entry {
-    pub network: Network,
+    pub network: Net,
     pub is_negated: bool,
 }
 
@@ -44,7 +45,7 @@ fn entry_of(network: &(u8, u32), is_negated: bool) -> Entry
     ensures { result ≡ keys.entry_at (network.now, is_negated) }
 {
     Entry {
-        network: Network {
+        network: Net {
             address: Ipv4Address(network.1),
             bits: network.0,
         },

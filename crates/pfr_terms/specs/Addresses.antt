@@ -9,7 +9,7 @@ use Rattle.pfr_terms.specs.declared.name.Name.{Name}
 use Rattle.pfr_terms.specs.declared.name.MacroUse.{MacroUse}
 use Rattle.pfr_terms.specs.declared.name.Written.{Written}
 use Rattle.pfr_terms.specs.declared.name.Written.TheVariants as w
-use Rattle.pfr_terms.specs.declared.address.Ipv4Address.{Ipv4Address}
+use Rattle.pfr_net.specs.declared.address.Ipv4Address.{Ipv4Address}
 use Rattle.pfr_terms.specs.declared.address.Host.{Host}
 use Rattle.pfr_terms.specs.declared.address.Host.TheVariants as h
 use Rattle.pfr_terms.specs.declared.address.Address.{Address}
@@ -18,7 +18,7 @@ use Rattle.pfr_terms.specs.declared.address.AddressMatch.{AddressMatch}
 use Rattle.pfr_terms.specs.declared.address.AddressWord.{AddressWord}
 use Rattle.pfr_terms.specs.declared.address.AddressWord.TheVariants as word
 use Rattle.pfr_terms.specs.declared.address.TableEntry.{TableEntry}
-use Rattle.pfr_terms.specs.Notation.{number, cut_at, dotted}
+use Rattle.pfr_net.specs.Notation.{number, cut_at, dotted}
 use Rattle.pfr_terms.specs.Input.{Input, Parser, ◌>>=◌, pure, refuse, taken, named, passed, passing, blamed, free_word, fault, left_out, is_free, plain_ahead, macro_ahead, line_ahead, eat_sign, eat_word, expect_sign}
 use Rattle.pfr_terms.specs.Lists.{written}
 
@@ -33,13 +33,13 @@ abbrev pub dots : List ℕ → ℕ
 dots [] = 0
 dots (b ∷ text) = if b == 46 then suc (dots text) else dots text
 
-abbrev pub network_of : Option ℕ → Option ℕ → AddressWord
-network_of (Some address) (Some bits) = if nat_le bits 32 then word.Network (record { address = record { 0 = address }; bits = bits }) else word.TooManyBits
+abbrev pub network_of : Option Ipv4Address → Option ℕ → AddressWord
+network_of (Some address) (Some bits) = if nat_le bits 32 then word.Network (record { address = address; bits = bits }) else word.TooManyBits
 network_of (Some address) None = word.Malformed
 network_of None bits = word.Malformed
 
-abbrev pub address_of : Option ℕ → AddressWord
-address_of (Some address) = word.Address (record { 0 = address })
+abbrev pub address_of : Option Ipv4Address → AddressWord
+address_of (Some address) = word.Address address
 address_of None = word.Malformed
 
 abbrev pub dotted_by : List ℕ → Option (List ℕ × List ℕ) → AddressWord

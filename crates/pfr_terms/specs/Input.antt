@@ -17,7 +17,7 @@ use Rattle.pfr_terms.specs.declared.error.ConfErrorKind.TheVariants.{BadByte, Un
 use Rattle.pfr_terms.specs.declared.name.Name.{Name}
 use Rattle.pfr_terms.specs.declared.name.MacroUse.{MacroUse}
 use Rattle.pfr_terms.specs.Faults.{lower}
-use Rattle.pfr_terms.specs.Notation.{number}
+use Rattle.pfr_net.specs.Notation.{number}
 
 pub record Input : Type 0 where
   -- the words that are left

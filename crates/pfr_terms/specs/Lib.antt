@@ -3,6 +3,5 @@ pub mod Faults
 pub mod Hosts
 pub mod Input
 pub mod Lists
-pub mod Notation
 pub mod Ports
 pub mod Terms

@@ -13,7 +13,7 @@ use Rattle.pfr_terms.specs.declared.port.PortMatch.{PortMatch}
 use Rattle.pfr_terms.specs.declared.port.PortMatch.TheVariants.{Compare, Range}
 use Rattle.pfr_terms.specs.declared.port.PortWord.{PortWord}
 use Rattle.pfr_terms.specs.declared.port.PortWord.TheVariants.{Port, OutOfRange, Unknown}
-use Rattle.pfr_terms.specs.Notation.{number, cut_at}
+use Rattle.pfr_net.specs.Notation.{number, cut_at}
 use Rattle.pfr_terms.specs.Input.{Input, Parser, ◌>>=◌, pure, taken, fault, left_out, blamed, passing, is_free, plain_ahead, sign_ahead}
 
 abbrev pub service_word : Option ℕ → PortWord

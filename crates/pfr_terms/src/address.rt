@@ -6,22 +6,12 @@ ghost use Rattle.pfr_terms.specs.Input.{Reads};
 use crate::error::{ConfError, ConfErrorKind};
 use crate::lists::Item;
 use crate::name::{MacroUse, Name, Written};
-use crate::notation::{cut, dotted, number};
 use crate::reader::{Reader, is_free};
+use pfr_net::notation::{cut, dotted, number};
+use pfr_net::{Ipv4Address, Net};
 use pfr_words::names::is_name;
 use pfr_words::{Bytes, Sign};
 use std::alloc::{AllocError, Global};
-
-/// An IPv4 address as a number: the first octet is the highest byte.
-#[derive(Clone, Copy, PartialEq, Eq)]
-pub struct Ipv4Address(pub u32);
-
-/// The addresses that share the first `bits` bits of one; the bits behind don't matter.
-#[derive(Clone, Copy, PartialEq, Eq)]
-pub struct Network {
-    pub address: Ipv4Address,
-    pub bits: u8,
-}
 
 /// What is written for one address or the network of an interface.
 #[derive(Drop)]
@@ -29,7 +19,7 @@ pub enum Host<'a> {
     /// `a.b.c.d`
     Address(Ipv4Address),
     /// `a.b.c.d/bits`
-    Network(Network),
+    Network(Net),
     /// `self`
     Own,
     /// The name of an interface, with `:0` or `:network` or neither, in round brackets or not; or any other word,
@@ -70,7 +60,7 @@ pub struct TableEntry<'a> {
 #[derive(Clone, Copy)]
 enum AddressWord {
     Address(Ipv4Address),
-    Network(Network),
+    Network(Net),
     /// Digits and dots, but no address.
     Malformed,
     /// A network of more than 32 bits.
@@ -106,12 +96,12 @@ fn dots(word: &[u8]) -> usize
 }
 
 /// What `a.b.c.d/bits` says by its two parts.
-fn network_of(address: Option<u32>, bits: Option<u64>) -> AddressWord
+fn network_of(address: Option<Ipv4Address>, bits: Option<u64>) -> AddressWord
     ensures { result ≡ spec.network_of address bits }
 {
     match (address, bits) {
-        (Some(address), Some(bits)) if bits <= 32 => AddressWord::Network(Network {
-            address: Ipv4Address(address),
+        (Some(address), Some(bits)) if bits <= 32 => AddressWord::Network(Net {
+            address,
             bits: bits as u8,
         }),
         (Some(_), Some(_)) => AddressWord::TooManyBits,
@@ -133,7 +123,7 @@ fn address_word(word: &[u8]) -> AddressWord
     match cut(b'/', word) {
         Some((address, bits)) => network_of(dotted(address), number(bits)),
         None => match dotted(word) {
-            Some(address) => AddressWord::Address(Ipv4Address(address)),
+            Some(address) => AddressWord::Address(address),
             None => AddressWord::Malformed,
         },
     }
@@ -161,7 +151,7 @@ fn stand_in<'a>(word: &[u8]) -> Host<'a>
 {
     let address = Ipv4Address(0);
     match cut(b'/', word) {
-        Some(_) => Host::Network(Network { address, bits: 32 }),
+        Some(_) => Host::Network(Net { address, bits: 32 }),
         None => Host::Address(address),
     }
 }

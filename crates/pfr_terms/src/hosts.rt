@@ -9,8 +9,8 @@ use crate::interface::InterfaceMatch;
 use crate::lists::list;
 use crate::name::Written;
 use crate::port::PortMatch;
-use crate::protocol::Protocol;
 use crate::reader::Reader;
+use pfr_net::Protocol;
 use pfr_words::Items;
 use std::alloc::Global;
 

@@ -5,8 +5,8 @@ ghost use Rattle.pfr_terms.specs.Input.{Reads};
 
 use crate::error::{ConfError, ConfErrorKind};
 use crate::lists::Item;
-use crate::notation::{cut, number};
 use crate::reader::{Reader, is_free};
+use pfr_net::notation::{cut, number};
 use pfr_words::Sign;
 use pfr_words::names::service_named;
 use std::alloc::{AllocError, Global};

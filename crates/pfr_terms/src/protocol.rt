@@ -7,13 +7,10 @@ ghost use Rattle.pfr_terms.specs.Input.{Reads};
 use crate::error::ConfError;
 use crate::lists::Item;
 use crate::reader::Reader;
+use pfr_net::Protocol;
 use pfr_words::Bytes;
 use pfr_words::names::{icmp_type_named, protocol_named};
 use std::alloc::Global;
-
-/// The number of an IP protocol, by IANA's registry.
-#[derive(Clone, Copy)]
-pub struct Protocol(pub u8);
 
 /// An ICMP type, and a code of it where one is asked for.
 #[derive(Clone, Copy)]

@@ -6,7 +6,7 @@ ghost use Rattle.pfr_terms.specs.Input.{Reads, Refuses};
 
 use crate::error::{ConfError, ConfErrorKind, kind_of, left_out_at, lower, name_left_out};
 use crate::name::{MacroUse, Name};
-use crate::notation::number;
+use pfr_net::notation::number;
 use pfr_words::braces::is_sign;
 use pfr_words::names::{is_grammar_word, is_left_out};
 use pfr_words::{Bytes, Sign, Token, Word};

@@ -1,8 +1,8 @@
 -- What a packet of a connection leaves of its state.
 use Rattle.std.proofs.Common.{◌≡◌, ◌≢◌, Bool, true, false, cond, refl, subst}
 use Rattle.std.proofs.lemmas.Bool.{cond-true, cond-false}
-use Rattle.pfr_headers.specs.declared.packet.Direction.{Direction}
-use Rattle.pfr_headers.specs.declared.packet.Direction.TheVariants.{In, Out}
+use Rattle.pfr_net.specs.declared.direction.Direction.{Direction}
+use Rattle.pfr_net.specs.declared.direction.Direction.TheVariants.{In, Out}
 use Rattle.pfr_headers.specs.declared.packet.Packet.{Packet}
 use Rattle.pfr_track.specs.declared.outcome.Touch.TheVariants.{Touched}
 use Rattle.pfr_track.specs.declared.outcome.Track.{Track}

@@ -1,7 +1,7 @@
 -- What a packet ends.
 use Rattle.std.proofs.Common.{◌≡◌, ◌&&◌, Bool, true, false, not, cond, refl}
 use Rattle.std.proofs.lemmas.Bool.{and_parts}
-use Rattle.pfr_headers.specs.declared.packet.Direction.{Direction}
+use Rattle.pfr_net.specs.declared.direction.Direction.{Direction}
 use Rattle.pfr_headers.specs.declared.packet.Packet.{Packet}
 use Rattle.pfr_headers.specs.declared.tcp.TcpHeader.{TcpHeader}
 use Rattle.pfr_headers.specs.declared.transport.Transport.{Transport}

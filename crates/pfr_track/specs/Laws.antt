@@ -1,8 +1,8 @@
 -- Words of the laws: what a packet makes, leaves and ends, how far the ends of a connection come, and a connection from its
 -- other side.
 use Rattle.std.specs.Prelude.{◌≡◌, ◌≢◌, ◌+◌, ◌^◌, ◌<◌, ◌≤◌, true}
-use Rattle.pfr_headers.specs.declared.packet.Direction.{Direction}
-use Rattle.pfr_headers.specs.declared.packet.Direction.TheVariants.{In, Out}
+use Rattle.pfr_net.specs.declared.direction.Direction.{Direction}
+use Rattle.pfr_net.specs.declared.direction.Direction.TheVariants.{In, Out}
 use Rattle.pfr_headers.specs.declared.packet.Packet.{Packet}
 use Rattle.pfr_headers.specs.declared.transport.Transport.{Transport}
 use Rattle.pfr_headers.specs.declared.transport.Transport.TheVariants as transport

@@ -1,6 +1,6 @@
 //! Laws of the definitions, each the contract of a function that does nothing.
 ghost use Rattle.std.specs.Prelude.{◌≡◌};
-ghost use Rattle.pfr_headers.specs.declared.packet.Direction.{Direction};
+ghost use Rattle.pfr_net.specs.declared.direction.Direction.{Direction};
 ghost use Rattle.pfr_headers.specs.declared.packet.Packet.{Packet};
 ghost use Rattle.pfr_track.specs.declared.key.Key.{Key};
 ghost use Rattle.pfr_track.specs.declared.state.State.{State};

@@ -20,10 +20,11 @@ pub mod timeout;
 pub mod touching;
 
 pub use datagram::DatagramPeer;
-pub use key::{Endpoint, Key};
+pub use key::Key;
 pub use making::make;
 pub use outcome::Touch;
 pub use peers::Peers;
+pub use pfr_net::Endpoint;
 pub use sequence::Sequence;
 pub use state::{RuleNumber, State, StateNumber, StateRules, Traffic};
 pub use tcp::{TcpPeer, TcpPeerState};

@@ -9,7 +9,8 @@ use crate::segment::{maker, unseen};
 use crate::state::{State, StateNumber, StateRules, Traffic};
 use crate::time::{Clock, Deadline};
 use crate::timeout::{Timeout, Timeouts};
-use pfr_headers::{Direction, Packet, Transport};
+use pfr_headers::{Packet, Transport};
+use pfr_net::Direction;
 
 /// What is known of both ends after the first packet of a connection, and its timeout.
 fn first_peers(transport: &Transport) -> (Peers, Timeout)

@@ -6,7 +6,8 @@ use crate::key::Key;
 use crate::peers::Peers;
 use crate::time::{Clock, Deadline};
 use crate::timeout::Timeout;
-use pfr_headers::{Direction, Packet};
+use pfr_headers::Packet;
+use pfr_net::Direction;
 
 /// The number of a state: that of the packet that made it.
 #[derive(Clone, Copy, Debug, PartialEq, Eq, PartialOrd, Ord, Hash)]

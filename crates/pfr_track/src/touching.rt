@@ -11,7 +11,8 @@ use crate::state::State;
 use crate::tcp::{TcpPeer, TcpPeerState, timeout_by};
 use crate::time::{Clock, Deadline};
 use crate::timeout::{Timeout, Timeouts};
-use pfr_headers::{Direction, IcmpMessage, Packet, TcpHeader, Transport};
+use pfr_headers::{IcmpMessage, Packet, TcpHeader, Transport};
+use pfr_net::Direction;
 
 fn begins_anew(sender: &TcpPeer, receiver: &TcpPeer, header: &TcpHeader) -> bool
     ensures { result ≡ tcp.begins_anew sender.now receiver.now header.now }

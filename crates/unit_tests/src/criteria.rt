@@ -1,5 +1,4 @@
 //! Packets, and what is asked of them, as in pf.conf(5).
-use pfr_conf::Direction as WrittenDirection;
 use pfr_criteria::hosts::host_holds;
 use pfr_criteria::packets::{anchor_holds, match_holds, rule_holds};
 use pfr_criteria::transports::{
@@ -7,12 +6,10 @@ use pfr_criteria::transports::{
 };
 use pfr_elements::{HostCriterion, HostSet, IfName, InterfaceCriterion};
 use pfr_flat::flat::{FilterAction, FlagsCriterion, FlatAnchor, FlatRule, NO_MATCH, PacketMatch};
-use pfr_headers::{
-    Direction, IcmpHeader, IcmpMessage, IcmpType, Ipv4Address, Packet, Port, Protocol, TcpFlags,
-    TcpHeader, Transport,
-};
+use pfr_headers::{IcmpHeader, IcmpMessage, IcmpType, Packet, TcpFlags, TcpHeader, Transport};
+use pfr_net::{Direction, Ipv4Address, Net, Port, Protocol};
 use pfr_tables::{AddressTable, Entry};
-use pfr_terms::{Comparison, IcmpMatch, Network, PortMatch, RangeOperator};
+use pfr_terms::{Comparison, IcmpMatch, PortMatch, RangeOperator};
 use std::alloc::{AllocError, Global};
 use std::test::Fail;
 
@@ -79,8 +76,8 @@ fn flags_and_types(rt: HostRuntime) {
 }
 
 /// The addresses of 10.0.0.0/8.
-const TEN: HostSet = HostSet::Network(Network {
-    address: pfr_terms::Ipv4Address(0x0a00_0000),
+const TEN: HostSet = HostSet::Network(Net {
+    address: Ipv4Address(0x0a00_0000),
     bits: 8,
 });
 
@@ -124,7 +121,7 @@ fn to_the_table() -> PacketMatch {
             is_negated: false,
             name: IfName::new(b"em0"),
         }),
-        protocol: Some(pfr_terms::Protocol(6)),
+        protocol: Some(Protocol(6)),
         icmp: None,
         source: hosts(true, TEN),
         source_port: Some(PortMatch::Compare(Comparison::Greater, 1023)),
@@ -137,8 +134,8 @@ fn to_the_table() -> PacketMatch {
 fn table(alloc: Global) -> Result<AddressTable, AllocError> {
     let mut table = AddressTable::new(alloc);
     table.add(Entry {
-        network: Network {
-            address: pfr_terms::Ipv4Address(0x0a00_0000),
+        network: Net {
+            address: Ipv4Address(0x0a00_0000),
             bits: 31,
         },
         is_negated: false,
@@ -153,7 +150,7 @@ fn a_rule(rt: HostRuntime) -> Result<(), Fail> {
     let name = IfName::new(b"em0");
     let rule = FlatRule {
         action: FilterAction::Pass,
-        direction: Some(WrittenDirection::In),
+        direction: Some(Direction::In),
         is_quick: false,
         packet: to_the_table(),
         flags: FlagsCriterion::Default,
@@ -175,7 +172,7 @@ fn an_anchor(rt: HostRuntime) -> Result<(), Fail> {
     let tables = [table(rt.alloc())?];
     let name = IfName::new(b"em0");
     let anchor = FlatAnchor {
-        direction: Some(WrittenDirection::Out),
+        direction: Some(Direction::Out),
         is_quick: false,
         packet: to_the_table(),
         first: 0,

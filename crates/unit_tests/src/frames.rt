@@ -1,7 +1,6 @@
 //! Frames and networks written out by hand.
-use pfr_headers::{
-    Direction, IcmpMessage, Inner, Ipv4Address, Net, Packet, TcpFlags, Transport, View, view,
-};
+use pfr_headers::{IcmpMessage, Inner, Packet, TcpFlags, Transport, View, direction_of, view};
+use pfr_net::{Direction, Ipv4Address, Net};
 use std::test::Fail;
 
 /// A UDP packet from 10.0.0.5:1000 to 198.51.100.7:53, with its checksums.
@@ -174,6 +173,6 @@ fn directions(rt: HostRuntime) -> Result<(), Fail> {
         bits: 8,
     };
     assert!(rt; net.holds(Ipv4Address(0x0aff_ffff)) && !net.holds(Ipv4Address(0x0b00_0000)));
-    assert!(rt; Direction::of(&packet, &[net]) == Direction::Out);
+    assert!(rt; direction_of(&packet, &[net]) == Direction::Out);
     Ok(())
 }

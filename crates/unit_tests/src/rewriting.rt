@@ -2,7 +2,8 @@
 ghost use Rattle.std.specs.Prelude.{◌≡◌, ◌≤◌, ◌+◌, length};
 
 use crate::frames::{ERROR, QUERY, TRANSLATED};
-use pfr_headers::{Change, End, Endpoint, Ipv4Address, Port, View, rewrite, view};
+use pfr_headers::{Change, End, View, rewrite, view};
+use pfr_net::{Endpoint, Ipv4Address, Port};
 use std::process::Abort;
 
 /// The error that tells of the translated query, translated back to 10.0.0.5:1000.

@@ -2,9 +2,8 @@
 ghost use Rattle.std.specs.Prelude.{◌≤◌};
 
 use pfr_capture::{Mem, Tail};
-use pfr_conf::Ipv4Address;
 use pfr_expand::{IfName, Interface};
-use pfr_headers::Net;
+use pfr_net::{Ipv4Address, Net};
 use pfr_out::{Output, Report, Settings, Sinks, Stop, replay};
 use std::alloc::{AllocError, Global};
 use std::test::Fail;
@@ -63,7 +62,7 @@ fn run(rt: &HostRuntime, reads: u64, writes: u64, batch: usize) -> Result<Left, 
     let mut source = capture(rt.alloc())?.at_most(28).failing_after(reads);
     let mut outputs = sinks(rt.alloc(), writes);
     let inside = [Net {
-        address: pfr_headers::Ipv4Address(0x0a00_0000),
+        address: Ipv4Address(0x0a00_0000),
         bits: 8,
     }];
     let settings = Settings {

@@ -1,9 +1,7 @@
 //! A table of states, at the moments when states expire.
-use pfr_headers::{Direction, Ipv4Address, Port, Protocol};
+use pfr_net::{Direction, Endpoint, Ipv4Address, Port, Protocol};
 use pfr_states::{Side, Table, TableChange, TableError};
-use pfr_track::{
-    Clock, Deadline, Endpoint, Key, Peers, State, StateNumber, StateRules, Timeout, Traffic,
-};
+use pfr_track::{Clock, Deadline, Key, Peers, State, StateNumber, StateRules, Timeout, Traffic};
 
 fn key(address: u32) -> Key {
     Key {

@@ -1,12 +1,12 @@
 //! A table written out by hand.
+use pfr_net::{Ipv4Address, Net};
 use pfr_tables::table::{AddressTable, Entry};
-use pfr_terms::{Ipv4Address, Network};
 use std::alloc::Global;
 
 fn entry(octets: [u8; 4], bits: u8, is_negated: bool) -> Entry {
     let address = Ipv4Address(u32::from_be_bytes(octets));
     Entry {
-        network: Network { address, bits },
+        network: Net { address, bits },
         is_negated,
     }
 }

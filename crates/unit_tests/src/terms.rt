@@ -1,13 +1,14 @@
 //! Numbers and addresses written out by hand, and how a fault is printed.
+use pfr_net::Ipv4Address;
+use pfr_net::notation::{dotted, number};
 use pfr_terms::error::{ConfError, ConfErrorKind, LeftOutName};
-use pfr_terms::notation::{dotted, number};
 use pfr_words::Items;
 use std::alloc::{AllocError, Global};
 use std::test::Fail;
 
 #[test]
 fn numbers_and_addresses_are_read(rt: HostRuntime) {
-    assert!(rt; dotted(b"198.51.100.7") == Some(0xc633_6407));
+    assert!(rt; dotted(b"198.51.100.7") == Some(Ipv4Address(0xc633_6407)));
     assert!(rt; dotted(b"198.51.100.256").is_none());
     // the least number that is too great for all uses stands for all of them
     assert!(rt; number(b"4294967297") == Some(4294967296));

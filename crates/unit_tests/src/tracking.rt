@@ -1,9 +1,8 @@
 //! Connections whose numbers are written out.
-use pfr_headers::{
-    Direction, Ipv4Address, Packet, Port, Protocol, TcpFlags, TcpHeader, Transport, UdpHeader,
-};
+use pfr_headers::{Packet, TcpFlags, TcpHeader, Transport, UdpHeader};
+use pfr_net::{Direction, Endpoint, Ipv4Address, Port, Protocol};
 use pfr_track::{
-    Clock, DatagramPeer, Endpoint, Key, Peers, RuleNumber, State, StateNumber, StateRules, TcpPeer,
+    Clock, DatagramPeer, Key, Peers, RuleNumber, State, StateNumber, StateRules, TcpPeer,
     TcpPeerState, Timeouts, Touch, make, touch,
 };
 

@@ -1,7 +1,8 @@
 //! How what rules ask for is printed.
 use crate::printing::{put_address, put_bytes, word_if};
-use pfr_conf::{Comparison, Network, PortMatch, RangeOperator, Statement, Statements};
+use pfr_conf::{Comparison, PortMatch, RangeOperator, Statement, Statements};
 use pfr_expand::{HostCriterion, HostSet, PacketMatch};
+use pfr_net::Net;
 use std::alloc::{AllocError, Global};
 
 /// The names of the tables in the order of the text.
@@ -30,7 +31,7 @@ pub(crate) fn put_table_name(
     }
 }
 
-pub(crate) fn put_network(out: &mut String, network: Network) -> Result<(), AllocError> {
+pub(crate) fn put_network(out: &mut String, network: Net) -> Result<(), AllocError> {
     put_address(out, network.address.0)?;
     write!(out, "/{}", network.bits)
 }

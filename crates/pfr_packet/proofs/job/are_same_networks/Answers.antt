@@ -1,7 +1,7 @@
 use Rattle.std.proofs.Common.{◌≡◌, ◌∙◌, sym, subst, true, List}
 use lib.Pointwise.{pointwise}
-use Rattle.pfr_headers.specs.declared.network.Net.{Net}
-use Rattle.pfr_headers.specs.contracts.network.NetPartialEq.TheImpl.{ghosts}
+use Rattle.pfr_net.specs.declared.network.Net.{Net}
+use Rattle.pfr_net.specs.contracts.network.NetPartialEq.TheImpl.{ghosts}
 use Rattle.pfr_packet.proofs.SameLemmas.{networks_same, same_networks}
 use Rattle.pfr_packet.proofs.job.are_same_networks.Goals as goal
 

@@ -2,7 +2,9 @@
 ghost use Rattle.std.specs.Prelude.{◌≡◌, ◌≤◌, ◌==◌, IfSome};
 ghost use Rattle.std.specs.List.{position};
 ghost use Rattle.std.specs.Option.{option_map};
-ghost use Rattle.pfr_terms.specs.Notation as spec;
+ghost use Rattle.pfr_net.specs.Notation as spec;
+
+use crate::address::Ipv4Address;
 
 /// A number that is above every limit of a ruleset text.
 pub const TOO_LARGE: u64 = 4294967296;
@@ -53,27 +55,34 @@ fn value(digits: &[u8]) -> u64
 pub fn number(text: &[u8]) -> Option<u64>
     ensures { result ≡ spec.number text.now }
 {
-    if text.is_empty() || !are_digits(text) {
-        None
-    } else {
+    if !text.is_empty() && are_digits(text) {
         Some(value(text))
+    } else {
+        None
     }
 }
 
-/// A number from 0 to 255.
-#[tactic(auto, unfolding(crate::specs::Notation::octet))]
-fn octet(text: &[u8]) -> Option<u8>
-    ensures { result ≡ spec.octet text.now }
+/// The number that a text of decimal digits writes, if it is at most the limit.
+#[tactic(auto, using(crate::proofs::NumberLemmas::absent))]
+pub(crate) fn number_within(limit: u8, text: &[u8]) -> Option<u8>
+    ensures { result ≡ spec.number_within limit text.now }
 {
     match number(text) {
-        Some(value) if value <= 255 => Some(value as u8),
+        Some(value) if value <= u64::from(limit) => Some(value as u8),
         _ => None,
     }
 }
 
-/// An address in dotted decimal, as a number whose highest byte is the first octet.
+/// A number from 0 to 255.
+fn octet(text: &[u8]) -> Option<u8>
+    ensures { result ≡ spec.octet text.now }
+{
+    number_within(255, text)
+}
+
+/// An address in dotted decimal.
 #[tactic(auto, unfolding(crate::specs::Notation::dotted))]
-pub fn dotted(text: &[u8]) -> Option<u32>
+pub fn dotted(text: &[u8]) -> Option<Ipv4Address>
     ensures { result ≡ spec.dotted text.now }
 {
     let (first, rest) = cut(b'.', text)?;
@@ -81,5 +90,5 @@ pub fn dotted(text: &[u8]) -> Option<u32>
     let (third, fourth) = cut(b'.', rest)?;
     let high = u32::from(octet(first)?) * 256 + u32::from(octet(second)?);
     let low = u32::from(octet(third)?) * 256 + u32::from(octet(fourth)?);
-    Some(high * 65536 + low)
+    Some(Ipv4Address(high * 65536 + low))
 }

@@ -1,0 +1,8 @@
+//! Which way packets go.
+
+/// Which way a packet goes, seen from the firewall.
+#[derive(Clone, Copy)]
+pub enum Direction {
+    In,
+    Out,
+}

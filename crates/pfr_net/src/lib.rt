@@ -1,0 +1,18 @@
+//! What rules and the packets that they judge have in common: addresses, networks, ports, the ends of
+//! connections, protocols, directions, and how addresses and numbers are written.
+#![tactic(auto)]
+
+pub mod address;
+pub mod direction;
+pub mod endpoint;
+pub mod network;
+pub mod notation;
+pub mod port;
+pub mod protocol;
+
+pub use address::Ipv4Address;
+pub use direction::Direction;
+pub use endpoint::Endpoint;
+pub use network::Net;
+pub use port::Port;
+pub use protocol::Protocol;
