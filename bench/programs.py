@@ -24,12 +24,19 @@ def rt(verb, folder):
         raise SystemExit(done.stdout)
 
 
+def used_by(crate, named):
+    """A crate and all that it stands on, each once: what it names, and what that names."""
+    used = [crate]
+    for name in used:
+        used.extend(other for other in named.get(name, ()) if other not in used)
+    return used
+
+
 def build(folder, program):
     """Makes a repository of the built crates and the program, and answers the program that is built of it."""
     rt("lib", building.CRATES / program.highest)
     lines = [line for line in (ROOT / "crates.txt").read_text().splitlines() if not line.startswith("#")]
-    below = {name: words.split() for name, _, words in (line.partition(":") for line in lines)}
-    used = [program.highest, *below[program.highest]]
+    used = used_by(program.highest, {name: words.split() for name, _, words in (line.partition(":") for line in lines)})
     lines = [line for line in lines if line.partition(":")[0] in used]
     (folder / "crates.txt").write_text("\n".join([*lines, f"{program.name}: {' '.join(used)}\n"]))
     copy(ROOT / "HANDLES", folder)

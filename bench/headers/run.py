@@ -3,40 +3,30 @@
 
     run.py
 
-Builds the program beside it with the crate pfr_headers in a temporary folder, which takes about a minute, and prints
+Builds the program beside it in a temporary folder; crates that aren't built are built first, in their own folders. Prints
 for each kind and length of packet the nanoseconds of a copy, of a view and of a rewriting, and the last two as
 multiples of the copy.
 """
 
-import shutil
 import subprocess
+import sys
 import tempfile
 from pathlib import Path
 
 HERE = Path(__file__).resolve().parent
 ROOT = HERE.parent.parent
+sys.dont_write_bytecode = True
+sys.path[:0] = [str(ROOT / "bench"), str(ROOT / "tests")]
+
+from programs import Program, build
+
+PROGRAM = Program("headers_bench", HERE / "main.rattle", "pfr_headers")
 ROUNDS = 4000000
-
-
-def build(folder):
-    """Makes a repository of the two crates, and answers the program that is built of it."""
-    (folder / "crates.txt").write_text("pfr_headers: bitflags byteorder\nheaders_bench: pfr_headers\n")
-    shutil.copy(ROOT / "HANDLES", folder)
-    for part in ("src", "specs", "proofs"):
-        shutil.copytree(ROOT / "crates" / "pfr_headers" / part, folder / "crates" / "pfr_headers" / part)
-    crate = folder / "crates" / "headers_bench"
-    (crate / "src").mkdir(parents=True)
-    # the gate lets no file end in .rt but those of the crates
-    shutil.copy(HERE / "main.rattle", crate / "src" / "main.rt")
-    done = subprocess.run(["rt", "run"], cwd=crate, stdout=subprocess.PIPE, stderr=subprocess.STDOUT, text=True)
-    if done.returncode:
-        raise SystemExit(done.stdout)
-    return crate / "out" / "headers_bench"
 
 
 def main():
     with tempfile.TemporaryDirectory() as name:
-        program = build(Path(name))
+        program = build(Path(name), PROGRAM)
         rows = subprocess.run([program], stdout=subprocess.PIPE, check=True, text=True).stdout.splitlines()
     print(f"{'packet':>6} {'bytes':>6} {'copy ns':>8} {'view ns':>8} {'x copy':>7} {'rewrite ns':>11} {'x copy':>7}")
     for row in rows:

@@ -3,8 +3,8 @@
 
     run.py [SIZE ..]
 
-Builds the program beside it with the crates pfr_headers, pfr_track and pfr_states in a temporary folder, which takes some minutes
-where they weren't checked before, and `main.rs` by `rustc -O`. For each size (1000, 100000 and 1000000 where none is given) it
+Builds the program beside it in a temporary folder, and `main.rs` by `rustc -O`; crates that aren't built are built first, in
+their own folders. For each size (1000, 100000 and 1000000 where none is given) it
 prints a row for each kind of work: how many a second, and that as a multiple of the Rust program's, once with the standard
 library's hash of the keys and once (`fold`) with the one that Rattle's maps have. The last two rows are bytes of memory for each
 state, of the full table and of the most on the way there.
@@ -14,12 +14,15 @@ import subprocess
 import sys
 import tempfile
 from pathlib import Path
-from shutil import copy, copytree, ignore_patterns
 
 HERE = Path(__file__).resolve().parent
 ROOT = HERE.parent.parent
-CRATES = ("pfr_headers", "pfr_track", "pfr_states")
-PROGRAM = "states_bench"
+sys.dont_write_bytecode = True
+sys.path[:0] = [str(ROOT / "bench"), str(ROOT / "tests")]
+
+from programs import Program, build
+
+PROGRAM = Program("states_bench", HERE / "main.rattle", "pfr_states")
 SIZES = (1000, 100000, 1000000)
 # at least so many are made, looked up, touched and purged in a run, and each run is made so often
 LEAST = 1000000
@@ -27,25 +30,6 @@ RUNS = 5
 WORKS = ("makes", "hits", "misses", "touches", "purges")
 # the files and lines below /proc/PID that tell of a process's memory, in KiB: what it holds, and the most that it held
 MEMORY = {"bytes a state": ("smaps_rollup", "Rss"), "bytes at most": ("status", "VmHWM")}
-
-
-def build(folder):
-    """Makes a repository of the crates and the program, and answers the program that is built of it."""
-    lines = [line for line in (ROOT / "crates.txt").read_text().splitlines() if line.partition(":")[0] in CRATES]
-    (folder / "crates.txt").write_text("\n".join([*lines, f"{PROGRAM}: {' '.join(CRATES)}\n"]))
-    copy(ROOT / "HANDLES", folder)
-    for name in CRATES:
-        # what earlier checks of a crate have left spares proving it again
-        copytree(ROOT / "crates" / name, folder / "crates" / name, ignore=ignore_patterns("must-fail"))
-    crate = folder / "crates" / PROGRAM
-    (crate / "src").mkdir(parents=True)
-    # the gate lets no file end in .rt but those of the crates
-    copy(HERE / "main.rattle", crate / "src" / "main.rt")
-    done = subprocess.run(["rt", "run"], cwd=crate, stdin=subprocess.DEVNULL, stdout=subprocess.PIPE,
-                          stderr=subprocess.STDOUT, text=True)
-    if done.returncode:
-        raise SystemExit(done.stdout)
-    return crate / "out" / PROGRAM
 
 
 def build_rust(folder):
@@ -117,7 +101,7 @@ def main():
     sizes = [int(word) for word in sys.argv[1:]] or SIZES
     with tempfile.TemporaryDirectory() as name:
         rust = build_rust(Path(name))
-        commands = [[build(Path(name))], [rust, "std"], [rust, "fold"]]
+        commands = [[build(Path(name), PROGRAM)], [rust, "std"], [rust, "fold"]]
         print(f"{'states':>8} {'a second':>14} {'Rattle':>12} {'Rust':>12} {'Rust, fold':>12} {'/ Rust':>10} {'/ fold':>10}")
         for size in sizes:
             for work, times in zip(WORKS, zip(*best(commands, size))):

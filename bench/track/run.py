@@ -3,42 +3,30 @@
 
     run.py
 
-Builds the program beside it with the crates pfr_headers and pfr_track in a temporary folder, which takes some minutes, and
-prints for a TCP state (data and acknowledgements in turn) and a UDP state the nanoseconds of a copy and of a touch, the
+Builds the program beside it in a temporary folder; crates that aren't built are built first, in their own folders. Prints
+for a TCP state (data and acknowledgements in turn) and a UDP state the nanoseconds of a copy and of a touch, the
 touch as a multiple of the copy, and touches in a second. A touch counts the packet's making and the storing of the state.
 """
 
-import shutil
 import subprocess
+import sys
 import tempfile
 from pathlib import Path
 
 HERE = Path(__file__).resolve().parent
 ROOT = HERE.parent.parent
+sys.dont_write_bytecode = True
+sys.path[:0] = [str(ROOT / "bench"), str(ROOT / "tests")]
+
+from programs import Program, build
+
+PROGRAM = Program("track_bench", HERE / "main.rattle", "pfr_track")
 ROUNDS = 20000000
-CRATES = "pfr_headers: bitflags byteorder\npfr_track: pfr_headers\ntrack_bench: pfr_headers pfr_track\n"
-
-
-def build(folder):
-    """Makes a repository of the three crates, and answers the program that is built of it."""
-    (folder / "crates.txt").write_text(CRATES)
-    shutil.copy(ROOT / "HANDLES", folder)
-    for name in ("pfr_headers", "pfr_track"):
-        for part in ("src", "specs", "proofs"):
-            shutil.copytree(ROOT / "crates" / name / part, folder / "crates" / name / part)
-    crate = folder / "crates" / "track_bench"
-    (crate / "src").mkdir(parents=True)
-    # the gate lets no file end in .rt but those of the crates
-    shutil.copy(HERE / "main.rattle", crate / "src" / "main.rt")
-    done = subprocess.run(["rt", "run"], cwd=crate, stdout=subprocess.PIPE, stderr=subprocess.STDOUT, text=True)
-    if done.returncode:
-        raise SystemExit(done.stdout)
-    return crate / "out" / "track_bench"
 
 
 def main():
     with tempfile.TemporaryDirectory() as name:
-        program = build(Path(name))
+        program = build(Path(name), PROGRAM)
         rows = subprocess.run([program], stdout=subprocess.PIPE, check=True, text=True).stdout.splitlines()
     print(f"{'state':>6} {'copy ns':>8} {'touch ns':>9} {'x copy':>7} {'touches a second':>17}")
     for row in rows:
