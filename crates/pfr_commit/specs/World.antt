@@ -3,6 +3,7 @@ use Rattle.std.specs.Prelude.{ℕ, ◌+◌, max, if◌then◌else◌, List, [], 
 use Rattle.pfr_headers.specs.declared.change.Change.{Change}
 use Rattle.pfr_headers.specs.Rewriting.{rewritten}
 use Rattle.pfr_headers.specs.View.{view_of}
+use Rattle.pfr_expand.specs.Rulesets.{counts}
 use Rattle.pfr_track.specs.declared.time.Clock.{Clock}
 use Rattle.pfr_states.specs.declared.change.TableChange.{TableChange}
 use Rattle.pfr_states.specs.States.{StateTable, empty, with_change}
@@ -11,7 +12,6 @@ use Rattle.pfr_packet.specs.Job.{RunJob}
 use Rattle.pfr_packet.specs.Plan.{purged_at}
 use Rattle.pfr_packet.specs.Steps.{step_of}
 use Rattle.pfr_packet.specs.Verdicts.{is_written}
-use Rattle.pfr_expand.specs.Rulesets.{counts}
 use Rattle.pfr_commit.specs.declared.counters.Counters.{Counters}
 use Rattle.pfr_commit.specs.Counters.{counted, nothing_counted}
 use Rattle.pfr_commit.specs.Lines.{verdict_line}

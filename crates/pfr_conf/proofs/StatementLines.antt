@@ -6,18 +6,18 @@ use Rattle.pfr_words.specs.Words.{newlines, words}
 use Rattle.pfr_terms.specs.declared.error.ConfError.{ConfError}
 use Rattle.pfr_terms.specs.declared.name.Name.{Name}
 use Rattle.pfr_terms.specs.declared.name.MacroUse.{MacroUse}
+use Rattle.pfr_terms.specs.Input.{Input, Outcome, Parser, and_then, ◌>>=◌, pure, refuse, start, plain_ahead, quoted_ahead, macro_ahead, line_ahead, eat_sign, named, unknown_word}
+use Rattle.pfr_terms.proofs.Lines.{IsLine, Within, Good, Keeps, either, skipped_within, next_within, line_ahead_is, refusal_is, left_out_is, keeps_then, keeps_pure, keeps_if, keeps_test, keeps_by, keeps_fault, keeps_loop, keeps_eat_sign, reading}
+use Rattle.pfr_terms.proofs.TermLines.{keeps_members, keeps_table_name, keeps_table_entry, keeps_criteria}
 use Rattle.pfr_conf.specs.declared.filter.Action as A
 use Rattle.pfr_conf.specs.declared.anchor.FilterStatement.{FilterStatement}
 use Rattle.pfr_conf.specs.declared.macros.Piece as P
 use Rattle.pfr_conf.specs.declared.statement.Statement.{Statement}
-use Rattle.pfr_terms.specs.Input.{Input, Outcome, Parser, and_then, ◌>>=◌, pure, refuse, start, plain_ahead, quoted_ahead, macro_ahead, line_ahead, eat_sign, named, unknown_word}
 use Rattle.pfr_conf.specs.Filters as filters
 use Rattle.pfr_conf.specs.Anchors as anchors
 use Rattle.pfr_conf.specs.Macros as macros
 use Rattle.pfr_conf.specs.Tables as tables
 use Rattle.pfr_conf.specs.Statements as statements
-use Rattle.pfr_terms.proofs.Lines.{IsLine, Within, Good, Keeps, either, skipped_within, next_within, line_ahead_is, refusal_is, left_out_is, keeps_then, keeps_pure, keeps_if, keeps_test, keeps_by, keeps_fault, keeps_loop, keeps_eat_sign, reading}
-use Rattle.pfr_terms.proofs.TermLines.{keeps_members, keeps_table_name, keeps_table_entry, keeps_criteria}
 use Rattle.pfr_conf.proofs.RuleLines.{keeps_name_ahead, keeps_direction, keeps_end_of_line, keeps_set_option, keeps_action, keeps_filter_rule}
 use Rattle.pfr_conf.proofs.WordLines.{begins_within}
 

@@ -2,12 +2,12 @@
 use Rattle.std.proofs.Common.{◌≡◌, ◌||◌, inl, inr, if◌then◌else◌, Bool, true, false, not, List, [], ◌∷◌, ◌++◌, Ok, Err, ℕ, codes, refl}
 use Rattle.pfr_terms.specs.declared.error.ConfError.{ConfError}
 use Rattle.pfr_terms.specs.declared.error.ConfErrorKind.TheVariants.{OutOfOrder}
+use Rattle.pfr_terms.specs.Input.{Input, Outcome, Parser, and_then, pure, plain_ahead, line_ahead, sees_word, taken, eat_word, faulty}
 use Rattle.pfr_conf.specs.declared.options.SetOption.{SetOption}
 use Rattle.pfr_conf.specs.declared.statement.Section.{Section}
 use Rattle.pfr_conf.specs.declared.statement.Section.TheVariants as section
 use Rattle.pfr_conf.specs.declared.statement.Statement.{Statement}
 use Rattle.pfr_conf.specs.declared.statement.Statement.TheVariants as s
-use Rattle.pfr_terms.specs.Input.{Input, Outcome, Parser, and_then, pure, plain_ahead, line_ahead, sees_word, taken, eat_word, faulty}
 use Rattle.pfr_conf.specs.Macros.{macro_definition}
 use Rattle.pfr_conf.specs.Tables.{table_definition}
 use Rattle.pfr_conf.specs.Options.{set_option}

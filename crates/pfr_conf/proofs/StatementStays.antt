@@ -8,6 +8,12 @@ use Rattle.pfr_words.specs.Names.{is_name}
 use Rattle.pfr_words.specs.Words.{closers, closers_before}
 use Rattle.pfr_terms.specs.declared.name.Name.{Name}
 use Rattle.pfr_terms.specs.declared.address.TableEntry.{TableEntry}
+use Rattle.pfr_terms.specs.Input.{Input, Outcome, Parser, and_then, ◌>>=◌, pure, refuse, taken, is_line_end, ends_line, skip_line_ends, stepped, next, at_line_end, plain_ahead, quoted_ahead, macro_ahead, line_ahead, sees_word, eat_sign, close_list, faulty, unknown_word}
+use Rattle.pfr_terms.specs.declared.error.ConfErrorKind.TheVariants.{OutOfOrder}
+use Rattle.pfr_terms.specs.Lists.{members}
+use Rattle.pfr_terms.specs.Addresses.{table_entry}
+use Rattle.pfr_terms.proofs.Stays.{longer, mode, Closed, Fine, Sees, Sight, Tells, Follows, Stays, skip_longer, skip_closers, skip_closed, skip_length, stays_pure, stays_then, stays_first, stays_turn, stays_told, stays_found, stays_if, stays_any, stays_by, stays_at, stays_test, either_follows, stays_fault, stays_loop, stays_eat_word, stays_eat_word_so, stays_eat_sign, stays_expect_sign, stays_named, stays_taken, stays_refuse, stays_faulty, stays_open_list, stays_close_list, stays_open_body, stays_close_body, plain_sight, plain_shows, quoted_sight, quoted_shows, macro_sight, macro_shows, line_sight, refusal_sight, left_out_sight, end_sight, word_sight, word_tells, named_sight}
+use Rattle.pfr_terms.proofs.TermStays.{stays_members, stays_table_name, stays_table_entry, stays_criteria}
 use Rattle.pfr_conf.specs.declared.filter.Action as A
 use Rattle.pfr_conf.specs.declared.anchor.AnchorRule.{AnchorRule}
 use Rattle.pfr_conf.specs.declared.anchor.FilterStatement.{FilterStatement}
@@ -18,18 +24,12 @@ use Rattle.pfr_conf.specs.declared.macros.MacroDefinition.{MacroDefinition}
 use Rattle.pfr_conf.specs.declared.table.TableDefinition.{TableDefinition}
 use Rattle.pfr_conf.specs.declared.statement.Statement.{Statement}
 use Rattle.pfr_conf.specs.declared.statement.Statement.TheVariants as st
-use Rattle.pfr_terms.specs.Input.{Input, Outcome, Parser, and_then, ◌>>=◌, pure, refuse, taken, is_line_end, ends_line, skip_line_ends, stepped, next, at_line_end, plain_ahead, quoted_ahead, macro_ahead, line_ahead, sees_word, eat_sign, close_list, faulty, unknown_word}
-use Rattle.pfr_terms.specs.declared.error.ConfErrorKind.TheVariants.{OutOfOrder}
-use Rattle.pfr_terms.specs.Lists.{members}
-use Rattle.pfr_terms.specs.Addresses.{table_entry}
 use Rattle.pfr_conf.specs.Policies as policies
 use Rattle.pfr_conf.specs.Filters as filters
 use Rattle.pfr_conf.specs.Anchors as anchors
 use Rattle.pfr_conf.specs.Macros as macros
 use Rattle.pfr_conf.specs.Tables as tables
 use Rattle.pfr_conf.specs.Statements as statements
-use Rattle.pfr_terms.proofs.Stays.{longer, mode, Closed, Fine, Sees, Sight, Tells, Follows, Stays, skip_longer, skip_closers, skip_closed, skip_length, stays_pure, stays_then, stays_first, stays_turn, stays_told, stays_found, stays_if, stays_any, stays_by, stays_at, stays_test, either_follows, stays_fault, stays_loop, stays_eat_word, stays_eat_word_so, stays_eat_sign, stays_expect_sign, stays_named, stays_taken, stays_refuse, stays_faulty, stays_open_list, stays_close_list, stays_open_body, stays_close_body, plain_sight, plain_shows, quoted_sight, quoted_shows, macro_sight, macro_shows, line_sight, refusal_sight, left_out_sight, end_sight, word_sight, word_tells, named_sight}
-use Rattle.pfr_terms.proofs.TermStays.{stays_members, stays_table_name, stays_table_entry, stays_criteria}
 use Rattle.pfr_conf.proofs.RuleStays.{is_there, stays_name_ahead, stays_direction, stays_set_option, stays_action, stays_filter_rule}
 
 -- ---- what is left, counted from elsewhere

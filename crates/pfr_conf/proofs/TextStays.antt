@@ -8,12 +8,12 @@ use Rattle.pfr_words.specs.Words.{is_sign, closers, closers_before, with_braces,
 use Rattle.pfr_words.specs.declared.word.WordFault.TheVariants.{Unterminated}
 use Rattle.pfr_words.proofs.JoinedWords.{words_joined}
 use Rattle.pfr_terms.specs.declared.error.ConfError.{ConfError}
+use Rattle.pfr_terms.specs.Input.{Input, Outcome, Parser, and_then, ◌>>=◌, pure, refuse, start, turns, loop_from, is_line_end, ends_line, at_line_end, is_done, words_behind_line_ends, skip_line_ends, stepped, next}
+use Rattle.pfr_terms.proofs.Stays.{longer, mode, Closed, Fine, Follows, skip_closed, skip_length, refusal_sight}
 use Rattle.pfr_conf.specs.declared.statement.Section.TheVariants as section
 use Rattle.pfr_conf.specs.declared.statement.Statement.{Statement}
-use Rattle.pfr_terms.specs.Input.{Input, Outcome, Parser, and_then, ◌>>=◌, pure, refuse, start, turns, loop_from, is_line_end, ends_line, at_line_end, is_done, words_behind_line_ends, skip_line_ends, stepped, next}
 use Rattle.pfr_conf.specs.Policies.{end_of_line}
 use Rattle.pfr_conf.specs.Statements.{Lines, any_statement, text_line, whole, statements_in, statements_of}
-use Rattle.pfr_terms.proofs.Stays.{longer, mode, Closed, Fine, Follows, skip_closed, skip_length, refusal_sight}
 use Rattle.pfr_conf.proofs.StatementStays.{any_statement_stays}
 
 -- ---- a text that says nothing

@@ -4,19 +4,19 @@ use Rattle.pfr_terms.specs.declared.name.Written.{Written}
 use Rattle.pfr_terms.specs.declared.name.Written.TheVariants as w
 use Rattle.pfr_terms.specs.declared.address.Host.{Host}
 use Rattle.pfr_terms.specs.declared.address.Host.TheVariants as h
+use Rattle.pfr_terms.specs.Input.{Input, ◌>>=◌, is_free, plain_ahead, line_ahead}
+use Rattle.pfr_terms.specs.Lists as lists
+use Rattle.pfr_terms.specs.Addresses as addresses
+use Rattle.pfr_terms.specs.Ports as ports
+use Rattle.pfr_terms.proofs.Lines.{IsLine, Within, Keeps, line_ahead_is, fault_is, left_out_is, keeps_then, keeps_pure, keeps_test, keeps_by, keeps_fault, keeps_refuse, keeps_leave_out, reading}
+use Rattle.pfr_terms.proofs.TermLines.{keeps_written, keeps_host, keeps_eaten, keeps_port_or_range, keeps_ports, keeps_part_behind, keeps_interfaces, keeps_protocols, keeps_criteria}
 use Rattle.pfr_conf.specs.declared.targets.RedirectedPort.{RedirectedPort}
 use Rattle.pfr_conf.specs.declared.targets.PortFault.{PortFault}
 use Rattle.pfr_conf.specs.declared.targets.PortFault.TheVariants.{Service, Number, Pool}
 use Rattle.pfr_conf.specs.declared.translation.TranslationKind.{TranslationKind}
 use Rattle.pfr_conf.specs.declared.translation.TranslationKind.TheVariants.{Nat, Rdr, Binat}
-use Rattle.pfr_terms.specs.Input.{Input, ◌>>=◌, is_free, plain_ahead, line_ahead}
-use Rattle.pfr_terms.specs.Lists as lists
-use Rattle.pfr_terms.specs.Addresses as addresses
-use Rattle.pfr_terms.specs.Ports as ports
 use Rattle.pfr_conf.specs.Targets as targets
 use Rattle.pfr_conf.specs.Translations as translations
-use Rattle.pfr_terms.proofs.Lines.{IsLine, Within, Keeps, line_ahead_is, fault_is, left_out_is, keeps_then, keeps_pure, keeps_test, keeps_by, keeps_fault, keeps_refuse, keeps_leave_out, reading}
-use Rattle.pfr_terms.proofs.TermLines.{keeps_written, keeps_host, keeps_eaten, keeps_port_or_range, keeps_ports, keeps_part_behind, keeps_interfaces, keeps_protocols, keeps_criteria}
 use Rattle.pfr_conf.proofs.RuleLines.{keeps_some_name, keeps_logged}
 
 -- ---- targets

@@ -7,14 +7,14 @@ use Rattle.pfr_words.specs.Words.{is_sign, closed_by, closers, with_braces, newl
 use Rattle.pfr_words.specs.declared.word.WordFault.TheVariants.{Unterminated}
 use Rattle.pfr_words.proofs.JoinedWords.{words_joined}
 use Rattle.pfr_terms.specs.declared.error.ConfError.{ConfError}
+use Rattle.pfr_terms.specs.Input.{Input, Outcome, Parser, and_then, start, turns, loop_from, is_line_end, is_done, words_behind_line_ends, skip_line_ends}
+use Rattle.pfr_terms.proofs.Stays.{Fine}
 use Rattle.pfr_conf.specs.declared.statement.Section.TheVariants as section
 use Rattle.pfr_conf.specs.declared.statement.Statement.{Statement}
 use Rattle.pfr_conf.specs.declared.statement.Statements as S
-use Rattle.pfr_terms.specs.Input.{Input, Outcome, Parser, and_then, start, turns, loop_from, is_line_end, is_done, words_behind_line_ends, skip_line_ends}
 use Rattle.pfr_conf.specs.Policies.{end_of_line}
 use Rattle.pfr_conf.specs.Statements.{Lines, any_statement, text_line, whole, statements_in, statements_of}
 use Rattle.pfr_conf.specs.Following.{MayFollow}
-use Rattle.pfr_terms.proofs.Stays.{Fine}
 use Rattle.pfr_conf.proofs.FirstWords.{front, any_statement_alike}
 use Rattle.pfr_conf.proofs.StatementShifts.{after, Fits, Shifts, InOrder, statement_shifts, keeps_order, fits_behind, fits_on}
 use Rattle.pfr_conf.proofs.TextGoesOn.{Grows, grows_end, lines_grow}

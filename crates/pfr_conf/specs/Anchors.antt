@@ -2,12 +2,12 @@
 use Rattle.std.specs.Prelude.{ℕ, zero, suc, not, if◌then◌else◌, List, [], ◌∷◌, ◌++◌, Option, Some, None, Ok, codes}
 use Rattle.pfr_words.specs.declared.sign.Sign.TheVariants as s
 use Rattle.pfr_terms.specs.declared.error.ConfErrorKind.TheVariants.{TooDeep}
+use Rattle.pfr_terms.specs.Input.{Parser, ◌>>=◌, pure, refuse, faulty, loop, taken, line_ahead, skip_line_ends, sees_word, eat_word, eat_sign}
+use Rattle.pfr_terms.specs.Hosts.{criteria}
 use Rattle.pfr_conf.specs.declared.filter.Action as A
 use Rattle.pfr_conf.specs.declared.anchor.AnchorRule.{AnchorRule}
 use Rattle.pfr_conf.specs.declared.anchor.FilterStatement.{FilterStatement}
 use Rattle.pfr_conf.specs.declared.anchor.FilterStatement.TheVariants as f
-use Rattle.pfr_terms.specs.Input.{Parser, ◌>>=◌, pure, refuse, faulty, loop, taken, line_ahead, skip_line_ends, sees_word, eat_word, eat_sign}
-use Rattle.pfr_terms.specs.Hosts.{criteria}
 use Rattle.pfr_conf.specs.Names.{name_ahead}
 use Rattle.pfr_conf.specs.Policies.{direction, end_of_line}
 use Rattle.pfr_conf.specs.Filters.{action, filter_rule}

@@ -1,11 +1,11 @@
 -- Filter rules.
 use Rattle.std.specs.Prelude.{ℕ, Bool, true, false, not, if◌then◌else◌, Option, Some, None, codes}
 use Rattle.pfr_words.specs.declared.sign.Sign.TheVariants as s
+use Rattle.pfr_terms.specs.Input.{Parser, ◌>>=◌, pure, leave_out, sees_sign, eat_word}
+use Rattle.pfr_terms.specs.Hosts.{criteria}
 use Rattle.pfr_conf.specs.declared.filter.Action as A
 use Rattle.pfr_conf.specs.declared.filter.Action.TheVariants.{Pass, Block}
 use Rattle.pfr_conf.specs.declared.filter.FilterRule.{FilterRule}
-use Rattle.pfr_terms.specs.Input.{Parser, ◌>>=◌, pure, leave_out, sees_sign, eat_word}
-use Rattle.pfr_terms.specs.Hosts.{criteria}
 use Rattle.pfr_conf.specs.Policies.{direction, block_policy}
 use Rattle.pfr_conf.specs.RuleOptions.{rule_options}
 

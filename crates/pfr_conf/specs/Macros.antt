@@ -4,10 +4,10 @@ use Rattle.pfr_words.specs.declared.sign.Sign.TheVariants as s
 use Rattle.pfr_words.specs.Names.{is_name}
 use Rattle.pfr_terms.specs.declared.name.Name.{Name}
 use Rattle.pfr_terms.specs.declared.name.MacroUse.{MacroUse}
+use Rattle.pfr_terms.specs.Input.{Parser, ◌>>=◌, pure, refuse, taken, named, loop, unknown_word, at_line_end, plain_ahead, quoted_ahead, macro_ahead, eat_sign}
 use Rattle.pfr_conf.specs.declared.macros.Piece as P
 use Rattle.pfr_conf.specs.declared.macros.Piece.TheVariants as p
 use Rattle.pfr_conf.specs.declared.macros.MacroDefinition.{MacroDefinition}
-use Rattle.pfr_terms.specs.Input.{Parser, ◌>>=◌, pure, refuse, taken, named, loop, unknown_word, at_line_end, plain_ahead, quoted_ahead, macro_ahead, eat_sign}
 
 abbrev pub piece_by : Option MacroUse → Option (List ℕ) → Option (List ℕ) → Parser P.Piece
 piece_by (Some found) quoted plain = do

@@ -2,13 +2,13 @@
 use Rattle.std.specs.Prelude.{ℕ, ◌||◌, if◌then◌else◌, List, map, Option, Some, None, Err, codes}
 use Rattle.pfr_words.specs.Names.{entry_of}
 use Rattle.pfr_terms.specs.declared.error.ConfError.{ConfError}
+use Rattle.pfr_terms.specs.Input.{Input, Parser, ◌>>=◌, pure, refuse, refusal, left_out, taken, number_in, plain_ahead, sees_word}
 use Rattle.pfr_conf.specs.declared.settings.Timeout.{Timeout}
 use Rattle.pfr_conf.specs.declared.settings.TimeoutSetting.{TimeoutSetting}
 use Rattle.pfr_conf.specs.declared.settings.Limit.{Limit}
 use Rattle.pfr_conf.specs.declared.settings.Limit.TheVariants as l
 use Rattle.pfr_conf.specs.declared.settings.LimitSetting.{LimitSetting}
 use Rattle.pfr_conf.specs.declared.settings.TheConstants.{TIMEOUTS, LIMITS}
-use Rattle.pfr_terms.specs.Input.{Input, Parser, ◌>>=◌, pure, refuse, refusal, left_out, taken, number_in, plain_ahead, sees_word}
 
 unfoldable pub timeout_named : List ℕ → Option Timeout
 timeout_named word = entry_of (map (λ e. (e.0.now, e.1)) TIMEOUTS) word

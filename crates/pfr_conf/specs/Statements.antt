@@ -3,15 +3,15 @@ use Rattle.std.specs.Prelude.{◌≡◌, ◌≢◌, ℕ, Bool, true, false, not,
 use Rattle.pfr_words.specs.declared.word.Word.{Word}
 use Rattle.pfr_words.specs.Words.{words}
 use Rattle.pfr_words.specs.Names.{is_among}
-use Rattle.pfr_conf.specs.declared.statement.TheConstants.{FILTER_WORDS, TRANSLATION_WORDS}
 use Rattle.pfr_terms.specs.declared.error.ConfError.{ConfError}
 use Rattle.pfr_terms.specs.declared.error.ConfErrorKind.TheVariants.{OutOfOrder, Memory}
+use Rattle.pfr_terms.specs.Input.{Input, Outcome, Parser, ◌>>=◌, pure, refusal, left_out, faulty, loop, start, taken, is_done, line_ahead, plain_ahead, sees_word, eat_word}
+use Rattle.pfr_conf.specs.declared.statement.TheConstants.{FILTER_WORDS, TRANSLATION_WORDS}
 use Rattle.pfr_conf.specs.declared.statement.Section.{Section}
 use Rattle.pfr_conf.specs.declared.statement.Section.TheVariants as section
 use Rattle.pfr_conf.specs.declared.statement.Statement.{Statement}
 use Rattle.pfr_conf.specs.declared.statement.Statement.TheVariants as s
 use Rattle.pfr_conf.specs.declared.statement.Statements as S
-use Rattle.pfr_terms.specs.Input.{Input, Outcome, Parser, ◌>>=◌, pure, refusal, left_out, faulty, loop, start, taken, is_done, line_ahead, plain_ahead, sees_word, eat_word}
 use Rattle.pfr_conf.specs.Policies.{end_of_line}
 use Rattle.pfr_conf.specs.Macros.{macro_definition}
 use Rattle.pfr_conf.specs.Tables.{table_definition}

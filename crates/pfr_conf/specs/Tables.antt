@@ -2,10 +2,10 @@
 use Rattle.std.specs.Prelude.{ℕ, Bool, true, not, if◌then◌else◌, List, [], codes}
 use Rattle.pfr_words.specs.declared.sign.Sign.TheVariants as s
 use Rattle.pfr_terms.specs.declared.address.TableEntry.{TableEntry}
-use Rattle.pfr_conf.specs.declared.table.TableDefinition.{TableDefinition}
 use Rattle.pfr_terms.specs.Input.{Parser, ◌>>=◌, pure, loop, eat_word, open_list, close_list, expect_sign}
 use Rattle.pfr_terms.specs.Lists.{members}
 use Rattle.pfr_terms.specs.Addresses.{table_name, table_entry}
+use Rattle.pfr_conf.specs.declared.table.TableDefinition.{TableDefinition}
 
 unfoldable pub flag : Parser Bool
 flag = do

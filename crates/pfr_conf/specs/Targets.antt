@@ -1,6 +1,7 @@
 -- What translation rules translate to.
 use Rattle.std.specs.Prelude.{ℕ, ◌&&◌, ◌||◌, Bool, true, false, nat_lt, if◌then◌else◌, List, Option, Some, None, Result, Ok, Err, codes}
 use Rattle.std.specs.Str.{bytes_eq}
+use Rattle.pfr_net.specs.Notation.{cut_at}
 use Rattle.pfr_words.specs.declared.sign.Sign.TheVariants as s
 use Rattle.pfr_terms.specs.declared.error.ConfError.{ConfError}
 use Rattle.pfr_terms.specs.declared.error.ConfErrorKind.TheVariants.{BadNumber, BadAddress}
@@ -11,6 +12,10 @@ use Rattle.pfr_terms.specs.declared.address.Host.TheVariants as h
 use Rattle.pfr_terms.specs.declared.port.PortMatch.{PortMatch}
 use Rattle.pfr_terms.specs.declared.port.PortWord.{PortWord}
 use Rattle.pfr_terms.specs.declared.port.PortWord.TheVariants.{Port, OutOfRange, Unknown}
+use Rattle.pfr_terms.specs.Input.{Input, Parser, ◌>>=◌, pure, refuse, leave_out, left_out, left_out_at, faulty, fault, taken, is_free, line_ahead, plain_ahead, sees_sign, sees_word, eat_word}
+use Rattle.pfr_terms.specs.Lists.{written}
+use Rattle.pfr_terms.specs.Ports.{port_word, port_or_range}
+use Rattle.pfr_terms.specs.Addresses.{host}
 use Rattle.pfr_conf.specs.declared.targets.RedirectedPort.{RedirectedPort}
 use Rattle.pfr_conf.specs.declared.targets.RedirectedPort.TheVariants.{Fixed, From}
 use Rattle.pfr_conf.specs.declared.targets.PortFault.{PortFault}
@@ -19,11 +24,6 @@ use Rattle.pfr_conf.specs.declared.targets.Target as T
 use Rattle.pfr_conf.specs.declared.targets.Target.TheVariants as t
 use Rattle.pfr_conf.specs.declared.translation.TranslationKind.{TranslationKind}
 use Rattle.pfr_conf.specs.declared.translation.TranslationKind.TheVariants as kind
-use Rattle.pfr_net.specs.Notation.{cut_at}
-use Rattle.pfr_terms.specs.Input.{Input, Parser, ◌>>=◌, pure, refuse, leave_out, left_out, left_out_at, faulty, fault, taken, is_free, line_ahead, plain_ahead, sees_sign, sees_word, eat_word}
-use Rattle.pfr_terms.specs.Lists.{written}
-use Rattle.pfr_terms.specs.Ports.{port_word, port_or_range}
-use Rattle.pfr_terms.specs.Addresses.{host}
 
 -- ---- one address
 

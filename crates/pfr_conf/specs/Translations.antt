@@ -1,6 +1,7 @@
 -- Translation rules.
 use Rattle.std.specs.Prelude.{ℕ, Bool, true, false, if◌then◌else◌, List, [], ◌∷◌, map, Option, Some, None, codes}
 use Rattle.pfr_words.specs.declared.sign.Sign.TheVariants as s
+use Rattle.pfr_words.specs.Names.{entry_of}
 use Rattle.pfr_terms.specs.declared.name.Written.{Written}
 use Rattle.pfr_terms.specs.declared.name.Written.TheVariants as w
 use Rattle.pfr_terms.specs.declared.address.Host.{Host}
@@ -8,17 +9,16 @@ use Rattle.pfr_terms.specs.declared.address.Address.TheVariants as a
 use Rattle.pfr_terms.specs.declared.address.AddressMatch.{AddressMatch}
 use Rattle.pfr_terms.specs.declared.hosts.Part.{Part}
 use Rattle.pfr_terms.specs.declared.hosts.Criteria as C
+use Rattle.pfr_terms.specs.Ports.{eaten}
+use Rattle.pfr_terms.specs.Input.{Parser, ◌>>=◌, pure, refuse, line_ahead, plain_ahead, eat_word, expect_word, expect_sign}
+use Rattle.pfr_terms.specs.Hosts.{ports, part_behind, interfaces, protocols, criteria}
 use Rattle.pfr_conf.specs.declared.targets.Target as T
 use Rattle.pfr_conf.specs.declared.translation.TranslationKind.{TranslationKind}
 use Rattle.pfr_conf.specs.declared.translation.TranslationKind.TheVariants.{Nat, Rdr, Binat}
-use Rattle.pfr_words.specs.Names.{entry_of}
 use Rattle.pfr_conf.specs.declared.translation.TheConstants.{KINDS, ANCHOR_KINDS}
 use Rattle.pfr_conf.specs.declared.translation.TranslationRule.{TranslationRule}
 use Rattle.pfr_conf.specs.declared.translation.TranslationStatement.{TranslationStatement}
 use Rattle.pfr_conf.specs.declared.translation.TranslationStatement.TheVariants.{Rule, Anchor}
-use Rattle.pfr_terms.specs.Ports.{eaten}
-use Rattle.pfr_terms.specs.Input.{Parser, ◌>>=◌, pure, refuse, line_ahead, plain_ahead, eat_word, expect_word, expect_sign}
-use Rattle.pfr_terms.specs.Hosts.{ports, part_behind, interfaces, protocols, criteria}
 use Rattle.pfr_conf.specs.Names.{some_name}
 use Rattle.pfr_conf.specs.Filters.{logged}
 use Rattle.pfr_conf.specs.Targets.{single_host, target}

@@ -1,8 +1,8 @@
 //! Anchors, which may hold filter rules and anchors.
 ghost use Rattle.std.specs.Prelude.{◌≡◌, ◌≤◌, [], Ok, codes};
+ghost use Rattle.pfr_terms.specs.Input.{Reads};
 ghost use Rattle.pfr_conf.specs.Anchors as spec;
 ghost use Rattle.pfr_conf.specs.Statements.{ReadsOnto};
-ghost use Rattle.pfr_terms.specs.Input.{Reads};
 
 use crate::filter::{Action, FilterRule, action_ahead, rule_behind};
 use crate::name::name_ahead;

@@ -1,7 +1,7 @@
 //! Filter rules.
 ghost use Rattle.std.specs.Prelude.{◌≡◌, Ok, codes};
-ghost use Rattle.pfr_conf.specs.Filters as spec;
 ghost use Rattle.pfr_terms.specs.Input.{Reads};
+ghost use Rattle.pfr_conf.specs.Filters as spec;
 
 use crate::policy::{BlockPolicy, block_policy_ahead, direction_ahead};
 use crate::rule_options::{RuleOptions, options_behind};

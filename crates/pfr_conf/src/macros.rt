@@ -1,8 +1,8 @@
 //! Definitions of macros: `NAME = pieces`.
 ghost use Rattle.std.specs.Prelude.{◌≡◌, []};
+ghost use Rattle.pfr_terms.specs.Input.{Reads};
 ghost use Rattle.pfr_conf.specs.Macros as spec;
 ghost use Rattle.pfr_conf.specs.Statements.{ReadsOnto};
-ghost use Rattle.pfr_terms.specs.Input.{Reads};
 
 use pfr_terms::lists::Item;
 use pfr_terms::{ConfError, ConfErrorKind, MacroUse, Name, Reader};

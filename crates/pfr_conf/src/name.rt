@@ -1,7 +1,7 @@
 //! Names that a ruleset gives to labels and anchors.
 ghost use Rattle.std.specs.Prelude.{◌≡◌, Ok};
-ghost use Rattle.pfr_conf.specs.Names as spec;
 ghost use Rattle.pfr_terms.specs.Input.{Reads};
+ghost use Rattle.pfr_conf.specs.Names as spec;
 
 use pfr_terms::reader::is_free;
 use pfr_terms::{ConfError, Name, Reader};

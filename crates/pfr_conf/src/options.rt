@@ -1,7 +1,7 @@
 //! Options: what may stand behind `set`.
 ghost use Rattle.std.specs.Prelude.{◌≡◌, ◌≤◌, ◌++◌, codes, IfOk, IfSome};
-ghost use Rattle.pfr_conf.specs.Options as spec;
 ghost use Rattle.pfr_terms.specs.Input.{Reads, Refuses};
+ghost use Rattle.pfr_conf.specs.Options as spec;
 
 use crate::policy::{Binding, BlockPolicy, binding_ahead, block_policy_ahead};
 use crate::settings::{LimitSetting, TimeoutSetting};

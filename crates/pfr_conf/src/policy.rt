@@ -1,7 +1,7 @@
 //! Single words that rules and options have alike.
 ghost use Rattle.std.specs.Prelude.{◌≡◌, Ok, codes};
-ghost use Rattle.pfr_conf.specs.Policies as spec;
 ghost use Rattle.pfr_terms.specs.Input.{Reads};
+ghost use Rattle.pfr_conf.specs.Policies as spec;
 
 use pfr_net::Direction;
 use pfr_terms::{ConfError, Reader};

@@ -1,7 +1,7 @@
 //! A ruleset text as statements.
 ghost use Rattle.std.specs.Prelude.{◌≡◌};
-ghost use Rattle.pfr_conf.specs.Statements as spec;
 ghost use Rattle.pfr_terms.specs.Input.{Reads, Gives};
+ghost use Rattle.pfr_conf.specs.Statements as spec;
 
 use crate::policy::end_of_line;
 use crate::statement::{Section, Statement, Statements, any_statement};

@@ -1,8 +1,8 @@
 //! Statements, and the order in which they may come.
 ghost use Rattle.std.specs.Prelude.{◌≡◌, codes};
+ghost use Rattle.pfr_terms.specs.Input.{Refuses};
 ghost use Rattle.pfr_conf.specs.Statements as spec;
 ghost use Rattle.pfr_conf.specs.Statements.{ReadsOnto};
-ghost use Rattle.pfr_terms.specs.Input.{Refuses};
 
 use crate::anchor::{DEEPEST_ANCHOR, FilterStatement, statement};
 use crate::macros::{MacroDefinition, definition as macro_definition};

@@ -1,7 +1,7 @@
 //! Definitions of tables: `table <NAME> flags { entries }`.
 ghost use Rattle.std.specs.Prelude.{◌≡◌, Ok, codes};
-ghost use Rattle.pfr_conf.specs.Tables as spec;
 ghost use Rattle.pfr_terms.specs.Input.{Reads};
+ghost use Rattle.pfr_conf.specs.Tables as spec;
 
 use pfr_terms::address::table_name;
 use pfr_terms::lists::members;

@@ -1,7 +1,7 @@
 //! What translation rules translate to.
 ghost use Rattle.std.specs.Prelude.{◌≡◌, codes};
-ghost use Rattle.pfr_conf.specs.Targets as spec;
 ghost use Rattle.pfr_terms.specs.Input.{Reads, Refuses};
+ghost use Rattle.pfr_conf.specs.Targets as spec;
 
 use crate::translation::TranslationKind;
 use pfr_net::notation::cut;

@@ -2,8 +2,8 @@
 use Rattle.std.specs.Prelude.{ℕ, ◌==◌, ◌&&◌, ◌||◌, Bool, true, false, not, nat_le, if◌then◌else◌, List, Option, Some, None}
 use Rattle.std.specs.List.{slice_get, list_any, list_all}
 use Rattle.pfr_net.specs.declared.network.Net.{Net}
-use Rattle.pfr_tables.specs.declared.table.Entry.{Entry}
 use Rattle.pfr_net.specs.Networks as networks
+use Rattle.pfr_tables.specs.declared.table.Entry.{Entry}
 use Rattle.pfr_tables.specs.Tables.{bits_of, holds}
 use Rattle.pfr_elements.specs.declared.hosts.HostSet.{HostSet}
 use Rattle.pfr_elements.specs.declared.hosts.HostSet.TheVariants as set

@@ -1,10 +1,10 @@
 -- Whether a packet is what a rule or an anchor asks for (pf.conf(5), "Parameters").
 use Rattle.std.specs.Prelude.{ℕ, ◌==◌, ◌&&◌, Bool, true, false, not, if◌then◌else◌, List, Option, Some, None}
 use Rattle.std.specs.Str.{bytes_eq}
-use Rattle.pfr_headers.specs.declared.packet.Packet.{Packet}
 use Rattle.pfr_net.specs.declared.direction.Direction.{Direction}
 use Rattle.pfr_net.specs.declared.direction.Direction.TheVariants as d
 use Rattle.pfr_net.specs.declared.protocol.Protocol.{Protocol}
+use Rattle.pfr_headers.specs.declared.packet.Packet.{Packet}
 use Rattle.pfr_tables.specs.declared.table.Entry.{Entry}
 use Rattle.pfr_elements.specs.declared.interface.IfName.{IfName}
 use Rattle.pfr_elements.specs.declared.terms.InterfaceCriterion.{InterfaceCriterion}

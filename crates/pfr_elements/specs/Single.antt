@@ -1,6 +1,8 @@
 -- One address, where pf.conf(5) would take a pool of several: the target of a translation rule, and the source of a
 -- binat rule.
 use Rattle.std.specs.Prelude.{ℕ, ◌&&◌, ◌||◌, Bool, true, false, nat_lt, if◌then◌else◌, List, [], ◌∷◌, Option, None, Result, Ok, Err, codes}
+use Rattle.pfr_net.specs.declared.address.Ipv4Address.{Ipv4Address}
+use Rattle.pfr_net.specs.declared.network.Net.{Net}
 use Rattle.pfr_words.specs.declared.sign.Sign.TheVariants as s
 use Rattle.pfr_words.specs.Words.{words}
 use Rattle.pfr_words.specs.declared.word.Word.{Word}
@@ -9,8 +11,6 @@ use Rattle.pfr_terms.specs.declared.error.ConfErrorKind.TheVariants.{BadAddress}
 use Rattle.pfr_terms.specs.declared.name.MacroUse.{MacroUse}
 use Rattle.pfr_terms.specs.declared.name.Written.{Written}
 use Rattle.pfr_terms.specs.declared.name.Written.TheVariants as w
-use Rattle.pfr_net.specs.declared.address.Ipv4Address.{Ipv4Address}
-use Rattle.pfr_net.specs.declared.network.Net.{Net}
 use Rattle.pfr_terms.specs.declared.address.Host.{Host}
 use Rattle.pfr_terms.specs.declared.address.Host.TheVariants as h
 use Rattle.pfr_terms.specs.declared.address.Address.{Address}

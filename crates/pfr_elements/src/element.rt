@@ -1,20 +1,20 @@
 //! The elements of lists.
 ghost use Rattle.std.specs.Prelude.{◌≡◌, ◌<◌, ◌≤◌, ◌+◌, ◌++◌, ℕ, List, map, fold, max, length, Option, Result, Bool, Ok, Err, OnOk, IfOk, IfErr};
+ghost use Rattle.std.specs.Bool.{Decides};
+ghost use Rattle.pfr_words.specs.declared.word.Word.{Word};
+ghost use Rattle.pfr_words.specs.Words.{words};
 ghost use Rattle.pfr_terms.specs.declared.error.ConfError.{ConfError};
 ghost use Rattle.pfr_terms.specs.declared.name.MacroUse.{MacroUse};
 ghost use Rattle.pfr_terms.specs.declared.error.ConfErrorKind.TheVariants.{Memory};
 ghost use Rattle.pfr_terms.specs.Input.{Parser, Reads};
-ghost use Rattle.std.specs.Bool.{Decides};
 ghost use Rattle.pfr_elements.specs.declared.scope.Scope.{Scope};
 ghost use Rattle.pfr_elements.specs.declared.definition.ListMeaning.{ListMeaning};
 ghost use Rattle.pfr_elements.specs.declared.definition.ListMeanings.{ListMeanings};
-ghost use Rattle.pfr_words.specs.declared.word.Word.{Word};
 ghost use Rattle.pfr_elements.specs.Elements.{listed};
 ghost use Rattle.pfr_elements.specs.Meanings.{list_meanings};
 ghost use Rattle.pfr_elements.specs.Elements as spec;
 ghost use Rattle.pfr_elements.specs.Elements.{Puts};
 ghost use Rattle.pfr_elements.specs.Values.{Makes, MakesUnless};
-ghost use Rattle.pfr_words.specs.Words.{words};
 
 use crate::definition::{ListMeaning, ListMeanings, Taken};
 use crate::faults::{at_line, copied_at, undefined_table, unknown_word};

@@ -1,7 +1,7 @@
 //! Faults that what a list holds may have.
 ghost use Rattle.std.specs.Prelude.{◌≡◌, IfOk};
-ghost use Rattle.pfr_elements.specs.Elements as spec;
 ghost use Rattle.pfr_terms.specs.Input as input;
+ghost use Rattle.pfr_elements.specs.Elements as spec;
 
 use pfr_terms::error::LeftOutName;
 use pfr_terms::{ConfError, ConfErrorKind};

@@ -1,17 +1,17 @@
 //! What addresses mean in a list.
 ghost use Rattle.std.specs.Prelude.{◌≡◌, ◌<◌, ◌≤◌, Ok};
+ghost use Rattle.std.specs.Prelude.{List};
+ghost use Rattle.pfr_words.specs.declared.word.Word.{Word};
+ghost use Rattle.pfr_words.specs.Words.{words};
 ghost use Rattle.pfr_terms.specs.Addresses as addresses;
+ghost use Rattle.pfr_terms.specs.Input.{Reads};
 ghost use Rattle.pfr_elements.specs.Elements as elements;
 ghost use Rattle.pfr_elements.specs.Hosts as spec;
 ghost use Rattle.pfr_elements.specs.Names.{last_place};
 ghost use Rattle.pfr_elements.specs.Terms as terms;
-ghost use Rattle.std.specs.Prelude.{List};
-ghost use Rattle.pfr_words.specs.declared.word.Word.{Word};
-ghost use Rattle.pfr_words.specs.Words.{words};
 ghost use Rattle.pfr_elements.specs.declared.scope.Scope.{Scope};
 ghost use Rattle.pfr_elements.specs.Meanings.{list_meanings};
 ghost use Rattle.pfr_elements.specs.Values.{Makes};
-ghost use Rattle.pfr_terms.specs.Input.{Reads};
 
 use crate::definition::{ListMeaning, ListMeanings, Taken};
 use crate::element::{Element, noted, one_fault, one_gathered};

@@ -1,11 +1,11 @@
 //! What a value means wherever it may be used. It is read once, where its macro is defined.
 ghost use Rattle.std.specs.Prelude.{◌≡◌, Ok, OnOk, IfOk, IfErr};
 ghost use Rattle.std.specs.Option.{option_map};
+ghost use Rattle.pfr_words.specs.Words.{words};
 ghost use Rattle.pfr_terms.specs.declared.error.ConfErrorKind.TheVariants.{Memory};
 ghost use Rattle.pfr_elements.specs.Elements.{listed};
 ghost use Rattle.pfr_elements.specs.Meanings as spec;
 ghost use Rattle.pfr_elements.specs.Values.{Makes};
-ghost use Rattle.pfr_words.specs.Words.{words};
 
 use crate::definition::{Definition, ListMeaning, ListMeanings, Meanings, Text};
 use crate::element::{Element, list_meaning};

@@ -1,12 +1,12 @@
 //! One address, where pf.conf(5) would take a pool of several: the target of a translation rule, and the source of a
 //! binat rule.
 ghost use Rattle.std.specs.Prelude.{◌≡◌, ◌<◌, ◌≤◌, IfOk, IfErr, OnOk, Ok};
-ghost use Rattle.pfr_elements.specs.Elements.{elements_from};
+ghost use Rattle.pfr_words.specs.Words.{words};
 ghost use Rattle.pfr_terms.specs.declared.error.ConfErrorKind.TheVariants.{Memory};
+ghost use Rattle.pfr_terms.specs.Input.{Reads};
+ghost use Rattle.pfr_elements.specs.Elements.{elements_from};
 ghost use Rattle.pfr_elements.specs.Single as spec;
 ghost use Rattle.pfr_elements.specs.Values.{Makes};
-ghost use Rattle.pfr_words.specs.Words.{words};
-ghost use Rattle.pfr_terms.specs.Input.{Reads};
 
 use crate::definition::{Meanings, Taken};
 use crate::element::{Elements, MOST_ELEMENTS, noted, one_fault, one_gathered, value_items};

@@ -1,13 +1,13 @@
 //! What interfaces, protocols, ports and ICMP types mean in a list.
 ghost use Rattle.std.specs.Prelude.{◌≡◌};
+ghost use Rattle.std.specs.Prelude.{List};
+ghost use Rattle.pfr_words.specs.declared.word.Word.{Word};
 ghost use Rattle.pfr_terms.specs.Input.{Reads};
 ghost use Rattle.pfr_terms.specs.Lists as lists;
 ghost use Rattle.pfr_terms.specs.Ports as ports;
 ghost use Rattle.pfr_terms.specs.Terms as terms;
 ghost use Rattle.pfr_elements.specs.Elements as elements;
 ghost use Rattle.pfr_elements.specs.Terms as spec;
-ghost use Rattle.std.specs.Prelude.{List};
-ghost use Rattle.pfr_words.specs.declared.word.Word.{Word};
 ghost use Rattle.pfr_elements.specs.declared.scope.Scope.{Scope};
 ghost use Rattle.pfr_elements.specs.Meanings.{list_meanings};
 

@@ -1,8 +1,8 @@
 //! The words of a macro's value.
 ghost use Rattle.std.specs.Prelude.{◌≡◌, ◌<◌, ◌≤◌, ◌+◌, length};
 ghost use Rattle.std.specs.Option.{option_map};
-ghost use Rattle.pfr_elements.specs.Values as spec;
 ghost use Rattle.pfr_words.specs.Words.{words};
+ghost use Rattle.pfr_elements.specs.Values as spec;
 
 use pfr_words::braces::is_sign;
 use pfr_words::{Sign, Token, Word};

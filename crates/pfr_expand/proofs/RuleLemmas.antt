@@ -7,6 +7,7 @@ use Rattle.std.proofs.lemmas.Nat.{mul-le}
 use Rattle.pfr_terms.specs.declared.error.ConfError.{ConfError}
 use Rattle.pfr_terms.specs.declared.flags.FlagsMatch.{FlagsMatch}
 use Rattle.pfr_terms.specs.declared.flags.FlagsMatch.TheVariants as flags
+use Rattle.pfr_elements.specs.declared.scope.Scope.{Scope}
 use Rattle.pfr_conf.specs.declared.policy.BlockPolicy.{BlockPolicy}
 use Rattle.pfr_conf.specs.declared.policy.BlockPolicy.TheVariants as b
 use Rattle.pfr_conf.specs.declared.filter.Action.{Action}
@@ -18,7 +19,6 @@ use Rattle.pfr_conf.specs.declared.rule_options.StateKeeping.TheVariants as k
 use Rattle.pfr_conf.specs.declared.anchor.AnchorRule.{AnchorRule}
 use Rattle.pfr_conf.specs.declared.anchor.FilterStatement.{FilterStatement, out-FilterStatement}
 use Rattle.pfr_conf.specs.declared.anchor.FilterStatement.TheOpen.{FilterStatement-F}
-use Rattle.pfr_elements.specs.declared.scope.Scope.{Scope}
 use Rattle.pfr_flat.specs.declared.choices.Choices as C
 use Rattle.pfr_flat.specs.declared.flat.FlatAnchor.{FlatAnchor}
 use Rattle.pfr_flat.specs.declared.flat.FlatRule.{FlatRule}

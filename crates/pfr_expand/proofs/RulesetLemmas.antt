@@ -2,6 +2,11 @@
 use Rattle.std.proofs.Common.{◌≡◌, ◌≤◌, ◌+◌, ◌||◌, ℕ, suc, Bool, true, false, if◌then◌else◌, nat_lt, List, [], ◌∷◌, ◌++◌, length, min, Option, Some, None, Result, Ok, Err, append_assoc, append-nil, refl, sym, ap, ◌∙◌, subst, arith}
 use Rattle.std.proofs.lemmas.List.{length-append}
 use Rattle.pfr_terms.specs.declared.error.ConfError.{ConfError}
+use Rattle.pfr_elements.specs.declared.interface.Interface.{Interface}
+use Rattle.pfr_elements.specs.declared.scope.Scope.{Scope}
+use Rattle.pfr_elements.specs.declared.value.Draft.{Draft}
+use Rattle.pfr_elements.specs.Elements.{most_elements}
+use Rattle.pfr_elements.specs.Values.{begun}
 use Rattle.pfr_conf.specs.declared.anchor.FilterStatement.{FilterStatement}
 use Rattle.pfr_conf.specs.declared.macros.MacroDefinition.{MacroDefinition}
 use Rattle.pfr_conf.specs.declared.options.SetOption.{SetOption}
@@ -14,11 +19,6 @@ use Rattle.pfr_conf.specs.declared.targets.Target.TheVariants as target
 use Rattle.pfr_conf.specs.declared.translation.TranslationRule.{TranslationRule}
 use Rattle.pfr_conf.specs.declared.translation.TranslationStatement.{TranslationStatement}
 use Rattle.pfr_conf.specs.declared.translation.TranslationStatement.TheVariants as t
-use Rattle.pfr_elements.specs.declared.interface.Interface.{Interface}
-use Rattle.pfr_elements.specs.declared.scope.Scope.{Scope}
-use Rattle.pfr_elements.specs.declared.value.Draft.{Draft}
-use Rattle.pfr_elements.specs.Elements.{most_elements}
-use Rattle.pfr_elements.specs.Values.{begun}
 use Rattle.pfr_flat.specs.declared.choices.Choices as C
 use Rattle.pfr_flat.specs.declared.flat.FlatRule.{FlatRule}
 use Rattle.pfr_flat.specs.declared.flat.PacketMatch.{PacketMatch}

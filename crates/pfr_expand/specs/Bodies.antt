@@ -4,6 +4,8 @@ use Rattle.pfr_terms.specs.declared.error.ConfError.{ConfError}
 use Rattle.pfr_terms.specs.declared.error.ConfErrorKind.TheVariants.{TooDeep, Memory}
 use Rattle.pfr_terms.specs.declared.flags.FlagsMatch.{FlagsMatch}
 use Rattle.pfr_terms.specs.declared.flags.FlagsMatch.TheVariants as flags
+use Rattle.pfr_elements.specs.declared.scope.Scope.{Scope}
+use Rattle.pfr_elements.specs.Elements.{first_fault}
 use Rattle.pfr_conf.specs.declared.policy.BlockPolicy.{BlockPolicy}
 use Rattle.pfr_conf.specs.declared.policy.BlockPolicy.TheVariants as b
 use Rattle.pfr_conf.specs.declared.policy.Binding.{Binding}
@@ -15,8 +17,6 @@ use Rattle.pfr_conf.specs.declared.rule_options.StateKeeping.TheVariants as k
 use Rattle.pfr_conf.specs.declared.anchor.AnchorRule.{AnchorRule}
 use Rattle.pfr_conf.specs.declared.anchor.FilterStatement.{FilterStatement, out-FilterStatement}
 use Rattle.pfr_conf.specs.declared.anchor.FilterStatement.TheOpen.{FilterStatement-F}
-use Rattle.pfr_elements.specs.declared.scope.Scope.{Scope}
-use Rattle.pfr_elements.specs.Elements.{first_fault}
 use Rattle.pfr_flat.specs.declared.flat.PacketMatch.{PacketMatch}
 use Rattle.pfr_flat.specs.declared.flat.FilterAction.{FilterAction}
 use Rattle.pfr_flat.specs.declared.flat.FilterAction.TheVariants as action
@@ -27,12 +27,12 @@ use Rattle.pfr_flat.specs.declared.flat.FlatRule.{FlatRule}
 use Rattle.pfr_flat.specs.declared.flat.FlatAnchor.{FlatAnchor}
 use Rattle.pfr_flat.specs.declared.choices.Choices as C
 use Rattle.pfr_flat.specs.declared.lists.Lists as L
-use Rattle.pfr_expand.specs.declared.body.Setting.{Setting}
-use Rattle.pfr_expand.specs.declared.body.Body.{Body}
 use Rattle.pfr_flat.specs.Choices.{no_match, combinations}
 use Rattle.pfr_flat.specs.Counts.{counted}
 use Rattle.pfr_flat.specs.Lists.{lists_of, choices_or_fault}
 use Rattle.pfr_flat.specs.Places.{moved}
+use Rattle.pfr_expand.specs.declared.body.Setting.{Setting}
+use Rattle.pfr_expand.specs.declared.body.Body.{Body}
 
 -- what a function that adds promises: the outcome, unless memory is refused
 abbrev pub Adds : {A : Type 0} → Result A ConfError → Result (Unit {0}) ConfError → A → Type 0

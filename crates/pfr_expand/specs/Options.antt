@@ -8,6 +8,12 @@ use Rattle.pfr_terms.specs.declared.name.Written.{Written}
 use Rattle.pfr_terms.specs.declared.name.Written.TheVariants as w
 use Rattle.pfr_terms.specs.Lists as lists
 use Rattle.pfr_terms.specs.Terms as terms
+use Rattle.pfr_elements.specs.declared.element.Elements as E
+use Rattle.pfr_elements.specs.declared.interface.IfName.{IfName}
+use Rattle.pfr_elements.specs.declared.scope.Scope.{Scope}
+use Rattle.pfr_elements.specs.Elements.{elements_from, with_element, none_yet, most_elements}
+use Rattle.pfr_elements.specs.Terms.{use_in, never, same, no_table, skipped, skipped_lists}
+use Rattle.pfr_elements.specs.Values.{plain_word_at}
 use Rattle.pfr_conf.specs.declared.policy.BlockPolicy.TheVariants as b
 use Rattle.pfr_conf.specs.declared.policy.Binding.TheVariants as binding
 use Rattle.pfr_conf.specs.declared.settings.Timeout.{Timeout}
@@ -18,15 +24,9 @@ use Rattle.pfr_conf.specs.declared.settings.Limit.TheVariants as limit
 use Rattle.pfr_conf.specs.declared.settings.LimitSetting.{LimitSetting}
 use Rattle.pfr_conf.specs.declared.options.SetOption.{SetOption}
 use Rattle.pfr_conf.specs.declared.options.SetOption.TheVariants as o
-use Rattle.pfr_elements.specs.declared.element.Elements as E
-use Rattle.pfr_elements.specs.declared.interface.IfName.{IfName}
-use Rattle.pfr_elements.specs.declared.scope.Scope.{Scope}
-use Rattle.pfr_elements.specs.Elements.{elements_from, with_element, none_yet, most_elements}
-use Rattle.pfr_elements.specs.Terms.{use_in, never, same, no_table, skipped, skipped_lists}
-use Rattle.pfr_elements.specs.Values.{plain_word_at}
+use Rattle.pfr_flat.specs.Counts.{too_many}
 use Rattle.pfr_expand.specs.declared.timeouts.Timeouts.{Timeouts}
 use Rattle.pfr_expand.specs.declared.options.Options as O
-use Rattle.pfr_flat.specs.Counts.{too_many}
 
 -- ---- timeouts
 

@@ -3,6 +3,15 @@ use Rattle.std.specs.Prelude.{ℕ, ◌+◌, ◌||◌, Bool, true, false, nat_lt,
 use Rattle.pfr_terms.specs.declared.error.ConfError.{ConfError}
 use Rattle.pfr_terms.specs.declared.name.MacroUse.{MacroUse}
 use Rattle.pfr_terms.specs.declared.name.Name.{Name}
+use Rattle.pfr_elements.specs.declared.interface.Interface.{Interface}
+use Rattle.pfr_elements.specs.declared.scope.Scope.{Scope}
+use Rattle.pfr_elements.specs.declared.macros.Macros.{Macros}
+use Rattle.pfr_elements.specs.declared.definition.Taken.{Taken}
+use Rattle.pfr_elements.specs.declared.value.Draft.{Draft}
+use Rattle.pfr_elements.specs.Meanings.{with_macro}
+use Rattle.pfr_elements.specs.Values.{taken_at, with_text, with_taken, begun, no_macros}
+use Rattle.pfr_elements.specs.Names.{last_place}
+use Rattle.pfr_elements.specs.Elements.{most_elements}
 use Rattle.pfr_conf.specs.declared.macros.Piece as P
 use Rattle.pfr_conf.specs.declared.macros.Piece.TheVariants as p
 use Rattle.pfr_conf.specs.declared.macros.MacroDefinition.{MacroDefinition}
@@ -16,25 +25,16 @@ use Rattle.pfr_conf.specs.declared.translation.TranslationStatement.TheVariants 
 use Rattle.pfr_conf.specs.declared.statement.Statement.{Statement}
 use Rattle.pfr_conf.specs.declared.statement.Statement.TheVariants as s
 use Rattle.pfr_conf.specs.declared.statement.Statements as S
-use Rattle.pfr_elements.specs.declared.interface.Interface.{Interface}
-use Rattle.pfr_elements.specs.declared.scope.Scope.{Scope}
-use Rattle.pfr_elements.specs.declared.macros.Macros.{Macros}
-use Rattle.pfr_elements.specs.declared.definition.Taken.{Taken}
-use Rattle.pfr_elements.specs.declared.value.Draft.{Draft}
-use Rattle.pfr_elements.specs.Meanings.{with_macro}
-use Rattle.pfr_elements.specs.Values.{taken_at, with_text, with_taken, begun, no_macros}
-use Rattle.pfr_elements.specs.Names.{last_place}
-use Rattle.pfr_elements.specs.Elements.{most_elements}
+use Rattle.pfr_flat.specs.declared.lists.Lists as L
+use Rattle.pfr_flat.specs.Counts.{counted, too_many}
+use Rattle.pfr_flat.specs.Lists.{choices_or_fault}
+use Rattle.pfr_flat.specs.Places.{joined}
 use Rattle.pfr_expand.specs.declared.body.Setting.{Setting}
 use Rattle.pfr_expand.specs.declared.body.Body.{Body}
 use Rattle.pfr_expand.specs.declared.options.Options as O
 use Rattle.pfr_expand.specs.declared.tables.Filling.{Filling}
 use Rattle.pfr_expand.specs.declared.ruleset.Ruleset as R
 use Rattle.pfr_expand.specs.declared.expansion.Work.{Work}
-use Rattle.pfr_flat.specs.declared.lists.Lists as L
-use Rattle.pfr_flat.specs.Counts.{counted, too_many}
-use Rattle.pfr_flat.specs.Lists.{choices_or_fault}
-use Rattle.pfr_flat.specs.Places.{joined}
 use Rattle.pfr_expand.specs.Bodies.{empty_body, statement as filter_statement}
 use Rattle.pfr_expand.specs.Options.{default_options, with_option}
 use Rattle.pfr_expand.specs.declared.translation.Translations.{Translations}

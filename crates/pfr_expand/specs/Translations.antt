@@ -1,10 +1,12 @@
 -- Translation rules as flat rules.
 use Rattle.std.specs.Prelude.{ℕ, ◌++◌, Bool, true, List, [], Option, Some, None, Result, Ok, Err, if◌then◌else◌}
+use Rattle.pfr_net.specs.declared.address.Ipv4Address.{Ipv4Address}
 use Rattle.pfr_terms.specs.declared.error.ConfError.{ConfError}
 use Rattle.pfr_terms.specs.declared.error.ConfErrorKind.TheVariants.{BadNumber}
-use Rattle.pfr_net.specs.declared.address.Ipv4Address.{Ipv4Address}
 use Rattle.pfr_terms.specs.declared.port.PortMatch.{PortMatch}
 use Rattle.pfr_terms.specs.declared.port.PortMatch.TheVariants as p
+use Rattle.pfr_elements.specs.declared.scope.Scope.{Scope}
+use Rattle.pfr_elements.specs.Single.{written_single, single_sources}
 use Rattle.pfr_conf.specs.declared.targets.RedirectedPort.{RedirectedPort}
 use Rattle.pfr_conf.specs.declared.targets.RedirectedPort.TheVariants as r
 use Rattle.pfr_conf.specs.declared.targets.NatTarget.{NatTarget}
@@ -14,8 +16,6 @@ use Rattle.pfr_conf.specs.declared.targets.Target.TheVariants as t
 use Rattle.pfr_conf.specs.declared.translation.TranslationKind.{TranslationKind}
 use Rattle.pfr_conf.specs.declared.translation.TranslationKind.TheVariants as kind
 use Rattle.pfr_conf.specs.declared.translation.TranslationRule.{TranslationRule}
-use Rattle.pfr_elements.specs.declared.scope.Scope.{Scope}
-use Rattle.pfr_elements.specs.Single.{written_single, single_sources}
 use Rattle.pfr_flat.specs.declared.flat.PacketMatch.{PacketMatch}
 use Rattle.pfr_flat.specs.declared.flat.PortRange.{PortRange}
 use Rattle.pfr_flat.specs.declared.flat.NatAddress.{NatAddress}

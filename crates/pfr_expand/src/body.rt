@@ -4,10 +4,10 @@ ghost use Rattle.std.specs.List.{All};
 ghost use Rattle.pfr_terms.specs.declared.error.ConfErrorKind.TheVariants.{Memory};
 ghost use Rattle.pfr_terms.specs.Input.{Gives};
 ghost use Rattle.pfr_elements.specs.Elements as faults;
-ghost use Rattle.pfr_expand.specs.Bodies as spec;
 ghost use Rattle.pfr_flat.specs.Counts as counts;
 ghost use Rattle.pfr_flat.specs.Lists as flat_lists;
 ghost use Rattle.pfr_flat.specs.Places as places;
+ghost use Rattle.pfr_expand.specs.Bodies as spec;
 ghost use Rattle.pfr_expand.specs.Bodies.{Adds};
 
 use pfr_conf::{

@@ -2,9 +2,9 @@
 ghost use Rattle.std.specs.Prelude.{◌≡◌, ◌<◌, ◌≤◌, ◌+◌, false, length, OnOk, IfOk};
 ghost use Rattle.pfr_terms.specs.Input.{Gives};
 ghost use Rattle.pfr_elements.specs.Values.{begun, taken_at};
+ghost use Rattle.pfr_flat.specs.Places.{ArePlaced, joined};
 ghost use Rattle.pfr_expand.specs.Bodies as bodies;
 ghost use Rattle.pfr_expand.specs.Bodies.{Adds};
-ghost use Rattle.pfr_flat.specs.Places.{ArePlaced, joined};
 ghost use Rattle.pfr_expand.specs.Rulesets as spec;
 
 use crate::body::{Body, Setting, add_statement, counted_choices};

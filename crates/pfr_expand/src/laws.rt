@@ -1,7 +1,7 @@
 //! Laws of the definitions, each the contract of a function that does nothing.
 ghost use Rattle.std.specs.Prelude.{◌≡◌, ◌≤◌, ◌+◌, length, Ok};
-ghost use Rattle.pfr_conf.specs.declared.statement.Statements.{Statements};
 ghost use Rattle.pfr_elements.specs.declared.interface.Interface.{Interface};
+ghost use Rattle.pfr_conf.specs.declared.statement.Statements.{Statements};
 ghost use Rattle.pfr_expand.specs.declared.ruleset.Ruleset.{Ruleset};
 ghost use Rattle.pfr_expand.specs.Laws.{AreInTurn, AreOf};
 ghost use Rattle.pfr_expand.specs.Rulesets.{counts, expanded};

@@ -3,10 +3,10 @@ ghost use Rattle.std.specs.Prelude.{◌≡◌, ◌≤◌, true, Ok, OnOk};
 ghost use Rattle.std.specs.Option.{option_map};
 ghost use Rattle.pfr_elements.specs.Single as single;
 ghost use Rattle.pfr_elements.specs.Values.{Makes};
-ghost use Rattle.pfr_expand.specs.Bodies.{Adds};
-ghost use Rattle.pfr_expand.specs.Translations as spec;
 ghost use Rattle.pfr_flat.specs.Choices as choosing;
 ghost use Rattle.pfr_flat.specs.Lists.{if_written};
+ghost use Rattle.pfr_expand.specs.Bodies.{Adds};
+ghost use Rattle.pfr_expand.specs.Translations as spec;
 
 use pfr_conf::{
     AddressMatch, ConfError, ConfErrorKind, Items, NatTarget, PortMatch, RdrTarget, RedirectedPort,

@@ -1,9 +1,9 @@
 -- What the lists of a rule or an anchor come to.
 use Rattle.std.specs.Prelude.{ℕ, ◌*◌, ◌||◌, Bool, nat_lt, List, [], ◌∷◌, map, Option, Some, None, Result, Ok, Err}
+use Rattle.pfr_net.specs.declared.protocol.Protocol.{Protocol}
 use Rattle.pfr_terms.specs.declared.error.ConfError.{ConfError}
 use Rattle.pfr_terms.specs.declared.address.AddressMatch.{AddressMatch}
 use Rattle.pfr_terms.specs.declared.interface.InterfaceMatch.{InterfaceMatch}
-use Rattle.pfr_net.specs.declared.protocol.Protocol.{Protocol}
 use Rattle.pfr_terms.specs.declared.protocol.IcmpMatch.{IcmpMatch}
 use Rattle.pfr_terms.specs.declared.port.PortMatch.{PortMatch}
 use Rattle.pfr_terms.specs.declared.name.Written.{Written}

@@ -1,7 +1,7 @@
 -- Which addresses a rule's criterion holds, given the entries of each table of the ruleset.
 use Rattle.std.specs.Prelude.{◌≤◌, ℕ, Bool, true, false, IsTrue, List, Option, Some, None, slice_get, ⊤}
-use Rattle.pfr_tables.specs.declared.table.Entry.{Entry}
 use Rattle.pfr_net.specs.Networks.{holds}
+use Rattle.pfr_tables.specs.declared.table.Entry.{Entry}
 use Rattle.pfr_tables.specs.Tables.{IsMember}
 use Rattle.pfr_elements.specs.declared.hosts.HostSet.{HostSet}
 use Rattle.pfr_elements.specs.declared.hosts.HostSet.TheVariants as set

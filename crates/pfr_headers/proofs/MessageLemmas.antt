@@ -2,12 +2,12 @@
 use Rattle.std.specs.Prelude.{⊤}
 use Rattle.std.proofs.Common.{◌≡◌, ◌⊎◌, inl, inr, ◌≤◌, ◌<◌, ◌-◌, ◌+◌, ◌*◌, ◌/◌, ◌%◌, ◌++◌, ℕ, Bool, true, false, eqb, List, [], ◌∷◌, length, take, drop, refl, sym, ◌∙◌, ap, subst, arith}
 use Rattle.pfr_net.specs.declared.address.Ipv4Address.{Ipv4Address}
+use Rattle.pfr_net.specs.declared.endpoint.Endpoint.{Endpoint}
+use Rattle.pfr_net.specs.declared.port.Port.{Port}
 use Rattle.pfr_headers.specs.declared.change.End.{End}
 use Rattle.pfr_headers.specs.declared.change.End.TheVariants.{Source, Destination}
-use Rattle.pfr_net.specs.declared.endpoint.Endpoint.{Endpoint}
 use Rattle.pfr_headers.specs.declared.icmp.Inner.{Inner}
 use Rattle.pfr_headers.specs.declared.packet.Packet.{Packet}
-use Rattle.pfr_net.specs.declared.port.Port.{Port}
 use Rattle.pfr_headers.specs.Checksum.{AreBytes, Verifies, Word, difference, difference_of, mended, mended_udp, with_word, with_words, word, word_at}
 use Rattle.pfr_headers.specs.Laws.{message_sum, sum_of}
 use Rattle.pfr_headers.specs.Rewriting.{address_place, address_words, echo_words, end_address, error_words, header_words, inner_words, other_end, outer_words, port_place, told_words, udp_words}

@@ -5,10 +5,10 @@
 -- 3.1): ports at 0 and 2, checksum at 16. UDP (RFC 768): ports at 0 and 2, checksum at 6. ICMP (RFC 792): checksum at 2, an
 -- echo's identifier at 4, the packet that an error tells of at 8.
 use Rattle.std.specs.Prelude.{◌≡◌, ◌⊎◌, ◌≤◌, ◌<◌, ℕ, ◌+◌, ◌*◌, ◌-◌, ◌^◌, List, [], ◌∷◌, take, drop, Some, ⊤}
+use Rattle.pfr_net.specs.declared.endpoint.Endpoint.{Endpoint}
 use Rattle.pfr_headers.specs.declared.change.Change.{Change}
 use Rattle.pfr_headers.specs.declared.change.End.{End}
 use Rattle.pfr_headers.specs.declared.change.End.TheVariants.{Source, Destination}
-use Rattle.pfr_net.specs.declared.endpoint.Endpoint.{Endpoint}
 use Rattle.pfr_headers.specs.declared.icmp.IcmpMessage.{IcmpMessage}
 use Rattle.pfr_headers.specs.declared.icmp.IcmpMessage.TheVariants as message
 use Rattle.pfr_headers.specs.declared.packet.Packet.{Packet}

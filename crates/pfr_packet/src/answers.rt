@@ -1,9 +1,9 @@
 //! What a packet's evaluation asks of the table of states.
 ghost use Rattle.std.specs.Prelude.{◌≡◌, IfOk, OnOk};
+ghost use Rattle.pfr_states.specs.States.{StateTable};
 ghost use Rattle.pfr_packet.specs.declared.answers.Question.{Question};
 ghost use Rattle.pfr_packet.specs.declared.answers.Question.TheVariants.{At, Room};
 ghost use Rattle.pfr_packet.specs.Plan.{found_in, has_room_in, purged_at};
-ghost use Rattle.pfr_states.specs.States.{StateTable};
 
 use pfr_states::{Side, Table};
 use pfr_track::{Clock, Key, State};

@@ -3,8 +3,8 @@ use Rattle.std.proofs.Common.{◌≡◌, ◌∙◌, ◌≤◌, ◌+◌, ◌&&◌
 use Rattle.std.specs.List.{Contains, slice_get, list_any, list_all, filter}
 use Rattle.std.proofs.lemmas.Bool.{cases_lt, leb-true, le-leb, lt-leb}
 use Rattle.std.proofs.lemmas.List.Elements.{All-contains, filter_passes}
-use Rattle.pfr_headers.specs.declared.packet.Packet.{Packet}
 use Rattle.pfr_net.specs.declared.direction.Direction.{Direction}
+use Rattle.pfr_headers.specs.declared.packet.Packet.{Packet}
 use Rattle.pfr_flat.specs.declared.flat.FlatAnchor.{FlatAnchor}
 use Rattle.pfr_expand.specs.declared.ruleset.Ruleset.{Ruleset}
 use Rattle.pfr_criteria.specs.Packets.{anchor_holds}

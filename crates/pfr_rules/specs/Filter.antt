@@ -5,8 +5,8 @@
 -- which a rule hits. Reached are the rules up to the first stop, all of them where there is none.
 use Rattle.std.specs.Prelude.{ℕ, zero, suc, ◌+◌, ◌==◌, ◌&&◌, ◌||◌, Bool, true, false, not, nat_le, if◌then◌else◌, List, [], ◌∷◌, length, Option, Some, None}
 use Rattle.std.specs.List.{slice_get, list_any, list_all, filter}
-use Rattle.pfr_headers.specs.declared.packet.Packet.{Packet}
 use Rattle.pfr_net.specs.declared.direction.Direction.{Direction}
+use Rattle.pfr_headers.specs.declared.packet.Packet.{Packet}
 use Rattle.pfr_flat.specs.declared.flat.FilterAction.{FilterAction}
 use Rattle.pfr_flat.specs.declared.flat.FilterAction.TheVariants as action
 use Rattle.pfr_flat.specs.declared.flat.FlatRule.{FlatRule}

@@ -1,8 +1,8 @@
 //! Laws of the definitions, each the contract of a function that does nothing.
 ghost use Rattle.std.specs.Prelude.{◌≡◌, ◌≤◌, ℕ, Bool, true, false, Some};
 ghost use Rattle.std.specs.List.{Contains, slice_get};
-ghost use Rattle.pfr_headers.specs.declared.packet.Packet.{Packet};
 ghost use Rattle.pfr_net.specs.declared.direction.Direction.{Direction};
+ghost use Rattle.pfr_headers.specs.declared.packet.Packet.{Packet};
 ghost use Rattle.pfr_flat.specs.declared.flat.FlatRule.{FlatRule};
 ghost use Rattle.pfr_flat.specs.declared.flat.FlatAnchor.{FlatAnchor};
 ghost use Rattle.pfr_expand.specs.declared.ruleset.Ruleset.{Ruleset};

@@ -7,9 +7,9 @@ use Rattle.std.proofs.lemmas.Bool.{cases_lt, eqb-true, false≢true, not-true}
 use Rattle.std.proofs.lemmas.List.Elements.{All-contains, All-contains_itself, All-weaker}
 use Rattle.std.proofs.lemmas.Map.Views.{btree_map_get_iff}
 use Rattle.std.specs.Map.{keys_of}
+use Rattle.pfr_net.specs.Networks.{prefix}
 use Rattle.pfr_tables.specs.declared.table.Entry.{Entry}
 use Rattle.pfr_tables.specs.Keys.{entry_at, key_cmp, IsKey, AreInOrder}
-use Rattle.pfr_net.specs.Networks.{prefix}
 use Rattle.pfr_tables.specs.Tables.{bits_of, holds, IsMember}
 use Rattle.pfr_tables.proofs.KeyLemmas.{key_order, key_exact}
 use Rattle.pfr_tables.proofs.Membership.{from_map, to_map}

@@ -6,9 +6,9 @@ use Rattle.std.specs.Ordering.{is_eq, match_ordering}
 use Rattle.std.specs.declared.cmp.Ordering.{Ordering}
 use Rattle.std.specs.declared.cmp.Ordering.TheVariants.{Less, Equal, Greater}
 use Rattle.std.proofs.lemmas.List.Elements.{All-contains, All-contains_itself, All-weaker}
+use Rattle.pfr_net.specs.Networks.{prefix}
 use Rattle.pfr_tables.specs.declared.table.Entry.{Entry}
 use Rattle.pfr_tables.specs.Keys.{entry_at}
-use Rattle.pfr_net.specs.Networks.{prefix}
 use Rattle.pfr_tables.specs.Tables.{bits_of, holds, IsMember, kept, order, clashes, with_entry, table_from, table_of}
 use Rattle.pfr_tables.proofs.KeyLemmas.{key_exact}
 use Rattle.pfr_tables.proofs.Membership.{here, there, in_none, in_cons}

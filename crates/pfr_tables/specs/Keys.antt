@@ -7,8 +7,8 @@ use Rattle.std.specs.Map.{keys_of}
 use Rattle.std.specs.Ordering.{nat_cmp, ordering_then}
 use Rattle.std.specs.declared.cmp.Ordering.{Ordering}
 use Rattle.pfr_net.specs.declared.network.Net.{Net}
-use Rattle.pfr_tables.specs.declared.table.Entry.{Entry}
 use Rattle.pfr_net.specs.Networks.{prefix}
+use Rattle.pfr_tables.specs.declared.table.Entry.{Entry}
 
 -- the entry of a key and its sign
 abbrev pub entry_at : (ℕ × ℕ) × Bool → Entry

@@ -4,9 +4,9 @@ use Rattle.std.specs.Bool.{beq}
 use Rattle.std.specs.List.{All, Contains, list_any}
 use Rattle.std.specs.Ordering.{nat_cmp, ordering_then, is_eq, match_ordering}
 use Rattle.std.specs.declared.cmp.Ordering.{Ordering}
-use Rattle.pfr_tables.specs.declared.table.Entry.{Entry}
 use Rattle.pfr_net.specs.Networks.{prefix}
 use Rattle.pfr_net.specs.Networks as networks
+use Rattle.pfr_tables.specs.declared.table.Entry.{Entry}
 
 -- ---- what a table holds
 

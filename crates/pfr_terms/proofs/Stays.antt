@@ -6,11 +6,11 @@ use Rattle.pfr_words.specs.declared.word.Token.{Token}
 use Rattle.pfr_words.specs.declared.word.Token.TheVariants as t
 use Rattle.pfr_words.specs.declared.word.Word.{Word}
 use Rattle.pfr_words.specs.Words.{is_sign, same_sign, closers, closers_before}
+use Rattle.pfr_words.specs.Names.{is_left_out as is_left_out_word}
 use Rattle.pfr_terms.specs.declared.error.ConfError.{ConfError}
 use Rattle.pfr_terms.specs.declared.error.ConfErrorKind.{ConfErrorKind}
 use Rattle.pfr_terms.specs.declared.name.MacroUse.{MacroUse}
 use Rattle.pfr_terms.specs.declared.name.Name.{Name}
-use Rattle.pfr_words.specs.Names.{is_left_out as is_left_out_word}
 use Rattle.pfr_terms.specs.Input.{sign_in, plain_in, quoted_in, macro_in, of_first, sign_ahead, plain_ahead, quoted_ahead, macro_ahead, is_word, sees_word, first_is, sees_sign, line_of, line_ahead, refusal_at, refusal, fault, left_out, refuse, faulty, leave_out, blame, blamed, pass_over_by, pass_over, passing, turns, loop_from, loop, eat_sign, eat_word, open_list, close_list, sign_or_more, expect_sign, expect_word, taken, named, passed, free_word_by, free_word, number_by, number_in, number_ahead, number_of, at_line_end, ends_line, Input, Outcome, Parser, and_then, ◌>>=◌, pure, is_line_end, words_behind_line_ends, skip_line_ends, stepped, step, next, enter_list, leave_list}
 use Rattle.pfr_terms.proofs.Lines.{either}
 

@@ -1,5 +1,7 @@
 -- The readers of lists, addresses, ports and other terms read the same where lines stand behind what they read.
 use Rattle.std.proofs.Common.{◌≡◌, ℕ, suc, Bool, true, false, List, ◌∷◌, [], Option, Some, None, Result, Ok, Err, codes, if◌then◌else◌, ap, refl}
+use Rattle.pfr_net.specs.declared.address.Ipv4Address.{Ipv4Address}
+use Rattle.pfr_net.specs.declared.protocol.Protocol.{Protocol}
 use Rattle.pfr_words.specs.declared.sign.Sign.{Sign}
 use Rattle.pfr_words.specs.declared.sign.Sign.TheVariants as s
 use Rattle.pfr_words.specs.declared.word.Token.{Token}
@@ -9,7 +11,6 @@ use Rattle.pfr_words.specs.Words.{same_sign}
 use Rattle.pfr_terms.specs.declared.name.MacroUse.{MacroUse}
 use Rattle.pfr_terms.specs.declared.name.Written.{Written}
 use Rattle.pfr_terms.specs.declared.name.Written.TheVariants as w
-use Rattle.pfr_net.specs.declared.address.Ipv4Address.{Ipv4Address}
 use Rattle.pfr_terms.specs.declared.address.Address.{Address}
 use Rattle.pfr_terms.specs.declared.address.AddressMatch.{AddressMatch}
 use Rattle.pfr_terms.specs.declared.address.TableEntry.{TableEntry}
@@ -27,7 +28,6 @@ use Rattle.pfr_terms.specs.declared.port.PortWord.TheVariants.{Port, Unknown}
 use Rattle.pfr_terms.specs.declared.flags.FlagsMatch.{FlagsMatch}
 use Rattle.pfr_terms.specs.declared.interface.InterfaceName.{InterfaceName}
 use Rattle.pfr_terms.specs.declared.interface.InterfaceMatch.{InterfaceMatch}
-use Rattle.pfr_net.specs.declared.protocol.Protocol.{Protocol}
 use Rattle.pfr_terms.specs.declared.protocol.IcmpMatch.{IcmpMatch}
 use Rattle.pfr_terms.specs.Input.{Input, Parser, ◌>>=◌, pure, blamed, plain_ahead, macro_ahead, sign_ahead, sign_in, of_first, line_ahead, eat_sign, eat_word, expect_sign}
 use Rattle.pfr_terms.specs.Lists as lists

@@ -1,6 +1,8 @@
 -- Addresses, as pf.conf(5) writes them.
 use Rattle.std.specs.Prelude.{ℕ, suc, ◌+◌, ◌*◌, ◌==◌, ◌&&◌, ◌||◌, Bool, true, false, not, nat_le, nat_lt, if◌then◌else◌, List, [], ◌∷◌, Option, Some, None, Result, Ok, Err, codes}
 use Rattle.std.specs.Char.{is_ascii_digit}
+use Rattle.pfr_net.specs.declared.address.Ipv4Address.{Ipv4Address}
+use Rattle.pfr_net.specs.Notation.{number, cut_at, dotted}
 use Rattle.pfr_words.specs.declared.sign.Sign.TheVariants as s
 use Rattle.pfr_words.specs.Names.{is_name}
 use Rattle.pfr_terms.specs.declared.error.ConfError.{ConfError}
@@ -9,7 +11,6 @@ use Rattle.pfr_terms.specs.declared.name.Name.{Name}
 use Rattle.pfr_terms.specs.declared.name.MacroUse.{MacroUse}
 use Rattle.pfr_terms.specs.declared.name.Written.{Written}
 use Rattle.pfr_terms.specs.declared.name.Written.TheVariants as w
-use Rattle.pfr_net.specs.declared.address.Ipv4Address.{Ipv4Address}
 use Rattle.pfr_terms.specs.declared.address.Host.{Host}
 use Rattle.pfr_terms.specs.declared.address.Host.TheVariants as h
 use Rattle.pfr_terms.specs.declared.address.Address.{Address}
@@ -18,7 +19,6 @@ use Rattle.pfr_terms.specs.declared.address.AddressMatch.{AddressMatch}
 use Rattle.pfr_terms.specs.declared.address.AddressWord.{AddressWord}
 use Rattle.pfr_terms.specs.declared.address.AddressWord.TheVariants as word
 use Rattle.pfr_terms.specs.declared.address.TableEntry.{TableEntry}
-use Rattle.pfr_net.specs.Notation.{number, cut_at, dotted}
 use Rattle.pfr_terms.specs.Input.{Input, Parser, ◌>>=◌, pure, refuse, taken, named, passed, passing, blamed, free_word, fault, left_out, is_free, plain_ahead, macro_ahead, line_ahead, eat_sign, eat_word, expect_sign}
 use Rattle.pfr_terms.specs.Lists.{written}
 

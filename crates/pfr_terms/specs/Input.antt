@@ -2,6 +2,7 @@
 -- is that doesn't belong where it stands.
 use Rattle.std.specs.Prelude.{◌≡◌, ◌≢◌, ℕ, zero, suc, ◌+◌, ◌==◌, ◌&&◌, ◌||◌, Bool, true, false, not, nat_le, if◌then◌else◌, List, [], ◌∷◌, length, Option, Some, None, Result, Ok, Err, codes}
 use Rattle.std.specs.Str.{bytes_eq}
+use Rattle.pfr_net.specs.Notation.{number}
 use Rattle.pfr_words.specs.declared.sign.Sign.{Sign}
 use Rattle.pfr_words.specs.declared.sign.Sign.TheVariants as s
 use Rattle.pfr_words.specs.declared.word.Token.{Token}
@@ -17,7 +18,6 @@ use Rattle.pfr_terms.specs.declared.error.ConfErrorKind.TheVariants.{BadByte, Un
 use Rattle.pfr_terms.specs.declared.name.Name.{Name}
 use Rattle.pfr_terms.specs.declared.name.MacroUse.{MacroUse}
 use Rattle.pfr_terms.specs.Faults.{lower}
-use Rattle.pfr_net.specs.Notation.{number}
 
 pub record Input : Type 0 where
   -- the words that are left

@@ -1,5 +1,6 @@
 -- Ports, as pf.conf(5) writes them.
 use Rattle.std.specs.Prelude.{ℕ, ◌+◌, ◌==◌, ◌&&◌, Bool, true, false, nat_le, if◌then◌else◌, List, [], ◌∷◌, Option, Some, None, Result, Ok, Err, codes}
+use Rattle.pfr_net.specs.Notation.{number, cut_at}
 use Rattle.pfr_words.specs.declared.sign.Sign.{Sign}
 use Rattle.pfr_words.specs.declared.sign.Sign.TheVariants as s
 use Rattle.pfr_words.specs.Names.{service_named}
@@ -13,7 +14,6 @@ use Rattle.pfr_terms.specs.declared.port.PortMatch.{PortMatch}
 use Rattle.pfr_terms.specs.declared.port.PortMatch.TheVariants.{Compare, Range}
 use Rattle.pfr_terms.specs.declared.port.PortWord.{PortWord}
 use Rattle.pfr_terms.specs.declared.port.PortWord.TheVariants.{Port, OutOfRange, Unknown}
-use Rattle.pfr_net.specs.Notation.{number, cut_at}
 use Rattle.pfr_terms.specs.Input.{Input, Parser, ◌>>=◌, pure, taken, fault, left_out, blamed, passing, is_free, plain_ahead, sign_ahead}
 
 abbrev pub service_word : Option ℕ → PortWord

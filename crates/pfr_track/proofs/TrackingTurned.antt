@@ -1,9 +1,9 @@
 -- A connection is followed from its other side as from its maker's.
 use Rattle.std.proofs.Common.{◌≡◌, Bool, true, false, not, refl, ap, ◌∙◌}
-use Rattle.pfr_headers.specs.declared.icmp.IcmpMessage.{IcmpMessage}
-use Rattle.pfr_headers.specs.declared.icmp.IcmpMessage.TheVariants as message
 use Rattle.pfr_net.specs.declared.direction.Direction.{Direction}
 use Rattle.pfr_net.specs.declared.direction.Direction.TheVariants.{In, Out}
+use Rattle.pfr_headers.specs.declared.icmp.IcmpMessage.{IcmpMessage}
+use Rattle.pfr_headers.specs.declared.icmp.IcmpMessage.TheVariants as message
 use Rattle.pfr_headers.specs.declared.packet.Packet.{Packet}
 use Rattle.pfr_headers.specs.declared.tcp.TcpHeader.{TcpHeader}
 use Rattle.pfr_headers.specs.declared.transport.Transport.{Transport}

@@ -1,10 +1,10 @@
 -- What becomes of a state: the one that a packet makes, and what a packet of its connection does to it (pf.conf(5), "Stateful
 -- tracking options", "timeout").
 use Rattle.std.specs.Prelude.{◌+◌, ◌^◌, ◌-◌, Bool, true, false, min, if◌then◌else◌}
-use Rattle.pfr_headers.specs.declared.icmp.IcmpMessage.{IcmpMessage}
-use Rattle.pfr_headers.specs.declared.icmp.IcmpMessage.TheVariants as message
 use Rattle.pfr_net.specs.declared.direction.Direction.{Direction}
 use Rattle.pfr_net.specs.declared.direction.Direction.TheVariants.{In, Out}
+use Rattle.pfr_headers.specs.declared.icmp.IcmpMessage.{IcmpMessage}
+use Rattle.pfr_headers.specs.declared.icmp.IcmpMessage.TheVariants as message
 use Rattle.pfr_headers.specs.declared.packet.Packet.{Packet}
 use Rattle.pfr_headers.specs.declared.tcp.TcpHeader.{TcpHeader}
 use Rattle.pfr_headers.specs.declared.transport.Transport.{Transport}

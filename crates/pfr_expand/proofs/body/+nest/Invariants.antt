@@ -1,6 +1,6 @@
 use Rattle.std.proofs.Common.{◌≡◌, ◌≤◌, ◌*◌, ◌+◌, drop}
-use Rattle.pfr_expand.specs.Bodies as spec
 use Rattle.pfr_flat.specs.Places as places
+use Rattle.pfr_expand.specs.Bodies as spec
 use Rattle.pfr_expand.proofs.body.+nest.Given as goal
 
 abbrev pub decreases-add_statement : goal.decreases-add_statement

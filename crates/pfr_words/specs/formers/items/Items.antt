@@ -1,5 +1,9 @@
 -- How an `Items` stores its elements, so that a type may hold a list of itself: as the list that it shows, in the
 -- places in which its `Vec` has them.
+use Rattle.std.specs.formers.vec.Vec as vec
+use Rattle.std.specs.declared.alloc.Global.{Global}
+use Rattle.std.specs.contracts.alloc.Global as heap
+use Rattle.std.specs.contracts.impls.GlobalAllocator.TheImpl.{ghosts}
 use mathlib.Core.Path.{◌≡◌, refl, sym}
 use mathlib.Core.List.{List, []}
 use mathlib.Core.Former.{Former, this, list, via, children}
@@ -11,10 +15,6 @@ use denote.Hole.Carrier.{listed, list-listed}
 use denote.Hole.Fix.{over}
 use denote.Param.Weighed.{Weighed, w_list}
 use denote.Model.Placed.{view_places}
-use Rattle.std.specs.formers.vec.Vec as vec
-use Rattle.std.specs.declared.alloc.Global.{Global}
-use Rattle.std.specs.contracts.alloc.Global as heap
-use Rattle.std.specs.contracts.impls.GlobalAllocator.TheImpl.{ghosts}
 use Rattle.pfr_words.specs.declared.items.Items.TheInside.{Inside}
 use Rattle.pfr_words.specs.declared.items.Items.TheView.{view, invariant}
 use Rattle.pfr_words.specs.contracts.items.Items as C

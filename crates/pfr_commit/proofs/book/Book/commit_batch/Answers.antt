@@ -2,6 +2,7 @@ use Rattle.std.proofs.Common.{◌≡◌, ◌+◌, ◌<◌, ◌∙◌, ℕ, refl,
 use Rattle.std.specs.List.{find}
 use Rattle.pfr_capture.specs.declared.capture.Record.{Record}
 use Rattle.pfr_headers.specs.declared.packet.View.{View}
+use Rattle.pfr_states.proofs.RefusalLemmas.{on_err}
 use Rattle.pfr_packet.specs.Job.{RunJob}
 use Rattle.pfr_commit.specs.Books.{job_of, world_in}
 use Rattle.pfr_commit.specs.Emissions.{frame_of, texts_of}
@@ -10,7 +11,6 @@ use Rattle.pfr_commit.specs.World.{World, after, world_after}
 use Rattle.pfr_commit.proofs.BatchLemmas.{rises_by, rises_next}
 use Rattle.pfr_commit.proofs.BookLemmas.{same_job}
 use Rattle.pfr_commit.proofs.WorldLemmas.{nothing_taken, part_taken, world_next, world_none}
-use Rattle.pfr_states.proofs.RefusalLemmas.{on_err}
 use Rattle.pfr_commit.proofs.book.Book.commit_batch.Goals as goal
 
 pub returns-then-self-clause-part : goal.returns-then-self-clause-part
