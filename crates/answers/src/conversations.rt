@@ -60,7 +60,7 @@ fn rule(given: &mut Given<'_>) -> Option<RuleNumber> {
     if is_there == 0 {
         None
     } else {
-        Some(RuleNumber(number))
+        Some(RuleNumber(number as usize))
     }
 }
 

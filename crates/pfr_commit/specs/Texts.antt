@@ -5,8 +5,8 @@ use Rattle.pfr_net.specs.declared.address.Ipv4Address.{Ipv4Address}
 use Rattle.pfr_net.specs.declared.direction.Direction.{Direction}
 use Rattle.pfr_net.specs.declared.direction.Direction.TheVariants.{In, Out}
 use Rattle.pfr_net.specs.declared.endpoint.Endpoint.{Endpoint}
+use Rattle.pfr_net.specs.declared.rule_number.RuleNumber.{RuleNumber}
 use Rattle.pfr_track.specs.declared.key.Key.{Key}
-use Rattle.pfr_track.specs.declared.state.RuleNumber.{RuleNumber}
 use Rattle.pfr_track.specs.declared.state.StateNumber.{StateNumber}
 use Rattle.pfr_track.specs.declared.state.Traffic.{Traffic}
 

@@ -4,10 +4,10 @@ ghost use Rattle.pfr_rules.specs.Counts.{added, raised};
 ghost use Rattle.pfr_commit.specs.Counters as spec;
 
 use pfr_headers::View;
+use pfr_net::RuleNumber;
 use pfr_packet::{Outcome, Reason, Verdict};
 use pfr_rules::Visits;
 use pfr_rules::counts::add;
-use pfr_track::RuleNumber;
 use std::alloc::{AllocError, Global};
 use std::marker::Model;
 
@@ -79,7 +79,7 @@ impl Counts {
         ensures { self.new ≡ spec.added_to rule amount self.old }
     {
         if let Some(rule) = rule {
-            add(self.values.as_mut_slice(), rule.0 as usize, amount);
+            add(self.values.as_mut_slice(), rule.0, amount);
         }
     }
 

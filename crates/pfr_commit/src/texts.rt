@@ -2,8 +2,8 @@
 ghost use Rattle.std.specs.Prelude.{◌≡◌, Some};
 ghost use Rattle.pfr_commit.specs.Texts as spec;
 
-use pfr_net::{Direction, Endpoint, Ipv4Address};
-use pfr_track::{Key, RuleNumber, StateNumber, Traffic};
+use pfr_net::{Direction, Endpoint, Ipv4Address, RuleNumber};
+use pfr_track::{Key, StateNumber, Traffic};
 use std::fmt;
 
 /// A direction: `in`, `out`, or `-` where there is none.

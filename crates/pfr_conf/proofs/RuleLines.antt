@@ -8,7 +8,7 @@ use Rattle.pfr_terms.proofs.Lines.{IsLine, Within, Keeps, either, refusal_is, fa
 use Rattle.pfr_terms.proofs.TermLines.{keeps_written, keeps_list, keeps_interface_name, keeps_icmp_match, keeps_flags_match, keeps_criteria}
 use Rattle.pfr_conf.specs.declared.policy.BlockPolicy.{BlockPolicy}
 use Rattle.pfr_conf.specs.declared.policy.Binding.{Binding}
-use Rattle.pfr_conf.specs.declared.settings.Timeout.{Timeout}
+use Rattle.pfr_conf.specs.declared.settings.TimeoutName.{TimeoutName}
 use Rattle.pfr_conf.specs.declared.settings.Limit.{Limit}
 use Rattle.pfr_conf.specs.declared.options.OptionWord.{OptionWord}
 use Rattle.pfr_conf.specs.declared.options.OptionWord.TheVariants as word
@@ -64,7 +64,7 @@ adaptive_refusal_is : (n : ℕ) (i : Input) → Within n i → IsLine n (setting
 unfolding settings.adaptive_refusal
 adaptive_refusal_is n i within = either (λ (e : ConfError). IsLine n e.line) _ _ _ (left_out_is n _ i within) (refusal_is n i within)
 
-timeout_refusal_by_is : (n : ℕ) (found : Option Timeout) (i : Input) → Within n i → IsLine n (settings.timeout_refusal_by found i).line
+timeout_refusal_by_is : (n : ℕ) (found : Option TimeoutName) (i : Input) → Within n i → IsLine n (settings.timeout_refusal_by found i).line
 timeout_refusal_by_is n (Some timeout) i within = left_out_is n _ i within
 timeout_refusal_by_is n None i within = adaptive_refusal_is n i within
 
@@ -72,7 +72,7 @@ timeout_refusal_keeps : {A : Type 0} {n : ℕ} → Keeps {A = A} n (λ i. Err (s
 unfolding settings.timeout_refusal
 timeout_refusal_keeps {n = n} = record { from = λ i within. timeout_refusal_by_is n _ i within }
 
-timeout_by_keeps : {n : ℕ} (found : Option Timeout) → Keeps n (settings.timeout_by found)
+timeout_by_keeps : {n : ℕ} (found : Option TimeoutName) → Keeps n (settings.timeout_by found)
 timeout_by_keeps {n = n} None = record { from = adaptive_refusal_is n }
 timeout_by_keeps (Some timeout) = search (reading, keeps_number_in)
 

@@ -12,7 +12,7 @@ use Rattle.pfr_terms.proofs.TermStays.{stays_written, stays_list, stays_interfac
 use Rattle.pfr_conf.specs.declared.options.SetOption.TheVariants as o
 use Rattle.pfr_conf.specs.declared.policy.BlockPolicy.{BlockPolicy}
 use Rattle.pfr_conf.specs.declared.policy.Binding.{Binding}
-use Rattle.pfr_conf.specs.declared.settings.Timeout.{Timeout}
+use Rattle.pfr_conf.specs.declared.settings.TimeoutName.{TimeoutName}
 use Rattle.pfr_conf.specs.declared.settings.TimeoutSetting.{TimeoutSetting}
 use Rattle.pfr_conf.specs.declared.settings.Limit.{Limit}
 use Rattle.pfr_conf.specs.declared.settings.LimitSetting.{LimitSetting}
@@ -74,7 +74,7 @@ adaptive_refusal_sight : Sight settings.adaptive_refusal
 unfolding settings.adaptive_refusal
 adaptive_refusal_sight = record { alike = λ line ys i. rw ((word_sight (codes "adaptive.start")).alike line ys i, (word_sight (codes "adaptive.end")).alike line ys i, (left_out_sight (codes "timeout")).alike line ys i, refusal_sight.alike line ys i) refl }
 
-timeout_refusal_by_sight : (found : Option Timeout) → Sight (settings.timeout_refusal_by found)
+timeout_refusal_by_sight : (found : Option TimeoutName) → Sight (settings.timeout_refusal_by found)
 timeout_refusal_by_sight (Some timeout) = left_out_sight _
 timeout_refusal_by_sight None = adaptive_refusal_sight
 
@@ -82,7 +82,7 @@ timeout_refusal_stays : {A : Type 0} {before to sees : Bool} {closing count : �
 unfolding settings.timeout_refusal
 timeout_refusal_stays = stays_at (λ i. settings.timeout_in (plain_ahead i)) (λ found i. Err (settings.timeout_refusal_by found i)) (named_sight settings.timeout_in) (λ found. stays_fault (settings.timeout_refusal_by found) (timeout_refusal_by_sight found))
 
-timeout_by_stays : {inside : Bool} {count : ℕ} {eaten : TimeoutSetting → Bool} (timeout : Timeout) → Stays inside inside 0 true eaten count (settings.timeout_by (Some timeout)) (settings.timeout_by (Some timeout))
+timeout_by_stays : {inside : Bool} {count : ℕ} {eaten : TimeoutSetting → Bool} (timeout : TimeoutName) → Stays inside inside 0 true eaten count (settings.timeout_by (Some timeout)) (settings.timeout_by (Some timeout))
 timeout_by_stays timeout = stays_first stays_taken (λ done. stays_then (stays_number_in 0 2147483647) (λ seconds. stays_pure (record { timeout = timeout; seconds = seconds })))
 
 timeout_setting_stays : {inside sees : Bool} {count : ℕ} {eaten : TimeoutSetting → Bool} → Stays inside inside 0 sees eaten count settings.timeout_setting settings.timeout_setting

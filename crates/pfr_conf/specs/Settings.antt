@@ -3,20 +3,20 @@ use Rattle.std.specs.Prelude.{ℕ, ◌||◌, if◌then◌else◌, List, map, Opt
 use Rattle.pfr_words.specs.Names.{entry_of}
 use Rattle.pfr_terms.specs.declared.error.ConfError.{ConfError}
 use Rattle.pfr_terms.specs.Input.{Input, Parser, ◌>>=◌, pure, refuse, refusal, left_out, taken, number_in, plain_ahead, sees_word}
-use Rattle.pfr_conf.specs.declared.settings.Timeout.{Timeout}
+use Rattle.pfr_conf.specs.declared.settings.TimeoutName.{TimeoutName}
 use Rattle.pfr_conf.specs.declared.settings.TimeoutSetting.{TimeoutSetting}
 use Rattle.pfr_conf.specs.declared.settings.Limit.{Limit}
 use Rattle.pfr_conf.specs.declared.settings.Limit.TheVariants as l
 use Rattle.pfr_conf.specs.declared.settings.LimitSetting.{LimitSetting}
 use Rattle.pfr_conf.specs.declared.settings.TheConstants.{TIMEOUTS, LIMITS}
 
-unfoldable pub timeout_named : List ℕ → Option Timeout
+unfoldable pub timeout_named : List ℕ → Option TimeoutName
 timeout_named word = entry_of (map (λ e. (e.0.now, e.1)) TIMEOUTS) word
 
 unfoldable pub limit_named : List ℕ → Option Limit
 limit_named word = entry_of (map (λ e. (e.0.now, e.1)) LIMITS) word
 
-abbrev pub timeout_in : Option (List ℕ) → Option Timeout
+abbrev pub timeout_in : Option (List ℕ) → Option TimeoutName
 timeout_in None = None
 timeout_in (Some word) = timeout_named word
 
@@ -28,7 +28,7 @@ limit_in (Some word) = limit_named word
 unfoldable pub adaptive_refusal : Input → ConfError
 adaptive_refusal i = if sees_word (codes "adaptive.start") i || sees_word (codes "adaptive.end") i then left_out (codes "timeout") i else refusal i
 
-abbrev pub timeout_refusal_by : Option Timeout → Input → ConfError
+abbrev pub timeout_refusal_by : Option TimeoutName → Input → ConfError
 timeout_refusal_by (Some timeout) i = left_out (codes "timeout") i
 timeout_refusal_by None i = adaptive_refusal i
 
@@ -36,7 +36,7 @@ timeout_refusal_by None i = adaptive_refusal i
 unfoldable pub timeout_refusal : Input → ConfError
 timeout_refusal i = timeout_refusal_by (timeout_in (plain_ahead i)) i
 
-abbrev pub timeout_by : Option Timeout → Parser TimeoutSetting
+abbrev pub timeout_by : Option TimeoutName → Parser TimeoutSetting
 timeout_by None = λ i. Err (adaptive_refusal i)
 timeout_by (Some timeout) = do
   _ ← taken

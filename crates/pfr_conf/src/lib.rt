@@ -33,7 +33,7 @@ pub use pfr_words::{Bytes, Items};
 pub use policy::{Binding, BlockPolicy};
 pub use reading::read;
 pub use rule_options::{RuleOptions, StateKeeping, StateOptions};
-pub use settings::{Limit, LimitSetting, Timeout, TimeoutSetting};
+pub use settings::{Limit, LimitSetting, TimeoutName, TimeoutSetting};
 pub use statement::{Statement, Statements};
 pub use table::TableDefinition;
 pub use targets::{NatTarget, RdrTarget, RedirectedPort, Target};

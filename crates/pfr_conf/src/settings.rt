@@ -3,29 +3,17 @@ ghost use Rattle.std.specs.Prelude.{◌≡◌, ◌≤◌};
 ghost use Rattle.pfr_terms.specs.Input.{Reads, Refuses};
 ghost use Rattle.pfr_conf.specs.Settings as spec;
 
+use pfr_net::Timeout;
 use pfr_terms::lists::Item;
 use pfr_terms::{ConfError, Reader};
 use pfr_words::Bytes;
 use pfr_words::names::entry_of;
 use std::alloc::Global;
 
-/// The timeouts of pf.conf(5). The last three concern what this profile leaves out, and have no effect.
+/// What a timeout of pf.conf(5) is named for: states, or what this profile leaves out, where it has no effect.
 #[derive(Clone, Copy)]
-pub enum Timeout {
-    TcpFirst,
-    TcpOpening,
-    TcpEstablished,
-    TcpClosing,
-    TcpFinWait,
-    TcpClosed,
-    UdpFirst,
-    UdpSingle,
-    UdpMultiple,
-    IcmpFirst,
-    IcmpError,
-    OtherFirst,
-    OtherSingle,
-    OtherMultiple,
+pub enum TimeoutName {
+    OfStates(Timeout),
     Interval,
     Fragment,
     SourceTracking,
@@ -34,7 +22,7 @@ pub enum Timeout {
 /// A timeout and its seconds, at most 2147483647.
 #[derive(Clone, Copy)]
 pub struct TimeoutSetting {
-    pub timeout: Timeout,
+    pub timeout: TimeoutName,
     pub seconds: u32,
 }
 
@@ -56,24 +44,30 @@ pub struct LimitSetting {
 }
 
 /// The names of the timeouts.
-pub const TIMEOUTS: [(&[u8], Timeout); 17] = [
-    (b"tcp.first", Timeout::TcpFirst),
-    (b"tcp.opening", Timeout::TcpOpening),
-    (b"tcp.established", Timeout::TcpEstablished),
-    (b"tcp.closing", Timeout::TcpClosing),
-    (b"tcp.finwait", Timeout::TcpFinWait),
-    (b"tcp.closed", Timeout::TcpClosed),
-    (b"udp.first", Timeout::UdpFirst),
-    (b"udp.single", Timeout::UdpSingle),
-    (b"udp.multiple", Timeout::UdpMultiple),
-    (b"icmp.first", Timeout::IcmpFirst),
-    (b"icmp.error", Timeout::IcmpError),
-    (b"other.first", Timeout::OtherFirst),
-    (b"other.single", Timeout::OtherSingle),
-    (b"other.multiple", Timeout::OtherMultiple),
-    (b"interval", Timeout::Interval),
-    (b"frag", Timeout::Fragment),
-    (b"src.track", Timeout::SourceTracking),
+pub const TIMEOUTS: [(&[u8], TimeoutName); 17] = [
+    (b"tcp.first", TimeoutName::OfStates(Timeout::TcpFirst)),
+    (b"tcp.opening", TimeoutName::OfStates(Timeout::TcpOpening)),
+    (
+        b"tcp.established",
+        TimeoutName::OfStates(Timeout::TcpEstablished),
+    ),
+    (b"tcp.closing", TimeoutName::OfStates(Timeout::TcpClosing)),
+    (b"tcp.finwait", TimeoutName::OfStates(Timeout::TcpFinWait)),
+    (b"tcp.closed", TimeoutName::OfStates(Timeout::TcpClosed)),
+    (b"udp.first", TimeoutName::OfStates(Timeout::UdpFirst)),
+    (b"udp.single", TimeoutName::OfStates(Timeout::UdpSingle)),
+    (b"udp.multiple", TimeoutName::OfStates(Timeout::UdpMultiple)),
+    (b"icmp.first", TimeoutName::OfStates(Timeout::IcmpFirst)),
+    (b"icmp.error", TimeoutName::OfStates(Timeout::IcmpError)),
+    (b"other.first", TimeoutName::OfStates(Timeout::OtherFirst)),
+    (b"other.single", TimeoutName::OfStates(Timeout::OtherSingle)),
+    (
+        b"other.multiple",
+        TimeoutName::OfStates(Timeout::OtherMultiple),
+    ),
+    (b"interval", TimeoutName::Interval),
+    (b"frag", TimeoutName::Fragment),
+    (b"src.track", TimeoutName::SourceTracking),
 ];
 
 /// The names of the limits.
@@ -86,7 +80,7 @@ pub const LIMITS: [(&[u8], Limit); 5] = [
 ];
 
 #[tactic(auto, unfolding(crate::specs::Settings::timeout_named))]
-fn timeout_named(word: &[u8]) -> Option<Timeout>
+fn timeout_named(word: &[u8]) -> Option<TimeoutName>
     ensures { result ≡ spec.timeout_named word.now }
 {
     entry_of(&TIMEOUTS, word)
@@ -99,7 +93,7 @@ fn limit_named(word: &[u8]) -> Option<Limit>
     entry_of(&LIMITS, word)
 }
 
-fn timeout_in(word: Option<Bytes<'_>>) -> Option<Timeout>
+fn timeout_in(word: Option<Bytes<'_>>) -> Option<TimeoutName>
     ensures { result ≡ spec.timeout_in word.entry }
 {
     match word {

@@ -1,6 +1,6 @@
 -- Options, as pf.conf(5) has them. Of one that is set twice the last counts; interfaces that are skipped add up.
 use Rattle.std.specs.Prelude.{ℕ, ◌+◌, ◌||◌, Bool, true, nat_lt, if◌then◌else◌, List, [], ◌∷◌, ◌++◌, length, fold, Option, Some, None, Result, Ok, Err}
-use lib.ListN.{set}
+use Rattle.pfr_net.specs.Timeouts.{default_timeouts, with_timeout}
 use Rattle.pfr_terms.specs.declared.error.ConfError.{ConfError}
 use Rattle.pfr_terms.specs.declared.interface.InterfaceName.{InterfaceName}
 use Rattle.pfr_terms.specs.declared.name.Name.{Name}
@@ -16,8 +16,8 @@ use Rattle.pfr_elements.specs.Terms.{use_in, never, same, no_table, skipped, ski
 use Rattle.pfr_elements.specs.Values.{plain_word_at}
 use Rattle.pfr_conf.specs.declared.policy.BlockPolicy.TheVariants as b
 use Rattle.pfr_conf.specs.declared.policy.Binding.TheVariants as binding
-use Rattle.pfr_conf.specs.declared.settings.Timeout.{Timeout}
-use Rattle.pfr_conf.specs.declared.settings.Timeout.TheVariants as t
+use Rattle.pfr_conf.specs.declared.settings.TimeoutName.{TimeoutName}
+use Rattle.pfr_conf.specs.declared.settings.TimeoutName.TheVariants as timeout
 use Rattle.pfr_conf.specs.declared.settings.TimeoutSetting.{TimeoutSetting}
 use Rattle.pfr_conf.specs.declared.settings.Limit.{Limit}
 use Rattle.pfr_conf.specs.declared.settings.Limit.TheVariants as limit
@@ -25,47 +25,20 @@ use Rattle.pfr_conf.specs.declared.settings.LimitSetting.{LimitSetting}
 use Rattle.pfr_conf.specs.declared.options.SetOption.{SetOption}
 use Rattle.pfr_conf.specs.declared.options.SetOption.TheVariants as o
 use Rattle.pfr_flat.specs.Counts.{too_many}
-use Rattle.pfr_expand.specs.declared.timeouts.Timeouts.{Timeouts}
 use Rattle.pfr_expand.specs.declared.options.Options as O
-
--- ---- timeouts
-
-abbrev pub code_of : Timeout → Option ℕ
-code_of t.TcpFirst = Some 0
-code_of t.TcpOpening = Some 1
-code_of t.TcpEstablished = Some 2
-code_of t.TcpClosing = Some 3
-code_of t.TcpFinWait = Some 4
-code_of t.TcpClosed = Some 5
-code_of t.UdpFirst = Some 6
-code_of t.UdpSingle = Some 7
-code_of t.UdpMultiple = Some 8
-code_of t.IcmpFirst = Some 9
-code_of t.IcmpError = Some 10
-code_of t.OtherFirst = Some 11
-code_of t.OtherSingle = Some 12
-code_of t.OtherMultiple = Some 13
-code_of t.Interval = None
-code_of t.Fragment = None
-code_of t.SourceTracking = None
-
-abbrev pub default_timeouts : Timeouts
-default_timeouts = record { seconds = 120 ∷ 30 ∷ 86400 ∷ 900 ∷ 45 ∷ 90 ∷ 60 ∷ 30 ∷ 60 ∷ 20 ∷ 10 ∷ 60 ∷ 30 ∷ 60 ∷ [] }
-
-abbrev pub with_seconds : Option ℕ → ℕ → Timeouts → Timeouts
-with_seconds None seconds timeouts = timeouts
-with_seconds (Some code) seconds timeouts = record { seconds = set timeouts.seconds code seconds }
-
-abbrev pub with_timeout : Timeout → ℕ → Timeouts → Timeouts
-with_timeout timeout seconds timeouts = with_seconds (code_of timeout) seconds timeouts
 
 -- ---- options
 
 abbrev pub default_options : O.Options
 default_options = record { timeouts = default_timeouts; state_limit = 100000; block_policy = b.Drop; state_policy = binding.Floating; host_id = 1; skipped = [] }
 
+-- only the timeouts of states have an effect
+abbrev pub timeout_by : TimeoutName → ℕ → O.Options → O.Options
+timeout_by (timeout.OfStates of_states) seconds options = record options { timeouts = with_timeout of_states seconds options.timeouts }
+timeout_by other seconds options = options
+
 abbrev pub timeout_set : O.Options → TimeoutSetting → O.Options
-timeout_set options setting = record options { timeouts = with_timeout setting.timeout setting.seconds options.timeouts }
+timeout_set options setting = timeout_by setting.timeout setting.seconds options
 
 -- only the limit of states has an effect
 abbrev pub limit_by : Limit → ℕ → O.Options → O.Options

@@ -10,7 +10,6 @@ pub mod laws;
 pub mod options;
 pub mod ruleset;
 pub mod tables;
-pub mod timeouts;
 pub mod translation;
 
 pub use expansion::expand;
@@ -20,7 +19,7 @@ pub use pfr_flat::{
     FilterAction, FlagsCriterion, FlatAnchor, FlatRule, FlatTranslation, NatAddress, PacketMatch,
     PortChange, PortRange, RdrAddress, StateRule,
 };
+pub use pfr_net::Timeouts;
 pub use pfr_tables::{AddressTable, Entry};
 pub use ruleset::Ruleset;
-pub use timeouts::Timeouts;
 pub use translation::Translations;

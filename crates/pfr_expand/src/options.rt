@@ -5,13 +5,13 @@ ghost use Rattle.pfr_expand.specs.Options as spec;
 ghost use Rattle.pfr_expand.specs.declared.options.Options as O;
 
 use crate::tables::exceeds;
-use crate::timeouts::Timeouts;
 use pfr_conf::{
     Binding, BlockPolicy, ConfError, InterfaceName, Items, Limit, LimitSetting, Name, SetOption,
-    TimeoutSetting, Written,
+    TimeoutName, TimeoutSetting, Written,
 };
 use pfr_elements::{Elements, IfName, Scope, elements_of};
 use pfr_flat::too_many;
+use pfr_net::Timeouts;
 use std::alloc::{AllocError, Global};
 
 /// What the options of a ruleset say.
@@ -32,7 +32,9 @@ fn set_timeouts(options: &mut Options, settings: &[TimeoutSetting])
     ensures { options.new ≡ fold spec.timeout_set options.old settings.now }
 {
     for setting in settings {
-        options.timeouts.set(setting.timeout, setting.seconds);
+        if let TimeoutName::OfStates(timeout) = setting.timeout {
+            options.timeouts.set(timeout, setting.seconds);
+        }
     }
 }
 

@@ -1,2 +1,3 @@
 pub mod Networks
 pub mod Notation
+pub mod Timeouts

@@ -1,5 +1,5 @@
 //! What rules and the packets that they judge have in common: addresses, networks, ports, the ends of
-//! connections, protocols, directions, and how addresses and numbers are written.
+//! connections, protocols, directions, timeouts, numbers of rules, and how addresses and numbers are written.
 #![tactic(auto)]
 
 pub mod address;
@@ -9,6 +9,8 @@ pub mod network;
 pub mod notation;
 pub mod port;
 pub mod protocol;
+pub mod rule_number;
+pub mod timeout;
 
 pub use address::Ipv4Address;
 pub use direction::Direction;
@@ -16,3 +18,5 @@ pub use endpoint::Endpoint;
 pub use network::Net;
 pub use port::Port;
 pub use protocol::Protocol;
+pub use rule_number::RuleNumber;
+pub use timeout::{Timeout, Timeouts};

@@ -1,8 +1,9 @@
 -- The ways in which an IPv4 packet comes to its outcome.
-use Rattle.std.proofs.Common.{◌≡◌, ◌⊎◌, ◌&&◌, ℕ, min, Bool, true, false, not, List, [], Option, Some, None, cond, inl, inr, refl, sym, ◌∙◌}
+use Rattle.std.proofs.Common.{◌≡◌, ◌⊎◌, ◌&&◌, ℕ, Bool, true, false, not, List, [], Option, Some, None, cond, inl, inr, refl, sym, ◌∙◌}
 use Rattle.std.specs.List.{Contains, slice_get}
 use Rattle.std.proofs.lemmas.Bool.{not-false}
 use Rattle.pfr_net.specs.declared.direction.Direction.{Direction}
+use Rattle.pfr_net.specs.declared.rule_number.RuleNumber.{RuleNumber}
 use Rattle.pfr_headers.specs.declared.change.Change.{Change}
 use Rattle.pfr_headers.specs.declared.packet.Packet.{Packet}
 use Rattle.pfr_headers.specs.declared.packet.View.{View}
@@ -15,12 +16,10 @@ use Rattle.pfr_headers.specs.Ways.{direction_of}
 use Rattle.pfr_headers.specs.View.{has_options}
 use Rattle.pfr_flat.specs.declared.flat.FlatRule.{FlatRule}
 use Rattle.pfr_rules.specs.declared.decision.Decision.{Decision}
-use Rattle.pfr_rules.specs.declared.decision.RuleNumber.{RuleNumber}
 use Rattle.pfr_rules.specs.Filter.{decision_of, visited}
 use Rattle.pfr_track.specs.declared.key.Key.{Key}
 use Rattle.pfr_track.specs.declared.outcome.Touch.{Touch}
 use Rattle.pfr_track.specs.declared.outcome.Touch.TheVariants as touch
-use Rattle.pfr_track.specs.declared.state.RuleNumber as Rule
 use Rattle.pfr_track.specs.declared.state.State.{State}
 use Rattle.pfr_track.specs.declared.state.StateRules.{StateRules}
 use Rattle.pfr_track.specs.declared.time.Clock.{Clock}
@@ -35,7 +34,7 @@ use Rattle.pfr_packet.specs.declared.making.Passage.{Passage}
 use Rattle.pfr_packet.specs.declared.outcome.Outcome.{Outcome}
 use Rattle.pfr_packet.specs.declared.verdict.Reason.{Reason}
 use Rattle.pfr_packet.specs.declared.verdict.Reason.TheVariants as reason
-use Rattle.pfr_packet.specs.Filtering.{conduct_at, conduct_of, decided, filtered, kept, named, number_of, reason_of}
+use Rattle.pfr_packet.specs.Filtering.{conduct_at, conduct_of, decided, filtered, kept, reason_of}
 use Rattle.pfr_packet.specs.Found.{told, tracked}
 use Rattle.pfr_packet.specs.Job.{RunJob, is_skipped, timeouts_of}
 use Rattle.pfr_packet.specs.Keys.{message_subject, side_of, subject_by, subject_of}
@@ -266,16 +265,16 @@ third_false : (a b c : Bool) → (a && (b && not c)) ≡ false → a ≡ true �
 third_false a b c none first second = not-false c (rw (first, second) at none)
 
 -- the deciding rule has leave
-abbrev pub RuleWithLeave : List FlatRule → Option Rule.RuleNumber → Type 0
-RuleWithLeave rules named = (place : ℕ) × (rule : FlatRule) × (slice_get rules place ≡ Some rule) × (named ≡ Some (record { 0 = min place 4294967295 })) × (rule.allow_opts ≡ true)
+abbrev pub RuleWithLeave : List FlatRule → Option RuleNumber → Type 0
+RuleWithLeave rules named = (number : RuleNumber) × (rule : FlatRule) × (slice_get rules number.0 ≡ Some rule) × (named ≡ Some number) × (rule.allow_opts ≡ true)
 
-rule_with_leave : (rules : List FlatRule) (number : Option RuleNumber) → (conduct_of rules number).allows_options ≡ true → RuleWithLeave rules (named number)
+rule_with_leave : (rules : List FlatRule) (number : Option RuleNumber) → (conduct_of rules number).allows_options ≡ true → RuleWithLeave rules number
 rule_with_leave rules None is = absurd (cc is)
 rule_with_leave rules (Some number) is = at_place (slice_get rules number.0) refl is
   where
-    at_place : (found : Option FlatRule) → slice_get rules number.0 ≡ found → (conduct_at (number_of number) found).allows_options ≡ true → RuleWithLeave rules (named (Some number))
+    at_place : (found : Option FlatRule) → slice_get rules number.0 ≡ found → (conduct_at number found).allows_options ≡ true → RuleWithLeave rules (Some number)
     at_place None got is = absurd (cc is)
-    at_place (Some rule) got is = (number.0, rule, got, refl, is)
+    at_place (Some rule) got is = (number, rule, got, refl, is)
 
 filtered_leave : (job : RunJob) (states : List State) (packet : Packet) (direction : Direction) → ByLeave job.rules.filter.rules states packet (filtered job.rules packet direction)
 filtered_leave job states packet direction = filtered_way job packet direction (ByLeave job.rules.filter.rules states packet)

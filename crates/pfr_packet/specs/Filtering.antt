@@ -1,7 +1,8 @@
 -- What the filter makes of a packet by itself (pf.conf(5), "Packet filtering").
-use Rattle.std.specs.Prelude.{ℕ, Bool, false, not, min, List, [], Option, Some, None}
+use Rattle.std.specs.Prelude.{ℕ, Bool, false, not, List, [], Option, Some, None}
 use Rattle.std.specs.List.{slice_get}
 use Rattle.pfr_net.specs.declared.direction.Direction.{Direction}
+use Rattle.pfr_net.specs.declared.rule_number.RuleNumber.{RuleNumber}
 use Rattle.pfr_headers.specs.declared.packet.Packet.{Packet}
 use Rattle.pfr_flat.specs.declared.flat.FilterAction.{FilterAction}
 use Rattle.pfr_flat.specs.declared.flat.FilterAction.TheVariants as action
@@ -9,9 +10,7 @@ use Rattle.pfr_flat.specs.declared.flat.FlatRule.{FlatRule}
 use Rattle.pfr_flat.specs.declared.flat.StateRule.{StateRule}
 use Rattle.pfr_expand.specs.declared.ruleset.Ruleset.{Ruleset}
 use Rattle.pfr_rules.specs.declared.decision.Decision.{Decision}
-use Rattle.pfr_rules.specs.declared.decision.RuleNumber as place
 use Rattle.pfr_rules.specs.Filter.{decision_of, visited}
-use Rattle.pfr_track.specs.declared.state.RuleNumber.{RuleNumber}
 use Rattle.pfr_track.specs.declared.state.StateRules.{StateRules}
 use Rattle.pfr_packet.specs.declared.filtering.Conduct.{Conduct}
 use Rattle.pfr_packet.specs.declared.outcome.Outcome.{Outcome}
@@ -26,17 +25,9 @@ verdict_of action.Pass = verdict.Pass
 verdict_of action.Drop = verdict.Block
 verdict_of action.Return = verdict.Return
 
-abbrev pub reason_of : Option place.RuleNumber → Reason
+abbrev pub reason_of : Option RuleNumber → Reason
 reason_of (Some number) = reason.Rule
 reason_of None = reason.Default
-
--- a rule's number as lines and messages carry it
-abbrev pub number_of : place.RuleNumber → RuleNumber
-number_of number = record { 0 = min number.0 4294967295 }
-
-abbrev pub named : Option place.RuleNumber → Option RuleNumber
-named None = None
-named (Some number) = Some (number_of number)
 
 -- ---- what the rule that decides says beyond its verdict
 
@@ -56,9 +47,9 @@ conduct_at number None = silent
 conduct_at number (Some rule) = conduct_by number rule
 
 -- without a rule that decides IP options aren't allowed, and no state is kept
-abbrev pub conduct_of : List FlatRule → Option place.RuleNumber → Conduct
+abbrev pub conduct_of : List FlatRule → Option RuleNumber → Conduct
 conduct_of rules None = silent
-conduct_of rules (Some number) = conduct_at (number_of number) (slice_get rules number.0)
+conduct_of rules (Some number) = conduct_at number (slice_get rules number.0)
 
 -- ---- a packet
 
@@ -67,7 +58,7 @@ decided direction decision visits = record {
   direction = Some direction;
   verdict = verdict_of decision.action;
   reason = reason_of decision.rule;
-  rule = named decision.rule;
+  rule = decision.rule;
   translation = None;
   state = None;
   visited = record { translation = []; filter = visits };

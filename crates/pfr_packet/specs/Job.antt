@@ -2,10 +2,10 @@
 use Rattle.std.specs.Prelude.{ℕ, Bool, List}
 use Rattle.std.specs.List.{list_any}
 use Rattle.pfr_net.specs.declared.network.Net.{Net}
+use Rattle.pfr_net.specs.declared.timeout.Timeouts.{Timeouts}
 use Rattle.pfr_elements.specs.declared.interface.Interface.{Interface}
 use Rattle.pfr_expand.specs.declared.ruleset.Ruleset.{Ruleset}
 use Rattle.pfr_criteria.specs.Packets.{is_named}
-use Rattle.pfr_track.specs.declared.timeout.Timeouts.{Timeouts}
 
 -- the inputs, and the ruleset that the text means for the interface
 pub record RunJob : Type 0 where
@@ -16,7 +16,7 @@ pub record RunJob : Type 0 where
   pub rules : Ruleset
 
 abbrev pub timeouts_of : RunJob → Timeouts
-timeouts_of job = record { seconds = job.rules.options.timeouts.seconds }
+timeouts_of job = job.rules.options.timeouts
 
 -- packets of the interface aren't filtered (pf.conf(5), "set skip on")
 abbrev pub is_skipped : RunJob → Bool

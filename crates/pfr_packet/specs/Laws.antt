@@ -1,6 +1,7 @@
 -- Words of the laws: what becomes of the one state that a packet makes, touches or ends.
-use Rattle.std.specs.Prelude.{◌≡◌, ◌⊎◌, ℕ, min, Bool, true, false, List, [], Option, Some, None}
+use Rattle.std.specs.Prelude.{◌≡◌, ◌⊎◌, ℕ, Bool, true, false, List, [], Option, Some, None}
 use Rattle.std.specs.List.{Contains, slice_get}
+use Rattle.pfr_net.specs.declared.rule_number.RuleNumber.{RuleNumber}
 use Rattle.pfr_headers.specs.declared.icmp.IcmpMessage.{IcmpMessage}
 use Rattle.pfr_headers.specs.declared.icmp.IcmpMessage.TheVariants as message
 use Rattle.pfr_headers.specs.declared.transport.Transport.{Transport}
@@ -100,5 +101,5 @@ opens_connection transport.Other = true
 -- the rule that the outcome names allows IP options, or the state of the table that it names does
 abbrev pub HasLeave : List FlatRule → List State → Outcome → Type 0
 HasLeave rules states outcome =
-    ((place : ℕ) × (rule : FlatRule) × (slice_get rules place ≡ Some rule) × (outcome.rule ≡ Some (record { 0 = min place 4294967295 })) × (rule.allow_opts ≡ true))
+    ((number : RuleNumber) × (rule : FlatRule) × (slice_get rules number.0 ≡ Some rule) × (outcome.rule ≡ Some number) × (rule.allow_opts ≡ true))
     ⊎ ((state : State) × Contains states state × (outcome.state ≡ Some state.number) × (state.rules.allows_options ≡ true))

@@ -1,5 +1,5 @@
 //! What the filter makes of a packet by itself.
-ghost use Rattle.std.specs.Prelude.{◌≡◌, IfOk, min};
+ghost use Rattle.std.specs.Prelude.{◌≡◌, IfOk};
 ghost use Rattle.pfr_packet.specs.Filtering as spec;
 
 use crate::outcome::{Outcome, VisitedRules};
@@ -7,9 +7,9 @@ use crate::verdict::{Reason, Verdict};
 use pfr_expand::Ruleset;
 use pfr_flat::{FilterAction, FlatRule};
 use pfr_headers::Packet;
-use pfr_net::Direction;
-use pfr_rules::{Decision, RuleNumber as Place, Visits, filter};
-use pfr_track::{RuleNumber, StateRules};
+use pfr_net::{Direction, RuleNumber};
+use pfr_rules::{Decision, Visits, filter};
+use pfr_track::StateRules;
 use std::alloc::{AllocError, Global};
 
 /// What the rule that decides says beyond its verdict.
@@ -19,14 +19,6 @@ pub struct Conduct {
     pub allows_options: bool,
     /// What the state says of its rules that the rule keeps; None where it keeps none.
     pub kept: Option<StateRules>,
-}
-
-/// A rule's number as lines and messages carry it.
-#[inline]
-fn number_of(place: Place) -> RuleNumber
-    ensures { result ≡ spec.number_of place }
-{
-    RuleNumber(place.0.min(4294967295) as u32)
 }
 
 #[inline]
@@ -41,7 +33,7 @@ fn verdict_of(action: FilterAction) -> Verdict
 }
 
 #[inline]
-fn reason_of(rule: Option<Place>) -> Reason
+fn reason_of(rule: Option<RuleNumber>) -> Reason
     ensures { result ≡ spec.reason_of rule }
 {
     match rule {
@@ -69,7 +61,7 @@ fn conduct_by(number: RuleNumber, rule: &FlatRule) -> Conduct
 }
 
 /// What the rule that decides says beyond its verdict. Without one IP options aren't allowed, and no state is kept.
-fn conduct_of(rules: &[FlatRule], rule: Option<Place>) -> Conduct
+fn conduct_of(rules: &[FlatRule], rule: Option<RuleNumber>) -> Conduct
     ensures { result ≡ spec.conduct_of rules.now rule }
 {
     let silent = Conduct {
@@ -78,9 +70,9 @@ fn conduct_of(rules: &[FlatRule], rule: Option<Place>) -> Conduct
     };
     match rule {
         None => silent,
-        Some(place) => match rules.get(place.0) {
+        Some(number) => match rules.get(number.0) {
             None => silent,
-            Some(rule) => conduct_by(number_of(place), rule),
+            Some(rule) => conduct_by(number, rule),
         },
     }
 }
@@ -93,10 +85,7 @@ fn decided(alloc: Global, direction: Direction, decision: Decision, visits: Visi
         direction: Some(direction),
         verdict: verdict_of(decision.action),
         reason: reason_of(decision.rule),
-        rule: match decision.rule {
-            None => None,
-            Some(place) => Some(number_of(place)),
-        },
+        rule: decision.rule,
         translation: None,
         state: None,
         visited: VisitedRules {

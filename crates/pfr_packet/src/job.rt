@@ -9,8 +9,7 @@ use crate::ruleset::ruleset_of;
 use pfr_conf::{ConfError, ConfErrorKind, Items};
 use pfr_criteria::is_named;
 use pfr_expand::{Interface, Ruleset};
-use pfr_net::Net;
-use pfr_track::Timeouts;
+use pfr_net::{Net, Timeouts};
 use std::alloc::Global;
 use std::marker::Model;
 
@@ -127,9 +126,7 @@ impl Job {
     pub(crate) fn timeouts(&self) -> Timeouts
         ensures { result ≡ spec.timeouts_of self.now }
     {
-        Timeouts {
-            seconds: self.rules.options.timeouts.seconds,
-        }
+        self.rules.options.timeouts
     }
 }
 

@@ -9,8 +9,9 @@ use crate::keys::written_by;
 use crate::outcome::Outcome;
 use crate::verdict::Reason;
 use pfr_headers::Packet;
+use pfr_net::RuleNumber;
 use pfr_states::{Side, TableChange};
-use pfr_track::{Key, RuleNumber, State};
+use pfr_track::{Key, State};
 use std::alloc::AllocError;
 
 /// Both keys of a packet that begins a connection, and the translation rule that holds for it.

@@ -4,10 +4,10 @@ ghost use Rattle.pfr_packet.specs.Outcomes as spec;
 
 use crate::verdict::{Reason, Verdict};
 use pfr_headers::{Change, Packet};
-use pfr_net::Direction;
+use pfr_net::{Direction, RuleNumber};
 use pfr_rules::Visits;
 use pfr_states::TableChange;
-use pfr_track::{RuleNumber, State, StateNumber};
+use pfr_track::{State, StateNumber};
 use std::alloc::Global;
 
 /// The rules that are visited on the way to a verdict.

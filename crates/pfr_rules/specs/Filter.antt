@@ -6,6 +6,7 @@
 use Rattle.std.specs.Prelude.{ℕ, zero, suc, ◌+◌, ◌==◌, ◌&&◌, ◌||◌, Bool, true, false, not, nat_le, if◌then◌else◌, List, [], ◌∷◌, length, Option, Some, None}
 use Rattle.std.specs.List.{slice_get, list_any, list_all, filter}
 use Rattle.pfr_net.specs.declared.direction.Direction.{Direction}
+use Rattle.pfr_net.specs.declared.rule_number.RuleNumber.{RuleNumber}
 use Rattle.pfr_headers.specs.declared.packet.Packet.{Packet}
 use Rattle.pfr_flat.specs.declared.flat.FilterAction.{FilterAction}
 use Rattle.pfr_flat.specs.declared.flat.FilterAction.TheVariants as action
@@ -15,7 +16,6 @@ use Rattle.pfr_flat.specs.declared.filter_rules.RuleLists.{RuleLists}
 use Rattle.pfr_expand.specs.declared.ruleset.Ruleset.{Ruleset}
 use Rattle.pfr_criteria.specs.Packets.{rule_holds, anchor_holds}
 use Rattle.pfr_rules.specs.declared.decision.Decision.{Decision}
-use Rattle.pfr_rules.specs.declared.decision.RuleNumber.{RuleNumber}
 use Rattle.pfr_rules.specs.Numbers.{numbers_below}
 
 -- ---- places

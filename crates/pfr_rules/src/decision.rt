@@ -1,9 +1,6 @@
 //! What the filter decides.
 use pfr_flat::FilterAction;
-
-/// The number of a filter rule: its place among all of them, from 0.
-#[derive(Clone, Copy, Debug, PartialEq, Eq, PartialOrd, Ord, Hash)]
-pub struct RuleNumber(pub usize);
+use pfr_net::RuleNumber;
 
 /// What becomes of a packet, and by which rule. No rule means that none hit.
 #[derive(Clone, Copy)]

@@ -11,6 +11,7 @@ pub mod laws;
 pub mod visits;
 mod walk;
 
-pub use decision::{Decision, RuleNumber};
+pub use decision::Decision;
+pub use pfr_net::RuleNumber;
 pub use visits::Visits;
 pub use walk::filter;

@@ -4,13 +4,13 @@ ghost use Rattle.std.specs.List.{slice_get, slice_index_or};
 ghost use Rattle.std.specs.Option.{ForSome, option_copied};
 ghost use Rattle.pfr_rules.specs.Filter as spec;
 
-use crate::decision::{Decision, RuleNumber};
+use crate::decision::Decision;
 use crate::visits::Visits;
 use pfr_criteria::{anchor_holds, rule_holds};
 use pfr_expand::Ruleset;
 use pfr_flat::{FilterAction, FlatAnchor, FlatRule};
 use pfr_headers::Packet;
-use pfr_net::Direction;
+use pfr_net::{Direction, RuleNumber};
 use std::alloc::{AllocError, Global};
 
 /// What the rule at a place decides.

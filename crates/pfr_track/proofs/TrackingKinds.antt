@@ -1,5 +1,6 @@
 -- What a packet does to both ends, by the kinds of the connection and of the packet.
 use Rattle.std.proofs.Common.{Bool}
+use Rattle.pfr_net.specs.declared.timeout.Timeout.TheVariants.{IcmpError}
 use Rattle.pfr_headers.specs.declared.icmp.IcmpMessage.{IcmpMessage}
 use Rattle.pfr_headers.specs.declared.icmp.IcmpMessage.TheVariants as message
 use Rattle.pfr_headers.specs.declared.tcp.TcpHeader.{TcpHeader}
@@ -11,7 +12,6 @@ use Rattle.pfr_track.specs.declared.outcome.Track.TheVariants as tracks
 use Rattle.pfr_track.specs.declared.peers.Peers.{Peers}
 use Rattle.pfr_track.specs.declared.peers.Peers.TheVariants as peers
 use Rattle.pfr_track.specs.declared.tcp.TcpPeer.{TcpPeer}
-use Rattle.pfr_track.specs.declared.timeout.Timeout.TheVariants.{IcmpError}
 use Rattle.pfr_track.specs.Tracking.{echo_by, exchanged, other_by, tcp_track, track, udp_by}
 
 -- something that is true of both ends and of what becomes of them, where it is true for each kind and where a packet is

@@ -3,6 +3,8 @@ use Rattle.std.proofs.Common.{◌≡◌, ◌≢◌, Bool, true, false, cond, ref
 use Rattle.std.proofs.lemmas.Bool.{cond-true, cond-false}
 use Rattle.pfr_net.specs.declared.direction.Direction.{Direction}
 use Rattle.pfr_net.specs.declared.direction.Direction.TheVariants.{In, Out}
+use Rattle.pfr_net.specs.declared.timeout.Timeout.{Timeout}
+use Rattle.pfr_net.specs.declared.timeout.Timeouts.{Timeouts}
 use Rattle.pfr_headers.specs.declared.packet.Packet.{Packet}
 use Rattle.pfr_track.specs.declared.outcome.Touch.TheVariants.{Touched}
 use Rattle.pfr_track.specs.declared.outcome.Track.{Track}
@@ -10,8 +12,6 @@ use Rattle.pfr_track.specs.declared.outcome.Track.TheVariants as tracks
 use Rattle.pfr_track.specs.declared.peers.Peers.{Peers}
 use Rattle.pfr_track.specs.declared.state.State.{State}
 use Rattle.pfr_track.specs.declared.time.Clock.{Clock}
-use Rattle.pfr_track.specs.declared.timeout.Timeout.{Timeout}
-use Rattle.pfr_track.specs.declared.timeout.Timeouts.{Timeouts}
 use Rattle.pfr_track.specs.Laws.{IsLeftBy}
 use Rattle.pfr_track.specs.Tracking.{deadline_by, is_same_way, touched, track, with_packet, with_track}
 

@@ -1,6 +1,7 @@
 -- The state that a packet makes.
 use Rattle.std.proofs.Common.{refl}
 use Rattle.pfr_net.specs.declared.direction.Direction.{Direction}
+use Rattle.pfr_net.specs.declared.timeout.Timeouts.{Timeouts}
 use Rattle.pfr_headers.specs.declared.packet.Packet.{Packet}
 use Rattle.pfr_headers.specs.declared.transport.Transport.{Transport}
 use Rattle.pfr_headers.specs.declared.transport.Transport.TheVariants as transport
@@ -8,7 +9,6 @@ use Rattle.pfr_track.specs.declared.key.Key.{Key}
 use Rattle.pfr_track.specs.declared.state.StateNumber.{StateNumber}
 use Rattle.pfr_track.specs.declared.state.StateRules.{StateRules}
 use Rattle.pfr_track.specs.declared.time.Clock.{Clock}
-use Rattle.pfr_track.specs.declared.timeout.Timeouts.{Timeouts}
 use Rattle.pfr_track.specs.Laws.{AreMadeBy, IsNew}
 use Rattle.pfr_track.specs.Tcp.{maker}
 use Rattle.pfr_track.specs.Tracking.{first_peers, made}

@@ -2,6 +2,7 @@
 use Rattle.std.proofs.Common.{◌≡◌, ◌&&◌, Bool, true, false, not, cond, refl}
 use Rattle.std.proofs.lemmas.Bool.{and_parts}
 use Rattle.pfr_net.specs.declared.direction.Direction.{Direction}
+use Rattle.pfr_net.specs.declared.timeout.Timeouts.{Timeouts}
 use Rattle.pfr_headers.specs.declared.packet.Packet.{Packet}
 use Rattle.pfr_headers.specs.declared.tcp.TcpHeader.{TcpHeader}
 use Rattle.pfr_headers.specs.declared.transport.Transport.{Transport}
@@ -15,7 +16,6 @@ use Rattle.pfr_track.specs.declared.state.State.{State}
 use Rattle.pfr_track.specs.declared.tcp.TcpPeer.{TcpPeer}
 use Rattle.pfr_track.specs.declared.tcp.TcpPeerState.TheVariants.{FinWait2}
 use Rattle.pfr_track.specs.declared.time.Clock.{Clock}
-use Rattle.pfr_track.specs.declared.timeout.Timeouts.{Timeouts}
 use Rattle.pfr_track.specs.Laws.{HaveBothClosed, HaveClosed}
 use Rattle.pfr_track.specs.Tcp.{begins_anew, fits, has_reached, is_ack, is_syn, moved, prepared, raised}
 use Rattle.pfr_track.specs.Tracking.{followed, is_same_way, placed, tcp_track, touched, track, with_track}

@@ -2,6 +2,9 @@
 use Rattle.std.proofs.Common.{◌≡◌, Bool, true, false, not, refl, ap, ◌∙◌}
 use Rattle.pfr_net.specs.declared.direction.Direction.{Direction}
 use Rattle.pfr_net.specs.declared.direction.Direction.TheVariants.{In, Out}
+use Rattle.pfr_net.specs.declared.timeout.Timeout.{Timeout}
+use Rattle.pfr_net.specs.declared.timeout.Timeout.TheVariants.{UdpSingle, UdpMultiple, OtherSingle, OtherMultiple}
+use Rattle.pfr_net.specs.declared.timeout.Timeouts.{Timeouts}
 use Rattle.pfr_headers.specs.declared.icmp.IcmpMessage.{IcmpMessage}
 use Rattle.pfr_headers.specs.declared.icmp.IcmpMessage.TheVariants as message
 use Rattle.pfr_headers.specs.declared.packet.Packet.{Packet}
@@ -19,9 +22,6 @@ use Rattle.pfr_track.specs.declared.peers.Peers.TheVariants as peers
 use Rattle.pfr_track.specs.declared.state.State.{State}
 use Rattle.pfr_track.specs.declared.tcp.TcpPeer.{TcpPeer}
 use Rattle.pfr_track.specs.declared.time.Clock.{Clock}
-use Rattle.pfr_track.specs.declared.timeout.Timeout.{Timeout}
-use Rattle.pfr_track.specs.declared.timeout.Timeout.TheVariants.{UdpSingle, UdpMultiple, OtherSingle, OtherMultiple}
-use Rattle.pfr_track.specs.declared.timeout.Timeouts.{Timeouts}
 use Rattle.pfr_track.specs.Datagrams.{answered, spoken, timeout_by}
 use Rattle.pfr_track.specs.Laws.{opposite, turned, turned_ends, turned_touch}
 use Rattle.pfr_track.specs.Tracking.{echo_by, exchanged, followed, is_same_way, other_by, placed, tcp_track, touched, track, udp_by, with_track}

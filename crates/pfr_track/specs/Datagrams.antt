@@ -1,8 +1,8 @@
 -- Connections of protocols without connections (pf.conf(5), "udp.first, udp.single, udp.multiple").
 use Rattle.std.specs.Prelude.{ℕ}
+use Rattle.pfr_net.specs.declared.timeout.Timeout.{Timeout}
 use Rattle.pfr_track.specs.declared.datagram.DatagramPeer.{DatagramPeer}
 use Rattle.pfr_track.specs.declared.datagram.DatagramPeer.TheVariants.{Silent, Single, Multiple}
-use Rattle.pfr_track.specs.declared.timeout.Timeout.{Timeout}
 
 abbrev pub code_of : DatagramPeer → ℕ
 code_of Silent = 0

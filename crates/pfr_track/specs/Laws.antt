@@ -3,6 +3,8 @@
 use Rattle.std.specs.Prelude.{◌≡◌, ◌≢◌, ◌+◌, ◌^◌, ◌<◌, ◌≤◌, true}
 use Rattle.pfr_net.specs.declared.direction.Direction.{Direction}
 use Rattle.pfr_net.specs.declared.direction.Direction.TheVariants.{In, Out}
+use Rattle.pfr_net.specs.declared.timeout.Timeouts.{Timeouts}
+use Rattle.pfr_net.specs.Timeouts.{seconds_of}
 use Rattle.pfr_headers.specs.declared.packet.Packet.{Packet}
 use Rattle.pfr_headers.specs.declared.transport.Transport.{Transport}
 use Rattle.pfr_headers.specs.declared.transport.Transport.TheVariants as transport
@@ -16,11 +18,9 @@ use Rattle.pfr_track.specs.declared.state.State.{State}
 use Rattle.pfr_track.specs.declared.tcp.TcpPeer.{TcpPeer}
 use Rattle.pfr_track.specs.declared.tcp.TcpPeerState.TheVariants.{Closed, SynSent, FinWait2}
 use Rattle.pfr_track.specs.declared.time.Clock.{Clock}
-use Rattle.pfr_track.specs.declared.timeout.Timeouts.{Timeouts}
 use Rattle.pfr_track.specs.Datagrams as datagram
 use Rattle.pfr_track.specs.Sequences.{is_at_least}
 use Rattle.pfr_track.specs.Tcp.{code_of, has_reached}
-use Rattle.pfr_track.specs.Timeouts.{seconds_of}
 use Rattle.pfr_track.specs.Tracking.{with_packet}
 
 -- ---- what a packet leaves

@@ -2,14 +2,14 @@
 -- 3.10.7.4; RFC 7323, section 2). An end's `low` is behind the last byte that it has sent, its `high` behind the last one
 -- that it may send.
 use Rattle.std.specs.Prelude.{ℕ, ◌+◌, ◌-◌, ◌*◌, ◌/◌, ◌^◌, ◌==◌, ◌&&◌, ◌||◌, Bool, not, min, max, nat_le, nat_lt, if◌then◌else◌, Option, Some, None, is_some, bit_and}
+use Rattle.pfr_net.specs.declared.timeout.Timeout.{Timeout}
+use Rattle.pfr_net.specs.declared.timeout.Timeout.TheVariants.{TcpOpening, TcpEstablished, TcpClosing, TcpFinWait, TcpClosed}
 use Rattle.pfr_headers.specs.declared.tcp.TcpHeader.{TcpHeader}
 use Rattle.pfr_track.specs.declared.sequence.Sequence.{Sequence}
 use Rattle.pfr_track.specs.declared.tcp.TcpPeer.{TcpPeer}
 use Rattle.pfr_track.specs.declared.tcp.TcpPeerState.{TcpPeerState}
 use Rattle.pfr_track.specs.declared.tcp.TcpPeerState.TheVariants.{Closed, Listen, SynSent, SynReceived, Established, CloseWait, FinWait1, Closing, LastAck, FinWait2, TimeWait}
 use Rattle.pfr_track.specs.declared.segment.Exchange.{Exchange}
-use Rattle.pfr_track.specs.declared.timeout.Timeout.{Timeout}
-use Rattle.pfr_track.specs.declared.timeout.Timeout.TheVariants.{TcpOpening, TcpEstablished, TcpClosing, TcpFinWait, TcpClosed}
 use Rattle.pfr_track.specs.Sequences.{plus, minus, since, is_at_least}
 
 -- ---- states of an end

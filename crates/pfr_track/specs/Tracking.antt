@@ -3,6 +3,10 @@
 use Rattle.std.specs.Prelude.{◌+◌, ◌^◌, ◌-◌, Bool, true, false, min, if◌then◌else◌}
 use Rattle.pfr_net.specs.declared.direction.Direction.{Direction}
 use Rattle.pfr_net.specs.declared.direction.Direction.TheVariants.{In, Out}
+use Rattle.pfr_net.specs.declared.timeout.Timeout.{Timeout}
+use Rattle.pfr_net.specs.declared.timeout.Timeout.TheVariants.{TcpFirst, UdpFirst, UdpSingle, UdpMultiple, IcmpFirst, IcmpError, OtherFirst, OtherSingle, OtherMultiple}
+use Rattle.pfr_net.specs.declared.timeout.Timeouts.{Timeouts}
+use Rattle.pfr_net.specs.Timeouts.{seconds_of}
 use Rattle.pfr_headers.specs.declared.icmp.IcmpMessage.{IcmpMessage}
 use Rattle.pfr_headers.specs.declared.icmp.IcmpMessage.TheVariants as message
 use Rattle.pfr_headers.specs.declared.packet.Packet.{Packet}
@@ -21,9 +25,6 @@ use Rattle.pfr_track.specs.declared.state.Traffic.{Traffic}
 use Rattle.pfr_track.specs.declared.tcp.TcpPeer.{TcpPeer}
 use Rattle.pfr_track.specs.declared.time.Clock.{Clock}
 use Rattle.pfr_track.specs.declared.time.Deadline.{Deadline}
-use Rattle.pfr_track.specs.declared.timeout.Timeout.{Timeout}
-use Rattle.pfr_track.specs.declared.timeout.Timeout.TheVariants.{TcpFirst, UdpFirst, UdpSingle, UdpMultiple, IcmpFirst, IcmpError, OtherFirst, OtherSingle, OtherMultiple}
-use Rattle.pfr_track.specs.declared.timeout.Timeouts.{Timeouts}
 use Rattle.pfr_track.specs.declared.outcome.Followed.{Followed}
 use Rattle.pfr_track.specs.declared.outcome.Followed.TheVariants as follow
 use Rattle.pfr_track.specs.declared.outcome.Touch.{Touch}
@@ -32,7 +33,6 @@ use Rattle.pfr_track.specs.declared.outcome.Track.{Track}
 use Rattle.pfr_track.specs.declared.outcome.Track.TheVariants as tracks
 use Rattle.pfr_track.specs.Datagrams as datagram
 use Rattle.pfr_track.specs.Tcp.{begins_anew, fits, maker, moved, prepared, raised, timeout_by, unseen}
-use Rattle.pfr_track.specs.Timeouts.{seconds_of}
 
 -- ---- counting and waiting
 

@@ -2,7 +2,7 @@
 ghost use Rattle.std.specs.Prelude.{◌≡◌};
 ghost use Rattle.pfr_track.specs.Datagrams as spec;
 
-use crate::timeout::Timeout;
+use pfr_net::Timeout;
 
 /// What was seen of one end of a connection of UDP or another protocol.
 #[derive(Clone, Copy, Debug, PartialEq, Eq, Hash)]

@@ -1,13 +1,13 @@
 //! Laws of the definitions, each the contract of a function that does nothing.
 ghost use Rattle.std.specs.Prelude.{◌≡◌};
 ghost use Rattle.pfr_net.specs.declared.direction.Direction.{Direction};
+ghost use Rattle.pfr_net.specs.declared.timeout.Timeouts.{Timeouts};
 ghost use Rattle.pfr_headers.specs.declared.packet.Packet.{Packet};
 ghost use Rattle.pfr_track.specs.declared.key.Key.{Key};
 ghost use Rattle.pfr_track.specs.declared.state.State.{State};
 ghost use Rattle.pfr_track.specs.declared.state.StateNumber.{StateNumber};
 ghost use Rattle.pfr_track.specs.declared.state.StateRules.{StateRules};
 ghost use Rattle.pfr_track.specs.declared.time.Clock.{Clock};
-ghost use Rattle.pfr_track.specs.declared.timeout.Timeouts.{Timeouts};
 ghost use Rattle.pfr_track.specs.declared.outcome.Touch.TheVariants.{Touched, Removed};
 ghost use Rattle.pfr_track.specs.Laws.{HaveClosed, HaveMovedOn, IsLeftBy, IsNew, turned, turned_touch};
 ghost use Rattle.pfr_track.specs.Tracking.{made, touched};

@@ -8,9 +8,8 @@ use crate::peers::Peers;
 use crate::segment::{maker, unseen};
 use crate::state::{State, StateNumber, StateRules, Traffic};
 use crate::time::{Clock, Deadline};
-use crate::timeout::{Timeout, Timeouts};
 use pfr_headers::{Packet, Transport};
-use pfr_net::Direction;
+use pfr_net::{Direction, Timeout, Timeouts};
 
 /// What is known of both ends after the first packet of a connection, and its timeout.
 fn first_peers(transport: &Transport) -> (Peers, Timeout)

@@ -2,7 +2,7 @@
 use crate::peers::Peers;
 use crate::state::State;
 use crate::tcp::TcpPeer;
-use crate::timeout::Timeout;
+use pfr_net::Timeout;
 
 /// What a packet does to a state.
 #[derive(Clone, Copy)]

@@ -5,17 +5,12 @@ ghost use Rattle.pfr_track.specs.Tracking as spec;
 use crate::key::Key;
 use crate::peers::Peers;
 use crate::time::{Clock, Deadline};
-use crate::timeout::Timeout;
 use pfr_headers::Packet;
-use pfr_net::Direction;
+use pfr_net::{Direction, RuleNumber, Timeout};
 
 /// The number of a state: that of the packet that made it.
 #[derive(Clone, Copy, Debug, PartialEq, Eq, PartialOrd, Ord, Hash)]
 pub struct StateNumber(pub u64);
-
-/// The number of a rule as messages carry it.
-#[derive(Clone, Copy, Debug, PartialEq, Eq, PartialOrd, Ord, Hash)]
-pub struct RuleNumber(pub u32);
 
 /// The rules by which a state was made, and what they say of it.
 #[derive(Clone, Copy, PartialEq, Eq)]

@@ -3,7 +3,7 @@ ghost use Rattle.std.specs.Prelude.{◌≡◌, ◌≤◌};
 ghost use Rattle.pfr_track.specs.Tcp as spec;
 
 use crate::sequence::Sequence;
-use crate::timeout::Timeout;
+use pfr_net::Timeout;
 
 /// How far one end of a TCP connection has come, by what was seen of it. The states are in order: an end never goes back.
 /// They are pf's, which has RFC 9293's names and uses some of them alone.

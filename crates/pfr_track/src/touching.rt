@@ -10,9 +10,8 @@ use crate::segment::{Exchange, is_ack, is_syn};
 use crate::state::State;
 use crate::tcp::{TcpPeer, TcpPeerState, timeout_by};
 use crate::time::{Clock, Deadline};
-use crate::timeout::{Timeout, Timeouts};
 use pfr_headers::{IcmpMessage, Packet, TcpHeader, Transport};
-use pfr_net::Direction;
+use pfr_net::{Direction, Timeout, Timeouts};
 
 fn begins_anew(sender: &TcpPeer, receiver: &TcpPeer, header: &TcpHeader) -> bool
     ensures { result ≡ tcp.begins_anew sender.now receiver.now header.now }

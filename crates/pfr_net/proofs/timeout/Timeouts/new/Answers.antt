@@ -1,5 +1,5 @@
 use Rattle.std.proofs.Common.{rules}
-use Rattle.pfr_expand.proofs.timeouts.Timeouts.new.Goals as goal
+use Rattle.pfr_net.proofs.timeout.Timeouts.new.Goals as goal
 
 pub returns : goal.returns
 returns c = search rules

@@ -1,6 +1,6 @@
 //! Timeouts.
 ghost use Rattle.std.specs.Prelude.{◌≡◌, ◌<◌};
-ghost use Rattle.pfr_track.specs.Timeouts as spec;
+ghost use Rattle.pfr_net.specs.Timeouts as spec;
 
 /// How long a state waits for the next packet, by what has been seen of its connection (pf.conf(5), "timeout").
 #[derive(Clone, Copy, Debug, PartialEq, Eq, Hash)]
@@ -61,6 +61,12 @@ impl Timeout {
     }
 }
 
+/// The seconds of each timeout where nothing is set, by its code: those of TCP, UDP, ICMP and other protocols in the
+/// order of pf.conf(5).
+pub const DEFAULT_SECONDS: [u32; 14] = [
+    120, 30, 86400, 900, 45, 90, 60, 30, 60, 20, 10, 60, 30, 60,
+];
+
 /// The seconds of each timeout, by its code.
 #[derive(Clone, Copy)]
 pub struct Timeouts {
@@ -68,6 +74,22 @@ pub struct Timeouts {
 }
 
 impl Timeouts {
+    /// The seconds where nothing is set.
+    pub fn new() -> Timeouts
+        ensures { result ≡ spec.default_timeouts }
+    {
+        Timeouts {
+            seconds: DEFAULT_SECONDS,
+        }
+    }
+
+    /// Sets the seconds of a timeout.
+    pub fn set(&mut self, timeout: Timeout, seconds: u32)
+        ensures { self.new ≡ spec.with_timeout timeout seconds self.old }
+    {
+        self.seconds[usize::from(timeout.code())] = seconds;
+    }
+
     /// The seconds of a timeout.
     #[inline]
     pub fn of(&self, timeout: Timeout) -> u32
