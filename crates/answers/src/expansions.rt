@@ -17,7 +17,8 @@ use crate::expansions::translations::put_translations;
 use crate::given::Given;
 use crate::printing::{put_fault, word_if};
 use pfr_conf::Statements;
-use pfr_expand::{AddressTable, Interface, Ruleset, expand};
+use pfr_expand::expand;
+use pfr_ruleset::{AddressTable, Interface, Ruleset};
 use std::alloc::{AllocError, Global};
 
 fn put_table(

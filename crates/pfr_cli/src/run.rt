@@ -4,7 +4,7 @@ use crate::files::ruleset_text;
 use crate::replaying::replay;
 use crate::summary::Summary;
 use crate::words::{Asked, parse};
-use pfr_expand::Interface;
+use pfr_ruleset::Interface;
 use std::io::Write;
 use std::rt::Files;
 

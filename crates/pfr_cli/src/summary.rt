@@ -1,7 +1,7 @@
 //! What `pfreplay check` says of a ruleset.
-use pfr_expand::Interface;
 use pfr_out::ConfError;
 use pfr_packet::ruleset_of;
+use pfr_ruleset::Interface;
 use pfr_sync::checksum;
 use std::alloc::{AllocError, Global};
 use std::fmt;

@@ -4,8 +4,8 @@ ghost use Rattle.std.specs.Char.{digit_value};
 ghost use Rattle.pfr_cli.specs.Seeds.{byte_at};
 
 use crate::failure::Failure;
-use pfr_expand::{IfName, Interface};
 use pfr_net::Net;
+use pfr_ruleset::{IfName, Interface};
 use std::alloc::{AllocError, Global};
 
 /// The form of the value behind `--interface`.

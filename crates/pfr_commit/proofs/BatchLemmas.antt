@@ -2,10 +2,10 @@
 use Rattle.std.proofs.Common.{◌≡◌, ◌<◌, ◌+◌, ℕ, suc, List, [], ◌∷◌, ◌++◌, length, map, take, get_or, Option, subst, refl, arith}
 use Rattle.std.specs.List.{find}
 use Rattle.std.proofs.Math.Seq.{take-suc}
-use Rattle.pfr_capture.specs.declared.capture.Record.{Record}
 use Rattle.pfr_headers.specs.declared.packet.View.{View}
 use Rattle.pfr_packet.specs.Job.{RunJob}
 use Rattle.pfr_record.specs.declared.speculation.Speculation.{Speculation}
+use Rattle.pfr_capture.specs.declared.capture.Record.{Record}
 use Rattle.pfr_commit.specs.Books.{Holds, IsUsed, RisesOver, RisesUnless}
 use Rattle.pfr_commit.specs.Emissions.{frame_of}
 use Rattle.pfr_commit.specs.Results.{is_of}

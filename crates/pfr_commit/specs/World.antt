@@ -1,9 +1,9 @@
 -- What a run has come to: the fold of its packets in the order of the capture, one after the other.
 use Rattle.std.specs.Prelude.{ℕ, ◌+◌, max, if◌then◌else◌, List, [], ◌++◌, Option, Some, None, fold}
+use Rattle.pfr_ruleset.specs.Rulesets.{counts}
 use Rattle.pfr_headers.specs.declared.change.Change.{Change}
 use Rattle.pfr_headers.specs.Rewriting.{rewritten}
 use Rattle.pfr_headers.specs.View.{view_of}
-use Rattle.pfr_expand.specs.Rulesets.{counts}
 use Rattle.pfr_track.specs.declared.time.Clock.{Clock}
 use Rattle.pfr_states.specs.declared.change.TableChange.{TableChange}
 use Rattle.pfr_states.specs.States.{StateTable, empty, with_change}

@@ -1,7 +1,7 @@
 //! Laws of the definition of a run, each the contract of a function that does nothing.
 ghost use Rattle.std.specs.Prelude.{◌≡◌, ◌≤◌, ◌<◌, ◌+◌, ◌^◌, ◌++◌, ◌∷◌, ℕ, List, get_or, length, map};
 ghost use Rattle.std.specs.List.{All, Any, Contains, count_by, flat_map, range_with_len, sum_by};
-ghost use Rattle.pfr_expand.specs.Rulesets.{counts};
+ghost use Rattle.pfr_ruleset.specs.Rulesets.{counts};
 ghost use Rattle.pfr_track.specs.declared.state.State.{State};
 ghost use Rattle.pfr_states.specs.States.{IsTable};
 ghost use Rattle.pfr_packet.specs.declared.verdict.Verdict.{Verdict};

@@ -1,13 +1,13 @@
 -- The readers of options and filter rules have their faults on lines of the text.
 use Rattle.std.proofs.Common.{ℕ, Bool, List, Option, Some, None, Err}
+use Rattle.pfr_ruleset.specs.declared.policy.BlockPolicy.{BlockPolicy}
+use Rattle.pfr_ruleset.specs.declared.policy.Binding.{Binding}
 use Rattle.pfr_terms.specs.declared.error.ConfError.{ConfError}
 use Rattle.pfr_terms.specs.declared.name.Name.{Name}
 use Rattle.pfr_terms.specs.declared.name.MacroUse.{MacroUse}
 use Rattle.pfr_terms.specs.Input.{Input, Parser, plain_ahead, quoted_ahead, macro_ahead}
 use Rattle.pfr_terms.proofs.Lines.{IsLine, Within, Keeps, either, refusal_is, fault_is, left_out_is, keeps_then, keeps_pure, keeps_if, keeps_test, keeps_by, keeps_loop, keeps_eat_word, keeps_number_in, reading}
 use Rattle.pfr_terms.proofs.TermLines.{keeps_written, keeps_list, keeps_interface_name, keeps_icmp_match, keeps_flags_match, keeps_criteria}
-use Rattle.pfr_conf.specs.declared.policy.BlockPolicy.{BlockPolicy}
-use Rattle.pfr_conf.specs.declared.policy.Binding.{Binding}
 use Rattle.pfr_conf.specs.declared.settings.TimeoutName.{TimeoutName}
 use Rattle.pfr_conf.specs.declared.settings.Limit.{Limit}
 use Rattle.pfr_conf.specs.declared.options.OptionWord.{OptionWord}

@@ -1,6 +1,8 @@
 -- The readers of options and filter rules read the same where lines stand behind what they read.
 use Rattle.std.proofs.Common.{ℕ, suc, Bool, true, false, if◌then◌else◌, not, List, Option, Some, None, Err, codes, refl}
 use Rattle.pfr_net.specs.declared.direction.Direction.{Direction}
+use Rattle.pfr_ruleset.specs.declared.policy.BlockPolicy.{BlockPolicy}
+use Rattle.pfr_ruleset.specs.declared.policy.Binding.{Binding}
 use Rattle.pfr_words.specs.declared.sign.Sign.TheVariants as s
 use Rattle.pfr_terms.specs.declared.name.Name.{Name}
 use Rattle.pfr_terms.specs.declared.name.Written.{Written}
@@ -10,8 +12,6 @@ use Rattle.pfr_terms.specs.Input.{Parser, ◌>>=◌, plain_ahead, quoted_ahead, 
 use Rattle.pfr_terms.proofs.Stays.{Stays, Sight, stays_pure, stays_pure_told, stays_then, stays_first, stays_turn, stays_told, stays_told_so, stays_found, stays_if, stays_any, stays_by, stays_at, stays_test, stays_fault, stays_loop, stays_eat_word, stays_eat_word_so, stays_eat_sign, stays_named, stays_taken, stays_refuse, stays_faulty, stays_leave_out, stays_expect_word, stays_number_in, plain_sight, plain_shows, quoted_sight, quoted_shows, macro_sight, macro_shows, refusal_sight, left_out_sight, word_sight, sees_sight, named_sight, named_shows}
 use Rattle.pfr_terms.proofs.TermStays.{stays_written, stays_list, stays_interface_name, stays_icmp_match, stays_flags_match, stays_criteria}
 use Rattle.pfr_conf.specs.declared.options.SetOption.TheVariants as o
-use Rattle.pfr_conf.specs.declared.policy.BlockPolicy.{BlockPolicy}
-use Rattle.pfr_conf.specs.declared.policy.Binding.{Binding}
 use Rattle.pfr_conf.specs.declared.settings.TimeoutName.{TimeoutName}
 use Rattle.pfr_conf.specs.declared.settings.TimeoutSetting.{TimeoutSetting}
 use Rattle.pfr_conf.specs.declared.settings.Limit.{Limit}

@@ -1,6 +1,8 @@
 -- Options: what may stand behind `set`.
 use Rattle.std.specs.Prelude.{ℕ, ◌+◌, ◌-◌, ◌*◌, ◌==◌, ◌&&◌, not, min, nat_le, if◌then◌else◌, List, [], ◌∷◌, ◌++◌, map, length, drop, slice_index, Option, Some, None, Err, codes}
 use Rattle.pfr_net.specs.Notation.{number}
+use Rattle.pfr_ruleset.specs.declared.policy.BlockPolicy.{BlockPolicy}
+use Rattle.pfr_ruleset.specs.declared.policy.Binding.{Binding}
 use Rattle.pfr_words.specs.Names.{entry_of}
 use Rattle.pfr_terms.specs.declared.error.ConfError.{ConfError}
 use Rattle.pfr_terms.specs.declared.error.ConfErrorKind.TheVariants.{LeftOut, BadNumber}
@@ -11,8 +13,6 @@ use Rattle.pfr_terms.specs.declared.name.Written.TheVariants as w
 use Rattle.pfr_terms.specs.Input.{Input, Parser, ◌>>=◌, pure, refuse, faulty, fault, taken, named, plain_ahead, quoted_ahead, macro_ahead, eat_word, expect_word}
 use Rattle.pfr_terms.specs.Lists.{written, list}
 use Rattle.pfr_terms.specs.Terms.{interface_name}
-use Rattle.pfr_conf.specs.declared.policy.BlockPolicy.{BlockPolicy}
-use Rattle.pfr_conf.specs.declared.policy.Binding.{Binding}
 use Rattle.pfr_conf.specs.declared.options.SetOption.{SetOption}
 use Rattle.pfr_conf.specs.declared.options.SetOption.TheVariants as o
 use Rattle.pfr_conf.specs.declared.options.OptionWord.{OptionWord}

@@ -2,11 +2,11 @@
 use Rattle.std.specs.Prelude.{if◌then◌else◌, Option, Some, None, codes}
 use Rattle.pfr_net.specs.declared.direction.Direction.{Direction}
 use Rattle.pfr_net.specs.declared.direction.Direction.TheVariants.{In, Out}
+use Rattle.pfr_ruleset.specs.declared.policy.BlockPolicy.{BlockPolicy}
+use Rattle.pfr_ruleset.specs.declared.policy.BlockPolicy.TheVariants as policy
+use Rattle.pfr_ruleset.specs.declared.policy.Binding.{Binding}
+use Rattle.pfr_ruleset.specs.declared.policy.Binding.TheVariants.{IfBound, Floating}
 use Rattle.pfr_terms.specs.Input.{Parser, ◌>>=◌, pure, refuse, taken, at_line_end, eat_word}
-use Rattle.pfr_conf.specs.declared.policy.BlockPolicy.{BlockPolicy}
-use Rattle.pfr_conf.specs.declared.policy.BlockPolicy.TheVariants as policy
-use Rattle.pfr_conf.specs.declared.policy.Binding.{Binding}
-use Rattle.pfr_conf.specs.declared.policy.Binding.TheVariants.{IfBound, Floating}
 
 unfoldable pub direction : Parser (Option Direction)
 direction = do

@@ -1,11 +1,11 @@
 -- What may stand behind the hosts of a filter rule.
 use Rattle.std.specs.Prelude.{ℕ, Bool, true, false, not, if◌then◌else◌, List, Option, Some, None, Err, codes}
 use Rattle.std.specs.Option.{is_none, is_some}
+use Rattle.pfr_ruleset.specs.declared.policy.Binding.{Binding}
 use Rattle.pfr_words.specs.declared.sign.Sign.TheVariants as s
 use Rattle.pfr_terms.specs.Input.{Parser, ◌>>=◌, pure, loop, eat_word, eat_sign, expect_word}
 use Rattle.pfr_terms.specs.Lists.{written, list}
 use Rattle.pfr_terms.specs.Terms.{flags_match, icmp_match}
-use Rattle.pfr_conf.specs.declared.policy.Binding.{Binding}
 use Rattle.pfr_conf.specs.declared.rule_options.StateOptions.{StateOptions}
 use Rattle.pfr_conf.specs.declared.rule_options.StateKeeping.{StateKeeping}
 use Rattle.pfr_conf.specs.declared.rule_options.StateKeeping.TheVariants.{No, Keep}

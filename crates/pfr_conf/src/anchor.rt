@@ -7,10 +7,11 @@ ghost use Rattle.pfr_conf.specs.Statements.{ReadsOnto};
 use crate::filter::{Action, FilterRule, action_ahead, rule_behind};
 use crate::name::name_ahead;
 use crate::policy::{direction_ahead, end_of_line};
+use pfr_items::Items;
 use pfr_net::Direction;
 use pfr_terms::hosts::packet_criteria;
 use pfr_terms::{ConfError, ConfErrorKind, Criteria, Name, Reader};
-use pfr_words::{Items, Sign};
+use pfr_words::Sign;
 use std::alloc::Global;
 
 /// How deep anchors may stand in one another.

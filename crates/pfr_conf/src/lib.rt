@@ -23,14 +23,16 @@ pub use anchor::{AnchorRule, FilterStatement};
 pub use filter::{Action, FilterRule};
 pub use macros::{MacroDefinition, Piece};
 pub use options::SetOption;
+pub use pfr_items::Items;
 pub use pfr_net::{Direction, Ipv4Address, Net, Protocol};
-pub use pfr_terms::{
-    Address, AddressMatch, Comparison, ConfError, ConfErrorKind, Criteria, FlagSet, FlagsMatch,
-    Host, Hosts, IcmpMatch, InterfaceMatch, InterfaceName, LeftOutName, MacroUse, Name, Part,
-    PortMatch, RangeOperator, TableEntry, Written,
+pub use pfr_ruleset::{
+    Binding, BlockPolicy, Comparison, FlagSet, IcmpMatch, PortMatch, RangeOperator,
 };
-pub use pfr_words::{Bytes, Items};
-pub use policy::{Binding, BlockPolicy};
+pub use pfr_terms::{
+    Address, AddressMatch, ConfError, ConfErrorKind, Criteria, FlagsMatch, Host, Hosts,
+    InterfaceMatch, InterfaceName, LeftOutName, MacroUse, Name, Part, TableEntry, Written,
+};
+pub use pfr_words::Bytes;
 pub use reading::read;
 pub use rule_options::{RuleOptions, StateKeeping, StateOptions};
 pub use settings::{Limit, LimitSetting, TimeoutName, TimeoutSetting};

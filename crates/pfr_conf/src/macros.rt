@@ -4,10 +4,11 @@ ghost use Rattle.pfr_terms.specs.Input.{Reads};
 ghost use Rattle.pfr_conf.specs.Macros as spec;
 ghost use Rattle.pfr_conf.specs.Statements.{ReadsOnto};
 
+use pfr_items::Items;
 use pfr_terms::lists::Item;
 use pfr_terms::{ConfError, ConfErrorKind, MacroUse, Name, Reader};
+use pfr_words::Sign;
 use pfr_words::names::is_name;
-use pfr_words::{Items, Sign};
 use std::alloc::Global;
 
 /// A part of a macro's value.

@@ -3,15 +3,15 @@ ghost use Rattle.std.specs.Prelude.{◌≡◌, ◌≤◌, ◌++◌, codes, IfOk,
 ghost use Rattle.pfr_terms.specs.Input.{Reads, Refuses};
 ghost use Rattle.pfr_conf.specs.Options as spec;
 
-use crate::policy::{Binding, BlockPolicy, binding_ahead, block_policy_ahead};
+use crate::policy::{binding_ahead, block_policy_ahead};
 use crate::settings::{LimitSetting, TimeoutSetting};
+use pfr_items::Items;
 use pfr_net::notation::{TOO_LARGE, number};
+use pfr_ruleset::{Binding, BlockPolicy};
 use pfr_terms::lists::{Item, list};
-use pfr_terms::{
-    ConfError, ConfErrorKind, InterfaceName, LeftOutName, MacroUse, Name, Reader, Written,
-};
+use pfr_terms::{ConfError, ConfErrorKind, InterfaceName, LeftOutName, Name, Reader, Written};
+use pfr_words::Bytes;
 use pfr_words::names::entry_of;
-use pfr_words::{Bytes, Items};
 use std::alloc::{AllocError, Global};
 
 /// An option.

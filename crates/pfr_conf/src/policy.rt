@@ -4,22 +4,9 @@ ghost use Rattle.pfr_terms.specs.Input.{Reads};
 ghost use Rattle.pfr_conf.specs.Policies as spec;
 
 use pfr_net::Direction;
+use pfr_ruleset::{Binding, BlockPolicy};
 use pfr_terms::{ConfError, Reader};
 use std::alloc::Global;
-
-/// What becomes of a blocked packet: dropped, or answered.
-#[derive(Clone, Copy)]
-pub enum BlockPolicy {
-    Drop,
-    Return,
-}
-
-/// On which interfaces a state's packets may come.
-#[derive(Clone, Copy)]
-pub enum Binding {
-    IfBound,
-    Floating,
-}
 
 /// `in` or `out`, if one comes next.
 #[tactic(auto, unfolding(crate::specs::Policies::direction))]

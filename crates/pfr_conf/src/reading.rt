@@ -5,9 +5,10 @@ ghost use Rattle.pfr_conf.specs.Statements as spec;
 
 use crate::policy::end_of_line;
 use crate::statement::{Section, Statement, Statements, any_statement};
+use pfr_items::Items;
 use pfr_terms::{ConfError, Reader};
+use pfr_words::Word;
 use pfr_words::spelling::words;
-use pfr_words::{Items, Word};
 use std::alloc::Global;
 
 /// All statements that the words make, one to a line.

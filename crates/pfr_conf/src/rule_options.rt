@@ -5,12 +5,14 @@ ghost use Rattle.pfr_conf.specs.RuleOptions as spec;
 ghost use Rattle.pfr_conf.specs.Statements.{ReadsOnto};
 
 use crate::name::some_name;
-use crate::policy::{Binding, binding_ahead};
+use crate::policy::binding_ahead;
 use crate::settings::timeout_refusal;
+use pfr_items::Items;
+use pfr_ruleset::{Binding, IcmpMatch};
 use pfr_terms::flags::flags_match;
 use pfr_terms::lists::list;
-use pfr_terms::{ConfError, FlagsMatch, IcmpMatch, Name, Reader, Written};
-use pfr_words::{Items, Sign};
+use pfr_terms::{ConfError, FlagsMatch, Name, Reader, Written};
+use pfr_words::Sign;
 use std::alloc::Global;
 
 /// What is written of a state in round brackets.

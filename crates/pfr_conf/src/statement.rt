@@ -9,9 +9,10 @@ use crate::macros::{MacroDefinition, definition as macro_definition};
 use crate::options::{SetOption, option_behind_set};
 use crate::table::{TableDefinition, definition as table_definition};
 use crate::translation::TranslationStatement;
+use pfr_items::Items;
 use pfr_terms::{ConfError, ConfErrorKind, Reader};
+use pfr_words::Bytes;
 use pfr_words::names::is_among;
-use pfr_words::{Bytes, Items};
 use std::alloc::Global;
 
 /// A statement of a ruleset.

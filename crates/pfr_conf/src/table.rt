@@ -3,10 +3,11 @@ ghost use Rattle.std.specs.Prelude.{◌≡◌, Ok, codes};
 ghost use Rattle.pfr_terms.specs.Input.{Reads};
 ghost use Rattle.pfr_conf.specs.Tables as spec;
 
+use pfr_items::Items;
 use pfr_terms::address::table_name;
 use pfr_terms::lists::members;
 use pfr_terms::{ConfError, Name, Reader, TableEntry};
-use pfr_words::{Items, Sign};
+use pfr_words::Sign;
 use std::alloc::Global;
 
 /// A table of addresses: its name, its line and its entries in the order in which they are written. The flags

@@ -5,11 +5,12 @@ ghost use Rattle.pfr_conf.specs.Targets as spec;
 
 use crate::translation::TranslationKind;
 use pfr_net::notation::cut;
+use pfr_ruleset::PortMatch;
 use pfr_terms::error::left_out_at;
 use pfr_terms::lists::Item;
 use pfr_terms::port::{PortWord, port_or_range, port_word};
 use pfr_terms::reader::is_free;
-use pfr_terms::{ConfError, ConfErrorKind, Host, PortMatch, Reader, Written};
+use pfr_terms::{ConfError, ConfErrorKind, Host, Reader, Written};
 use pfr_words::Sign;
 use std::alloc::Global;
 

@@ -6,12 +6,13 @@ ghost use Rattle.pfr_conf.specs.Translations as spec;
 use crate::filter::logged;
 use crate::name::some_name;
 use crate::targets::{Target, single_host, target_of};
+use pfr_items::Items;
 use pfr_terms::hosts::{interfaces, packet_criteria, part_behind, ports, protocols};
 use pfr_terms::{
     Address, AddressMatch, ConfError, Criteria, Host, Hosts, Name, Part, Reader, Written,
 };
 use pfr_words::names::entry_of;
-use pfr_words::{Bytes, Items, Sign};
+use pfr_words::{Bytes, Sign};
 use std::alloc::{AllocError, Global};
 
 /// The three kinds of translation.

@@ -3,11 +3,11 @@ use Rattle.std.specs.Prelude.{ℕ, ◌==◌, ◌&&◌, ◌||◌, Bool, true, fal
 use Rattle.std.specs.List.{slice_get, list_any, list_all}
 use Rattle.pfr_net.specs.declared.network.Net.{Net}
 use Rattle.pfr_net.specs.Networks as networks
-use Rattle.pfr_tables.specs.declared.table.Entry.{Entry}
-use Rattle.pfr_tables.specs.Tables.{bits_of, holds}
-use Rattle.pfr_elements.specs.declared.hosts.HostSet.{HostSet}
-use Rattle.pfr_elements.specs.declared.hosts.HostSet.TheVariants as set
-use Rattle.pfr_elements.specs.declared.hosts.HostCriterion.{HostCriterion}
+use Rattle.pfr_ruleset.specs.declared.table.Entry.{Entry}
+use Rattle.pfr_ruleset.specs.Tables.{bits_of, holds}
+use Rattle.pfr_ruleset.specs.declared.hosts.HostSet.{HostSet}
+use Rattle.pfr_ruleset.specs.declared.hosts.HostSet.TheVariants as set
+use Rattle.pfr_ruleset.specs.declared.hosts.HostCriterion.{HostCriterion}
 
 -- an entry with no `!` holds the address, and none that holds it is longer
 abbrev pub is_longest : List Entry → ℕ → Entry → Bool

@@ -4,13 +4,13 @@ use Rattle.std.specs.Str.{bytes_eq}
 use Rattle.pfr_net.specs.declared.direction.Direction.{Direction}
 use Rattle.pfr_net.specs.declared.direction.Direction.TheVariants as d
 use Rattle.pfr_net.specs.declared.protocol.Protocol.{Protocol}
+use Rattle.pfr_ruleset.specs.declared.table.Entry.{Entry}
+use Rattle.pfr_ruleset.specs.declared.interface.IfName.{IfName}
+use Rattle.pfr_ruleset.specs.declared.interface.InterfaceCriterion.{InterfaceCriterion}
+use Rattle.pfr_ruleset.specs.declared.flat.PacketMatch.{PacketMatch}
+use Rattle.pfr_ruleset.specs.declared.flat.FlatRule.{FlatRule}
+use Rattle.pfr_ruleset.specs.declared.flat.FlatAnchor.{FlatAnchor}
 use Rattle.pfr_headers.specs.declared.packet.Packet.{Packet}
-use Rattle.pfr_tables.specs.declared.table.Entry.{Entry}
-use Rattle.pfr_elements.specs.declared.interface.IfName.{IfName}
-use Rattle.pfr_elements.specs.declared.terms.InterfaceCriterion.{InterfaceCriterion}
-use Rattle.pfr_flat.specs.declared.flat.PacketMatch.{PacketMatch}
-use Rattle.pfr_flat.specs.declared.flat.FlatRule.{FlatRule}
-use Rattle.pfr_flat.specs.declared.flat.FlatAnchor.{FlatAnchor}
 use Rattle.pfr_criteria.specs.Hosts.{host_holds}
 use Rattle.pfr_criteria.specs.Transports.{port_asked, source_port, destination_port, flags_hold, icmp_holds}
 

@@ -1,19 +1,19 @@
 -- What is asked of a packet's transport header: ports, TCP flags and ICMP types (pf.conf(5), "Parameters").
 use Rattle.std.specs.Prelude.{ℕ, ◌==◌, ◌&&◌, ◌||◌, Bool, true, false, not, nat_lt, nat_le, Option, Some, None}
 use Rattle.std.specs.Int.RustNames.{bit_and}
+use Rattle.pfr_ruleset.specs.declared.port.PortMatch.{PortMatch}
+use Rattle.pfr_ruleset.specs.declared.port.PortMatch.TheVariants as port
+use Rattle.pfr_ruleset.specs.declared.port.Comparison.{Comparison}
+use Rattle.pfr_ruleset.specs.declared.port.Comparison.TheVariants as c
+use Rattle.pfr_ruleset.specs.declared.port.RangeOperator.{RangeOperator}
+use Rattle.pfr_ruleset.specs.declared.port.RangeOperator.TheVariants as r
+use Rattle.pfr_ruleset.specs.declared.icmp.IcmpMatch.{IcmpMatch}
+use Rattle.pfr_ruleset.specs.declared.flat.FlagsCriterion.{FlagsCriterion}
+use Rattle.pfr_ruleset.specs.declared.flat.FlagsCriterion.TheVariants as asked
 use Rattle.pfr_headers.specs.declared.transport.Transport.{Transport}
 use Rattle.pfr_headers.specs.declared.transport.Transport.TheVariants as t
 use Rattle.pfr_headers.specs.declared.tcp.TcpFlags.{TcpFlags}
 use Rattle.pfr_headers.specs.declared.icmp.IcmpHeader.{IcmpHeader}
-use Rattle.pfr_terms.specs.declared.port.PortMatch.{PortMatch}
-use Rattle.pfr_terms.specs.declared.port.PortMatch.TheVariants as port
-use Rattle.pfr_terms.specs.declared.port.Comparison.{Comparison}
-use Rattle.pfr_terms.specs.declared.port.Comparison.TheVariants as c
-use Rattle.pfr_terms.specs.declared.port.RangeOperator.{RangeOperator}
-use Rattle.pfr_terms.specs.declared.port.RangeOperator.TheVariants as r
-use Rattle.pfr_terms.specs.declared.protocol.IcmpMatch.{IcmpMatch}
-use Rattle.pfr_flat.specs.declared.flat.FlagsCriterion.{FlagsCriterion}
-use Rattle.pfr_flat.specs.declared.flat.FlagsCriterion.TheVariants as asked
 
 -- ---- ports
 

@@ -3,9 +3,8 @@ ghost use Rattle.std.specs.Prelude.{◌≡◌, ◌≤◌};
 ghost use Rattle.std.specs.Option.{option_copied};
 ghost use Rattle.pfr_criteria.specs.Hosts as spec;
 
-use pfr_elements::{HostCriterion, HostSet};
 use pfr_net::Ipv4Address;
-use pfr_tables::AddressTable;
+use pfr_ruleset::{AddressTable, HostCriterion, HostSet};
 
 /// Whether a table holds an address.
 fn has(table: &AddressTable, address: Ipv4Address) -> bool

@@ -4,11 +4,9 @@ ghost use Rattle.pfr_criteria.specs.Packets as spec;
 
 use crate::hosts::host_holds;
 use crate::transports::{destination_port_holds, flags_hold, icmp_holds, source_port_holds};
-use pfr_elements::{IfName, InterfaceCriterion};
-use pfr_flat::{FlatAnchor, FlatRule, PacketMatch};
 use pfr_headers::Packet;
 use pfr_net::{Direction, Protocol};
-use pfr_tables::AddressTable;
+use pfr_ruleset::{AddressTable, FlatAnchor, FlatRule, IfName, InterfaceCriterion, PacketMatch};
 
 fn direction_holds(written: Option<Direction>, direction: Direction) -> bool
     ensures { result ≡ spec.direction_holds written direction }

@@ -3,11 +3,8 @@ ghost use Rattle.std.specs.Prelude.{◌≡◌, ◌<◌, ◌≤◌};
 ghost use Rattle.std.specs.Option.{option_map};
 ghost use Rattle.pfr_criteria.specs.Transports as spec;
 
-use pfr_flat::FlagsCriterion;
 use pfr_headers::Transport;
-use pfr_net::Port;
-use pfr_terms::port::RangeOperator;
-use pfr_terms::{Comparison, IcmpMatch, PortMatch};
+use pfr_ruleset::{Comparison, FlagsCriterion, IcmpMatch, PortMatch, RangeOperator};
 
 /// How a port compares with one that is written.
 fn compares(comparison: Comparison, port: u16, written: u16) -> bool

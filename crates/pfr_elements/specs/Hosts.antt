@@ -1,6 +1,11 @@
 -- What addresses mean in a list: interface forms by the run's interface, tables by their places.
 use Rattle.std.specs.Prelude.{ℕ, ◌+◌, min, nat_lt, if◌then◌else◌, Bool, true, false, List, Option, Some, None, Result, Ok, Err, codes}
 use Rattle.pfr_net.specs.declared.network.Net.{Net}
+use Rattle.pfr_ruleset.specs.declared.table.Entry.{Entry}
+use Rattle.pfr_ruleset.specs.declared.interface.Interface.{Interface}
+use Rattle.pfr_ruleset.specs.declared.hosts.HostSet.{HostSet}
+use Rattle.pfr_ruleset.specs.declared.hosts.HostSet.TheVariants as set
+use Rattle.pfr_ruleset.specs.declared.hosts.HostCriterion.{HostCriterion}
 use Rattle.pfr_words.specs.Words.{words}
 use Rattle.pfr_words.specs.declared.word.Word.{Word}
 use Rattle.pfr_terms.specs.declared.error.ConfError.{ConfError}
@@ -15,11 +20,6 @@ use Rattle.pfr_terms.specs.declared.address.Address.TheVariants as a
 use Rattle.pfr_terms.specs.declared.address.AddressMatch.{AddressMatch}
 use Rattle.pfr_terms.specs.declared.address.TableEntry.{TableEntry}
 use Rattle.pfr_terms.specs.Input.{Parser, ◌>>=◌, pure, unknown_word, left_out_at, free_word, finish, of_value}
-use Rattle.pfr_tables.specs.declared.table.Entry.{Entry}
-use Rattle.pfr_elements.specs.declared.interface.Interface.{Interface}
-use Rattle.pfr_elements.specs.declared.hosts.HostSet.{HostSet}
-use Rattle.pfr_elements.specs.declared.hosts.HostSet.TheVariants as set
-use Rattle.pfr_elements.specs.declared.hosts.HostCriterion.{HostCriterion}
 use Rattle.pfr_elements.specs.declared.scope.Scope.{Scope}
 use Rattle.pfr_elements.specs.declared.definition.ListMeaning.{ListMeaning}
 use Rattle.pfr_elements.specs.declared.definition.ListMeanings.{ListMeanings}

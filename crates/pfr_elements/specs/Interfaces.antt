@@ -1,16 +1,11 @@
--- Interfaces, as pf.conf(5) has them.
-use Rattle.std.specs.Prelude.{ℕ, ◌-◌, ◌&&◌, ◌||◌, Bool, min, nat_le, if◌then◌else◌, List, [], ◌++◌, length, take, drop, codes, Option, Some, None}
-use lib.ListN.{replicate}
+-- Forms of interfaces, as pf.conf(5) has them.
+use Rattle.std.specs.Prelude.{ℕ, ◌-◌, ◌&&◌, ◌||◌, Bool, nat_le, if◌then◌else◌, List, length, take, drop, codes, Option, Some, None}
 use Rattle.std.specs.Str.{bytes_eq}
 use Rattle.pfr_net.specs.declared.address.Ipv4Address.{Ipv4Address}
 use Rattle.pfr_net.specs.declared.network.Net.{Net}
 use Rattle.pfr_net.specs.Networks.{prefix}
-use Rattle.pfr_elements.specs.declared.interface.IfName.{IfName}
-use Rattle.pfr_elements.specs.declared.interface.Interface.{Interface}
-
--- a name of at most 15 bytes, with zeros behind it
-unfoldable pub if_name : List ℕ → IfName
-if_name name = let len = min (length name) 15 in record { bytes = take len name ++ replicate (16 - len) 0 }
+use Rattle.pfr_ruleset.specs.Interfaces.{if_name}
+use Rattle.pfr_ruleset.specs.declared.interface.Interface.{Interface}
 
 -- one address
 abbrev pub whole : Ipv4Address → Net

@@ -3,6 +3,9 @@
 use Rattle.std.specs.Prelude.{ℕ, ◌&&◌, ◌||◌, Bool, true, false, nat_lt, if◌then◌else◌, List, [], ◌∷◌, Option, None, Result, Ok, Err, codes}
 use Rattle.pfr_net.specs.declared.address.Ipv4Address.{Ipv4Address}
 use Rattle.pfr_net.specs.declared.network.Net.{Net}
+use Rattle.pfr_ruleset.specs.declared.hosts.HostSet.{HostSet}
+use Rattle.pfr_ruleset.specs.declared.hosts.HostSet.TheVariants as set
+use Rattle.pfr_ruleset.specs.declared.hosts.HostCriterion.{HostCriterion}
 use Rattle.pfr_words.specs.declared.sign.Sign.TheVariants as s
 use Rattle.pfr_words.specs.Words.{words}
 use Rattle.pfr_words.specs.declared.word.Word.{Word}
@@ -18,9 +21,6 @@ use Rattle.pfr_terms.specs.declared.address.Address.TheVariants as a
 use Rattle.pfr_terms.specs.declared.address.AddressMatch.{AddressMatch}
 use Rattle.pfr_terms.specs.Input.{Parser, ◌>>=◌, pure, note, finish, line_ahead, sees_sign, of_value, unknown_word, left_out_at}
 use Rattle.pfr_terms.specs.Addresses as addresses
-use Rattle.pfr_elements.specs.declared.hosts.HostSet.{HostSet}
-use Rattle.pfr_elements.specs.declared.hosts.HostSet.TheVariants as set
-use Rattle.pfr_elements.specs.declared.hosts.HostCriterion.{HostCriterion}
 use Rattle.pfr_elements.specs.declared.element.Elements as E
 use Rattle.pfr_elements.specs.declared.scope.Scope.{Scope}
 use Rattle.pfr_elements.specs.declared.definition.Meanings.{Meanings}

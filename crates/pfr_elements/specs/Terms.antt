@@ -1,21 +1,21 @@
 -- What interfaces, protocols, ports and ICMP types mean in a list.
 use Rattle.std.specs.Prelude.{ℕ, Bool, true, false, Option, Some, None, Result, Ok, Err}
 use Rattle.pfr_net.specs.declared.protocol.Protocol.{Protocol}
+use Rattle.pfr_ruleset.specs.declared.icmp.IcmpMatch.{IcmpMatch}
+use Rattle.pfr_ruleset.specs.declared.port.PortMatch.{PortMatch}
+use Rattle.pfr_ruleset.specs.declared.interface.IfName.{IfName}
+use Rattle.pfr_ruleset.specs.declared.interface.InterfaceCriterion.{InterfaceCriterion}
+use Rattle.pfr_ruleset.specs.Interfaces.{if_name}
 use Rattle.pfr_terms.specs.declared.error.ConfError.{ConfError}
 use Rattle.pfr_terms.specs.declared.name.MacroUse.{MacroUse}
 use Rattle.pfr_terms.specs.declared.name.Written.{Written}
 use Rattle.pfr_terms.specs.declared.name.Written.TheVariants as w
 use Rattle.pfr_terms.specs.declared.interface.InterfaceName.{InterfaceName}
 use Rattle.pfr_terms.specs.declared.interface.InterfaceMatch.{InterfaceMatch}
-use Rattle.pfr_terms.specs.declared.protocol.IcmpMatch.{IcmpMatch}
-use Rattle.pfr_terms.specs.declared.port.PortMatch.{PortMatch}
 use Rattle.pfr_terms.specs.Input.{unknown_word}
 use Rattle.pfr_elements.specs.declared.definition.ListMeaning.{ListMeaning}
 use Rattle.pfr_elements.specs.declared.definition.ListMeanings.{ListMeanings}
-use Rattle.pfr_elements.specs.declared.interface.IfName.{IfName}
-use Rattle.pfr_elements.specs.declared.terms.InterfaceCriterion.{InterfaceCriterion}
 use Rattle.pfr_elements.specs.declared.scope.Scope.{Scope}
-use Rattle.pfr_elements.specs.Interfaces.{if_name}
 
 abbrev pub use_in : {A : Type 0} → Written A → Option MacroUse
 use_in (w.Macro found) = Some found

@@ -1,13 +1,10 @@
 //! What macros are defined as: what a value means is read once, where it is defined.
 ghost use Rattle.std.specs.Prelude.{◌≡◌};
 
-use crate::hosts::HostCriterion;
-use crate::interface::IfName;
-use crate::terms::InterfaceCriterion;
+use pfr_items::Items;
 use pfr_net::{Ipv4Address, Net, Protocol};
-use pfr_tables::Entry;
-use pfr_terms::{ConfError, IcmpMatch, PortMatch};
-use pfr_words::Items;
+use pfr_ruleset::{Entry, HostCriterion, IcmpMatch, IfName, InterfaceCriterion, PortMatch};
+use pfr_terms::ConfError;
 use std::marker::Model;
 
 /// What a value means as a list of one kind.

@@ -19,10 +19,11 @@ ghost use Rattle.pfr_elements.specs.Values.{Makes, MakesUnless};
 use crate::definition::{ListMeaning, ListMeanings, Taken};
 use crate::faults::{at_line, copied_at, undefined_table, unknown_word};
 use crate::scope::Scope;
+use pfr_items::Items;
 use pfr_terms::error::lower;
 use pfr_terms::{ConfError, ConfErrorKind, MacroUse, Reader};
 use pfr_words::spelling::words;
-use pfr_words::{Items, Sign, Word};
+use pfr_words::{Sign, Word};
 use std::alloc::{AllocError, Global};
 use std::mem::{drop, replace};
 

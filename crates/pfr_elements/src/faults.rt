@@ -3,9 +3,9 @@ ghost use Rattle.std.specs.Prelude.{◌≡◌, IfOk};
 ghost use Rattle.pfr_terms.specs.Input as input;
 ghost use Rattle.pfr_elements.specs.Elements as spec;
 
+use pfr_items::Items;
 use pfr_terms::error::LeftOutName;
 use pfr_terms::{ConfError, ConfErrorKind};
-use pfr_words::Items;
 use std::alloc::{AllocError, Global};
 
 /// The fault of a word on this line that doesn't belong where it stands.

@@ -16,11 +16,11 @@ ghost use Rattle.pfr_elements.specs.Values.{Makes};
 use crate::definition::{ListMeaning, ListMeanings, Taken};
 use crate::element::{Element, noted, one_fault, one_gathered};
 use crate::faults::{copied_on, left_out, undefined_table, unknown_word};
-use crate::interface::{Interface, masked, whole};
+use crate::interface::{form_of, masked, whole};
 use crate::scope::Scope;
 use crate::terms::{copied, misplaced, use_in};
-use pfr_net::{Ipv4Address, Net};
-use pfr_tables::Entry;
+use pfr_net::Net;
+use pfr_ruleset::{Entry, HostCriterion, HostSet, Interface};
 use pfr_terms::lists::Item;
 use pfr_terms::{
     Address, AddressMatch, ConfError, Host, MacroUse, Name, Reader, TableEntry, Written,
@@ -28,25 +28,6 @@ use pfr_terms::{
 use pfr_words::Word;
 use pfr_words::spelling::words;
 use std::alloc::Global;
-
-/// Addresses that a packet's is held against.
-#[derive(Clone, Copy)]
-pub enum HostSet {
-    Any,
-    /// No address has a bit below the network's prefix.
-    Network(Net),
-    /// From the first address to the second.
-    Range(Ipv4Address, Ipv4Address),
-    /// The table at this place among the tables of the ruleset.
-    Table(usize),
-}
-
-/// Addresses that a packet's has to be among, or with `!` must not be among.
-#[derive(Clone, Copy)]
-pub struct HostCriterion {
-    pub is_negated: bool,
-    pub hosts: HostSet,
-}
 
 /// What a name means as a form of the interface.
 #[tactic(auto, unfolding(crate::specs::Hosts::form_meaning))]
@@ -57,7 +38,7 @@ fn form_meaning(
 ) -> Result<Result<Net, ConfError>, ConfError>
     ensures { Makes (spec.form_meaning interface.now name.now) result }
 {
-    match interface.form(name.text.as_slice()) {
+    match form_of(interface, name.text.as_slice()) {
         Some(network) => Ok(Ok(network)),
         None => Ok(Err(left_out(alloc, name.line, b"host name")?)),
     }

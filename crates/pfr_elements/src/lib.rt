@@ -20,11 +20,8 @@ pub mod text;
 pub mod value;
 
 pub use element::{Element, Elements, MOST_ELEMENTS, elements_of};
-pub use hosts::{HostCriterion, HostSet};
-pub use interface::{IfName, Interface};
 pub use macros::Macros;
 pub use names::Names;
 pub use scope::Scope;
 pub use single::{single_sources, written_single};
-pub use terms::InterfaceCriterion;
 pub use value::Value;

@@ -11,9 +11,10 @@ use crate::faults::unknown_word;
 use crate::names::Names;
 use crate::text::only_plain;
 use crate::value::{Draft, Value};
+use pfr_items::Items;
 use pfr_terms::{ConfError, ConfErrorKind, MacroUse};
+use pfr_words::Bytes;
 use pfr_words::spelling::words;
-use pfr_words::{Bytes, Items};
 use std::alloc::{AllocError, Global};
 
 /// The longest word of a value that may have a suffix, in bytes.

@@ -14,13 +14,12 @@ use crate::scope::Scope;
 use crate::single::single_read;
 use crate::text::{is_sound, only_plain};
 use crate::value::{Draft, Value};
+use pfr_items::Items;
 use pfr_net::Protocol;
-use pfr_terms::{
-    AddressMatch, ConfError, IcmpMatch, InterfaceMatch, InterfaceName, PortMatch, TableEntry,
-    Written,
-};
+use pfr_ruleset::{IcmpMatch, PortMatch};
+use pfr_terms::{AddressMatch, ConfError, InterfaceMatch, InterfaceName, TableEntry, Written};
 use pfr_words::spelling::words;
-use pfr_words::{Bytes, Items, Word};
+use pfr_words::{Bytes, Word};
 use std::alloc::{AllocError, Global};
 use std::mem::replace;
 

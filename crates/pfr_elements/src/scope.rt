@@ -1,7 +1,7 @@
 //! What gives the words of a ruleset their meaning.
-use crate::interface::Interface;
 use crate::macros::Macros;
 use crate::names::Names;
+use pfr_ruleset::Interface;
 
 /// The run's interface, the macros that are defined so far, and the tables.
 #[derive(Drop)]

@@ -14,22 +14,13 @@ ghost use Rattle.pfr_elements.specs.Meanings.{list_meanings};
 use crate::definition::{ListMeaning, ListMeanings};
 use crate::element::{Element, noted};
 use crate::faults::unknown_word;
-use crate::interface::IfName;
 use crate::scope::Scope;
 use pfr_net::Protocol;
+use pfr_ruleset::{IcmpMatch, IfName, InterfaceCriterion, PortMatch};
 use pfr_terms::lists::Item;
-use pfr_terms::{
-    ConfError, IcmpMatch, InterfaceMatch, InterfaceName, MacroUse, PortMatch, Reader, Written,
-};
+use pfr_terms::{ConfError, InterfaceMatch, InterfaceName, MacroUse, Reader, Written};
 use pfr_words::Bytes;
 use std::alloc::Global;
-
-/// An interface that a packet has to be on, or with `!` must not be on.
-#[derive(Clone, Copy)]
-pub struct InterfaceCriterion {
-    pub is_negated: bool,
-    pub name: IfName,
-}
 
 /// The same use.
 pub(crate) fn copied<'w>(found: &'w MacroUse<'_>) -> MacroUse<'w>

@@ -4,7 +4,7 @@ ghost use Rattle.pfr_elements.specs.Values as spec;
 ghost use Rattle.pfr_elements.specs.declared.value.Value.TheVariants.{Text, TooLong};
 
 use crate::definition::Taken;
-use pfr_words::Items;
+use pfr_items::Items;
 use pfr_words::cutting::is_blank;
 use std::alloc::{AllocError, Global};
 

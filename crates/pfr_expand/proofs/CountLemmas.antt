@@ -4,6 +4,9 @@ use Rattle.std.proofs.lemmas.Bool.{ltb-false, or_parts}
 use Rattle.std.proofs.lemmas.List.{length-append, length-map}
 use Rattle.std.proofs.lemmas.Nat.{mul-le}
 use Rattle.pfr_net.specs.declared.protocol.Protocol.{Protocol}
+use Rattle.pfr_ruleset.specs.declared.port.PortMatch.{PortMatch}
+use Rattle.pfr_ruleset.specs.declared.icmp.IcmpMatch.{IcmpMatch}
+use Rattle.pfr_ruleset.specs.declared.hosts.HostCriterion.{HostCriterion}
 use Rattle.pfr_words.specs.declared.word.Word.{Word}
 use Rattle.pfr_words.specs.Words.{words}
 use Rattle.pfr_terms.specs.declared.address.AddressMatch.{AddressMatch}
@@ -12,8 +15,6 @@ use Rattle.pfr_terms.specs.declared.hosts.Criteria.{Criteria}
 use Rattle.pfr_terms.specs.declared.interface.InterfaceMatch.{InterfaceMatch}
 use Rattle.pfr_terms.specs.declared.name.MacroUse.{MacroUse}
 use Rattle.pfr_terms.specs.declared.name.Written.{Written}
-use Rattle.pfr_terms.specs.declared.port.PortMatch.{PortMatch}
-use Rattle.pfr_terms.specs.declared.protocol.IcmpMatch.{IcmpMatch}
 use Rattle.pfr_terms.specs.Addresses as addresses
 use Rattle.pfr_terms.specs.Input.{Parser, unknown_word}
 use Rattle.pfr_terms.specs.Lists as lists
@@ -24,7 +25,6 @@ use Rattle.pfr_elements.specs.declared.definition.ListMeanings.{ListMeanings}
 use Rattle.pfr_elements.specs.declared.definition.Taken.{Taken}
 use Rattle.pfr_elements.specs.declared.definition.Taken.TheVariants as taken
 use Rattle.pfr_elements.specs.declared.element.Elements as E
-use Rattle.pfr_elements.specs.declared.hosts.HostCriterion.{HostCriterion}
 use Rattle.pfr_elements.specs.declared.scope.Scope.{Scope}
 use Rattle.pfr_elements.specs.Elements.{elements_from, fault_at, first_fault, listed, most_elements, none_yet, turned_if, with_element, with_fault, with_list_by, with_meaning, with_taken, with_written}
 use Rattle.pfr_elements.specs.Hosts.{host_criterion, host_lists, host_negated, host_tables, host_turned, host_use}

@@ -1,11 +1,11 @@
 -- Statements by the depth of their anchors.
 use Rattle.std.proofs.Common.{◌≡◌, ◌<◌, ℕ, zero, suc, ◌-◌, List, Result, Err, refl, arith}
 use Rattle.pfr_terms.specs.declared.error.ConfErrorKind.TheVariants.{TooDeep}
-use Rattle.pfr_elements.specs.declared.scope.Scope.{Scope}
 use Rattle.pfr_conf.specs.declared.filter.FilterRule.{FilterRule}
 use Rattle.pfr_conf.specs.declared.anchor.AnchorRule.{AnchorRule}
 use Rattle.pfr_conf.specs.declared.anchor.FilterStatement.{FilterStatement, the_lemmas}
 use Rattle.pfr_conf.specs.declared.anchor.FilterStatement.TheVariants as s
+use Rattle.pfr_elements.specs.declared.scope.Scope.{Scope}
 use Rattle.pfr_expand.specs.declared.body.Setting.{Setting}
 use Rattle.pfr_expand.specs.declared.body.Body.{Body}
 use Rattle.pfr_expand.specs.Bodies.{statement, with_rule, with_anchor, body_from, empty_body}

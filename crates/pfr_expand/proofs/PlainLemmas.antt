@@ -5,6 +5,10 @@ use Rattle.std.proofs.lemmas.List.{length-append, length-map}
 use Rattle.std.proofs.lemmas.List.Elements.{All-nil, All-cons, All-head, All-map, All-push, All-tail, Contains-get_or}
 use Rattle.std.proofs.lemmas.Option.{get_or_from_slice_get, slice_get-get_or, slice_get_within}
 use Rattle.pfr_net.specs.declared.protocol.Protocol.{Protocol}
+use Rattle.pfr_ruleset.specs.declared.port.PortMatch.{PortMatch}
+use Rattle.pfr_ruleset.specs.declared.icmp.IcmpMatch.{IcmpMatch}
+use Rattle.pfr_ruleset.specs.declared.hosts.HostCriterion.{HostCriterion}
+use Rattle.pfr_ruleset.specs.declared.flat.PacketMatch.{PacketMatch}
 use Rattle.pfr_terms.specs.declared.address.Address.{Address}
 use Rattle.pfr_terms.specs.declared.address.Address.TheVariants as a
 use Rattle.pfr_terms.specs.declared.address.AddressMatch.{AddressMatch}
@@ -15,24 +19,20 @@ use Rattle.pfr_terms.specs.declared.interface.InterfaceMatch.{InterfaceMatch}
 use Rattle.pfr_terms.specs.declared.name.MacroUse.{MacroUse}
 use Rattle.pfr_terms.specs.declared.name.Written.{Written}
 use Rattle.pfr_terms.specs.declared.name.Written.TheVariants as w
-use Rattle.pfr_terms.specs.declared.port.PortMatch.{PortMatch}
-use Rattle.pfr_terms.specs.declared.protocol.IcmpMatch.{IcmpMatch}
 use Rattle.pfr_terms.specs.Addresses as addresses
 use Rattle.pfr_terms.specs.Input.{Parser}
 use Rattle.pfr_terms.specs.Lists as lists
 use Rattle.pfr_terms.specs.Ports as ports
 use Rattle.pfr_terms.specs.Terms as terms
+use Rattle.pfr_conf.specs.declared.filter.FilterRule.{FilterRule}
 use Rattle.pfr_elements.specs.declared.definition.ListMeaning.{ListMeaning}
 use Rattle.pfr_elements.specs.declared.definition.ListMeanings.{ListMeanings}
 use Rattle.pfr_elements.specs.declared.element.Elements as E
-use Rattle.pfr_elements.specs.declared.hosts.HostCriterion.{HostCriterion}
 use Rattle.pfr_elements.specs.declared.scope.Scope.{Scope}
 use Rattle.pfr_elements.specs.Elements.{elements_from, most_elements, none_yet, with_element, with_meaning, with_written}
 use Rattle.pfr_elements.specs.Hosts.{host_criterion, host_lists, host_negated, host_tables, host_turned, host_use, host_use_by}
 use Rattle.pfr_elements.specs.Terms.{icmp_lists, interface_lists, interface_meaning, interface_negated, interface_turned, interface_use, itself, never, no_table, port_lists, protocol_lists, same, use_in}
-use Rattle.pfr_conf.specs.declared.filter.FilterRule.{FilterRule}
 use Rattle.pfr_flat.specs.declared.choices.Choices as C
-use Rattle.pfr_flat.specs.declared.flat.PacketMatch.{PacketMatch}
 use Rattle.pfr_flat.specs.declared.lists.Lists as L
 use Rattle.pfr_flat.specs.Choices.{combinations}
 use Rattle.pfr_flat.specs.Lists.{addresses_in, choices, choices_of, choices_or_fault, fault_of, has_long_list, host_list, hosts_of, icmp_types, if_written, interfaces, is_long, items_of, lists_of, lists_with, or_choices, or_fault, port_list, ports_in, protocols}

@@ -4,26 +4,26 @@ use Rattle.std.proofs.lemmas.Bool.{eqb-true}
 use Rattle.std.proofs.lemmas.List.{length-append, length-map}
 use Rattle.std.proofs.lemmas.List.Elements.{All-nil, All-cons, All-head, All-tail}
 use Rattle.std.proofs.lemmas.Nat.{mul-le}
+use Rattle.pfr_ruleset.specs.declared.policy.BlockPolicy.{BlockPolicy}
+use Rattle.pfr_ruleset.specs.declared.policy.BlockPolicy.TheVariants as b
+use Rattle.pfr_ruleset.specs.declared.policy.Binding.{Binding}
+use Rattle.pfr_ruleset.specs.declared.flat.FlatAnchor.{FlatAnchor}
+use Rattle.pfr_ruleset.specs.declared.flat.FlatRule.{FlatRule}
+use Rattle.pfr_ruleset.specs.declared.flat.PacketMatch.{PacketMatch}
+use Rattle.pfr_ruleset.specs.declared.flat.StateRule.{StateRule}
 use Rattle.pfr_terms.specs.declared.error.ConfError.{ConfError}
 use Rattle.pfr_terms.specs.declared.flags.FlagsMatch.{FlagsMatch}
 use Rattle.pfr_terms.specs.declared.flags.FlagsMatch.TheVariants as flags
-use Rattle.pfr_elements.specs.declared.scope.Scope.{Scope}
-use Rattle.pfr_conf.specs.declared.policy.BlockPolicy.{BlockPolicy}
-use Rattle.pfr_conf.specs.declared.policy.BlockPolicy.TheVariants as b
 use Rattle.pfr_conf.specs.declared.filter.Action.{Action}
 use Rattle.pfr_conf.specs.declared.filter.Action.TheVariants as a
 use Rattle.pfr_conf.specs.declared.filter.FilterRule.{FilterRule}
-use Rattle.pfr_conf.specs.declared.policy.Binding.{Binding}
 use Rattle.pfr_conf.specs.declared.rule_options.StateKeeping.{StateKeeping}
 use Rattle.pfr_conf.specs.declared.rule_options.StateKeeping.TheVariants as k
 use Rattle.pfr_conf.specs.declared.anchor.AnchorRule.{AnchorRule}
 use Rattle.pfr_conf.specs.declared.anchor.FilterStatement.{FilterStatement, out-FilterStatement}
 use Rattle.pfr_conf.specs.declared.anchor.FilterStatement.TheOpen.{FilterStatement-F}
+use Rattle.pfr_elements.specs.declared.scope.Scope.{Scope}
 use Rattle.pfr_flat.specs.declared.choices.Choices as C
-use Rattle.pfr_flat.specs.declared.flat.FlatAnchor.{FlatAnchor}
-use Rattle.pfr_flat.specs.declared.flat.FlatRule.{FlatRule}
-use Rattle.pfr_flat.specs.declared.flat.PacketMatch.{PacketMatch}
-use Rattle.pfr_flat.specs.declared.flat.StateRule.{StateRule}
 use Rattle.pfr_flat.specs.declared.lists.Lists as L
 use Rattle.pfr_flat.specs.Choices.{combinations}
 use Rattle.pfr_flat.specs.Counts.{counted}

@@ -1,12 +1,15 @@
 -- The rules of a ruleset: of which statements those of the filter are, and how many there are of all.
 use Rattle.std.proofs.Common.{◌≡◌, ◌≤◌, ◌+◌, ◌||◌, ℕ, suc, Bool, true, false, if◌then◌else◌, nat_lt, List, [], ◌∷◌, ◌++◌, length, min, Option, Some, None, Result, Ok, Err, append_assoc, append-nil, refl, sym, ap, ◌∙◌, subst, arith}
 use Rattle.std.proofs.lemmas.List.{length-append}
+use Rattle.pfr_ruleset.specs.declared.interface.Interface.{Interface}
+use Rattle.pfr_ruleset.specs.declared.flat.FlatRule.{FlatRule}
+use Rattle.pfr_ruleset.specs.declared.flat.PacketMatch.{PacketMatch}
+use Rattle.pfr_ruleset.specs.Places.{joined}
+use Rattle.pfr_ruleset.specs.declared.options.Options as O
+use Rattle.pfr_ruleset.specs.declared.ruleset.Ruleset as R
+use Rattle.pfr_ruleset.specs.declared.translations.Translations.{Translations}
+use Rattle.pfr_ruleset.specs.Rulesets.{counts}
 use Rattle.pfr_terms.specs.declared.error.ConfError.{ConfError}
-use Rattle.pfr_elements.specs.declared.interface.Interface.{Interface}
-use Rattle.pfr_elements.specs.declared.scope.Scope.{Scope}
-use Rattle.pfr_elements.specs.declared.value.Draft.{Draft}
-use Rattle.pfr_elements.specs.Elements.{most_elements}
-use Rattle.pfr_elements.specs.Values.{begun}
 use Rattle.pfr_conf.specs.declared.anchor.FilterStatement.{FilterStatement}
 use Rattle.pfr_conf.specs.declared.macros.MacroDefinition.{MacroDefinition}
 use Rattle.pfr_conf.specs.declared.options.SetOption.{SetOption}
@@ -19,26 +22,24 @@ use Rattle.pfr_conf.specs.declared.targets.Target.TheVariants as target
 use Rattle.pfr_conf.specs.declared.translation.TranslationRule.{TranslationRule}
 use Rattle.pfr_conf.specs.declared.translation.TranslationStatement.{TranslationStatement}
 use Rattle.pfr_conf.specs.declared.translation.TranslationStatement.TheVariants as t
+use Rattle.pfr_elements.specs.declared.scope.Scope.{Scope}
+use Rattle.pfr_elements.specs.declared.value.Draft.{Draft}
+use Rattle.pfr_elements.specs.Elements.{most_elements}
+use Rattle.pfr_elements.specs.Values.{begun}
 use Rattle.pfr_flat.specs.declared.choices.Choices as C
-use Rattle.pfr_flat.specs.declared.flat.FlatRule.{FlatRule}
-use Rattle.pfr_flat.specs.declared.flat.PacketMatch.{PacketMatch}
 use Rattle.pfr_flat.specs.Choices.{combinations}
 use Rattle.pfr_flat.specs.Counts.{counted, too_many}
 use Rattle.pfr_flat.specs.Lists.{addresses_in, choices_or_fault, product}
-use Rattle.pfr_flat.specs.Places.{joined}
 use Rattle.pfr_flat.specs.Translations.{numbered}
 use Rattle.pfr_expand.specs.declared.body.Body.{Body}
 use Rattle.pfr_expand.specs.declared.expansion.Work.{Work}
-use Rattle.pfr_expand.specs.declared.options.Options as O
-use Rattle.pfr_expand.specs.declared.ruleset.Ruleset as R
 use Rattle.pfr_expand.specs.declared.tables.Filling.{Filling}
 use Rattle.pfr_expand.specs.declared.translation.Change.{Change}
 use Rattle.pfr_expand.specs.declared.translation.Change.TheVariants as change
-use Rattle.pfr_expand.specs.declared.translation.Translations.{Translations}
 use Rattle.pfr_expand.specs.Bodies.{empty_body, statement as filter_statement}
 use Rattle.pfr_expand.specs.Laws.{AreInTurn, AreOf, AreOfFilter}
 use Rattle.pfr_expand.specs.Options.{with_option}
-use Rattle.pfr_expand.specs.Rulesets.{and_more, clash_of, counts, expanded, expanded_from, filter_by, filter_if, is_defined, line_of, macro_by, option_by, pieces_from, ruleset_in, setting_of, started, table_by, table_names, translated, translation_by, used_in, with_definition, with_filter, with_set, with_statement, with_table, with_translation, with_translations}
+use Rattle.pfr_expand.specs.Rulesets.{and_more, clash_of, expanded, expanded_from, filter_by, filter_if, is_defined, line_of, macro_by, option_by, pieces_from, ruleset_in, setting_of, started, table_by, table_names, translated, translation_by, used_in, with_definition, with_filter, with_set, with_statement, with_table, with_translation, with_translations}
 use Rattle.pfr_expand.specs.Tables.{filled, unfilled}
 use Rattle.pfr_expand.specs.Translations.{change_of, lists_by, translation_lists, with_change, with_choices, with_rules}
 use Rattle.pfr_expand.proofs.CountLemmas.{AreCounted, combinations_few, lists_counted, lists_counted_with, sources_counted, within}

@@ -1,14 +1,21 @@
 -- Filter rules and anchors as flat rules, with the anchors round them.
 use Rattle.std.specs.Prelude.{◌≡◌, ◌≤◌, ◌<◌, ℕ, zero, suc, ◌+◌, ◌-◌, ◌*◌, ◌==◌, ◌||◌, Bool, true, false, not, nat_lt, if◌then◌else◌, List, [], ◌∷◌, ◌++◌, length, map, fold, Option, Some, None, Result, Ok, Err, ◌≢◌}
+use Rattle.pfr_ruleset.specs.declared.policy.BlockPolicy.{BlockPolicy}
+use Rattle.pfr_ruleset.specs.declared.policy.BlockPolicy.TheVariants as b
+use Rattle.pfr_ruleset.specs.declared.policy.Binding.{Binding}
+use Rattle.pfr_ruleset.specs.declared.flat.PacketMatch.{PacketMatch}
+use Rattle.pfr_ruleset.specs.declared.flat.FilterAction.{FilterAction}
+use Rattle.pfr_ruleset.specs.declared.flat.FilterAction.TheVariants as action
+use Rattle.pfr_ruleset.specs.declared.flat.FlagsCriterion.{FlagsCriterion}
+use Rattle.pfr_ruleset.specs.declared.flat.FlagsCriterion.TheVariants as asked
+use Rattle.pfr_ruleset.specs.declared.flat.StateRule.{StateRule}
+use Rattle.pfr_ruleset.specs.declared.flat.FlatRule.{FlatRule}
+use Rattle.pfr_ruleset.specs.declared.flat.FlatAnchor.{FlatAnchor}
+use Rattle.pfr_ruleset.specs.Places.{moved}
 use Rattle.pfr_terms.specs.declared.error.ConfError.{ConfError}
 use Rattle.pfr_terms.specs.declared.error.ConfErrorKind.TheVariants.{TooDeep, Memory}
 use Rattle.pfr_terms.specs.declared.flags.FlagsMatch.{FlagsMatch}
 use Rattle.pfr_terms.specs.declared.flags.FlagsMatch.TheVariants as flags
-use Rattle.pfr_elements.specs.declared.scope.Scope.{Scope}
-use Rattle.pfr_elements.specs.Elements.{first_fault}
-use Rattle.pfr_conf.specs.declared.policy.BlockPolicy.{BlockPolicy}
-use Rattle.pfr_conf.specs.declared.policy.BlockPolicy.TheVariants as b
-use Rattle.pfr_conf.specs.declared.policy.Binding.{Binding}
 use Rattle.pfr_conf.specs.declared.filter.Action.{Action}
 use Rattle.pfr_conf.specs.declared.filter.Action.TheVariants as a
 use Rattle.pfr_conf.specs.declared.filter.FilterRule.{FilterRule}
@@ -17,20 +24,13 @@ use Rattle.pfr_conf.specs.declared.rule_options.StateKeeping.TheVariants as k
 use Rattle.pfr_conf.specs.declared.anchor.AnchorRule.{AnchorRule}
 use Rattle.pfr_conf.specs.declared.anchor.FilterStatement.{FilterStatement, out-FilterStatement}
 use Rattle.pfr_conf.specs.declared.anchor.FilterStatement.TheOpen.{FilterStatement-F}
-use Rattle.pfr_flat.specs.declared.flat.PacketMatch.{PacketMatch}
-use Rattle.pfr_flat.specs.declared.flat.FilterAction.{FilterAction}
-use Rattle.pfr_flat.specs.declared.flat.FilterAction.TheVariants as action
-use Rattle.pfr_flat.specs.declared.flat.FlagsCriterion.{FlagsCriterion}
-use Rattle.pfr_flat.specs.declared.flat.FlagsCriterion.TheVariants as asked
-use Rattle.pfr_flat.specs.declared.flat.StateRule.{StateRule}
-use Rattle.pfr_flat.specs.declared.flat.FlatRule.{FlatRule}
-use Rattle.pfr_flat.specs.declared.flat.FlatAnchor.{FlatAnchor}
+use Rattle.pfr_elements.specs.declared.scope.Scope.{Scope}
+use Rattle.pfr_elements.specs.Elements.{first_fault}
 use Rattle.pfr_flat.specs.declared.choices.Choices as C
 use Rattle.pfr_flat.specs.declared.lists.Lists as L
 use Rattle.pfr_flat.specs.Choices.{no_match, combinations}
 use Rattle.pfr_flat.specs.Counts.{counted}
 use Rattle.pfr_flat.specs.Lists.{lists_of, choices_or_fault}
-use Rattle.pfr_flat.specs.Places.{moved}
 use Rattle.pfr_expand.specs.declared.body.Setting.{Setting}
 use Rattle.pfr_expand.specs.declared.body.Body.{Body}
 

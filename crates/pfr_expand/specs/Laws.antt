@@ -1,5 +1,14 @@
 -- Words of the laws: of which statements the filter rules of a ruleset are, and how many.
 use Rattle.std.specs.Prelude.{◌≡◌, ◌≢◌, ⊤, ℕ, zero, suc, ◌*◌, List, [], ◌∷◌, ◌++◌, length, All, Contains, false, Option, Some, None, IsSomeAnd, IfSome}
+use Rattle.pfr_ruleset.specs.declared.port.PortMatch.{PortMatch}
+use Rattle.pfr_ruleset.specs.declared.policy.BlockPolicy.TheVariants.{Drop, Return}
+use Rattle.pfr_ruleset.specs.declared.flat.FilterAction.{FilterAction}
+use Rattle.pfr_ruleset.specs.declared.flat.FilterAction.TheVariants as does
+use Rattle.pfr_ruleset.specs.declared.flat.FlagsCriterion.{FlagsCriterion}
+use Rattle.pfr_ruleset.specs.declared.flat.FlagsCriterion.TheVariants as asks
+use Rattle.pfr_ruleset.specs.declared.flat.FlatRule.{FlatRule}
+use Rattle.pfr_ruleset.specs.declared.flat.PacketMatch.{PacketMatch}
+use Rattle.pfr_ruleset.specs.declared.flat.StateRule.{StateRule}
 use Rattle.pfr_terms.specs.declared.address.Address.{Address}
 use Rattle.pfr_terms.specs.declared.address.Address.TheVariants as a
 use Rattle.pfr_terms.specs.declared.flags.FlagsMatch.{FlagsMatch}
@@ -8,8 +17,6 @@ use Rattle.pfr_terms.specs.declared.hosts.Criteria.{Criteria}
 use Rattle.pfr_terms.specs.declared.hosts.Part.{Part}
 use Rattle.pfr_terms.specs.declared.name.Written.{Written}
 use Rattle.pfr_terms.specs.declared.name.Written.TheVariants.{Item, Macro}
-use Rattle.pfr_terms.specs.declared.port.PortMatch.{PortMatch}
-use Rattle.pfr_conf.specs.declared.policy.BlockPolicy.TheVariants.{Drop, Return}
 use Rattle.pfr_conf.specs.declared.filter.Action.{Action}
 use Rattle.pfr_conf.specs.declared.filter.Action.TheVariants.{Pass, Block}
 use Rattle.pfr_conf.specs.declared.filter.FilterRule.{FilterRule}
@@ -20,13 +27,6 @@ use Rattle.pfr_conf.specs.declared.rule_options.StateKeeping.{StateKeeping}
 use Rattle.pfr_conf.specs.declared.rule_options.StateKeeping.TheVariants.{No, Keep}
 use Rattle.pfr_conf.specs.declared.statement.Statement.{Statement}
 use Rattle.pfr_conf.specs.declared.statement.Statement.TheVariants.{Filter}
-use Rattle.pfr_flat.specs.declared.flat.FilterAction.{FilterAction}
-use Rattle.pfr_flat.specs.declared.flat.FilterAction.TheVariants as does
-use Rattle.pfr_flat.specs.declared.flat.FlagsCriterion.{FlagsCriterion}
-use Rattle.pfr_flat.specs.declared.flat.FlagsCriterion.TheVariants as asks
-use Rattle.pfr_flat.specs.declared.flat.FlatRule.{FlatRule}
-use Rattle.pfr_flat.specs.declared.flat.PacketMatch.{PacketMatch}
-use Rattle.pfr_flat.specs.declared.flat.StateRule.{StateRule}
 
 -- ---- lists as they are written
 

@@ -1,6 +1,8 @@
 -- Options, as pf.conf(5) has them. Of one that is set twice the last counts; interfaces that are skipped add up.
 use Rattle.std.specs.Prelude.{ℕ, ◌+◌, ◌||◌, Bool, true, nat_lt, if◌then◌else◌, List, [], ◌∷◌, ◌++◌, length, fold, Option, Some, None, Result, Ok, Err}
-use Rattle.pfr_net.specs.Timeouts.{default_timeouts, with_timeout}
+use Rattle.pfr_net.specs.Timeouts.{with_timeout}
+use Rattle.pfr_ruleset.specs.declared.interface.IfName.{IfName}
+use Rattle.pfr_ruleset.specs.declared.options.Options as O
 use Rattle.pfr_terms.specs.declared.error.ConfError.{ConfError}
 use Rattle.pfr_terms.specs.declared.interface.InterfaceName.{InterfaceName}
 use Rattle.pfr_terms.specs.declared.name.Name.{Name}
@@ -8,14 +10,6 @@ use Rattle.pfr_terms.specs.declared.name.Written.{Written}
 use Rattle.pfr_terms.specs.declared.name.Written.TheVariants as w
 use Rattle.pfr_terms.specs.Lists as lists
 use Rattle.pfr_terms.specs.Terms as terms
-use Rattle.pfr_elements.specs.declared.element.Elements as E
-use Rattle.pfr_elements.specs.declared.interface.IfName.{IfName}
-use Rattle.pfr_elements.specs.declared.scope.Scope.{Scope}
-use Rattle.pfr_elements.specs.Elements.{elements_from, with_element, none_yet, most_elements}
-use Rattle.pfr_elements.specs.Terms.{use_in, never, same, no_table, skipped, skipped_lists}
-use Rattle.pfr_elements.specs.Values.{plain_word_at}
-use Rattle.pfr_conf.specs.declared.policy.BlockPolicy.TheVariants as b
-use Rattle.pfr_conf.specs.declared.policy.Binding.TheVariants as binding
 use Rattle.pfr_conf.specs.declared.settings.TimeoutName.{TimeoutName}
 use Rattle.pfr_conf.specs.declared.settings.TimeoutName.TheVariants as timeout
 use Rattle.pfr_conf.specs.declared.settings.TimeoutSetting.{TimeoutSetting}
@@ -24,13 +18,12 @@ use Rattle.pfr_conf.specs.declared.settings.Limit.TheVariants as limit
 use Rattle.pfr_conf.specs.declared.settings.LimitSetting.{LimitSetting}
 use Rattle.pfr_conf.specs.declared.options.SetOption.{SetOption}
 use Rattle.pfr_conf.specs.declared.options.SetOption.TheVariants as o
+use Rattle.pfr_elements.specs.declared.element.Elements as E
+use Rattle.pfr_elements.specs.declared.scope.Scope.{Scope}
+use Rattle.pfr_elements.specs.Elements.{elements_from, with_element, none_yet, most_elements}
+use Rattle.pfr_elements.specs.Terms.{use_in, never, same, no_table, skipped, skipped_lists}
+use Rattle.pfr_elements.specs.Values.{plain_word_at}
 use Rattle.pfr_flat.specs.Counts.{too_many}
-use Rattle.pfr_expand.specs.declared.options.Options as O
-
--- ---- options
-
-abbrev pub default_options : O.Options
-default_options = record { timeouts = default_timeouts; state_limit = 100000; block_policy = b.Drop; state_policy = binding.Floating; host_id = 1; skipped = [] }
 
 -- only the timeouts of states have an effect
 abbrev pub timeout_by : TimeoutName → ℕ → O.Options → O.Options

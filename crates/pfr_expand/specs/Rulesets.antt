@@ -1,17 +1,14 @@
 -- The flat ruleset of statements, or the first fault of theirs.
 use Rattle.std.specs.Prelude.{ℕ, ◌+◌, ◌||◌, Bool, true, false, nat_lt, if◌then◌else◌, List, [], ◌∷◌, ◌++◌, length, map, fold, min, Option, Some, None, Result, Ok, Err}
+use Rattle.pfr_ruleset.specs.declared.interface.Interface.{Interface}
+use Rattle.pfr_ruleset.specs.Places.{joined}
+use Rattle.pfr_ruleset.specs.declared.options.Options as O
+use Rattle.pfr_ruleset.specs.declared.ruleset.Ruleset as R
+use Rattle.pfr_ruleset.specs.Rulesets.{empty_ruleset}
+use Rattle.pfr_ruleset.specs.declared.translations.Translations.{Translations}
 use Rattle.pfr_terms.specs.declared.error.ConfError.{ConfError}
 use Rattle.pfr_terms.specs.declared.name.MacroUse.{MacroUse}
 use Rattle.pfr_terms.specs.declared.name.Name.{Name}
-use Rattle.pfr_elements.specs.declared.interface.Interface.{Interface}
-use Rattle.pfr_elements.specs.declared.scope.Scope.{Scope}
-use Rattle.pfr_elements.specs.declared.macros.Macros.{Macros}
-use Rattle.pfr_elements.specs.declared.definition.Taken.{Taken}
-use Rattle.pfr_elements.specs.declared.value.Draft.{Draft}
-use Rattle.pfr_elements.specs.Meanings.{with_macro}
-use Rattle.pfr_elements.specs.Values.{taken_at, with_text, with_taken, begun, no_macros}
-use Rattle.pfr_elements.specs.Names.{last_place}
-use Rattle.pfr_elements.specs.Elements.{most_elements}
 use Rattle.pfr_conf.specs.declared.macros.Piece as P
 use Rattle.pfr_conf.specs.declared.macros.Piece.TheVariants as p
 use Rattle.pfr_conf.specs.declared.macros.MacroDefinition.{MacroDefinition}
@@ -25,20 +22,24 @@ use Rattle.pfr_conf.specs.declared.translation.TranslationStatement.TheVariants 
 use Rattle.pfr_conf.specs.declared.statement.Statement.{Statement}
 use Rattle.pfr_conf.specs.declared.statement.Statement.TheVariants as s
 use Rattle.pfr_conf.specs.declared.statement.Statements as S
+use Rattle.pfr_elements.specs.declared.scope.Scope.{Scope}
+use Rattle.pfr_elements.specs.declared.macros.Macros.{Macros}
+use Rattle.pfr_elements.specs.declared.definition.Taken.{Taken}
+use Rattle.pfr_elements.specs.declared.value.Draft.{Draft}
+use Rattle.pfr_elements.specs.Meanings.{with_macro}
+use Rattle.pfr_elements.specs.Values.{taken_at, with_text, with_taken, begun, no_macros}
+use Rattle.pfr_elements.specs.Names.{last_place}
+use Rattle.pfr_elements.specs.Elements.{most_elements}
 use Rattle.pfr_flat.specs.declared.lists.Lists as L
 use Rattle.pfr_flat.specs.Counts.{counted, too_many}
 use Rattle.pfr_flat.specs.Lists.{choices_or_fault}
-use Rattle.pfr_flat.specs.Places.{joined}
 use Rattle.pfr_expand.specs.declared.body.Setting.{Setting}
 use Rattle.pfr_expand.specs.declared.body.Body.{Body}
-use Rattle.pfr_expand.specs.declared.options.Options as O
 use Rattle.pfr_expand.specs.declared.tables.Filling.{Filling}
-use Rattle.pfr_expand.specs.declared.ruleset.Ruleset as R
 use Rattle.pfr_expand.specs.declared.expansion.Work.{Work}
 use Rattle.pfr_expand.specs.Bodies.{empty_body, statement as filter_statement}
-use Rattle.pfr_expand.specs.Options.{default_options, with_option}
-use Rattle.pfr_expand.specs.declared.translation.Translations.{Translations}
-use Rattle.pfr_expand.specs.Translations.{no_translations, translation_lists, with_choices}
+use Rattle.pfr_expand.specs.Options.{with_option}
+use Rattle.pfr_expand.specs.Translations.{translation_lists, with_choices}
 use Rattle.pfr_expand.specs.Tables.{clash, filled, unfilled}
 
 -- ---- macros
@@ -174,9 +175,6 @@ abbrev pub expanded_from : Work → List Statement → Result Work ConfError
 expanded_from work [] = Ok work
 expanded_from work (x ∷ xs) = and_more (with_statement x work) (λ w. expanded_from w xs)
 
-abbrev pub empty_ruleset : Interface → R.Ruleset
-empty_ruleset interface = record { interface = interface; options = default_options; tables = []; filter = record { rules = []; anchors = [] }; translations = no_translations }
-
 abbrev pub with_name : List (List ℕ) → List ℕ → Option ℕ → List (List ℕ)
 with_name names name (Some place) = names
 with_name names name None = names ++ name ∷ []
@@ -199,7 +197,3 @@ ruleset_in (Err e) = Err e
 -- what the statements mean for an interface
 unfoldable pub expanded : S.Statements → Interface → Result R.Ruleset ConfError
 expanded statements interface = ruleset_in (expanded_from (started interface (table_names statements.statements)) statements.statements)
-
--- how many filter rules and how many translation rules there are, up to the greatest number of 32 bits
-abbrev pub counts : R.Ruleset → ℕ × ℕ
-counts r = (min (length r.filter.rules) 4294967295, min (length r.translations.nats + length r.translations.rdrs + length r.translations.binats) 4294967295)

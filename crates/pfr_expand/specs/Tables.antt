@@ -1,11 +1,11 @@
 -- Tables, as pf.conf(5) has them: each entry as often as it is written with one sign, and none with both.
 use Rattle.std.specs.Prelude.{ℕ, ◌+◌, ◌||◌, Bool, nat_lt, if◌then◌else◌, true, List, [], ◌∷◌, ◌++◌, length, drop, fold, Option, Some, None, Result, Ok, Err}
+use Rattle.pfr_ruleset.specs.declared.table.Entry.{Entry}
+use Rattle.pfr_ruleset.specs.Tables.{clashes, with_entry}
 use Rattle.pfr_terms.specs.declared.error.ConfError.{ConfError}
 use Rattle.pfr_terms.specs.declared.error.ConfErrorKind.TheVariants.{Clash}
 use Rattle.pfr_terms.specs.declared.address.TableEntry.{TableEntry}
 use Rattle.pfr_terms.specs.Addresses as addresses
-use Rattle.pfr_tables.specs.declared.table.Entry.{Entry}
-use Rattle.pfr_tables.specs.Tables.{clashes, with_entry}
 use Rattle.pfr_elements.specs.declared.element.Elements as E
 use Rattle.pfr_elements.specs.declared.scope.Scope.{Scope}
 use Rattle.pfr_elements.specs.Elements.{with_element, first_fault, most_elements}

@@ -1,12 +1,17 @@
 -- Translation rules as flat rules.
 use Rattle.std.specs.Prelude.{ℕ, ◌++◌, Bool, true, List, [], Option, Some, None, Result, Ok, Err, if◌then◌else◌}
 use Rattle.pfr_net.specs.declared.address.Ipv4Address.{Ipv4Address}
+use Rattle.pfr_ruleset.specs.declared.port.PortMatch.{PortMatch}
+use Rattle.pfr_ruleset.specs.declared.port.PortMatch.TheVariants as p
+use Rattle.pfr_ruleset.specs.declared.flat.PacketMatch.{PacketMatch}
+use Rattle.pfr_ruleset.specs.declared.flat.PortRange.{PortRange}
+use Rattle.pfr_ruleset.specs.declared.flat.NatAddress.{NatAddress}
+use Rattle.pfr_ruleset.specs.declared.flat.PortChange.{PortChange}
+use Rattle.pfr_ruleset.specs.declared.flat.PortChange.TheVariants as c
+use Rattle.pfr_ruleset.specs.declared.flat.RdrAddress.{RdrAddress}
+use Rattle.pfr_ruleset.specs.declared.translations.Translations as T
 use Rattle.pfr_terms.specs.declared.error.ConfError.{ConfError}
 use Rattle.pfr_terms.specs.declared.error.ConfErrorKind.TheVariants.{BadNumber}
-use Rattle.pfr_terms.specs.declared.port.PortMatch.{PortMatch}
-use Rattle.pfr_terms.specs.declared.port.PortMatch.TheVariants as p
-use Rattle.pfr_elements.specs.declared.scope.Scope.{Scope}
-use Rattle.pfr_elements.specs.Single.{written_single, single_sources}
 use Rattle.pfr_conf.specs.declared.targets.RedirectedPort.{RedirectedPort}
 use Rattle.pfr_conf.specs.declared.targets.RedirectedPort.TheVariants as r
 use Rattle.pfr_conf.specs.declared.targets.NatTarget.{NatTarget}
@@ -16,12 +21,8 @@ use Rattle.pfr_conf.specs.declared.targets.Target.TheVariants as t
 use Rattle.pfr_conf.specs.declared.translation.TranslationKind.{TranslationKind}
 use Rattle.pfr_conf.specs.declared.translation.TranslationKind.TheVariants as kind
 use Rattle.pfr_conf.specs.declared.translation.TranslationRule.{TranslationRule}
-use Rattle.pfr_flat.specs.declared.flat.PacketMatch.{PacketMatch}
-use Rattle.pfr_flat.specs.declared.flat.PortRange.{PortRange}
-use Rattle.pfr_flat.specs.declared.flat.NatAddress.{NatAddress}
-use Rattle.pfr_flat.specs.declared.flat.PortChange.{PortChange}
-use Rattle.pfr_flat.specs.declared.flat.PortChange.TheVariants as c
-use Rattle.pfr_flat.specs.declared.flat.RdrAddress.{RdrAddress}
+use Rattle.pfr_elements.specs.declared.scope.Scope.{Scope}
+use Rattle.pfr_elements.specs.Single.{written_single, single_sources}
 use Rattle.pfr_flat.specs.declared.choices.Choices.{Choices}
 use Rattle.pfr_flat.specs.declared.lists.Lists as L
 use Rattle.pfr_flat.specs.Choices.{combinations}
@@ -29,10 +30,6 @@ use Rattle.pfr_flat.specs.Lists.{lists_of, lists_with, if_written, addresses_in}
 use Rattle.pfr_flat.specs.Translations.{numbered, all_fit}
 use Rattle.pfr_expand.specs.declared.translation.Change.{Change}
 use Rattle.pfr_expand.specs.declared.translation.Change.TheVariants as change
-use Rattle.pfr_expand.specs.declared.translation.Translations as T
-
-abbrev pub no_translations : T.Translations
-no_translations = record { nats = []; rdrs = []; binats = [] }
 
 -- ---- what is asked of a packet
 

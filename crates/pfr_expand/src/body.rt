@@ -1,24 +1,26 @@
 //! Filter rules and anchors as flat rules, with the anchors round them.
 ghost use Rattle.std.specs.Prelude.{◌≡◌, ◌≢◌, ◌<◌, ◌≤◌, ◌+◌, ◌++◌, Ok, Err, length, map, fold, OnOk, IfOk, IfErr, IfSome};
 ghost use Rattle.std.specs.List.{All};
+ghost use Rattle.pfr_ruleset.specs.Places as places;
 ghost use Rattle.pfr_terms.specs.declared.error.ConfErrorKind.TheVariants.{Memory};
 ghost use Rattle.pfr_terms.specs.Input.{Gives};
 ghost use Rattle.pfr_elements.specs.Elements as faults;
 ghost use Rattle.pfr_flat.specs.Counts as counts;
 ghost use Rattle.pfr_flat.specs.Lists as flat_lists;
-ghost use Rattle.pfr_flat.specs.Places as places;
 ghost use Rattle.pfr_expand.specs.Bodies as spec;
 ghost use Rattle.pfr_expand.specs.Bodies.{Adds};
 
 use pfr_conf::{
-    Action, AnchorRule, Binding, BlockPolicy, ConfError, ConfErrorKind, FilterRule,
-    FilterStatement, FlagsMatch, Items, StateKeeping,
+    Action, AnchorRule, ConfError, ConfErrorKind, FilterRule, FilterStatement, FlagsMatch,
+    StateKeeping,
 };
 use pfr_elements::Scope;
 use pfr_elements::element::first_fault;
-use pfr_flat::{
-    Choices, FilterAction, FlagsCriterion, FlatAnchor, FlatRule, Lists, NO_MATCH, PacketMatch,
-    StateRule, choices_or_fault, combinations, counted, lists_of, put_anchors, slice_of,
+use pfr_flat::{Choices, Lists, choices_or_fault, combinations, counted, lists_of, slice_of};
+use pfr_items::Items;
+use pfr_ruleset::{
+    Binding, BlockPolicy, FilterAction, FlagsCriterion, FlatAnchor, FlatRule, NO_MATCH,
+    PacketMatch, StateRule, put_anchors,
 };
 use std::alloc::{AllocError, Global};
 use std::mem::{drop, replace};

@@ -1,25 +1,25 @@
 //! From statements to the flat ruleset.
 ghost use Rattle.std.specs.Prelude.{◌≡◌, ◌<◌, ◌≤◌, ◌+◌, false, length, OnOk, IfOk};
+ghost use Rattle.pfr_ruleset.specs.Places.{ArePlaced, joined};
 ghost use Rattle.pfr_terms.specs.Input.{Gives};
 ghost use Rattle.pfr_elements.specs.Values.{begun, taken_at};
-ghost use Rattle.pfr_flat.specs.Places.{ArePlaced, joined};
 ghost use Rattle.pfr_expand.specs.Bodies as bodies;
 ghost use Rattle.pfr_expand.specs.Bodies.{Adds};
 ghost use Rattle.pfr_expand.specs.Rulesets as spec;
 
 use crate::body::{Body, Setting, add_statement, counted_choices};
-use crate::options::Options;
-use crate::ruleset::Ruleset;
+use crate::options::set_option;
 use crate::tables::{clash, exceeds, fill};
-use crate::translation::{Translations, translation_lists};
+use crate::translation::{add_translation, translation_lists};
 use pfr_conf::anchor::DEEPEST_ANCHOR;
 use pfr_conf::{
-    Bytes, ConfError, FilterStatement, Items, MacroDefinition, MacroUse, Name, Piece, SetOption,
+    Bytes, ConfError, FilterStatement, MacroDefinition, MacroUse, Name, Piece, SetOption,
     Statement, Statements, TableDefinition, TranslationRule, TranslationStatement,
 };
 use pfr_elements::value::Draft;
-use pfr_elements::{Interface, Macros, Names, Scope};
-use pfr_flat::{FilterRules, FlatAnchor, FlatRule, MOST_RULES, too_many};
+use pfr_elements::{Macros, Names, Scope};
+use pfr_flat::{MOST_RULES, too_many};
+use pfr_ruleset::{FilterRules, FlatAnchor, FlatRule, Interface, Ruleset};
 use std::alloc::{AllocError, Global};
 use std::mem::{drop, replace};
 
@@ -87,34 +87,19 @@ fn line_of(statement: &FilterStatement<'_>) -> usize
     }
 }
 
-impl Ruleset {
-    /// A ruleset that says nothing.
-    pub(crate) fn new(alloc: Global, interface: Interface) -> Ruleset
-        ensures { result ≡ spec.empty_ruleset interface }
-    {
-        Ruleset {
-            interface,
-            options: Options::new(alloc),
-            tables: Items::new(alloc),
-            filter: FilterRules::new(alloc),
-            translations: Translations::new(alloc),
-        }
-    }
-
-    /// Puts rules and the anchors round them behind the others.
-    fn add_rules(
-        &mut self,
-        alloc: Global,
-        rules: &[FlatRule],
-        anchors: &[FlatAnchor],
-    ) -> Result<(), AllocError>
-        requires { ArePlaced rules.now anchors.now }
-        ensures { OnOk result (self.new ≡ record self.old { filter = joined self.old.filter rules.now anchors.now }) }
-    {
-        let before = replace(&mut self.filter, FilterRules::new(alloc));
-        self.filter = before.joined(rules, anchors)?;
-        Ok(())
-    }
+/// Puts rules and the anchors round them behind the others.
+fn add_rules(
+    flat: &mut Ruleset,
+    alloc: Global,
+    rules: &[FlatRule],
+    anchors: &[FlatAnchor],
+) -> Result<(), AllocError>
+    requires { ArePlaced rules.now anchors.now }
+    ensures { OnOk result (flat.new ≡ record flat.old { filter = joined flat.old.filter rules.now anchors.now }) }
+{
+    let before = replace(&mut flat.filter, FilterRules::new(alloc));
+    flat.filter = before.joined(rules, anchors)?;
+    Ok(())
 }
 
 impl<'a> Work<'a> {
@@ -190,7 +175,7 @@ impl<'a> Work<'a> {
         ensures made { Adds (spec.with_set option.now self.old) result self.new }
         ensures few { self.new.translations ≡ self.old.translations }
     {
-        self.flat.options.set(alloc, &self.scope, option)
+        set_option(&mut self.flat.options, alloc, &self.scope, option)
     }
 
     /// What a filter rule or an anchor comes to.
@@ -225,8 +210,8 @@ impl<'a> Work<'a> {
         if let Some(fault) = body.fault.take() {
             return Err(fault);
         }
-        self.flat
-            .add_rules(alloc, body.rules.as_slice(), body.anchors.as_slice())?;
+        let rules = body.rules.as_slice();
+        add_rules(&mut self.flat, alloc, rules, body.anchors.as_slice())?;
         Ok(())
     }
 
@@ -258,9 +243,8 @@ impl<'a> Work<'a> {
         let lists = translation_lists(alloc, &self.scope, rule)?;
         let (count, choices) = counted_choices(alloc, self.used(), rule.line, lists, 0, 1)?;
         let number = self.translations;
-        self.flat
-            .translations
-            .add(alloc, &self.scope, number, rule, choices)?;
+        let out = &mut self.flat.translations;
+        add_translation(out, alloc, &self.scope, number, rule, choices)?;
         self.translations += count;
         Ok(())
     }

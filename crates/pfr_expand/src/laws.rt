@@ -1,10 +1,11 @@
 //! Laws of the definitions, each the contract of a function that does nothing.
 ghost use Rattle.std.specs.Prelude.{◌≡◌, ◌≤◌, ◌+◌, length, Ok};
-ghost use Rattle.pfr_elements.specs.declared.interface.Interface.{Interface};
+ghost use Rattle.pfr_ruleset.specs.declared.interface.Interface.{Interface};
+ghost use Rattle.pfr_ruleset.specs.declared.ruleset.Ruleset.{Ruleset};
+ghost use Rattle.pfr_ruleset.specs.Rulesets.{counts};
 ghost use Rattle.pfr_conf.specs.declared.statement.Statements.{Statements};
-ghost use Rattle.pfr_expand.specs.declared.ruleset.Ruleset.{Ruleset};
 ghost use Rattle.pfr_expand.specs.Laws.{AreInTurn, AreOf};
-ghost use Rattle.pfr_expand.specs.Rulesets.{counts, expanded};
+ghost use Rattle.pfr_expand.specs.Rulesets.{expanded};
 
 /// A ruleset that statements mean has at most 65536 rules of the filter and of translation together, so their counts
 /// are the lengths of the lists, and no limit of the counts is met.

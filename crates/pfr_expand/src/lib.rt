@@ -8,18 +8,13 @@ pub mod body;
 pub mod expansion;
 pub mod laws;
 pub mod options;
-pub mod ruleset;
 pub mod tables;
 pub mod translation;
 
 pub use expansion::expand;
-pub use options::Options;
-pub use pfr_elements::{HostCriterion, HostSet, IfName, Interface, InterfaceCriterion};
-pub use pfr_flat::{
-    FilterAction, FlagsCriterion, FlatAnchor, FlatRule, FlatTranslation, NatAddress, PacketMatch,
-    PortChange, PortRange, RdrAddress, StateRule,
-};
 pub use pfr_net::Timeouts;
-pub use pfr_tables::{AddressTable, Entry};
-pub use ruleset::Ruleset;
-pub use translation::Translations;
+pub use pfr_ruleset::{
+    AddressTable, Entry, FilterAction, FlagsCriterion, FlatAnchor, FlatRule, FlatTranslation,
+    HostCriterion, HostSet, IfName, Interface, InterfaceCriterion, NatAddress, Options,
+    PacketMatch, PortChange, PortRange, RdrAddress, Ruleset, StateRule, Translations,
+};

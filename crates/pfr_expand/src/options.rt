@@ -1,32 +1,19 @@
 //! Options.
 ghost use Rattle.std.specs.Prelude.{◌≡◌, ◌++◌, fold, OnOk, length};
+ghost use Rattle.pfr_ruleset.specs.declared.options.Options as O;
 ghost use Rattle.pfr_expand.specs.Bodies.{Adds};
 ghost use Rattle.pfr_expand.specs.Options as spec;
-ghost use Rattle.pfr_expand.specs.declared.options.Options as O;
 
 use crate::tables::exceeds;
 use pfr_conf::{
-    Binding, BlockPolicy, ConfError, InterfaceName, Items, Limit, LimitSetting, Name, SetOption,
-    TimeoutName, TimeoutSetting, Written,
+    ConfError, InterfaceName, Limit, LimitSetting, Name, SetOption, TimeoutName, TimeoutSetting,
+    Written,
 };
-use pfr_elements::{Elements, IfName, Scope, elements_of};
+use pfr_elements::{Elements, Scope, elements_of};
 use pfr_flat::too_many;
 use pfr_net::Timeouts;
+use pfr_ruleset::{BlockPolicy, IfName, Options};
 use std::alloc::{AllocError, Global};
-
-/// What the options of a ruleset say.
-#[derive(Drop)]
-pub struct Options {
-    pub timeouts: Timeouts,
-    /// How many states there may be.
-    pub state_limit: u32,
-    pub block_policy: BlockPolicy,
-    pub state_policy: Binding,
-    /// The number by which this firewall's states are known to others.
-    pub host_id: u32,
-    /// The interfaces whose packets aren't filtered, each as often as it is named.
-    pub skipped: Items<IfName>,
-}
 
 fn set_timeouts(options: &mut Options, settings: &[TimeoutSetting])
     ensures { options.new ≡ fold spec.timeout_set options.old settings.now }
@@ -101,43 +88,25 @@ fn check_word(
     }
 }
 
-impl Options {
-    /// What holds where nothing is set.
-    pub fn new(alloc: Global) -> Options
-        ensures { result ≡ spec.default_options }
-    {
-        Options {
-            timeouts: Timeouts::new(),
-            state_limit: 100000,
-            block_policy: BlockPolicy::Drop,
-            state_policy: Binding::Floating,
-            host_id: 1,
-            skipped: Items::new(alloc),
-        }
+/// Takes an option.
+#[tactic(auto, unfolding(crate::specs::Options::with_option))]
+pub fn set_option(
+    options: &mut Options,
+    alloc: Global,
+    scope: &Scope<'_>,
+    option: &SetOption<'_>,
+) -> Result<(), ConfError>
+    ensures { Adds (spec.with_option scope.now option.now options.old) result options.new }
+{
+    match option {
+        SetOption::SkipOn(list) => return skip_on(options, alloc, scope, list.as_slice()),
+        SetOption::Timeouts(settings) => set_timeouts(options, settings.as_slice()),
+        SetOption::Limits(settings) => set_limits(options, settings.as_slice()),
+        SetOption::BlockPolicy(policy) => options.block_policy = *policy,
+        SetOption::StatePolicy(policy) => options.state_policy = *policy,
+        SetOption::HostId(number) => options.host_id = *number,
+        SetOption::NormalOptimization => {}
+        SetOption::WithoutEffect(word) => check_word(alloc, scope, word)?,
     }
-
-    /// Takes an option.
-    #[tactic(auto, unfolding(crate::specs::Options::with_option))]
-    pub fn set(
-        &mut self,
-        alloc: Global,
-        scope: &Scope<'_>,
-        option: &SetOption<'_>,
-    ) -> Result<(), ConfError>
-        ensures { Adds (spec.with_option scope.now option.now self.old) result self.new }
-    {
-        match option {
-            SetOption::SkipOn(list) => {
-                return skip_on(self, alloc, scope, list.as_slice());
-            }
-            SetOption::Timeouts(settings) => set_timeouts(self, settings.as_slice()),
-            SetOption::Limits(settings) => set_limits(self, settings.as_slice()),
-            SetOption::BlockPolicy(policy) => self.block_policy = *policy,
-            SetOption::StatePolicy(policy) => self.state_policy = *policy,
-            SetOption::HostId(number) => self.host_id = *number,
-            SetOption::NormalOptimization => {}
-            SetOption::WithoutEffect(word) => check_word(alloc, scope, word)?,
-        }
-        Ok(())
-    }
+    Ok(())
 }

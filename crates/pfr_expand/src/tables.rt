@@ -9,7 +9,7 @@ use pfr_conf::{ConfError, ConfErrorKind, TableEntry};
 use pfr_elements::element::{add_element, first_fault};
 use pfr_elements::{Elements, MOST_ELEMENTS, Scope};
 use pfr_flat::MOST_RULES;
-use pfr_tables::{AddressTable, Entry};
+use pfr_ruleset::{AddressTable, Entry};
 use std::alloc::{AllocError, Global};
 use std::mem::replace;
 

@@ -9,26 +9,19 @@ ghost use Rattle.pfr_expand.specs.Bodies.{Adds};
 ghost use Rattle.pfr_expand.specs.Translations as spec;
 
 use pfr_conf::{
-    AddressMatch, ConfError, ConfErrorKind, Items, NatTarget, PortMatch, RdrTarget, RedirectedPort,
-    Target, TranslationKind, TranslationRule,
+    AddressMatch, ConfError, ConfErrorKind, NatTarget, RdrTarget, RedirectedPort, Target,
+    TranslationKind, TranslationRule,
 };
-use pfr_elements::{Elements, HostCriterion, Scope, single_sources, written_single};
+use pfr_elements::{Elements, Scope, single_sources, written_single};
 use pfr_flat::lists::addresses_in;
-use pfr_flat::{
-    Choices, FlatTranslation, Lists, NatAddress, PacketMatch, PortChange, PortRange, RdrAddress,
-    all_fit, combinations, lists_of, lists_with, put_translations,
-};
+use pfr_flat::{Choices, Lists, all_fit, combinations, lists_of, lists_with, put_translations};
 use pfr_net::Ipv4Address;
+use pfr_ruleset::{
+    HostCriterion, NatAddress, PacketMatch, PortChange, PortMatch, PortRange, RdrAddress,
+    Translations,
+};
 use std::alloc::{AllocError, Global};
 use std::mem::drop;
-
-/// The translation rules by their kinds. All of them are numbered together, in the order in which they are written.
-#[derive(Drop)]
-pub struct Translations {
-    pub nats: Items<FlatTranslation<NatAddress>>,
-    pub rdrs: Items<FlatTranslation<RdrAddress>>,
-    pub binats: Items<FlatTranslation<Ipv4Address>>,
-}
 
 /// What a rule of each kind translates to, if it translates.
 #[derive(Clone, Copy)]
@@ -186,92 +179,76 @@ fn change_of(
     }
 }
 
-impl Translations {
-    pub(crate) fn new(alloc: Global) -> Translations
-        ensures { result ≡ spec.no_translations }
-    {
-        Translations {
-            nats: Items::new(alloc),
-            rdrs: Items::new(alloc),
-            binats: Items::new(alloc),
+/// Puts a rule for each match behind those of its kind, numbered on from this number.
+fn put(
+    out: &mut Translations,
+    number: usize,
+    passes: bool,
+    change: Change,
+    matches: &[PacketMatch],
+) -> Result<(), AllocError>
+    requires { number ≤ 65536 }
+    ensures { OnOk result (out.new ≡ spec.with_rules number passes change matches.now out.old) }
+{
+    let _few = matches.len();
+    match change {
+        Change::Nat(target) => { put_translations(&mut out.nats, number, passes, target, matches) }
+        Change::Rdr(target) => { put_translations(&mut out.rdrs, number, passes, target, matches) }
+        Change::Binat(target) => {
+            put_translations(&mut out.binats, number, passes, target, matches)
         }
     }
+}
 
-    /// Puts a rule for each match behind those of its kind, numbered on from this number.
-    fn put(
-        &mut self,
-        number: usize,
-        passes: bool,
-        change: Change,
-        matches: &[PacketMatch],
-    ) -> Result<(), AllocError>
-        requires { number ≤ 65536 }
-        ensures { OnOk result (self.new ≡ spec.with_rules number passes change matches.now self.old) }
-    {
-        let _few = matches.len();
-        match change {
-            Change::Nat(target) => {
-                put_translations(&mut self.nats, number, passes, target, matches)
-            }
-            Change::Rdr(target) => {
-                put_translations(&mut self.rdrs, number, passes, target, matches)
-            }
-            Change::Binat(target) => {
-                put_translations(&mut self.binats, number, passes, target, matches)
-            }
-        }
-    }
+/// Puts a rule for each combination behind those of its kind.
+fn put_all(
+    out: &mut Translations,
+    alloc: Global,
+    number: usize,
+    passes: bool,
+    change: Change,
+    choices: &Choices,
+) -> Result<(), AllocError>
+    requires { number ≤ 65536 }
+    ensures { OnOk result (out.new ≡ spec.with_rules number passes change (choosing.combinations choices.now) out.old) }
+{
+    let matches = combinations(alloc, choices)?;
+    put(out, number, passes, change, matches.as_slice())
+}
 
-    /// Puts a rule for each combination behind those of its kind.
-    fn put_all(
-        &mut self,
-        alloc: Global,
-        number: usize,
-        passes: bool,
-        change: Change,
-        choices: &Choices,
-    ) -> Result<(), AllocError>
-        requires { number ≤ 65536 }
-        ensures { OnOk result (self.new ≡ spec.with_rules number passes change (choosing.combinations choices.now) self.old) }
-    {
-        let matches = combinations(alloc, choices)?;
-        self.put(number, passes, change, matches.as_slice())
-    }
+/// Puts the rules of a rule behind those of its kind, by what may be chosen of its lists.
+fn add_chosen(
+    out: &mut Translations,
+    alloc: Global,
+    scope: &Scope<'_>,
+    number: usize,
+    rule: &TranslationRule<'_>,
+    choices: &Choices,
+) -> Result<(), ConfError>
+    requires { number ≤ 65536 }
+    ensures { Adds (spec.with_choices scope.now number rule.now (Ok choices.now) out.old) result out.new }
+{
+    let change = change_of(alloc, scope, rule, choices.destination_ports.as_slice())??;
+    put_all(out, alloc, number, rule.passes, change, choices)?;
+    Ok(())
+}
 
-    /// Puts the rules of a rule behind those of its kind, by what may be chosen of its lists.
-    fn add_chosen(
-        &mut self,
-        alloc: Global,
-        scope: &Scope<'_>,
-        number: usize,
-        rule: &TranslationRule<'_>,
-        choices: &Choices,
-    ) -> Result<(), ConfError>
-        requires { number ≤ 65536 }
-        ensures { Adds (spec.with_choices scope.now number rule.now (Ok choices.now) self.old) result self.new }
-    {
-        let change = change_of(alloc, scope, rule, choices.destination_ports.as_slice())??;
-        self.put_all(alloc, number, rule.passes, change, choices)?;
-        Ok(())
+/// The same, or the fault of the rule's lists.
+pub(crate) fn add_translation(
+    out: &mut Translations,
+    alloc: Global,
+    scope: &Scope<'_>,
+    number: usize,
+    rule: &TranslationRule<'_>,
+    choices: Result<Choices, ConfError>,
+) -> Result<(), ConfError>
+    requires { number ≤ 65536 }
+    ensures { Adds (spec.with_choices scope.now number rule.now choices out.old) result out.new }
+{
+    if let Ok(chosen) = &choices {
+        let added = add_chosen(out, alloc, scope, number, rule, chosen);
+        drop(choices);
+        return added;
     }
-
-    /// The same, or the fault of the rule's lists.
-    pub(crate) fn add(
-        &mut self,
-        alloc: Global,
-        scope: &Scope<'_>,
-        number: usize,
-        rule: &TranslationRule<'_>,
-        choices: Result<Choices, ConfError>,
-    ) -> Result<(), ConfError>
-        requires { number ≤ 65536 }
-        ensures { Adds (spec.with_choices scope.now number rule.now choices self.old) result self.new }
-    {
-        if let Ok(chosen) = &choices {
-            let added = self.add_chosen(alloc, scope, number, rule, chosen);
-            drop(choices);
-            return added;
-        }
-        choices.and(Ok(()))
-    }
+    choices.and(Ok(()))
 }

@@ -1,5 +1,4 @@
 pub mod Digits
-pub mod Joining
 pub mod MacroLists
 pub mod Members
 pub mod Order

@@ -4,16 +4,16 @@ use Rattle.std.specs.List.{All, Contains, slice_get}
 use Rattle.std.specs.Result.{IsOkAnd}
 use Rattle.std.proofs.lemmas.Bool.{cases_lt, lt-ltb}
 use Rattle.std.proofs.lemmas.List.Elements.{All-nil, All-cons, All-head, All-tail, All-contains, Contains-append_left, Contains-append_right, Contains-push}
+use Rattle.pfr_ruleset.specs.declared.table.Entry.{Entry}
+use Rattle.pfr_ruleset.specs.Tables.{bits_of, holds, IsMember}
+use Rattle.pfr_ruleset.specs.declared.hosts.HostSet.TheVariants as set
+use Rattle.pfr_ruleset.specs.declared.hosts.HostCriterion.{HostCriterion}
+use Rattle.pfr_ruleset.specs.Membership.{IsInTable, Holds}
 use Rattle.pfr_terms.specs.declared.name.Name.{Name}
 use Rattle.pfr_terms.specs.declared.address.Address.TheVariants as a
-use Rattle.pfr_tables.specs.declared.table.Entry.{Entry}
-use Rattle.pfr_tables.specs.Tables.{bits_of, holds, IsMember}
-use Rattle.pfr_elements.specs.declared.hosts.HostSet.TheVariants as set
-use Rattle.pfr_elements.specs.declared.hosts.HostCriterion.{HostCriterion}
 use Rattle.pfr_elements.specs.declared.scope.Scope.{Scope}
 use Rattle.pfr_elements.specs.Hosts.{address_meaning, host_criterion}
 use Rattle.pfr_elements.specs.Names.{last_place}
-use Rattle.pfr_flat.specs.Membership.{IsInTable, Holds}
 
 -- ---- each address is in a table or it isn't
 

@@ -1,7 +1,7 @@
 -- How many combinations there are, and the place of each.
 use Rattle.std.proofs.Common.{◌≡◌, ◌∙◌, ◌*◌, ℕ, List, [], ◌∷◌, length, flat_map, arith}
 use Rattle.std.proofs.lemmas.List.{length-append, length-map}
-use Rattle.pfr_flat.specs.declared.flat.PacketMatch.{PacketMatch}
+use Rattle.pfr_ruleset.specs.declared.flat.PacketMatch.{PacketMatch}
 use Rattle.pfr_flat.specs.declared.choices.Choices as C
 use Rattle.pfr_flat.specs.Choices.{no_match, by_destination_port, by_destination, by_source_port, by_source, by_icmp, by_protocol, by_interface, combinations}
 

@@ -1,8 +1,8 @@
 -- Combinations: a choice from each list, the lists in the order in which pf.conf(5) expands them.
 use Rattle.std.specs.Prelude.{false, List, map, flat_map, None}
-use Rattle.pfr_elements.specs.declared.hosts.HostCriterion.{HostCriterion}
-use Rattle.pfr_elements.specs.declared.hosts.HostSet.TheVariants.{Any}
-use Rattle.pfr_flat.specs.declared.flat.PacketMatch.{PacketMatch}
+use Rattle.pfr_ruleset.specs.declared.hosts.HostCriterion.{HostCriterion}
+use Rattle.pfr_ruleset.specs.declared.hosts.HostSet.TheVariants.{Any}
+use Rattle.pfr_ruleset.specs.declared.flat.PacketMatch.{PacketMatch}
 use Rattle.pfr_flat.specs.declared.choices.Choices as C
 
 -- any address

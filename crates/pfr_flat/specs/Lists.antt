@@ -1,11 +1,13 @@
 -- What the lists of a rule or an anchor come to.
 use Rattle.std.specs.Prelude.{ℕ, ◌*◌, ◌||◌, Bool, nat_lt, List, [], ◌∷◌, map, Option, Some, None, Result, Ok, Err}
 use Rattle.pfr_net.specs.declared.protocol.Protocol.{Protocol}
+use Rattle.pfr_ruleset.specs.declared.icmp.IcmpMatch.{IcmpMatch}
+use Rattle.pfr_ruleset.specs.declared.port.PortMatch.{PortMatch}
+use Rattle.pfr_ruleset.specs.declared.hosts.HostCriterion.{HostCriterion}
+use Rattle.pfr_ruleset.specs.declared.interface.InterfaceCriterion.{InterfaceCriterion}
 use Rattle.pfr_terms.specs.declared.error.ConfError.{ConfError}
 use Rattle.pfr_terms.specs.declared.address.AddressMatch.{AddressMatch}
 use Rattle.pfr_terms.specs.declared.interface.InterfaceMatch.{InterfaceMatch}
-use Rattle.pfr_terms.specs.declared.protocol.IcmpMatch.{IcmpMatch}
-use Rattle.pfr_terms.specs.declared.port.PortMatch.{PortMatch}
 use Rattle.pfr_terms.specs.declared.name.Written.{Written}
 use Rattle.pfr_terms.specs.declared.hosts.Part.{Part}
 use Rattle.pfr_terms.specs.declared.hosts.Criteria.{Criteria}
@@ -14,9 +16,7 @@ use Rattle.pfr_terms.specs.Terms as terms
 use Rattle.pfr_terms.specs.Ports as ports
 use Rattle.pfr_terms.specs.Addresses as addresses
 use Rattle.pfr_elements.specs.declared.element.Elements as E
-use Rattle.pfr_elements.specs.declared.hosts.HostCriterion.{HostCriterion}
 use Rattle.pfr_elements.specs.declared.scope.Scope.{Scope}
-use Rattle.pfr_elements.specs.declared.terms.InterfaceCriterion.{InterfaceCriterion}
 use Rattle.pfr_elements.specs.Elements.{elements_from, with_element, none_yet, most_elements}
 use Rattle.pfr_elements.specs.Hosts.{host_use, host_negated, host_criterion, host_turned, host_tables, host_lists}
 use Rattle.pfr_elements.specs.Terms.{use_in, never, itself, same, no_table, protocol_lists, icmp_lists, port_lists, interface_use, interface_negated, interface_meaning, interface_turned, interface_lists}

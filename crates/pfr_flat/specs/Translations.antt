@@ -1,11 +1,11 @@
 -- Flat translation rules.
 use Rattle.std.specs.Prelude.{ℕ, suc, ◌+◌, ◌-◌, ◌&&◌, Bool, true, false, nat_le, List, [], ◌∷◌, Option, Some, None}
-use Rattle.pfr_terms.specs.declared.port.Comparison.TheVariants as c
-use Rattle.pfr_terms.specs.declared.port.RangeOperator.TheVariants as r
-use Rattle.pfr_terms.specs.declared.port.PortMatch.{PortMatch}
-use Rattle.pfr_terms.specs.declared.port.PortMatch.TheVariants as p
-use Rattle.pfr_flat.specs.declared.flat.PacketMatch.{PacketMatch}
-use Rattle.pfr_flat.specs.declared.flat.FlatTranslation.{FlatTranslation}
+use Rattle.pfr_ruleset.specs.declared.port.Comparison.TheVariants as c
+use Rattle.pfr_ruleset.specs.declared.port.RangeOperator.TheVariants as r
+use Rattle.pfr_ruleset.specs.declared.port.PortMatch.{PortMatch}
+use Rattle.pfr_ruleset.specs.declared.port.PortMatch.TheVariants as p
+use Rattle.pfr_ruleset.specs.declared.flat.PacketMatch.{PacketMatch}
+use Rattle.pfr_ruleset.specs.declared.flat.FlatTranslation.{FlatTranslation}
 
 -- one rule for each match, numbered on from this number
 abbrev pub numbered : {A : Type 0} → ℕ → Bool → Option A → List PacketMatch → List (FlatTranslation A)

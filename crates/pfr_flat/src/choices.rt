@@ -2,10 +2,9 @@
 ghost use Rattle.std.specs.Prelude.{◌≡◌, ◌++◌, OnOk, IfOk};
 ghost use Rattle.pfr_flat.specs.Choices as spec;
 
-use crate::flat::{NO_MATCH, PacketMatch};
-use pfr_conf::{IcmpMatch, Items, PortMatch};
-use pfr_elements::{HostCriterion, InterfaceCriterion};
+use pfr_items::Items;
 use pfr_net::Protocol;
+use pfr_ruleset::{HostCriterion, IcmpMatch, InterfaceCriterion, NO_MATCH, PacketMatch, PortMatch};
 use std::alloc::{AllocError, Global};
 
 /// What may be chosen for each thing that a rule asks, in the order in which it is written. Where nothing is written

@@ -1,12 +1,14 @@
 //! Laws of the definitions, each the contract of a function that does nothing.
 ghost use Rattle.std.specs.Prelude.{◌≡◌, ◌↔◌, ◌<◌, ◌≤◌, ◌+◌, ◌*◌, ◌/◌, ◌%◌, ℕ, true, false, List, [], ◌∷◌, length, map, slice_get, Some, None, Ok, IsOkAnd};
 ghost use Rattle.std.specs.List.{All};
+ghost use Rattle.pfr_ruleset.specs.declared.table.Entry.{Entry};
+ghost use Rattle.pfr_ruleset.specs.declared.flat.PacketMatch.{PacketMatch};
+ghost use Rattle.pfr_ruleset.specs.Membership.{Holds};
 ghost use Rattle.pfr_words.specs.Words.{words};
 ghost use Rattle.pfr_terms.specs.declared.address.Address.TheVariants.{Table};
 ghost use Rattle.pfr_terms.specs.declared.name.MacroUse.{MacroUse};
 ghost use Rattle.pfr_terms.specs.declared.name.Name.{Name};
 ghost use Rattle.pfr_terms.specs.Input.{Input, of_value};
-ghost use Rattle.pfr_tables.specs.declared.table.Entry.{Entry};
 ghost use Rattle.pfr_elements.specs.declared.scope.Scope.{Scope};
 ghost use Rattle.pfr_elements.specs.declared.definition.ListMeanings.{ListMeanings};
 ghost use Rattle.pfr_elements.specs.declared.definition.Text.{Text};
@@ -17,9 +19,7 @@ ghost use Rattle.pfr_elements.specs.Meanings.{list_meanings};
 ghost use Rattle.pfr_elements.specs.Names.{last_place};
 ghost use Rattle.pfr_elements.specs.Values.{taken_at};
 ghost use Rattle.pfr_flat.specs.declared.choices.Choices.{Choices};
-ghost use Rattle.pfr_flat.specs.declared.flat.PacketMatch.{PacketMatch};
 ghost use Rattle.pfr_flat.specs.Choices.{combinations};
-ghost use Rattle.pfr_flat.specs.Membership.{Holds};
 
 use pfr_elements::Element;
 use pfr_elements::definition::ListMeanings;

@@ -7,18 +7,11 @@
 
 pub mod choices;
 pub mod counts;
-pub mod filter_rules;
-pub mod flat;
 pub mod laws;
 pub mod lists;
 pub mod translations;
 
 pub use choices::{Choices, combinations};
 pub use counts::{MOST_RULES, counted, too_many};
-pub use filter_rules::{FilterRules, RuleLists, put_anchors};
-pub use flat::{
-    FilterAction, FlagsCriterion, FlatAnchor, FlatRule, FlatTranslation, NO_MATCH, NatAddress,
-    PacketMatch, PortChange, PortRange, RdrAddress, StateRule,
-};
 pub use lists::{Lists, choices_or_fault, lists_of, lists_with, slice_of};
 pub use translations::{all_fit, put_translations};

@@ -8,14 +8,11 @@ ghost use Rattle.pfr_flat.specs.Lists as spec;
 
 use crate::choices::Choices;
 use crate::counts::MOST_RULES;
-use crate::flat::ANYONE;
-use pfr_conf::{
-    AddressMatch, ConfError, Criteria, IcmpMatch, InterfaceMatch, Items, Part, PortMatch, Written,
-};
-use pfr_elements::{
-    Element, Elements, HostCriterion, InterfaceCriterion, MOST_ELEMENTS, Scope, elements_of,
-};
+use pfr_conf::{AddressMatch, ConfError, Criteria, InterfaceMatch, Part, Written};
+use pfr_elements::{Element, Elements, MOST_ELEMENTS, Scope, elements_of};
+use pfr_items::Items;
 use pfr_net::Protocol;
+use pfr_ruleset::{ANYONE, HostCriterion, IcmpMatch, InterfaceCriterion, PortMatch};
 use std::alloc::{AllocError, Global};
 use std::mem::{drop, swap};
 

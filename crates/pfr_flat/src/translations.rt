@@ -2,8 +2,8 @@
 ghost use Rattle.std.specs.Prelude.{◌≡◌, ◌≤◌, ◌+◌, ◌++◌, length, OnOk};
 ghost use Rattle.pfr_flat.specs.Translations as spec;
 
-use crate::flat::{FlatTranslation, PacketMatch};
-use pfr_conf::{Comparison, Items, PortMatch, RangeOperator};
+use pfr_items::Items;
+use pfr_ruleset::{Comparison, FlatTranslation, PacketMatch, PortMatch, RangeOperator};
 use std::alloc::AllocError;
 
 /// Puts a translation rule for each match behind the others, numbered on from this number.

@@ -2,6 +2,7 @@
 use Rattle.std.proofs.Common.{◌≡◌, ℕ, Bool, ◌+◌, ◌≤◌, List, [], ◌∷◌, ◌++◌, length, map, take, drop, None, Result, Ok, Err, ◌⊎◌, inl, inr, refl, sym, ◌∙◌, ap, arith}
 use Rattle.std.specs.List.{flat_map}
 use Rattle.std.proofs.lemmas.List.{append_assoc, append_cancel_right, append-nil, length-take-le, take-append-drop, take_at}
+use Rattle.pfr_packet.specs.Job.{RunJob}
 use Rattle.pfr_capture.specs.declared.capture.CaptureError.{CaptureError}
 use Rattle.pfr_capture.specs.declared.capture.CaptureError.TheVariants as refusal
 use Rattle.pfr_capture.specs.declared.capture.Form.{Form}
@@ -12,7 +13,6 @@ use Rattle.pfr_capture.specs.Reading.{HasGiven, Reading}
 use Rattle.pfr_capture.specs.Records.{IsCapture, RecordBytes, text_of}
 use Rattle.pfr_capture.proofs.CaptureLemmas.{IsFront, given_first}
 use Rattle.pfr_capture.proofs.LawLemmas.{every_capture, one_capture}
-use Rattle.pfr_packet.specs.Job.{RunJob}
 use Rattle.pfr_commit.specs.World.{World, world_after}
 use Rattle.pfr_out.specs.declared.report.Output.{Output}
 use Rattle.pfr_out.specs.declared.report.Output.TheVariants as output

@@ -4,6 +4,8 @@ use Rattle.std.specs.List.{All, flat_map}
 use Rattle.std.proofs.lemmas.Bool.{le-ltb}
 use Rattle.std.proofs.lemmas.List.{append_assoc, append-nil, length-append, map-append, take_at}
 use Rattle.std.proofs.lemmas.List.Elements.{All-head, All-push, All-tail, All-weaker}
+use Rattle.pfr_headers.specs.declared.packet.View.{View}
+use Rattle.pfr_headers.specs.View.{view_of}
 use Rattle.pfr_capture.specs.declared.capture.CaptureError.{CaptureError}
 use Rattle.pfr_capture.specs.declared.capture.CaptureError.TheVariants as refusal
 use Rattle.pfr_capture.specs.declared.capture.Form.{Form}
@@ -13,8 +15,6 @@ use Rattle.pfr_capture.specs.Header.{form_of, opening_of}
 use Rattle.pfr_capture.specs.Reading.{EndsCapture, Gave, HasGiven, LacksRecord, NextFails, Reading, ReadsOn, Refuses, bytes_of}
 use Rattle.pfr_capture.specs.Records.{IsCapture, RecordBytes, text_of}
 use Rattle.pfr_capture.proofs.CaptureLemmas.{IsFront, given_first}
-use Rattle.pfr_headers.specs.declared.packet.View.{View}
-use Rattle.pfr_headers.specs.View.{view_of}
 use Rattle.pfr_commit.specs.World.{Frame}
 use Rattle.pfr_out.specs.Reading.{BatchSays, End, EndsBehind, IsPacket, records_of}
 use Rattle.pfr_out.specs.Replay.{OfEvery, frame_in}

@@ -3,6 +3,8 @@ use Rattle.std.proofs.Common.{◌≡◌, ℕ, suc, ◌+◌, ◌*◌, ◌<◌, �
 use Rattle.std.specs.List.{All}
 use Rattle.std.proofs.Math.Nat.{suc-mul, zero-mul}
 use Rattle.std.proofs.lemmas.List.{append-nil, append_assoc, length-append, length-map, map-append, take-take, take_at}
+use Rattle.pfr_headers.specs.declared.packet.View.{View}
+use Rattle.pfr_packet.specs.Job.{RunJob}
 use Rattle.pfr_capture.specs.declared.capture.CaptureError.{CaptureError}
 use Rattle.pfr_capture.specs.declared.capture.CaptureError.TheVariants as refusal
 use Rattle.pfr_capture.specs.declared.capture.Form.{Form}
@@ -11,8 +13,6 @@ use Rattle.pfr_capture.specs.declared.capture.Tail.{Tail}
 use Rattle.pfr_capture.specs.Reading.{Gave, HasGiven, LacksRecord, OpenFails, Reading, ReadsOn, RefusesHeader, StopsEarly}
 use Rattle.pfr_capture.specs.Records.{IsCapture, RecordBytes}
 use Rattle.pfr_capture.proofs.CaptureLemmas.{IsFront, read_is_capture}
-use Rattle.pfr_headers.specs.declared.packet.View.{View}
-use Rattle.pfr_packet.specs.Job.{RunJob}
 use Rattle.pfr_commit.specs.World.{Texts, World, no_texts, opening, world_after, world_of}
 use Rattle.pfr_commit.proofs.WorldLemmas.{behind, world_append, world_behind, world_count, world_none}
 use Rattle.pfr_out.specs.declared.report.Output.{Output}

@@ -1,6 +1,8 @@
 -- A batch of records on its way from the source.
 use Rattle.std.specs.Prelude.{◌≡◌, ℕ, Bool, true, false, List, ◌++◌, map, Option, Some, None, Result, Ok, Err}
 use Rattle.std.specs.List.{All}
+use Rattle.pfr_headers.specs.declared.packet.View.{View}
+use Rattle.pfr_headers.specs.View.{view_of}
 use Rattle.pfr_capture.specs.declared.capture.CaptureError.{CaptureError}
 use Rattle.pfr_capture.specs.declared.capture.CaptureError.TheVariants as capture
 use Rattle.pfr_capture.specs.declared.capture.Form.{Form}
@@ -9,8 +11,6 @@ use Rattle.pfr_capture.specs.declared.capture.Tail.{Tail}
 use Rattle.pfr_capture.specs.Device.{Rose}
 use Rattle.pfr_capture.specs.Reading.{FieldsOf, Gave, HasGiven, LacksRecord, ReadsOn, Reading, bytes_of}
 use Rattle.pfr_capture.specs.Records.{IsCapture, RecordBytes}
-use Rattle.pfr_headers.specs.declared.packet.View.{View}
-use Rattle.pfr_headers.specs.View.{view_of}
 
 -- the records of packets
 abbrev pub records_of : List (Record × View) → List RecordBytes

@@ -1,5 +1,10 @@
 -- The replay of a capture through a ruleset, by one thread, a batch of packets at a time.
 use Rattle.std.specs.Prelude.{◌≡◌, ◌⊎◌, ◌≤◌, ◌<◌, ◌+◌, ◌*◌, ℕ, Bool, IsTrue, List, [], ◌++◌, length, map, take, Result, Ok, Err}
+use Rattle.pfr_terms.specs.declared.error.ConfError.{ConfError}
+use Rattle.pfr_terms.specs.declared.error.ConfErrorKind.TheVariants.{Memory as NoMemory}
+use Rattle.pfr_terms.specs.Input.{Gives}
+use Rattle.pfr_packet.specs.Job.{RunJob}
+use Rattle.pfr_packet.specs.Rulesets.{ruleset_of}
 use Rattle.pfr_capture.specs.declared.capture.CaptureError.{CaptureError}
 use Rattle.pfr_capture.specs.declared.capture.CaptureError.TheVariants as capture
 use Rattle.pfr_capture.specs.declared.capture.Form.{Form}
@@ -7,11 +12,6 @@ use Rattle.pfr_capture.specs.declared.capture.Tail.{Tail}
 use Rattle.pfr_capture.specs.Device.{GrewByBeginning, Rose}
 use Rattle.pfr_capture.specs.Header.{opening_of}
 use Rattle.pfr_capture.specs.Records.{IsCapture, RecordBytes, seconds_of}
-use Rattle.pfr_terms.specs.declared.error.ConfError.{ConfError}
-use Rattle.pfr_terms.specs.declared.error.ConfErrorKind.TheVariants.{Memory as NoMemory}
-use Rattle.pfr_terms.specs.Input.{Gives}
-use Rattle.pfr_packet.specs.Job.{RunJob}
-use Rattle.pfr_packet.specs.Rulesets.{ruleset_of}
 use Rattle.pfr_commit.specs.Endings.{counters_text, states_text}
 use Rattle.pfr_commit.specs.World.{Frame, Texts, World, world_of}
 use Rattle.pfr_out.specs.declared.report.Output.{Output}

@@ -1,10 +1,10 @@
 -- One batch of packets on its way into the outputs, and the end of a run.
 use Rattle.std.specs.Prelude.{◌≡◌, ℕ, Bool, List, map, Result, Ok, Err, ⊤}
+use Rattle.pfr_headers.specs.declared.packet.View.{View}
+use Rattle.pfr_packet.specs.Job.{RunJob}
 use Rattle.pfr_capture.specs.declared.capture.CaptureError.{CaptureError}
 use Rattle.pfr_capture.specs.declared.capture.Record.{Record}
 use Rattle.pfr_capture.specs.declared.capture.Tail.{Tail}
-use Rattle.pfr_headers.specs.declared.packet.View.{View}
-use Rattle.pfr_packet.specs.Job.{RunJob}
 use Rattle.pfr_commit.specs.Emissions.{frame_of}
 use Rattle.pfr_commit.specs.World.{Frame, Texts, World, no_texts, world_after}
 use Rattle.pfr_out.specs.declared.report.Report.{Report}

@@ -1,11 +1,11 @@
 //! Laws of the definitions of a run, each the contract of a function that does nothing.
 ghost use Rattle.std.specs.Prelude.{◌≡◌, ◌++◌, ℕ, Bool, List, Result, Err, take};
+ghost use Rattle.pfr_packet.specs.Job.{RunJob};
 ghost use Rattle.pfr_capture.specs.declared.capture.CaptureError.{CaptureError};
 ghost use Rattle.pfr_capture.specs.declared.capture.Form.{Form};
 ghost use Rattle.pfr_capture.specs.declared.capture.Tail.{Tail};
 ghost use Rattle.pfr_capture.specs.Header.{opening_of};
 ghost use Rattle.pfr_capture.specs.Records.{IsCapture, RecordBytes};
-ghost use Rattle.pfr_packet.specs.Job.{RunJob};
 ghost use Rattle.pfr_out.specs.declared.report.Stop.{Stop};
 ghost use Rattle.pfr_out.specs.declared.report.Stop.TheVariants.{Read};
 ghost use Rattle.pfr_out.specs.declared.sinks.Sinks.{Sinks};

@@ -1,6 +1,6 @@
 //! How a capture is replayed.
-use pfr_expand::Interface;
 use pfr_net::Net;
+use pfr_ruleset::Interface;
 
 /// How a capture is replayed.
 #[derive(Clone, Copy)]

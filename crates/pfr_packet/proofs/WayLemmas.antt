@@ -4,6 +4,7 @@ use Rattle.std.specs.List.{Contains, slice_get}
 use Rattle.std.proofs.lemmas.Bool.{not-false}
 use Rattle.pfr_net.specs.declared.direction.Direction.{Direction}
 use Rattle.pfr_net.specs.declared.rule_number.RuleNumber.{RuleNumber}
+use Rattle.pfr_ruleset.specs.declared.flat.FlatRule.{FlatRule}
 use Rattle.pfr_headers.specs.declared.change.Change.{Change}
 use Rattle.pfr_headers.specs.declared.packet.Packet.{Packet}
 use Rattle.pfr_headers.specs.declared.packet.View.{View}
@@ -14,7 +15,6 @@ use Rattle.pfr_headers.specs.declared.transport.Transport.{Transport}
 use Rattle.pfr_headers.specs.declared.transport.Transport.TheVariants as transport
 use Rattle.pfr_headers.specs.Ways.{direction_of}
 use Rattle.pfr_headers.specs.View.{has_options}
-use Rattle.pfr_flat.specs.declared.flat.FlatRule.{FlatRule}
 use Rattle.pfr_rules.specs.declared.decision.Decision.{Decision}
 use Rattle.pfr_rules.specs.Filter.{decision_of, visited}
 use Rattle.pfr_track.specs.declared.key.Key.{Key}

@@ -3,12 +3,12 @@ use Rattle.std.specs.Prelude.{ℕ, Bool, false, not, List, [], Option, Some, Non
 use Rattle.std.specs.List.{slice_get}
 use Rattle.pfr_net.specs.declared.direction.Direction.{Direction}
 use Rattle.pfr_net.specs.declared.rule_number.RuleNumber.{RuleNumber}
+use Rattle.pfr_ruleset.specs.declared.flat.FilterAction.{FilterAction}
+use Rattle.pfr_ruleset.specs.declared.flat.FilterAction.TheVariants as action
+use Rattle.pfr_ruleset.specs.declared.flat.FlatRule.{FlatRule}
+use Rattle.pfr_ruleset.specs.declared.flat.StateRule.{StateRule}
+use Rattle.pfr_ruleset.specs.declared.ruleset.Ruleset.{Ruleset}
 use Rattle.pfr_headers.specs.declared.packet.Packet.{Packet}
-use Rattle.pfr_flat.specs.declared.flat.FilterAction.{FilterAction}
-use Rattle.pfr_flat.specs.declared.flat.FilterAction.TheVariants as action
-use Rattle.pfr_flat.specs.declared.flat.FlatRule.{FlatRule}
-use Rattle.pfr_flat.specs.declared.flat.StateRule.{StateRule}
-use Rattle.pfr_expand.specs.declared.ruleset.Ruleset.{Ruleset}
 use Rattle.pfr_rules.specs.declared.decision.Decision.{Decision}
 use Rattle.pfr_rules.specs.Filter.{decision_of, visited}
 use Rattle.pfr_track.specs.declared.state.StateRules.{StateRules}

@@ -1,11 +1,11 @@
 -- What a ruleset text means for an interface.
 use Rattle.std.specs.Prelude.{◌≡◌, ◌≢◌, ℕ, nat_lt, if◌then◌else◌, List, length, Result, Ok, Err}
+use Rattle.pfr_ruleset.specs.declared.interface.Interface.{Interface}
+use Rattle.pfr_ruleset.specs.declared.ruleset.Ruleset.{Ruleset}
 use Rattle.pfr_terms.specs.declared.error.ConfError.{ConfError}
 use Rattle.pfr_terms.specs.declared.error.ConfErrorKind.TheVariants.{Memory, TooMany}
-use Rattle.pfr_elements.specs.declared.interface.Interface.{Interface}
 use Rattle.pfr_conf.specs.declared.statement.Statements.{Statements}
 use Rattle.pfr_conf.specs.Statements.{statements_of}
-use Rattle.pfr_expand.specs.declared.ruleset.Ruleset.{Ruleset}
 use Rattle.pfr_expand.specs.Rulesets.{expanded}
 
 abbrev pub expanded_by : Result Statements ConfError → Interface → Result Ruleset ConfError

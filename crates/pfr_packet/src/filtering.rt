@@ -4,11 +4,10 @@ ghost use Rattle.pfr_packet.specs.Filtering as spec;
 
 use crate::outcome::{Outcome, VisitedRules};
 use crate::verdict::{Reason, Verdict};
-use pfr_expand::Ruleset;
-use pfr_flat::{FilterAction, FlatRule};
 use pfr_headers::Packet;
 use pfr_net::{Direction, RuleNumber};
 use pfr_rules::{Decision, Visits, filter};
+use pfr_ruleset::{FilterAction, FlatRule, Ruleset};
 use pfr_track::StateRules;
 use std::alloc::{AllocError, Global};
 

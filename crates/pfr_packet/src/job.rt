@@ -6,10 +6,11 @@ ghost use Rattle.pfr_packet.specs.Job as spec;
 ghost use Rattle.pfr_packet.specs.Rulesets.{ruleset_of};
 
 use crate::ruleset::ruleset_of;
-use pfr_conf::{ConfError, ConfErrorKind, Items};
+use pfr_conf::{ConfError, ConfErrorKind};
 use pfr_criteria::is_named;
-use pfr_expand::{Interface, Ruleset};
+use pfr_items::Items;
 use pfr_net::{Net, Timeouts};
+use pfr_ruleset::{Interface, Ruleset};
 use std::alloc::Global;
 use std::marker::Model;
 

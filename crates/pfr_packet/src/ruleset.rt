@@ -6,7 +6,8 @@ ghost use Rattle.pfr_packet.specs.Rulesets as spec;
 ghost use Rattle.pfr_packet.specs.Rulesets.{IsTold};
 
 use pfr_conf::{ConfError, ConfErrorKind, read};
-use pfr_expand::{Interface, Ruleset, expand};
+use pfr_expand::expand;
+use pfr_ruleset::{Interface, Ruleset};
 use std::alloc::Global;
 
 /// The longest ruleset text, in bytes: one MiB.

@@ -9,7 +9,7 @@ ghost use Rattle.pfr_record.specs.Record.{Agrees, IsSound, answer_of};
 use crate::answer::Answer;
 use indexmap::IndexMap;
 use pfr_headers::View;
-use pfr_packet::{Answers, Direct, Job, Outcome, Question};
+use pfr_packet::{Answers, Job, Outcome, Question};
 use pfr_states::Table;
 use pfr_track::Clock;
 use std::sync::Arc;

@@ -4,9 +4,9 @@ use Rattle.std.specs.List.{Contains, slice_get, list_any, list_all, filter}
 use Rattle.std.proofs.lemmas.Bool.{cases_lt, leb-true, le-leb, lt-leb}
 use Rattle.std.proofs.lemmas.List.Elements.{All-contains, filter_passes}
 use Rattle.pfr_net.specs.declared.direction.Direction.{Direction}
+use Rattle.pfr_ruleset.specs.declared.flat.FlatAnchor.{FlatAnchor}
+use Rattle.pfr_ruleset.specs.declared.ruleset.Ruleset.{Ruleset}
 use Rattle.pfr_headers.specs.declared.packet.Packet.{Packet}
-use Rattle.pfr_flat.specs.declared.flat.FlatAnchor.{FlatAnchor}
-use Rattle.pfr_expand.specs.declared.ruleset.Ruleset.{Ruleset}
 use Rattle.pfr_criteria.specs.Packets.{anchor_holds}
 use Rattle.pfr_rules.specs.Filter.{last_below, some_in, ends, is_inside, is_round, is_stop, anchored, ruled, hit, passes, deciding, reach, reach_by, visited}
 use Rattle.pfr_rules.specs.Laws.{GoesTheSameWay, IsSameButAnchor, NoneHits, PassesBy, asking_like, quick_or_not}

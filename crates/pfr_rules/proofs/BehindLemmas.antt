@@ -4,10 +4,10 @@ use Rattle.std.specs.List.{slice_get, list_any, list_all}
 use Rattle.std.proofs.lemmas.Bool.{cases_lt, eqb-true, ne_eqb, le-leb, lt-leb, leb-false}
 use Rattle.std.proofs.lemmas.Option.{slice_get_within}
 use Rattle.pfr_net.specs.declared.direction.Direction.{Direction}
+use Rattle.pfr_ruleset.specs.declared.flat.FlatRule.{FlatRule}
+use Rattle.pfr_ruleset.specs.declared.flat.FlatAnchor.{FlatAnchor}
+use Rattle.pfr_ruleset.specs.declared.ruleset.Ruleset.{Ruleset}
 use Rattle.pfr_headers.specs.declared.packet.Packet.{Packet}
-use Rattle.pfr_flat.specs.declared.flat.FlatRule.{FlatRule}
-use Rattle.pfr_flat.specs.declared.flat.FlatAnchor.{FlatAnchor}
-use Rattle.pfr_expand.specs.declared.ruleset.Ruleset.{Ruleset}
 use Rattle.pfr_criteria.specs.Packets.{anchor_holds}
 use Rattle.pfr_rules.specs.Filter.{some_in, ends, is_inside, is_quick, is_round, is_stop, anchored, hit, passes, deciding, reach, reach_by, visited}
 use Rattle.pfr_rules.specs.Laws.{GoesTheSameWay, IsSameUpTo, anchors_up_to, begins_by, cut_at}

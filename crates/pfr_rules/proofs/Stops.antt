@@ -3,10 +3,10 @@ use Rattle.std.proofs.Common.{◌≡◌, ◌<◌, ◌≤◌, ◌+◌, ◌&&◌, 
 use Rattle.std.specs.List.{Contains, slice_get, list_any}
 use Rattle.std.proofs.lemmas.Bool.{leb-true, le-leb, eqb-true, cases_lt}
 use Rattle.std.proofs.lemmas.List.Elements.{Contains-append_left, Contains-append_right, Contains-push}
-use Rattle.pfr_flat.specs.declared.flat.FlatRule.{FlatRule}
-use Rattle.pfr_flat.specs.declared.flat.FlatAnchor.{FlatAnchor}
-use Rattle.pfr_flat.specs.declared.filter_rules.RuleLists.{RuleLists}
-use Rattle.pfr_flat.specs.Places.{HasOpenings, opening_at, with_opening, opening_of}
+use Rattle.pfr_ruleset.specs.declared.flat.FlatRule.{FlatRule}
+use Rattle.pfr_ruleset.specs.declared.flat.FlatAnchor.{FlatAnchor}
+use Rattle.pfr_ruleset.specs.declared.filter_rules.RuleLists.{RuleLists}
+use Rattle.pfr_ruleset.specs.Places.{HasOpenings, opening_at, with_opening, opening_of}
 use Rattle.pfr_rules.specs.Filter.{last_below, is_stop, ends, some_in, passes, is_quick, stops_by}
 use Rattle.pfr_rules.proofs.Places.{or_left, or_right, last_within, none_after, none_at_all, some_at, some_found}
 

@@ -4,8 +4,8 @@ use Rattle.std.specs.List.{Contains, slice_get, filter}
 use Rattle.std.proofs.lemmas.Bool.{cases_eq, cases_lt}
 use Rattle.std.proofs.lemmas.List.Elements.{Contains-append_left, Contains-push, filter-append}
 use Rattle.pfr_net.specs.declared.direction.Direction.{Direction}
+use Rattle.pfr_ruleset.specs.declared.ruleset.Ruleset.{Ruleset}
 use Rattle.pfr_headers.specs.declared.packet.Packet.{Packet}
-use Rattle.pfr_expand.specs.declared.ruleset.Ruleset.{Ruleset}
 use Rattle.pfr_rules.specs.Filter.{is_inside, is_quick, is_stop, anchored, ruled, hit, passes, deciding, reach, reach_by, visited}
 use Rattle.pfr_rules.specs.Laws.{GoesTheSameWay, IsSameBut}
 use Rattle.pfr_rules.specs.Numbers.{numbers_below}

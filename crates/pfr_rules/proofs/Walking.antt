@@ -7,12 +7,12 @@ use Rattle.std.proofs.lemmas.List.{append-nil}
 use Rattle.std.proofs.lemmas.List.Elements.{All-nil, All-cons, All-head, All-tail, All-weaker, All-contains, Contains-append_left, Contains-append_right, Contains-push, filter-append}
 use Rattle.std.proofs.lemmas.Option.{slice_get_within}
 use Rattle.pfr_net.specs.declared.direction.Direction.{Direction}
+use Rattle.pfr_ruleset.specs.declared.flat.FlatRule.{FlatRule}
+use Rattle.pfr_ruleset.specs.declared.flat.FlatAnchor.{FlatAnchor}
+use Rattle.pfr_ruleset.specs.declared.filter_rules.RuleLists.{RuleLists}
+use Rattle.pfr_ruleset.specs.Places.{IsPlaced, Follows, AreNested, AreWithin, ArePlaced, HasOpenings}
+use Rattle.pfr_ruleset.specs.declared.ruleset.Ruleset.{Ruleset}
 use Rattle.pfr_headers.specs.declared.packet.Packet.{Packet}
-use Rattle.pfr_flat.specs.declared.flat.FlatRule.{FlatRule}
-use Rattle.pfr_flat.specs.declared.flat.FlatAnchor.{FlatAnchor}
-use Rattle.pfr_flat.specs.declared.filter_rules.RuleLists.{RuleLists}
-use Rattle.pfr_flat.specs.Places.{IsPlaced, Follows, AreNested, AreWithin, ArePlaced, HasOpenings}
-use Rattle.pfr_expand.specs.declared.ruleset.Ruleset.{Ruleset}
 use Rattle.pfr_rules.specs.Filter.{last_below, first_below, some_below, some_in, ends, is_inside, is_round, hits, is_quick, passes, is_stop, reach_by, stops_by, begun, up_to, anchored as anchored_of, ruled as ruled_of, reach, deciding, visited as visited_of}
 use Rattle.pfr_rules.specs.Numbers.{numbers_below}
 use Rattle.pfr_rules.proofs.Places.{last_within, none_after, none_at_all, last_skips, first_none, none_first, first_found, some_found}

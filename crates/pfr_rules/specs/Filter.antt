@@ -7,13 +7,13 @@ use Rattle.std.specs.Prelude.{ℕ, zero, suc, ◌+◌, ◌==◌, ◌&&◌, ◌||
 use Rattle.std.specs.List.{slice_get, list_any, list_all, filter}
 use Rattle.pfr_net.specs.declared.direction.Direction.{Direction}
 use Rattle.pfr_net.specs.declared.rule_number.RuleNumber.{RuleNumber}
+use Rattle.pfr_ruleset.specs.declared.flat.FilterAction.{FilterAction}
+use Rattle.pfr_ruleset.specs.declared.flat.FilterAction.TheVariants as action
+use Rattle.pfr_ruleset.specs.declared.flat.FlatRule.{FlatRule}
+use Rattle.pfr_ruleset.specs.declared.flat.FlatAnchor.{FlatAnchor}
+use Rattle.pfr_ruleset.specs.declared.filter_rules.RuleLists.{RuleLists}
+use Rattle.pfr_ruleset.specs.declared.ruleset.Ruleset.{Ruleset}
 use Rattle.pfr_headers.specs.declared.packet.Packet.{Packet}
-use Rattle.pfr_flat.specs.declared.flat.FilterAction.{FilterAction}
-use Rattle.pfr_flat.specs.declared.flat.FilterAction.TheVariants as action
-use Rattle.pfr_flat.specs.declared.flat.FlatRule.{FlatRule}
-use Rattle.pfr_flat.specs.declared.flat.FlatAnchor.{FlatAnchor}
-use Rattle.pfr_flat.specs.declared.filter_rules.RuleLists.{RuleLists}
-use Rattle.pfr_expand.specs.declared.ruleset.Ruleset.{Ruleset}
 use Rattle.pfr_criteria.specs.Packets.{rule_holds, anchor_holds}
 use Rattle.pfr_rules.specs.declared.decision.Decision.{Decision}
 use Rattle.pfr_rules.specs.Numbers.{numbers_below}

@@ -3,9 +3,9 @@
 use Rattle.std.specs.Prelude.{◌≡◌, ◌≢◌, ◌≤◌, ℕ, min, Bool, false, nat_le, List, ◌∷◌, ◌++◌, length, map, Some}
 use Rattle.std.specs.List.{Contains, slice_get, filter}
 use Rattle.pfr_net.specs.declared.direction.Direction.{Direction}
+use Rattle.pfr_ruleset.specs.declared.flat.FlatAnchor.{FlatAnchor}
+use Rattle.pfr_ruleset.specs.declared.ruleset.Ruleset.{Ruleset}
 use Rattle.pfr_headers.specs.declared.packet.Packet.{Packet}
-use Rattle.pfr_flat.specs.declared.flat.FlatAnchor.{FlatAnchor}
-use Rattle.pfr_expand.specs.declared.ruleset.Ruleset.{Ruleset}
 use Rattle.pfr_rules.specs.Filter.{hit, deciding, visited}
 
 -- ---- rulesets that are the same up to a place

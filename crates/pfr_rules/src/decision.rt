@@ -1,6 +1,6 @@
 //! What the filter decides.
-use pfr_flat::FilterAction;
 use pfr_net::RuleNumber;
+use pfr_ruleset::FilterAction;
 
 /// What becomes of a packet, and by which rule. No rule means that none hit.
 #[derive(Clone, Copy)]

@@ -2,10 +2,10 @@
 ghost use Rattle.std.specs.Prelude.{◌≡◌, ◌≤◌, ℕ, Bool, true, false, Some};
 ghost use Rattle.std.specs.List.{Contains, slice_get};
 ghost use Rattle.pfr_net.specs.declared.direction.Direction.{Direction};
+ghost use Rattle.pfr_ruleset.specs.declared.flat.FlatRule.{FlatRule};
+ghost use Rattle.pfr_ruleset.specs.declared.flat.FlatAnchor.{FlatAnchor};
+ghost use Rattle.pfr_ruleset.specs.declared.ruleset.Ruleset.{Ruleset};
 ghost use Rattle.pfr_headers.specs.declared.packet.Packet.{Packet};
-ghost use Rattle.pfr_flat.specs.declared.flat.FlatRule.{FlatRule};
-ghost use Rattle.pfr_flat.specs.declared.flat.FlatAnchor.{FlatAnchor};
-ghost use Rattle.pfr_expand.specs.declared.ruleset.Ruleset.{Ruleset};
 ghost use Rattle.pfr_criteria.specs.Packets.{anchor_holds};
 ghost use Rattle.pfr_rules.specs.Filter.{hit, deciding, visited};
 ghost use Rattle.pfr_rules.specs.Laws.{GoesTheSameWay, IsSameBut, IsSameButAnchor, IsSameUpTo, NoneHits, PassesBy, asking_like, quick_or_not};

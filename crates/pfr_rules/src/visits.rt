@@ -4,7 +4,7 @@ ghost use Rattle.pfr_rules.specs.Counts.{raised};
 ghost use Rattle.pfr_rules.specs.Numbers.{follows, numbers_from};
 
 use crate::counts::add;
-use pfr_words::Items;
+use pfr_items::Items;
 use std::alloc::{AllocError, Global};
 use std::marker::Model;
 

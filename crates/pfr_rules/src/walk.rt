@@ -7,10 +7,9 @@ ghost use Rattle.pfr_rules.specs.Filter as spec;
 use crate::decision::Decision;
 use crate::visits::Visits;
 use pfr_criteria::{anchor_holds, rule_holds};
-use pfr_expand::Ruleset;
-use pfr_flat::{FilterAction, FlatAnchor, FlatRule};
 use pfr_headers::Packet;
 use pfr_net::{Direction, RuleNumber};
+use pfr_ruleset::{FilterAction, FlatAnchor, FlatRule, Ruleset};
 use std::alloc::{AllocError, Global};
 
 /// What the rule at a place decides.

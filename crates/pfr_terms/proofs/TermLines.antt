@@ -1,6 +1,10 @@
 -- The readers of lists, addresses, ports and other terms have their faults on lines of the text.
 use Rattle.std.proofs.Common.{ℕ, List, Option, Some, None, Result, Ok, Err, codes, if◌then◌else◌}
 use Rattle.pfr_net.specs.declared.address.Ipv4Address.{Ipv4Address}
+use Rattle.pfr_ruleset.specs.declared.port.PortMatch.{PortMatch}
+use Rattle.pfr_ruleset.specs.declared.port.PortMatch.TheVariants.{Compare, Range}
+use Rattle.pfr_ruleset.specs.declared.port.Comparison.{Comparison}
+use Rattle.pfr_ruleset.specs.declared.port.RangeOperator.{RangeOperator}
 use Rattle.pfr_words.specs.declared.sign.Sign.TheVariants as s
 use Rattle.pfr_terms.specs.declared.name.MacroUse.{MacroUse}
 use Rattle.pfr_terms.specs.declared.name.Written.{Written}
@@ -9,10 +13,6 @@ use Rattle.pfr_terms.specs.declared.address.Host.{Host}
 use Rattle.pfr_terms.specs.declared.address.Host.TheVariants as h
 use Rattle.pfr_terms.specs.declared.address.AddressWord.{AddressWord}
 use Rattle.pfr_terms.specs.declared.address.AddressWord.TheVariants as word
-use Rattle.pfr_terms.specs.declared.port.PortMatch.{PortMatch}
-use Rattle.pfr_terms.specs.declared.port.PortMatch.TheVariants.{Compare, Range}
-use Rattle.pfr_terms.specs.declared.port.Comparison.{Comparison}
-use Rattle.pfr_terms.specs.declared.port.RangeOperator.{RangeOperator}
 use Rattle.pfr_terms.specs.declared.port.PortWord.{PortWord}
 use Rattle.pfr_terms.specs.declared.port.PortWord.TheVariants.{Port, Unknown}
 use Rattle.pfr_terms.specs.declared.flags.FlagsMatch.{FlagsMatch}

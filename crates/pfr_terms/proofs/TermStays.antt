@@ -2,6 +2,11 @@
 use Rattle.std.proofs.Common.{◌≡◌, ℕ, suc, Bool, true, false, List, ◌∷◌, [], Option, Some, None, Result, Ok, Err, codes, if◌then◌else◌, ap, refl}
 use Rattle.pfr_net.specs.declared.address.Ipv4Address.{Ipv4Address}
 use Rattle.pfr_net.specs.declared.protocol.Protocol.{Protocol}
+use Rattle.pfr_ruleset.specs.declared.port.PortMatch.{PortMatch}
+use Rattle.pfr_ruleset.specs.declared.port.PortMatch.TheVariants.{Compare, Range}
+use Rattle.pfr_ruleset.specs.declared.port.Comparison.{Comparison}
+use Rattle.pfr_ruleset.specs.declared.port.RangeOperator.{RangeOperator}
+use Rattle.pfr_ruleset.specs.declared.icmp.IcmpMatch.{IcmpMatch}
 use Rattle.pfr_words.specs.declared.sign.Sign.{Sign}
 use Rattle.pfr_words.specs.declared.sign.Sign.TheVariants as s
 use Rattle.pfr_words.specs.declared.word.Token.{Token}
@@ -19,16 +24,11 @@ use Rattle.pfr_terms.specs.declared.address.Host.TheVariants as h
 use Rattle.pfr_terms.specs.declared.address.AddressWord.{AddressWord}
 use Rattle.pfr_terms.specs.declared.address.AddressWord.TheVariants as word
 use Rattle.pfr_terms.specs.declared.name.Name.{Name}
-use Rattle.pfr_terms.specs.declared.port.PortMatch.{PortMatch}
-use Rattle.pfr_terms.specs.declared.port.PortMatch.TheVariants.{Compare, Range}
-use Rattle.pfr_terms.specs.declared.port.Comparison.{Comparison}
-use Rattle.pfr_terms.specs.declared.port.RangeOperator.{RangeOperator}
 use Rattle.pfr_terms.specs.declared.port.PortWord.{PortWord}
 use Rattle.pfr_terms.specs.declared.port.PortWord.TheVariants.{Port, Unknown}
 use Rattle.pfr_terms.specs.declared.flags.FlagsMatch.{FlagsMatch}
 use Rattle.pfr_terms.specs.declared.interface.InterfaceName.{InterfaceName}
 use Rattle.pfr_terms.specs.declared.interface.InterfaceMatch.{InterfaceMatch}
-use Rattle.pfr_terms.specs.declared.protocol.IcmpMatch.{IcmpMatch}
 use Rattle.pfr_terms.specs.Input.{Input, Parser, ◌>>=◌, pure, blamed, plain_ahead, macro_ahead, sign_ahead, sign_in, of_first, line_ahead, eat_sign, eat_word, expect_sign}
 use Rattle.pfr_terms.specs.Lists as lists
 use Rattle.pfr_terms.specs.Addresses as addresses

@@ -1,17 +1,17 @@
 -- Ports, as pf.conf(5) writes them.
 use Rattle.std.specs.Prelude.{ℕ, ◌+◌, ◌==◌, ◌&&◌, Bool, true, false, nat_le, if◌then◌else◌, List, [], ◌∷◌, Option, Some, None, Result, Ok, Err, codes}
 use Rattle.pfr_net.specs.Notation.{number, cut_at}
+use Rattle.pfr_ruleset.specs.declared.port.Comparison.{Comparison}
+use Rattle.pfr_ruleset.specs.declared.port.Comparison.TheVariants as c
+use Rattle.pfr_ruleset.specs.declared.port.RangeOperator.{RangeOperator}
+use Rattle.pfr_ruleset.specs.declared.port.RangeOperator.TheVariants as r
+use Rattle.pfr_ruleset.specs.declared.port.PortMatch.{PortMatch}
+use Rattle.pfr_ruleset.specs.declared.port.PortMatch.TheVariants.{Compare, Range}
 use Rattle.pfr_words.specs.declared.sign.Sign.{Sign}
 use Rattle.pfr_words.specs.declared.sign.Sign.TheVariants as s
 use Rattle.pfr_words.specs.Names.{service_named}
 use Rattle.pfr_terms.specs.declared.error.ConfError.{ConfError}
 use Rattle.pfr_terms.specs.declared.error.ConfErrorKind.TheVariants.{BadNumber}
-use Rattle.pfr_terms.specs.declared.port.Comparison.{Comparison}
-use Rattle.pfr_terms.specs.declared.port.Comparison.TheVariants as c
-use Rattle.pfr_terms.specs.declared.port.RangeOperator.{RangeOperator}
-use Rattle.pfr_terms.specs.declared.port.RangeOperator.TheVariants as r
-use Rattle.pfr_terms.specs.declared.port.PortMatch.{PortMatch}
-use Rattle.pfr_terms.specs.declared.port.PortMatch.TheVariants.{Compare, Range}
 use Rattle.pfr_terms.specs.declared.port.PortWord.{PortWord}
 use Rattle.pfr_terms.specs.declared.port.PortWord.TheVariants.{Port, OutOfRange, Unknown}
 use Rattle.pfr_terms.specs.Input.{Input, Parser, ◌>>=◌, pure, taken, fault, left_out, blamed, passing, is_free, plain_ahead, sign_ahead}

@@ -4,14 +4,14 @@ use Rattle.std.specs.Str.{bytes_eq}
 use Rattle.std.specs.Option.{option_and_then}
 use Rattle.pfr_net.specs.declared.protocol.Protocol.{Protocol}
 use Rattle.pfr_net.specs.Notation.{cut_at}
+use Rattle.pfr_ruleset.specs.declared.flags.FlagSet.{FlagSet}
+use Rattle.pfr_ruleset.specs.declared.icmp.IcmpMatch.{IcmpMatch}
 use Rattle.pfr_words.specs.declared.sign.Sign.TheVariants as s
 use Rattle.pfr_words.specs.Names.{protocol_named, icmp_type_named}
-use Rattle.pfr_terms.specs.declared.flags.FlagSet.{FlagSet}
 use Rattle.pfr_terms.specs.declared.flags.FlagsMatch.{FlagsMatch}
 use Rattle.pfr_terms.specs.declared.flags.FlagsMatch.TheVariants as flags
 use Rattle.pfr_terms.specs.declared.interface.InterfaceName.{InterfaceName}
 use Rattle.pfr_terms.specs.declared.interface.InterfaceMatch.{InterfaceMatch}
-use Rattle.pfr_terms.specs.declared.protocol.IcmpMatch.{IcmpMatch}
 use Rattle.pfr_terms.specs.Input.{Input, Parser, ◌>>=◌, pure, refuse, taken, named, passed, is_free, number_in, plain_ahead, eat_sign, eat_word}
 use Rattle.pfr_terms.specs.Lists.{written}
 

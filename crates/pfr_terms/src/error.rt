@@ -4,7 +4,8 @@ ghost use Rattle.pfr_terms.specs.Faults as faults;
 ghost use Rattle.pfr_terms.specs.Input as spec;
 ghost use Rattle.pfr_terms.specs.Input.{Refuses};
 
-use pfr_words::{Items, WordFault};
+use pfr_items::Items;
+use pfr_words::WordFault;
 use std::alloc::{AllocError, Global};
 use std::fmt;
 use std::fmt::Write;

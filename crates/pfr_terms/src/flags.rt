@@ -7,12 +7,9 @@ ghost use Rattle.pfr_terms.specs.Input.{Reads};
 use crate::error::ConfError;
 use crate::reader::Reader;
 use pfr_net::notation::cut;
+use pfr_ruleset::FlagSet;
 use pfr_words::Bytes;
 use std::alloc::Global;
-
-/// TCP flags by the bits of RFC 9293's header: FIN is 1, and so on up to CWR, which is 128.
-#[derive(Clone, Copy)]
-pub struct FlagSet(pub u8);
 
 /// The flags that a TCP packet has to have.
 #[derive(Clone, Copy)]

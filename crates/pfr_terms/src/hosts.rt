@@ -8,10 +8,10 @@ use crate::error::ConfError;
 use crate::interface::InterfaceMatch;
 use crate::lists::list;
 use crate::name::Written;
-use crate::port::PortMatch;
 use crate::reader::Reader;
+use pfr_items::Items;
 use pfr_net::Protocol;
-use pfr_words::Items;
+use pfr_ruleset::PortMatch;
 use std::alloc::Global;
 
 /// One end of a packet: `LIST port LIST`, where one of both may be missing.

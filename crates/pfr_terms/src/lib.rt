@@ -20,10 +20,8 @@ pub mod reader;
 
 pub use address::{Address, AddressMatch, Host, TableEntry};
 pub use error::{ConfError, ConfErrorKind, LeftOutName};
-pub use flags::{FlagSet, FlagsMatch};
+pub use flags::FlagsMatch;
 pub use hosts::{Criteria, Hosts, Part};
 pub use interface::{InterfaceMatch, InterfaceName};
 pub use name::{MacroUse, Name, Written};
-pub use port::{Comparison, PortMatch, RangeOperator};
-pub use protocol::IcmpMatch;
 pub use reader::Reader;

@@ -6,7 +6,8 @@ ghost use Rattle.pfr_terms.specs.Input.{Parser, Reads};
 use crate::error::ConfError;
 use crate::name::Written;
 use crate::reader::Reader;
-use pfr_words::{Items, Sign};
+use pfr_items::Items;
+use pfr_words::Sign;
 use std::alloc::Global;
 
 /// What may stand in a list.

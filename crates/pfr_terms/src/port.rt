@@ -7,38 +7,10 @@ use crate::error::{ConfError, ConfErrorKind};
 use crate::lists::Item;
 use crate::reader::{Reader, is_free};
 use pfr_net::notation::{cut, number};
+use pfr_ruleset::{Comparison, PortMatch, RangeOperator};
 use pfr_words::Sign;
 use pfr_words::names::service_named;
 use std::alloc::{AllocError, Global};
-
-/// How a port is compared with one that is written.
-#[derive(Clone, Copy)]
-pub enum Comparison {
-    Equal,
-    NotEqual,
-    Less,
-    LessOrEqual,
-    Greater,
-    GreaterOrEqual,
-}
-
-/// How a port is held against two that are written.
-#[derive(Clone, Copy)]
-pub enum RangeOperator {
-    /// `x:y`: from the first to the second.
-    Inclusive,
-    /// `x >< y`: above the first and below the second.
-    Between,
-    /// `x <> y`: below the first or above the second.
-    Outside,
-}
-
-/// The ports that a packet may have.
-#[derive(Clone, Copy)]
-pub enum PortMatch {
-    Compare(Comparison, u16),
-    Range(RangeOperator, u16, u16),
-}
 
 /// What a word says where a port has to stand.
 #[derive(Clone, Copy)]

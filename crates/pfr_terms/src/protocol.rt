@@ -8,16 +8,10 @@ use crate::error::ConfError;
 use crate::lists::Item;
 use crate::reader::Reader;
 use pfr_net::Protocol;
+use pfr_ruleset::IcmpMatch;
 use pfr_words::Bytes;
 use pfr_words::names::{icmp_type_named, protocol_named};
 use std::alloc::Global;
-
-/// An ICMP type, and a code of it where one is asked for.
-#[derive(Clone, Copy)]
-pub struct IcmpMatch {
-    pub kind: u8,
-    pub code: Option<u8>,
-}
 
 /// A number from 0 to 255.
 #[tactic(auto, unfolding(crate::specs::Terms::octet))]

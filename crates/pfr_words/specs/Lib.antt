@@ -1,3 +1,2 @@
-pub mod formers
 pub mod Names
 pub mod Words

@@ -5,10 +5,10 @@ ghost use Rattle.pfr_words.specs.Words as spec;
 use crate::braces::close_braces;
 use crate::bytes::Bytes;
 use crate::cutting::{Class, begins_plain, byte_at, is_blank, piece_len, run_len};
-use crate::items::Items;
 use crate::names::is_name;
 use crate::sign::{double_sign, single_sign};
 use crate::word::{Token, Word, WordFault};
+use pfr_items::Items;
 use std::alloc::{AllocError, Global};
 
 fn is_printable(byte: u8) -> bool

@@ -4,12 +4,13 @@ use pfr_criteria::packets::{anchor_holds, match_holds, rule_holds};
 use pfr_criteria::transports::{
     destination_port_holds, flags_hold, icmp_holds, port_holds, source_port_holds,
 };
-use pfr_elements::{HostCriterion, HostSet, IfName, InterfaceCriterion};
-use pfr_flat::flat::{FilterAction, FlagsCriterion, FlatAnchor, FlatRule, NO_MATCH, PacketMatch};
 use pfr_headers::{IcmpHeader, IcmpMessage, IcmpType, Packet, TcpFlags, TcpHeader, Transport};
 use pfr_net::{Direction, Ipv4Address, Net, Port, Protocol};
-use pfr_tables::{AddressTable, Entry};
-use pfr_terms::{Comparison, IcmpMatch, PortMatch, RangeOperator};
+use pfr_ruleset::{
+    AddressTable, Comparison, Entry, FilterAction, FlagsCriterion, FlatAnchor, FlatRule,
+    HostCriterion, HostSet, IcmpMatch, IfName, InterfaceCriterion, NO_MATCH, PacketMatch,
+    PortMatch, RangeOperator,
+};
 use std::alloc::{AllocError, Global};
 use std::test::Fail;
 

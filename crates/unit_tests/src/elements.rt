@@ -1,5 +1,5 @@
 //! Names of interfaces.
-use pfr_elements::IfName;
+use pfr_ruleset::IfName;
 
 #[test]
 fn names_have_at_most_fifteen_bytes(rt: HostRuntime) {

@@ -1,6 +1,6 @@
 //! A table written out by hand.
 use pfr_net::{Ipv4Address, Net};
-use pfr_tables::table::{AddressTable, Entry};
+use pfr_ruleset::{AddressTable, Entry};
 use std::alloc::Global;
 
 fn entry(octets: [u8; 4], bits: u8, is_negated: bool) -> Entry {

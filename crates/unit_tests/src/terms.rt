@@ -1,8 +1,8 @@
 //! Numbers and addresses written out by hand, and how a fault is printed.
+use pfr_items::Items;
 use pfr_net::Ipv4Address;
 use pfr_net::notation::{dotted, number};
 use pfr_terms::error::{ConfError, ConfErrorKind, LeftOutName};
-use pfr_words::Items;
 use std::alloc::{AllocError, Global};
 use std::test::Fail;
 

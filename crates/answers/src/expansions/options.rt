@@ -1,8 +1,7 @@
 //! How options are printed.
 use crate::expansions::rules::binding_word;
 use crate::printing::put_bytes;
-use pfr_conf::BlockPolicy;
-use pfr_expand::Options;
+use pfr_ruleset::{BlockPolicy, Options};
 use std::alloc::AllocError;
 
 /// The names of the timeouts by their codes.

@@ -1,9 +1,10 @@
 //! How filter rules and anchors are printed.
 use crate::expansions::terms::put_match;
 use crate::printing::word_if;
-use pfr_conf::Binding;
-use pfr_expand::{FilterAction, FlagsCriterion, FlatAnchor, FlatRule, Ruleset, StateRule};
 use pfr_net::Direction;
+use pfr_ruleset::{
+    Binding, FilterAction, FlagsCriterion, FlatAnchor, FlatRule, Ruleset, StateRule,
+};
 use std::alloc::{AllocError, Global};
 
 /// An anchor that has begun: its place among the anchors, and the place of its last rule.

@@ -1,7 +1,8 @@
 //! The statements of a ruleset text, with its translation rules.
 use pfr_conf::statement::{Section, any_statement};
 use pfr_conf::translation::translation;
-use pfr_conf::{ConfError, ConfErrorKind, Items, Statement, Statements};
+use pfr_conf::{ConfError, ConfErrorKind, Statement, Statements};
+use pfr_items::Items;
 use pfr_terms::Reader;
 use pfr_words::names::is_among;
 use pfr_words::spelling::words;

@@ -1,8 +1,8 @@
 //! How what rules ask for is printed.
 use crate::printing::{put_address, put_bytes, word_if};
-use pfr_conf::{Comparison, PortMatch, RangeOperator, Statement, Statements};
-use pfr_expand::{HostCriterion, HostSet, PacketMatch};
+use pfr_conf::{Statement, Statements};
 use pfr_net::Net;
+use pfr_ruleset::{Comparison, HostCriterion, HostSet, PacketMatch, PortMatch, RangeOperator};
 use std::alloc::{AllocError, Global};
 
 /// The names of the tables in the order of the text.

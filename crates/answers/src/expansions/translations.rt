@@ -1,7 +1,7 @@
 //! How translation rules are printed.
 use crate::expansions::terms::put_match;
 use crate::printing::{put_address, word_if};
-use pfr_expand::{FlatTranslation, PortChange, Translations};
+use pfr_ruleset::{FlatTranslation, PortChange, Translations};
 use std::alloc::AllocError;
 
 /// What a translation rule of this kind says before its target.

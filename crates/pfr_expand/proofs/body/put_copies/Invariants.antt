@@ -1,5 +1,5 @@
 use Rattle.std.proofs.Common.{◌≡◌, fold, take}
-use Rattle.pfr_flat.specs.Places as places
+use Rattle.pfr_ruleset.specs.Places as places
 use Rattle.pfr_expand.specs.Bodies as spec
 use Rattle.pfr_expand.proofs.body.put_copies.Given as goal
 

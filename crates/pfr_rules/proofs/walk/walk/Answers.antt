@@ -2,7 +2,7 @@ use Rattle.std.proofs.Common.{◌≡◌, ◌≤◌, ◌∙◌, ◌+◌, ap, sym,
 use Rattle.std.specs.Option.{option_copied}
 use Rattle.std.specs.List.{slice_get}
 use Rattle.std.proofs.lemmas.Option.{slice_get-get_or}
-use Rattle.pfr_flat.specs.Places.{ArePlaced}
+use Rattle.pfr_ruleset.specs.Places.{ArePlaced}
 use Rattle.pfr_rules.specs.Filter.{anchored, ruled, hits, begun}
 use Rattle.pfr_rules.proofs.Stops.{stop_is}
 use Rattle.pfr_rules.proofs.Walking.{so_past, so_next, visited_rule, jump, ended_at, ended_all, ended_decides, ended_visits, begun_some, begun_none, placed_at, nested_of}

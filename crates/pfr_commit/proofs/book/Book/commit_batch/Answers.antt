@@ -1,9 +1,9 @@
 use Rattle.std.proofs.Common.{◌≡◌, ◌+◌, ◌<◌, ◌∙◌, ℕ, refl, sym, ap, length, map, take, rules, arith}
 use Rattle.std.specs.List.{find}
-use Rattle.pfr_capture.specs.declared.capture.Record.{Record}
 use Rattle.pfr_headers.specs.declared.packet.View.{View}
 use Rattle.pfr_states.proofs.RefusalLemmas.{on_err}
 use Rattle.pfr_packet.specs.Job.{RunJob}
+use Rattle.pfr_capture.specs.declared.capture.Record.{Record}
 use Rattle.pfr_commit.specs.Books.{job_of, world_in}
 use Rattle.pfr_commit.specs.Emissions.{frame_of, texts_of}
 use Rattle.pfr_commit.specs.Results.{is_of}

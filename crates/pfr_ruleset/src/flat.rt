@@ -1,0 +1,133 @@
+//! Flat rules and anchors, of which each asks for one thing of a kind.
+use crate::flags::FlagSet;
+use crate::hosts::{HostCriterion, HostSet};
+use crate::icmp::IcmpMatch;
+use crate::interface::InterfaceCriterion;
+use crate::policy::Binding;
+use crate::port::PortMatch;
+use pfr_net::{Direction, Ipv4Address, Protocol};
+
+/// What a flat rule or anchor asks of a packet, but for its direction. None asks for nothing.
+#[derive(Clone, Copy)]
+pub struct PacketMatch {
+    pub interface: Option<InterfaceCriterion>,
+    pub protocol: Option<Protocol>,
+    pub icmp: Option<IcmpMatch>,
+    pub source: HostCriterion,
+    pub source_port: Option<PortMatch>,
+    pub destination: HostCriterion,
+    pub destination_port: Option<PortMatch>,
+}
+
+/// Any address.
+pub const ANYONE: HostCriterion = HostCriterion {
+    is_negated: false,
+    hosts: HostSet::Any,
+};
+
+/// A match that asks for nothing.
+pub const NO_MATCH: PacketMatch = PacketMatch {
+    interface: None,
+    protocol: None,
+    icmp: None,
+    source: ANYONE,
+    source_port: None,
+    destination: ANYONE,
+    destination_port: None,
+};
+
+/// What a rule does with a packet.
+#[derive(Clone, Copy)]
+pub enum FilterAction {
+    Pass,
+    Drop,
+    /// Blocked, and answered.
+    Return,
+}
+
+/// The flags that a rule asks of TCP packets.
+#[derive(Clone, Copy)]
+pub enum FlagsCriterion {
+    Any,
+    /// Of those of the mask just these.
+    Written { set: FlagSet, mask: FlagSet },
+    /// `S/SA`, which isn't asked of fragments.
+    Default,
+}
+
+/// The state that a rule keeps.
+#[derive(Clone, Copy)]
+pub struct StateRule {
+    pub binding: Binding,
+    /// It isn't told to others.
+    pub no_sync: bool,
+}
+
+/// A filter rule. Its number is its place among them.
+#[derive(Clone, Copy)]
+pub struct FlatRule {
+    pub action: FilterAction,
+    pub direction: Option<Direction>,
+    pub is_quick: bool,
+    pub packet: PacketMatch,
+    pub flags: FlagsCriterion,
+    pub state: Option<StateRule>,
+    /// Packets with IP options pass.
+    pub allow_opts: bool,
+}
+
+/// An anchor round the filter rules from the place `first` to the place `last`. Those round one rule come from the
+/// outermost on.
+#[derive(Clone, Copy)]
+pub struct FlatAnchor {
+    pub direction: Option<Direction>,
+    pub is_quick: bool,
+    pub packet: PacketMatch,
+    pub first: usize,
+    pub last: usize,
+}
+
+/// Ports from the first to the second.
+#[derive(Clone, Copy)]
+pub struct PortRange {
+    pub low: u16,
+    pub high: u16,
+}
+
+/// What `nat` makes of a packet's source.
+#[derive(Clone, Copy)]
+pub struct NatAddress {
+    pub address: Ipv4Address,
+    /// The ports of which one is picked, if the rule says which.
+    pub ports: Option<PortRange>,
+    /// The source port is kept.
+    pub static_port: bool,
+}
+
+/// What `rdr` makes of a destination port.
+#[derive(Clone, Copy)]
+pub enum PortChange {
+    Kept,
+    To(u16),
+    /// The first port that the rule asks for goes to this one, the next to the next.
+    From(u16),
+}
+
+/// What `rdr` makes of a packet's destination.
+#[derive(Clone, Copy)]
+pub struct RdrAddress {
+    pub address: Ipv4Address,
+    pub port: PortChange,
+}
+
+/// A translation rule of one kind.
+#[derive(Clone, Copy)]
+pub struct FlatTranslation<T> {
+    /// Its place among the translation rules of all kinds.
+    pub number: usize,
+    /// What it translates isn't filtered.
+    pub passes: bool,
+    pub packet: PacketMatch,
+    /// None: a packet that the rule holds for isn't translated by its kind.
+    pub target: Option<T>,
+}

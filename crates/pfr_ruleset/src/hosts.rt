@@ -1,0 +1,21 @@
+//! Addresses that a rule asks for.
+use pfr_net::{Ipv4Address, Net};
+
+/// Addresses that a packet's is held against.
+#[derive(Clone, Copy)]
+pub enum HostSet {
+    Any,
+    /// No address has a bit below the network's prefix.
+    Network(Net),
+    /// From the first address to the second.
+    Range(Ipv4Address, Ipv4Address),
+    /// The table at this place among the tables of the ruleset.
+    Table(usize),
+}
+
+/// Addresses that a packet's has to be among, or with `!` must not be among.
+#[derive(Clone, Copy)]
+pub struct HostCriterion {
+    pub is_negated: bool,
+    pub hosts: HostSet,
+}

@@ -1,0 +1,38 @@
+//! A ruleset as data: flat filter rules and the anchors round them, translation rules, what they ask of a packet, tables of
+//! addresses, options (pf.conf(5)).
+//!
+//! A [`Ruleset`] is what the text of a ruleset means for one interface. Each of its rules asks for one thing of a kind.
+//! In a table `{ 10.0.0.0/8, !10.1.0.0/16, 10.1.2.0/24 }` an entry is a network, maybe with a `!`; of the entries that hold
+//! an address the longest decides by its sign, and where none holds it, the table doesn't.
+#![tactic(auto)]
+
+pub mod filter_rules;
+pub mod flags;
+pub mod flat;
+pub mod hosts;
+pub mod icmp;
+pub mod interface;
+pub mod laws;
+pub mod network;
+pub mod options;
+pub mod policy;
+pub mod port;
+pub mod ruleset;
+pub mod table;
+pub mod translations;
+
+pub use filter_rules::{FilterRules, RuleLists, put_anchors};
+pub use flags::FlagSet;
+pub use flat::{
+    ANYONE, FilterAction, FlagsCriterion, FlatAnchor, FlatRule, FlatTranslation, NO_MATCH,
+    NatAddress, PacketMatch, PortChange, PortRange, RdrAddress, StateRule,
+};
+pub use hosts::{HostCriterion, HostSet};
+pub use icmp::IcmpMatch;
+pub use interface::{IfName, Interface, InterfaceCriterion};
+pub use options::Options;
+pub use policy::{Binding, BlockPolicy};
+pub use port::{Comparison, PortMatch, RangeOperator};
+pub use ruleset::Ruleset;
+pub use table::{AddressTable, Entry};
+pub use translations::Translations;

@@ -1,0 +1,39 @@
+//! Options.
+ghost use Rattle.std.specs.Prelude.{◌≡◌};
+ghost use Rattle.pfr_ruleset.specs.Options as spec;
+
+use crate::interface::IfName;
+use crate::policy::{Binding, BlockPolicy};
+use pfr_items::Items;
+use pfr_net::Timeouts;
+use std::alloc::Global;
+
+/// What the options of a ruleset say.
+#[derive(Drop)]
+pub struct Options {
+    pub timeouts: Timeouts,
+    /// How many states there may be.
+    pub state_limit: u32,
+    pub block_policy: BlockPolicy,
+    pub state_policy: Binding,
+    /// The number by which this firewall's states are known to others.
+    pub host_id: u32,
+    /// The interfaces whose packets aren't filtered, each as often as it is named.
+    pub skipped: Items<IfName>,
+}
+
+impl Options {
+    /// What holds where nothing is set.
+    pub fn new(alloc: Global) -> Options
+        ensures { result ≡ spec.default_options }
+    {
+        Options {
+            timeouts: Timeouts::new(),
+            state_limit: 100000,
+            block_policy: BlockPolicy::Drop,
+            state_policy: Binding::Floating,
+            host_id: 1,
+            skipped: Items::new(alloc),
+        }
+    }
+}

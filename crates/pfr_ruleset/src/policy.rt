@@ -1,0 +1,15 @@
+//! Policies that hold where a rule says nothing.
+
+/// What becomes of a blocked packet: dropped, or answered.
+#[derive(Clone, Copy)]
+pub enum BlockPolicy {
+    Drop,
+    Return,
+}
+
+/// On which interfaces a state's packets may come.
+#[derive(Clone, Copy)]
+pub enum Binding {
+    IfBound,
+    Floating,
+}

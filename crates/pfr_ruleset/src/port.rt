@@ -1,0 +1,30 @@
+//! Ports that a rule asks for.
+
+/// How a port is compared with one that is written.
+#[derive(Clone, Copy)]
+pub enum Comparison {
+    Equal,
+    NotEqual,
+    Less,
+    LessOrEqual,
+    Greater,
+    GreaterOrEqual,
+}
+
+/// How a port is held against two that are written.
+#[derive(Clone, Copy)]
+pub enum RangeOperator {
+    /// `x:y`: from the first to the second.
+    Inclusive,
+    /// `x >< y`: above the first and below the second.
+    Between,
+    /// `x <> y`: below the first or above the second.
+    Outside,
+}
+
+/// The ports that a packet may have.
+#[derive(Clone, Copy)]
+pub enum PortMatch {
+    Compare(Comparison, u16),
+    Range(RangeOperator, u16, u16),
+}

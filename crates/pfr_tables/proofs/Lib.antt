@@ -1,6 +1,0 @@
-pub mod ClashLemmas
-pub mod KeyLemmas
-pub mod Membership
-pub mod MemberLemmas
-pub mod PrefixLemmas
-pub mod WrittenLemmas
