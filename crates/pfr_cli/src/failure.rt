@@ -1,5 +1,6 @@
 //! What the program says when something is wrong, in one line, and the statuses that it ends with.
 use pfr_capture::CaptureError;
+use pfr_expand::RulesetError;
 use pfr_out::{ConfError, ConfErrorKind, Stop};
 use std::alloc::AllocError;
 use std::{fmt, io};
@@ -41,6 +42,12 @@ pub enum Failure<'a> {
 impl From<ConfError> for Failure<'_> {
     fn from(fault: ConfError) -> Self {
         Failure::Stopped(Stop::Ruleset(fault))
+    }
+}
+
+impl From<RulesetError> for Failure<'_> {
+    fn from(error: RulesetError) -> Self {
+        Failure::from(ConfError::from(error))
     }
 }
 

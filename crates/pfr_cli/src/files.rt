@@ -1,7 +1,7 @@
 //! The files that the command line names.
 use crate::failure::Failure;
+use pfr_expand::LONGEST_TEXT;
 use pfr_out::ConfError;
-use pfr_packet::ruleset::LONGEST_TEXT;
 use std::alloc::AllocError;
 use std::fs::File;
 use std::io;

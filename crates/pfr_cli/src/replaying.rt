@@ -4,8 +4,8 @@ use crate::failure::{CUT, DONE, Failure};
 use crate::files::{created, opened, ruleset_text};
 use crate::words::{OutputNames, RunWords};
 use pfr_capture::{ReaderSource, Tail, WriterSink};
-use pfr_out::{Report, Settings, Sinks};
-use pfr_packet::ruleset_of;
+use pfr_out::{Report, Sinks, replay_job};
+use pfr_packet::Job;
 use std::io::Write;
 use std::rt::Files;
 
@@ -18,30 +18,26 @@ pub fn replay<'a, R: Files + AllocGlobal, O: Write>(
     asked: &RunWords<'a>,
     out: &mut O,
 ) -> Result<u8, Failure<'a>> {
-    let text = ruleset_text(rt, asked.rules)?;
     // A fault of the ruleset is told before any other file is touched.
-    ruleset_of(rt.alloc(), text.as_slice(), &asked.interface)?;
-    let report = replay_text(rt, asked, text.as_slice())?;
+    let job = job_of(rt, asked)?;
+    let mut source = ReaderSource::new(opened(rt, asked.capture)?);
+    let mut sinks = sinks(rt, &asked.outputs)?;
+    let report = replay_job(rt, &mut source, job, BATCH, &mut sinks)?;
     finish(&report, out)
 }
 
-/// Replays a capture through the ruleset of this text.
-fn replay_text<'a, R: Files + AllocGlobal>(
-    rt: &R,
-    asked: &RunWords<'a>,
-    text: &[u8],
-) -> Result<Report, Failure<'a>> {
-    let settings = Settings {
-        interface: asked.interface,
-        inside: asked.inside.as_slice(),
-        batch: BATCH,
-    };
-    let mut source = ReaderSource::new(opened(rt, asked.capture)?);
-    let mut sinks = sinks(rt, &asked.outputs)?;
-    match pfr_out::replay(rt, &mut source, text, asked.seed, &settings, &mut sinks) {
-        Ok(report) => Ok(report),
-        Err(stop) => Err(Failure::from(stop)),
-    }
+/// What the packets of the run are evaluated by. The ruleset's text is read here, and nowhere else.
+fn job_of<'a, R: Files + AllocGlobal>(rt: &R, asked: &RunWords<'a>) -> Result<Job, Failure<'a>> {
+    let text = ruleset_text(rt, asked.rules)?;
+    let inside = asked.inside.as_slice();
+    let job = Job::new(
+        rt.alloc(),
+        text.as_slice(),
+        asked.interface,
+        inside,
+        asked.seed,
+    )?;
+    Ok(job)
 }
 
 /// Creates the files of the outputs, in this order. The messages for a standby go nowhere.

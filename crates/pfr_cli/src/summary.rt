@@ -1,6 +1,5 @@
 //! What `pfreplay check` says of a ruleset.
-use pfr_out::ConfError;
-use pfr_packet::ruleset_of;
+use pfr_expand::{RulesetError, ruleset_of};
 use pfr_ruleset::Interface;
 use pfr_sync::checksum;
 use std::alloc::{AllocError, Global};
@@ -16,7 +15,7 @@ pub struct Summary {
 }
 
 impl Summary {
-    pub fn of(alloc: Global, text: &[u8], interface: &Interface) -> Result<Summary, ConfError> {
+    pub fn of(alloc: Global, text: &[u8], interface: &Interface) -> Result<Summary, RulesetError> {
         let (filter, translation) = ruleset_of(alloc, text, interface)?.counts();
         Ok(Summary {
             filter,

@@ -3,4 +3,5 @@ pub mod Laws
 pub mod Options
 pub mod Rulesets
 pub mod Tables
+pub mod Texts
 pub mod Translations

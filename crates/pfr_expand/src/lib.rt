@@ -1,7 +1,8 @@
 //! The flat ruleset: what the statements of a ruleset mean for one interface.
 //!
-//! [`expand`] gives macros their values, tables their entries and interface forms their addresses, and makes one flat
-//! rule of each combination of the elements of a rule's lists. Of the faults that only this shows it tells the first.
+//! [`ruleset_of`] reads a text, and [`expand`] makes the ruleset of its statements. It gives macros their values, tables
+//! their entries and interface forms their addresses, and makes one flat rule of each combination of the elements of a
+//! rule's lists. Of the faults that only this shows it tells the first.
 #![tactic(auto)]
 
 pub mod body;
@@ -9,6 +10,7 @@ pub mod expansion;
 pub mod laws;
 pub mod options;
 pub mod tables;
+pub mod text;
 pub mod translation;
 
 pub use expansion::expand;
@@ -18,3 +20,4 @@ pub use pfr_ruleset::{
     HostCriterion, HostSet, IfName, Interface, InterfaceCriterion, NatAddress, Options,
     PacketMatch, PortChange, PortRange, RdrAddress, Ruleset, StateRule, Translations,
 };
+pub use text::{LONGEST_TEXT, RulesetError, ruleset_of};

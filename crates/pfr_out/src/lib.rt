@@ -16,6 +16,6 @@ mod taking;
 
 pub use pfr_conf::{ConfError, ConfErrorKind};
 pub use report::{Output, Report, Stop};
-pub use run::replay;
+pub use run::{replay, replay_job};
 pub use settings::Settings;
 pub use sinks::Sinks;

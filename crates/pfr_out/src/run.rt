@@ -96,11 +96,12 @@ fn replay_capture<R: Source, S: Sink>(
     }
 }
 
-/// Replays a capture by a job. The text of its ruleset was read.
-fn replay_job<R: Source, S: Sink>(
-    alloc: Global,
-    job: Job,
+/// Replays a capture by a job, whose ruleset was read before: what [`replay`] does behind its text. No stop is for the
+/// ruleset.
+pub fn replay_job<H: AllocGlobal, R: Source, S: Sink>(
+    rt: &H,
     source: &mut R,
+    job: Job,
     batch: usize,
     sinks: &mut Sinks<S>,
 ) -> Result<Report, Stop>
@@ -112,6 +113,7 @@ fn replay_job<R: Source, S: Sink>(
     ensures no_failure { OnOk result ((R.failures source.new ≡ R.failures source.old) × (each_of S.failures sinks.new ≡ each_of S.failures sinks.old)) }
     ensures failure { IfErr result (λ stop. StopFails stop (R.failures source.old) (R.failures source.new) (each_of S.failures sinks.old) (each_of S.failures sinks.new)) }
 {
+    let alloc = rt.alloc();
     let mut capture = match Capture::open(alloc, source) {
         Ok(capture) => capture,
         Err(refusal) => return Err(stop_for(refusal, 0)),
@@ -157,10 +159,9 @@ pub fn replay<H: AllocGlobal, R: Source, S: Sink>(
     ensures stopped { IfErr result (λ stop. StopOf text.now seed settings.now (R.told source.old) (R.unread source.old) (R.unread source.new) (each_of S.told sinks.old) (each_of S.written sinks.old) (each_of S.written sinks.new) stop) }
     ensures failure { IfErr result (λ stop. StopFails stop (R.failures source.old) (R.failures source.new) (each_of S.failures sinks.old) (each_of S.failures sinks.new)) }
 {
-    let alloc = rt.alloc();
-    let job = match Job::new(alloc, text, settings.interface, settings.inside, seed) {
+    let job = match Job::new(rt.alloc(), text, settings.interface, settings.inside, seed) {
         Ok(job) => job,
         Err(fault) => return Err(Stop::Ruleset(fault)),
     };
-    replay_job(alloc, job, source, settings.batch, sinks)
+    replay_job(rt, source, job, settings.batch, sinks)
 }

@@ -6,6 +6,5 @@ pub mod Laws
 pub mod Making
 pub mod Outcomes
 pub mod Plan
-pub mod Rulesets
 pub mod Steps
 pub mod Verdicts

@@ -2,12 +2,12 @@
 ghost use Rattle.std.specs.Prelude.{◌≡◌, ◌↔◌, IfOk, IfErr, Ok, Err, IsTrue};
 ghost use Rattle.pfr_terms.specs.declared.error.ConfErrorKind.TheVariants.{Memory};
 ghost use Rattle.pfr_terms.specs.Input.{Gives};
+ghost use Rattle.pfr_expand.specs.Texts.{ruleset_of};
 ghost use Rattle.pfr_packet.specs.Job as spec;
-ghost use Rattle.pfr_packet.specs.Rulesets.{ruleset_of};
 
-use crate::ruleset::ruleset_of;
 use pfr_conf::{ConfError, ConfErrorKind};
 use pfr_criteria::is_named;
+use pfr_expand::ruleset_of;
 use pfr_items::Items;
 use pfr_net::{Net, Timeouts};
 use pfr_ruleset::{Interface, Ruleset};
@@ -28,7 +28,7 @@ pub struct Job {
 impl Model for Job {
     ghost use Rattle.std.specs.Prelude.{◌≡◌, Ok};
     ghost use Rattle.pfr_packet.specs.Job.{RunJob};
-    ghost use Rattle.pfr_packet.specs.Rulesets.{ruleset_of};
+    ghost use Rattle.pfr_expand.specs.Texts.{ruleset_of};
 
     ghost Value = { RunJob };
 

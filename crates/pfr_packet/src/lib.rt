@@ -14,12 +14,10 @@ pub mod keys;
 pub mod laws;
 pub mod making;
 pub mod outcome;
-pub mod ruleset;
 pub mod verdict;
 
 pub use answers::{Answers, Direct, Question};
 pub use evaluation::step;
 pub use job::Job;
 pub use outcome::{Outcome, VisitedRules};
-pub use ruleset::ruleset_of;
 pub use verdict::{Reason, Verdict};
