@@ -6,7 +6,7 @@ use Rattle.pfr_headers.specs.declared.packet.View.{View}
 use Rattle.pfr_packet.specs.Job.{RunJob}
 use Rattle.pfr_record.specs.declared.speculation.Speculation.{Speculation}
 use Rattle.pfr_capture.specs.declared.capture.Record.{Record}
-use Rattle.pfr_commit.specs.Books.{Holds, IsUsed, RisesOver, RisesUnless}
+use Rattle.pfr_commit.specs.Books.{MayUse, IsUsed, RisesOver, RisesUnless}
 use Rattle.pfr_commit.specs.Emissions.{frame_of}
 use Rattle.pfr_commit.specs.Results.{is_of}
 use Rattle.pfr_commit.specs.World.{World, after, clock_at, world_after}
@@ -27,10 +27,10 @@ rises_next job world results xs i d before mid last below over one =
 
 -- what taking a packet promises, said of the world that the book stands for
 pub rises_by : (job own_job : RunJob) (world now : World) (results : List Speculation) (p q : Record × View) (held : Option Speculation) (mid last : ℕ) → own_job ≡ job → now ≡ world → p ≡ q → held ≡ find (is_of (now.count + 1)) results
-    → (Holds held own_job (now.count + 1) (clock_at now.clock (frame_of p.0)) p.1 now.table → last ≡ mid) → ((Holds held own_job (now.count + 1) (clock_at now.clock (frame_of p.0)) p.1 now.table → ⊥) → last ≡ mid + 1)
+    → (MayUse held own_job (now.count + 1) (clock_at now.clock (frame_of p.0)) p.1 now.table → last ≡ mid) → ((MayUse held own_job (now.count + 1) (clock_at now.clock (frame_of p.0)) p.1 now.table → ⊥) → last ≡ mid + 1)
     → RisesUnless (IsUsed job world results q) mid last
 rises_by job own_job world now results p q held mid last job_is world_is p_is held_is used not_used =
     subst (λ (w : World). RisesUnless (IsUsed job w results q) mid last) world_is
     (subst (λ (j : RunJob). RisesUnless (IsUsed j now results q) mid last) job_is
     (subst (λ (r : Record × View). RisesUnless (IsUsed own_job now results r) mid last) p_is
-    (subst (λ (s : Option Speculation). RisesUnless (Holds s own_job (now.count + 1) (clock_at now.clock (frame_of p.0)) p.1 now.table) mid last) held_is (used, not_used))))
+    (subst (λ (s : Option Speculation). RisesUnless (MayUse s own_job (now.count + 1) (clock_at now.clock (frame_of p.0)) p.1 now.table) mid last) held_is (used, not_used))))

@@ -21,7 +21,7 @@ use Rattle.pfr_commit.specs.declared.counters.Counters.{Counters}
 use Rattle.pfr_commit.specs.declared.counters.Totals.{Totals}
 use Rattle.pfr_commit.specs.Counters.{added_to, counted, counts_for_rules, length_of, no_totals, with_named, with_verdict}
 use Rattle.pfr_commit.specs.Lines.{verdict_line}
-use Rattle.pfr_commit.specs.Runs.{Taken, bytes_for, comes_to, counts_for, held, is_rule, is_same_verdict, next_taken, reason_counts, taken_after, taken_in, total_length_of, total_of}
+use Rattle.pfr_commit.specs.Runs.{Taken, bytes_for, capped, comes_to, counts_for, is_rule, is_same_verdict, next_taken, reason_counts, taken_after, taken_in, total_length_of, total_of}
 use Rattle.pfr_commit.specs.World.{Frame, World, after, opening, packet_text, with_outcome, with_texts, world_after, world_of}
 use Rattle.pfr_commit.proofs.WorldLemmas.{world_count}
 
@@ -98,7 +98,7 @@ clock_is_one job world (frame ∷ frames) = elim (clock_is_one job (after job wo
 
 -- ---- verdicts
 
-one_total : (verdict one : Verdict) (totals : Totals) → total_of verdict totals ≤ 2 ^ 64 - 1 → total_of verdict (with_verdict one totals) ≡ held (total_of verdict totals + cond (is_same_verdict one verdict) 1 0)
+one_total : (verdict one : Verdict) (totals : Totals) → total_of verdict totals ≤ 2 ^ 64 - 1 → total_of verdict (with_verdict one totals) ≡ capped (total_of verdict totals + cond (is_same_verdict one verdict) 1 0)
 one_total verdict.Pass verdict.Pass totals few = refl
 one_total verdict.Pass verdict.Block totals few = omega arith
 one_total verdict.Pass verdict.Return totals few = omega arith
@@ -125,12 +125,12 @@ totals_next job world frame =
     ap (λ (t : Totals). with_verdict (next_taken job world frame).outcome.verdict t) (named_totals (next_taken job world frame).outcome (length_of (view_of frame.link frame.bytes)) _)
 
 pub total_after : (verdict : Verdict) (job : RunJob) (world : World) (frames : List Frame) → total_of verdict world.counters.totals ≤ 2 ^ 64 - 1
-    → total_of verdict (world_after job world frames).counters.totals ≡ held (total_of verdict world.counters.totals + count_by (comes_to verdict) (taken_after job world frames))
+    → total_of verdict (world_after job world frames).counters.totals ≡ capped (total_of verdict world.counters.totals + count_by (comes_to verdict) (taken_after job world frames))
 unfolding world_after
 total_after verdict job world [] few = omega arith
 total_after verdict job world (frame ∷ frames) few =
     let p = next_taken job world frame in
-    let next : total_of verdict (after job world frame).counters.totals ≡ held (total_of verdict world.counters.totals + cond (comes_to verdict p) 1 0) =
+    let next : total_of verdict (after job world frame).counters.totals ≡ capped (total_of verdict world.counters.totals + cond (comes_to verdict p) 1 0) =
     ap (total_of verdict) (totals_next job world frame) ∙ one_total verdict p.outcome.verdict world.counters.totals few in
     let rest = total_after verdict job (after job world frame) frames (omega (arith, next)) in
     let more = sum_by-cons (λ (p : Taken). cond (comes_to verdict p) 1 0) p (taken_after job (after job world frame) frames) in
@@ -166,14 +166,14 @@ unfolding added
 length_added None amount counts = refl
 length_added (Some rule) amount counts = length-set counts rule.0 _
 
-added_at : (rule : Option RuleNumber) (amount k : ℕ) (counts : List ℕ) → k < length counts → get_or counts k 0 ≤ 2 ^ 64 - 1 → get_or (added_to rule amount counts) k 0 ≡ held (get_or counts k 0 + cond (is_rule k rule) amount 0)
+added_at : (rule : Option RuleNumber) (amount k : ℕ) (counts : List ℕ) → k < length counts → get_or counts k 0 ≤ 2 ^ 64 - 1 → get_or (added_to rule amount counts) k 0 ≡ capped (get_or counts k 0 + cond (is_rule k rule) amount 0)
 unfolding added
 added_at None amount k counts below few = omega arith
 added_at (Some rule) amount k counts below few = elim (cases_Bool (rule.0 == k)) [
-  | inl same ↦ (let is : rule.0 ≡ k = eqb-true rule.0 k same in rw (same, is) (get_or-set_same counts k (held (get_or counts k 0 + amount)) 0 below))
+  | inl same ↦ (let is : rule.0 ≡ k = eqb-true rule.0 k same in rw (same, is) (get_or-set_same counts k (capped (get_or counts k 0 + amount)) 0 below))
   | inr other ↦
-      let stays = get_or-set_other counts rule.0 k (held (get_or counts rule.0 0 + amount)) 0 (λ at. false≢true (sym other ∙ eq-eqb rule.0 k (sym at))) in
-      rw other (stays ∙ (let same : get_or counts k 0 ≡ held (get_or counts k 0 + 0) = omega arith in same))
+      let stays = get_or-set_other counts rule.0 k (capped (get_or counts rule.0 0 + amount)) 0 (λ at. false≢true (sym other ∙ eq-eqb rule.0 k (sym at))) in
+      rw other (stays ∙ (let same : get_or counts k 0 ≡ capped (get_or counts k 0 + 0) = omega arith in same))
 ]
 
 -- the reasons that count are those with these words
@@ -203,10 +203,10 @@ length_counted : (outcome : Outcome) (amount : ℕ) (counts : List ℕ) → leng
 length_counted outcome amount counts = elim (cases_Bool (counts_for_rules outcome.reason)) [ inl it ↦ rw it (length_added outcome.rule amount counts) | inr not_it ↦ rw not_it refl ]
 
 counted_at : (outcome : Outcome) (amount k : ℕ) (counts : List ℕ) → k < length counts → get_or counts k 0 ≤ 2 ^ 64 - 1
-    → get_or (counted_to outcome amount counts) k 0 ≡ held (get_or counts k 0 + cond (reason_counts outcome.reason && is_rule k outcome.rule) amount 0)
+    → get_or (counted_to outcome amount counts) k 0 ≡ capped (get_or counts k 0 + cond (reason_counts outcome.reason && is_rule k outcome.rule) amount 0)
 counted_at outcome amount k counts below few = elim (cases_Bool (counts_for_rules outcome.reason)) [
   | inl it ↦ rw (same_reasons outcome.reason, it) (added_at outcome.rule amount k counts below few)
-  | inr not_it ↦ rw (same_reasons outcome.reason, not_it) (let same : get_or counts k 0 ≡ held (get_or counts k 0 + 0) = omega arith in same)
+  | inr not_it ↦ rw (same_reasons outcome.reason, not_it) (let same : get_or counts k 0 ≡ capped (get_or counts k 0 + 0) = omega arith in same)
 ]
 
 packets_next : (job : RunJob) (world : World) (frame : Frame) → (after job world frame).counters.filter.packets ≡ counted_to (next_taken job world frame).outcome 1 world.counters.filter.packets
@@ -219,27 +219,27 @@ unfolding after with_outcome counted
 bytes_next job world frame = rw (← same_length (view_of frame.link frame.bytes)) (elim (cases_Bool (counts_for_rules (next_taken job world frame).outcome.reason)) [ inl it ↦ rw it refl | inr not_it ↦ rw not_it refl ])
 
 pub rule_packets_after : (k : ℕ) (job : RunJob) (world : World) (frames : List Frame) → k < length world.counters.filter.packets → get_or world.counters.filter.packets k 0 ≤ 2 ^ 64 - 1
-    → get_or (world_after job world frames).counters.filter.packets k 0 ≡ held (get_or world.counters.filter.packets k 0 + count_by (counts_for k) (taken_after job world frames))
+    → get_or (world_after job world frames).counters.filter.packets k 0 ≡ capped (get_or world.counters.filter.packets k 0 + count_by (counts_for k) (taken_after job world frames))
 unfolding world_after
 rule_packets_after k job world [] below few = omega arith
 rule_packets_after k job world (frame ∷ frames) below few =
     let p = next_taken job world frame in
     let long : length (after job world frame).counters.filter.packets ≡ length world.counters.filter.packets = ap length (packets_next job world frame) ∙ length_counted p.outcome 1 world.counters.filter.packets in
-    let next : get_or (after job world frame).counters.filter.packets k 0 ≡ held (get_or world.counters.filter.packets k 0 + cond (counts_for k p) 1 0) =
+    let next : get_or (after job world frame).counters.filter.packets k 0 ≡ capped (get_or world.counters.filter.packets k 0 + cond (counts_for k p) 1 0) =
     ap (λ (counts : List ℕ). get_or counts k 0) (packets_next job world frame) ∙ counted_at p.outcome 1 k world.counters.filter.packets below few in
     let rest = rule_packets_after k job (after job world frame) frames (omega (arith, long)) (omega (arith, next)) in
     let more = sum_by-cons (λ (p : Taken). cond (counts_for k p) 1 0) p (taken_after job (after job world frame) frames) in
     omega (arith, next, rest, more)
 
 pub rule_bytes_after : (k : ℕ) (job : RunJob) (world : World) (frames : List Frame) → k < length world.counters.filter.bytes → get_or world.counters.filter.bytes k 0 ≤ 2 ^ 64 - 1
-    → get_or (world_after job world frames).counters.filter.bytes k 0 ≡ held (get_or world.counters.filter.bytes k 0 + sum_by (bytes_for k) (taken_after job world frames))
+    → get_or (world_after job world frames).counters.filter.bytes k 0 ≡ capped (get_or world.counters.filter.bytes k 0 + sum_by (bytes_for k) (taken_after job world frames))
 unfolding world_after
 rule_bytes_after k job world [] below few = omega arith
 rule_bytes_after k job world (frame ∷ frames) below few =
     let p = next_taken job world frame in
     let amount = total_length_of (view_of frame.link frame.bytes) in
     let long : length (after job world frame).counters.filter.bytes ≡ length world.counters.filter.bytes = ap length (bytes_next job world frame) ∙ length_counted p.outcome amount world.counters.filter.bytes in
-    let next : get_or (after job world frame).counters.filter.bytes k 0 ≡ held (get_or world.counters.filter.bytes k 0 + bytes_for k p) =
+    let next : get_or (after job world frame).counters.filter.bytes k 0 ≡ capped (get_or world.counters.filter.bytes k 0 + bytes_for k p) =
     ap (λ (counts : List ℕ). get_or counts k 0) (bytes_next job world frame) ∙ counted_at p.outcome amount k world.counters.filter.bytes below few in
     let rest = rule_bytes_after k job (after job world frame) frames (omega (arith, long)) (omega (arith, next)) in
     let more = sum_by-cons (bytes_for k) p (taken_after job (after job world frame) frames) in
@@ -253,7 +253,7 @@ total_none verdict.Block = refl
 total_none verdict.Return = refl
 total_none verdict.Skip = refl
 
-pub total_of_run : (job : RunJob) (frames : List Frame) (verdict : Verdict) → total_of verdict (world_of job frames).counters.totals ≡ held (count_by (comes_to verdict) (taken_in job frames))
+pub total_of_run : (job : RunJob) (frames : List Frame) (verdict : Verdict) → total_of verdict (world_of job frames).counters.totals ≡ capped (count_by (comes_to verdict) (taken_in job frames))
 unfolding world_of opening
 total_of_run job frames verdict =
     let none = total_none verdict in
@@ -273,7 +273,7 @@ totals_together job frames few =
     let count = world_count job (opening job) frames in
     omega (arith, pass, block, back, skip, all, long, count)
 
-pub packets_of_run : (job : RunJob) (frames : List Frame) (rule : ℕ) → rule < (counts job.rules).0 → get_or (world_of job frames).counters.filter.packets rule 0 ≡ held (count_by (counts_for rule) (taken_in job frames))
+pub packets_of_run : (job : RunJob) (frames : List Frame) (rule : ℕ) → rule < (counts job.rules).0 → get_or (world_of job frames).counters.filter.packets rule 0 ≡ capped (count_by (counts_for rule) (taken_in job frames))
 unfolding world_of opening
 packets_of_run job frames rule below =
     let none : get_or (replicate (counts job.rules).0 0) rule 0 ≡ 0 = get_or-replicate {A = ℕ} (counts job.rules).0 rule 0 0 below in
@@ -281,7 +281,7 @@ packets_of_run job frames rule below =
     let all = rule_packets_after rule job (opening job) frames (omega (arith, long, below)) (omega (arith, none)) in
     omega (arith, none, all)
 
-pub bytes_of_run : (job : RunJob) (frames : List Frame) (rule : ℕ) → rule < (counts job.rules).0 → get_or (world_of job frames).counters.filter.bytes rule 0 ≡ held (sum_by (bytes_for rule) (taken_in job frames))
+pub bytes_of_run : (job : RunJob) (frames : List Frame) (rule : ℕ) → rule < (counts job.rules).0 → get_or (world_of job frames).counters.filter.bytes rule 0 ≡ capped (sum_by (bytes_for rule) (taken_in job frames))
 unfolding world_of opening
 bytes_of_run job frames rule below =
     let none : get_or (replicate (counts job.rules).0 0) rule 0 ≡ 0 = get_or-replicate {A = ℕ} (counts job.rules).0 rule 0 0 below in

@@ -22,15 +22,15 @@ abbrev pub job_of : Book → RunJob
 job_of book = arc_value book.job
 
 -- a speculation was given, it is of this packet of this job, and its record holds in the table
-abbrev pub Holds : Option Speculation → RunJob → ℕ → Clock → View → StateTable → Type 0
-Holds None job number clock view table = ⊥
-Holds (Some speculation) job number clock view table = Fits speculation job number clock view table
+abbrev pub MayUse : Option Speculation → RunJob → ℕ → Clock → View → StateTable → Type 0
+MayUse None job number clock view table = ⊥
+MayUse (Some speculation) job number clock view table = Fits speculation job number clock view table
 
 -- ---- a batch
 
 -- of the results of the world's next packet, which has this record and this view, the first one holds
 abbrev pub IsUsed : RunJob → World → List Speculation → Record × View → Type 0
-IsUsed job world results packet = Holds (find (is_of (world.count + 1)) results) job (world.count + 1) (clock_at world.clock (frame_of packet.0)) packet.1 world.table
+IsUsed job world results packet = MayUse (find (is_of (world.count + 1)) results) job (world.count + 1) (clock_at world.clock (frame_of packet.0)) packet.1 world.table
 
 -- a number rises by one, unless a result is used
 abbrev pub RisesUnless : Type 0 → ℕ → ℕ → Type 0

@@ -57,8 +57,8 @@ pub record IsMadeAmong (packets : List Taken) (state : State) : Type 0 where
 -- ---- what is counted of them
 
 -- a count stays at the last value that 64 bits hold
-abbrev pub held : ℕ → ℕ
-held count = min count (2 ^ 64 - 1)
+abbrev pub capped : ℕ → ℕ
+capped count = min count (2 ^ 64 - 1)
 
 abbrev pub is_same_verdict : Verdict → Verdict → Bool
 is_same_verdict verdict.Pass verdict.Pass = true

@@ -96,7 +96,7 @@ fn put_line(
 }
 
 impl Book {
-    ghost use Rattle.pfr_commit.specs.Books.{Holds, job_of, world_in};
+    ghost use Rattle.pfr_commit.specs.Books.{MayUse, job_of, world_in};
 
     /// A book that has taken no packet of a job.
     #[tactic(auto, unfolding(crate::specs::World::opening))]
@@ -150,15 +150,15 @@ impl Book {
         &self.table
     }
 
-    /// The outcome of a speculation that holds for a packet.
-    fn held(
+    /// The outcome of a speculation that may be used for a packet.
+    fn usable_outcome(
         &self,
         number: u64,
         clock: Clock,
         view: &View,
         speculation: Option<Speculation>,
     ) -> Option<Outcome>
-        ensures some { IsSome result ↔ Holds speculation (job_of self.now) number clock view.now self.now.table }
+        ensures some { IsSome result ↔ MayUse speculation (job_of self.now) number clock view.now self.now.table }
         ensures outcome { IfSome result (λ outcome. outcome ≡ step_of (job_of self.now) number clock view.now self.now.table) }
     {
         match speculation {
@@ -181,20 +181,20 @@ impl Book {
         step(self.alloc, &self.job, number, clock, view, &mut answers)
     }
 
-    /// What a packet comes to, and by how much the number of those that were evaluated here rises.
-    fn next(
+    /// What a packet comes to, by its speculation or evaluated here, and how many were evaluated: none or one.
+    fn outcome_of(
         &self,
         number: u64,
         clock: Clock,
         view: &View,
         speculation: Option<Speculation>,
     ) -> Result<(Outcome, u64), AllocError>
-        ensures outcome { IfOk result (λ next. next.0 ≡ step_of (job_of self.now) number clock view.now self.now.table) }
-        ensures kept { IfOk result (λ next. Holds speculation (job_of self.now) number clock view.now self.now.table → next.1 ≡ 0) }
-        ensures own { IfOk result (λ next. (Holds speculation (job_of self.now) number clock view.now self.now.table → ⊥) → next.1 ≡ 1) }
-        ensures few { IfOk result (λ next. next.1 ≤ 1) }
+        ensures outcome { IfOk result (λ found. found.0 ≡ step_of (job_of self.now) number clock view.now self.now.table) }
+        ensures used { IfOk result (λ found. MayUse speculation (job_of self.now) number clock view.now self.now.table → found.1 ≡ 0) }
+        ensures evaluated { IfOk result (λ found. (MayUse speculation (job_of self.now) number clock view.now self.now.table → ⊥) → found.1 ≡ 1) }
+        ensures few { IfOk result (λ found. found.1 ≤ 1) }
     {
-        match self.held(number, clock, view, speculation) {
+        match self.usable_outcome(number, clock, view, speculation) {
             Some(outcome) => Ok((outcome, 0)),
             None => Ok((self.run(number, clock, view)?, 1)),
         }
@@ -244,21 +244,22 @@ impl Book {
         ensures job { self.new.job ≡ self.old.job }
         ensures counted { OnOk result (self.new.count ≡ self.old.count + 1) }
         ensures kept { OnErr result ((self.new.count ≡ self.old.count) × (texts_of out.new ≡ texts_of out.old)) }
-        ensures held { OnOk result (Holds speculation (job_of self.old) (self.old.count + 1) (spec.clock_at self.old.clock (frame_of packet.now)) view.now self.old.table → self.new.own ≡ self.old.own) }
-        ensures own { OnOk result ((Holds speculation (job_of self.old) (self.old.count + 1) (spec.clock_at self.old.clock (frame_of packet.now)) view.now self.old.table → ⊥) → self.new.own ≡ self.old.own + 1) }
+        ensures used { OnOk result (MayUse speculation (job_of self.old) (self.old.count + 1) (spec.clock_at self.old.clock (frame_of packet.now)) view.now self.old.table → self.new.own ≡ self.old.own) }
+        ensures evaluated { OnOk result ((MayUse speculation (job_of self.old) (self.old.count + 1) (spec.clock_at self.old.clock (frame_of packet.now)) view.now self.old.table → ⊥) → self.new.own ≡ self.old.own + 1) }
         ensures ok { OnOk result (self.new.is_over ≡ false) }
         ensures err { OnErr result (self.new.is_over ≡ true) }
     {
         self.is_over = true;
         let number = self.count + 1;
         let clock = later(self.clock, packet.seconds);
-        let (outcome, own) = self.next(number, clock, view, speculation)?;
+        let (outcome, evaluated) = self.outcome_of(number, clock, view, speculation)?;
         // what `take_outcome` asks of an outcome is so of each that an evaluation has
         no_change_is_refused();
         what_is_written_is_of_the_packet();
+        // whatever the table is asked, its states are those of a table
         let _ = self.table.len();
         self.take_outcome(clock, packet, view, &outcome, out)?;
-        self.own += own;
+        self.own += evaluated;
         self.is_over = false;
         Ok(())
     }
@@ -277,8 +278,8 @@ impl Book {
         ensures world { IfOk result (λ emitted. world_in self.new (texts_of emitted) ≡ spec.after (job_of self.old) (world_in self.old spec.no_texts) (frame_of packet.now)) }
         ensures job { self.new.job ≡ self.old.job }
         ensures kept { OnErr result (self.new.count ≡ self.old.count) }
-        ensures held { OnOk result (Holds speculation (job_of self.old) (self.old.count + 1) (spec.clock_at self.old.clock (frame_of packet.now)) view self.old.table → self.new.own ≡ self.old.own) }
-        ensures own { OnOk result ((Holds speculation (job_of self.old) (self.old.count + 1) (spec.clock_at self.old.clock (frame_of packet.now)) view self.old.table → ⊥) → self.new.own ≡ self.old.own + 1) }
+        ensures used { OnOk result (MayUse speculation (job_of self.old) (self.old.count + 1) (spec.clock_at self.old.clock (frame_of packet.now)) view self.old.table → self.new.own ≡ self.old.own) }
+        ensures evaluated { OnOk result ((MayUse speculation (job_of self.old) (self.old.count + 1) (spec.clock_at self.old.clock (frame_of packet.now)) view self.old.table → ⊥) → self.new.own ≡ self.old.own + 1) }
         ensures ok { OnOk result ((self.old.is_over ≡ false) × (self.new.is_over ≡ false)) }
         ensures err { OnErr result (self.new.is_over ≡ true) }
         ensures over { self.old.is_over ≡ true → self.new ≡ self.old }

@@ -7,7 +7,7 @@ ghost use Rattle.pfr_states.specs.States.{IsTable};
 ghost use Rattle.pfr_packet.specs.declared.verdict.Verdict.{Verdict};
 ghost use Rattle.pfr_packet.specs.Job.{RunJob};
 ghost use Rattle.pfr_commit.specs.Lines.{verdict_line};
-ghost use Rattle.pfr_commit.specs.Runs.{IsMadeAmong, bytes_for, comes_to, counts_for, held, taken_in, total_of};
+ghost use Rattle.pfr_commit.specs.Runs.{IsMadeAmong, bytes_for, capped, comes_to, counts_for, taken_in, total_of};
 ghost use Rattle.pfr_commit.specs.World.{Frame, World, packet_text, world_after, world_of};
 
 use pfr_packet::laws::{every_change_is_of_the_named_state, no_change_is_refused};
@@ -34,7 +34,7 @@ pub fn the_clock_is_the_greatest_second()
 
 /// Each total is the number of packets that came to its verdict, and all four together are the count.
 pub fn totals_are_the_count()
-    ensures each { (job : RunJob) (frames : List Frame) (verdict : Verdict) → total_of verdict (world_of job frames).counters.totals ≡ held (count_by (comes_to verdict) (taken_in job frames)) }
+    ensures each { (job : RunJob) (frames : List Frame) (verdict : Verdict) → total_of verdict (world_of job frames).counters.totals ≡ capped (count_by (comes_to verdict) (taken_in job frames)) }
     ensures together { (job : RunJob) (frames : List Frame) → length frames < 2 ^ 64
         → (world_of job frames).counters.totals.passed + (world_of job frames).counters.totals.blocked + (world_of job frames).counters.totals.returned + (world_of job frames).counters.totals.skipped ≡ (world_of job frames).count }
 {}
@@ -42,9 +42,9 @@ pub fn totals_are_the_count()
 /// The packets and bytes of a filter rule are those of the packets whose line names it for a reason that counts.
 pub fn rules_are_counted_by_their_lines()
     ensures packets { (job : RunJob) (frames : List Frame) (rule : ℕ) → rule < (counts job.rules).0
-        → get_or (world_of job frames).counters.filter.packets rule 0 ≡ held (count_by (counts_for rule) (taken_in job frames)) }
+        → get_or (world_of job frames).counters.filter.packets rule 0 ≡ capped (count_by (counts_for rule) (taken_in job frames)) }
     ensures bytes { (job : RunJob) (frames : List Frame) (rule : ℕ) → rule < (counts job.rules).0
-        → get_or (world_of job frames).counters.filter.bytes rule 0 ≡ held (sum_by (bytes_for rule) (taken_in job frames)) }
+        → get_or (world_of job frames).counters.filter.bytes rule 0 ≡ capped (sum_by (bytes_for rule) (taken_in job frames)) }
 {}
 
 /// Each state was made by a packet of the run that passed: it has that packet's number, and was made at its clock.

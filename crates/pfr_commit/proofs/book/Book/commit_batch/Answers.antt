@@ -53,7 +53,7 @@ loop-index-preserved c =
           rises_next (job_of c.args.self.now) (world_in c.args.self.now (texts_of c.args.out.now)) c.args.results.items c.args.packets.now c.loop-index.index c.index-packets-index.result
           c.args.self.now.own c.loop-index.self.own c.take.new.self.own below i.own
           (rises_by (job_of c.args.self.now) (job_of c.loop-index.self) _ (world_in c.loop-index.self (texts_of c.loop-index.out)) c.args.results.items c.index-packets-index.result _ c.take_at.result
-          c.loop-index.self.own c.take.new.self.own (same_job c.loop-index.self c.args.self.now i.job) i.world c.index-packets-index.is held c.in_ok-take.ensures.held c.in_ok-take.ensures.own);
+          c.loop-index.self.own c.take.new.self.own (same_job c.loop-index.self c.args.self.now i.job) i.world c.index-packets-index.is held c.in_ok-take.ensures.used c.in_ok-take.ensures.evaluated);
       tried = λ place from within. c.take_at.ensures.others place (omega arith) ∙ i.tried place (omega arith) within;
       world = c.in_ok-take.ensures.world
           ∙ ap (λ (w : World). after (job_of c.loop-index.self) w (frame_of c.index-packets-index.result.0)) i.world

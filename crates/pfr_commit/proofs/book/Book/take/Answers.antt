@@ -18,8 +18,8 @@ returns-clause-world c =
     ∙ after_is (job_of c.args.self.now) (world_in c.args.self.now (texts_of c.args.out.now)) (frame_of c.args.packet.now) c.later-clock.result c.args.view.now c.in_ok-outcome.outcome
     c.later-clock.ensures c.requires.view c.in_ok-outcome.ensures.outcome
 
-pub returns-clause-held : goal.returns-clause-held
-returns-clause-held c = search rules
+pub returns-clause-used : goal.returns-clause-used
+returns-clause-used c = search rules
 
-pub returns-clause-own : goal.returns-clause-own
-returns-clause-own c = search rules
+pub returns-clause-evaluated : goal.returns-clause-evaluated
+returns-clause-evaluated c = search rules
