@@ -1,6 +1,7 @@
 -- Whatever a stop leaves in the outputs is a beginning of what the replay of the capture writes.
-use Rattle.std.proofs.Common.{◌≡◌, ℕ, Bool, ◌+◌, ◌≤◌, List, [], ◌∷◌, ◌++◌, length, map, take, drop, None, Result, Ok, Err, ◌⊎◌, inl, inr, refl, sym, ◌∙◌, ap, arith}
+use Rattle.std.proofs.Common.{◌≡◌, ◌<◌, ℕ, zero, suc, Bool, ◌+◌, ◌≤◌, List, [], ◌∷◌, ◌++◌, length, map, take, drop, None, Result, Ok, Err, ◌⊎◌, inl, inr, refl, sym, ◌∙◌, ap, arith}
 use Rattle.std.specs.List.{flat_map}
+use Rattle.std.proofs.lemmas.Bool.{cases_lt}
 use Rattle.std.proofs.lemmas.List.{append_assoc, append_cancel_right, append-nil, length-take-le, take-append-drop, take_at}
 use Rattle.pfr_packet.specs.Job.{RunJob}
 use Rattle.pfr_capture.specs.declared.capture.CaptureError.{CaptureError}
@@ -19,11 +20,11 @@ use Rattle.pfr_out.specs.declared.report.Output.TheVariants as output
 use Rattle.pfr_out.specs.declared.report.Stop.{Stop}
 use Rattle.pfr_out.specs.declared.report.Stop.TheVariants as stop
 use Rattle.pfr_out.specs.declared.sinks.Sinks.{Sinks}
-use Rattle.pfr_out.specs.Outputs.{AllTold, Grew, Outputs, PartWritten, batch_alone, header_alone}
+use Rattle.pfr_out.specs.Outputs.{AllTold, Grew, Outputs, PartWritten, batch_alone, header_alone, of_output, turn}
 use Rattle.pfr_out.specs.Replay.{Begins, Holds, HoldsAll, HoldsAllRead, HoldsPartOfBatch, HoldsPartOfEnding, HoldsPartOfHeader, OfEvery, Refused, Stopped, closing, committed_of, frame_in, online, replay_of, run_of, whole}
 use Rattle.pfr_out.proofs.ReadingLemmas.{capture_opens}
 use Rattle.pfr_out.proofs.RunLemmas.{bare, run_behind}
-use Rattle.pfr_out.proofs.WritingLemmas.{online_behind, whole_is}
+use Rattle.pfr_out.proofs.WritingLemmas.{each_output, online_behind, whole_is}
 
 -- ---- texts
 
@@ -59,78 +60,43 @@ begins_behind old mid new a b both was is g = (
 -- ---- outputs
 
 all_whole : (old new a : Outputs) → Grew old new a → Begins old new a
-all_whole old new a g = record {
-  verdicts = whole_begins old.verdicts new.verdicts a.verdicts g.verdicts;
-  packets = whole_begins old.packets new.packets a.packets g.packets;
-  counters = whole_begins old.counters new.counters a.counters g.counters;
-  states = whole_begins old.states new.states a.states g.states;
-  messages = whole_begins old.messages new.messages a.messages g.messages;
-}
+all_whole old new a g o = whole_begins (of_output o old) (of_output o new) (of_output o a) (g o)
 
 all_nothing : (old new a : Outputs) → new ≡ old → Begins old new a
-all_nothing old new a same = record {
-  verdicts = nothing_begins old.verdicts new.verdicts a.verdicts (ap (λ (o : Outputs). o.verdicts) same);
-  packets = nothing_begins old.packets new.packets a.packets (ap (λ (o : Outputs). o.packets) same);
-  counters = nothing_begins old.counters new.counters a.counters (ap (λ (o : Outputs). o.counters) same);
-  states = nothing_begins old.states new.states a.states (ap (λ (o : Outputs). o.states) same);
-  messages = nothing_begins old.messages new.messages a.messages (ap (λ (o : Outputs). o.messages) same);
-}
+all_nothing old new a same o = nothing_begins (of_output o old) (of_output o new) (of_output o a) (ap (λ (x : Outputs). of_output o x) same)
 
 all_longer : (old new a more b : Outputs) → Grew a b more → Begins old new a → Begins old new b
-all_longer old new a more b longer g = record {
-  verdicts = begins_longer old.verdicts new.verdicts a.verdicts more.verdicts b.verdicts longer.verdicts g.verdicts;
-  packets = begins_longer old.packets new.packets a.packets more.packets b.packets longer.packets g.packets;
-  counters = begins_longer old.counters new.counters a.counters more.counters b.counters longer.counters g.counters;
-  states = begins_longer old.states new.states a.states more.states b.states longer.states g.states;
-  messages = begins_longer old.messages new.messages a.messages more.messages b.messages longer.messages g.messages;
-}
+all_longer old new a more b longer g o = begins_longer (of_output o old) (of_output o new) (of_output o a) (of_output o more) (of_output o b) (longer o) (g o)
 
 all_behind : (old mid new a b both : Outputs) → Grew old mid a → Grew a both b → Begins mid new b → Begins old new both
-all_behind old mid new a b both was is g = record {
-  verdicts = begins_behind old.verdicts mid.verdicts new.verdicts a.verdicts b.verdicts both.verdicts was.verdicts is.verdicts g.verdicts;
-  packets = begins_behind old.packets mid.packets new.packets a.packets b.packets both.packets was.packets is.packets g.packets;
-  counters = begins_behind old.counters mid.counters new.counters a.counters b.counters both.counters was.counters is.counters g.counters;
-  states = begins_behind old.states mid.states new.states a.states b.states both.states was.states is.states g.states;
-  messages = begins_behind old.messages mid.messages new.messages a.messages b.messages both.messages was.messages is.messages g.messages;
-}
+all_behind old mid new a b both was is g o =
+    begins_behind (of_output o old) (of_output o mid) (of_output o new) (of_output o a) (of_output o b) (of_output o both) (was o) (is o) (g o)
+
+-- no two outputs have one turn
+abbrev output_at : ℕ → Output
+output_at zero = output.Messages
+output_at (suc zero) = output.Verdicts
+output_at (suc (suc zero)) = output.Packets
+output_at (suc (suc (suc zero))) = output.Counters
+output_at _ = output.States
+
+turn_at : (o : Output) → output_at (turn o) ≡ o
+turn_at = each_output (λ o. output_at (turn o) ≡ o) refl refl refl refl refl
+
+same_output : (o other : Output) → turn o ≡ turn other → o ≡ other
+same_output o other same = sym (turn_at o) ∙ ap output_at same ∙ turn_at other
 
 -- a piece of which one output took a part
-part_begins_all : (old new a : Outputs) (at : Output) → PartWritten old new a at → Begins old new a
-part_begins_all old new a output.Messages p = record {
-  messages = part_begins old.messages new.messages a.messages p.0;
-  verdicts = nothing_begins old.verdicts new.verdicts a.verdicts p.1;
-  packets = nothing_begins old.packets new.packets a.packets p.2;
-  counters = nothing_begins old.counters new.counters a.counters p.3;
-  states = nothing_begins old.states new.states a.states p.4;
-}
-part_begins_all old new a output.Verdicts p = record {
-  messages = whole_begins old.messages new.messages a.messages p.0;
-  verdicts = part_begins old.verdicts new.verdicts a.verdicts p.1;
-  packets = nothing_begins old.packets new.packets a.packets p.2;
-  counters = nothing_begins old.counters new.counters a.counters p.3;
-  states = nothing_begins old.states new.states a.states p.4;
-}
-part_begins_all old new a output.Packets p = record {
-  messages = whole_begins old.messages new.messages a.messages p.0;
-  verdicts = whole_begins old.verdicts new.verdicts a.verdicts p.1;
-  packets = part_begins old.packets new.packets a.packets p.2;
-  counters = nothing_begins old.counters new.counters a.counters p.3;
-  states = nothing_begins old.states new.states a.states p.4;
-}
-part_begins_all old new a output.Counters p = record {
-  messages = whole_begins old.messages new.messages a.messages p.0;
-  verdicts = whole_begins old.verdicts new.verdicts a.verdicts p.1;
-  packets = whole_begins old.packets new.packets a.packets p.2;
-  counters = part_begins old.counters new.counters a.counters p.3;
-  states = nothing_begins old.states new.states a.states p.4;
-}
-part_begins_all old new a output.States p = record {
-  messages = whole_begins old.messages new.messages a.messages p.0;
-  verdicts = whole_begins old.verdicts new.verdicts a.verdicts p.1;
-  packets = whole_begins old.packets new.packets a.packets p.2;
-  counters = whole_begins old.counters new.counters a.counters p.3;
-  states = part_begins old.states new.states a.states p.4;
-}
+part_begins_all : (old new a : Outputs) (written : Output) → PartWritten old new a written → Begins old new a
+part_begins_all old new a written p o = elim (cases_lt (turn o) (turn written)) [
+  | inl before ↦ whole_begins (of_output o old) (of_output o new) (of_output o a) (p.before o before)
+  | inr not_before ↦ elim (cases_lt (turn written) (turn o)) [
+    | inl behind ↦ nothing_begins (of_output o old) (of_output o new) (of_output o a) (p.behind o behind)
+    | inr not_behind ↦
+        (let same : turn o ≡ turn written = omega (arith, not_before, not_behind) in
+        rw (same_output o written same) (part_begins (of_output written old) (of_output written new) (of_output written a) p.part))
+  ]
+]
 
 -- ---- what a replay writes
 
@@ -140,7 +106,7 @@ online_begins old new header world (Ok tail) b = all_longer old new (online head
 online_begins old new header world (Err e) b = b
 
 header_begins : (header : List ℕ) (world : World) → Grew (header_alone header) (online header world) (batch_alone world.texts)
-header_begins header world = record { verdicts = refl; packets = refl; counters = refl; states = refl; messages = refl }
+header_begins header world = each_output _ refl refl refl refl refl
 
 front_and_rest : (given records : List RecordBytes) → IsFront given records → records ≡ given ++ drop (length given) records
 front_and_rest given records f = sym (ap (λ (t : List RecordBytes). t ++ drop (length given) records) f.front ∙ take-append-drop (length given) records)

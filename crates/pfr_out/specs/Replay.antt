@@ -21,7 +21,7 @@ use Rattle.pfr_out.specs.declared.report.Stop.{Stop}
 use Rattle.pfr_out.specs.declared.report.Stop.TheVariants as stop
 use Rattle.pfr_out.specs.declared.settings.Settings.{Settings}
 use Rattle.pfr_out.specs.declared.sinks.Sinks.{Sinks}
-use Rattle.pfr_out.specs.Outputs.{AllTold, Grew, Outputs, PartWritten, RoseAt, batch_alone, ending_alone, header_alone}
+use Rattle.pfr_out.specs.Outputs.{AllTold, Grew, Outputs, PartWritten, RoseAt, batch_alone, ending_alone, header_alone, nothing, of_output}
 
 -- ---- what a replay writes
 
@@ -35,7 +35,7 @@ run_of job form records = world_of job (map (frame_in form) records)
 
 -- the outputs after these records of a capture with this header
 abbrev pub online : List ℕ → World → Outputs
-online header world = record { verdicts = world.texts.verdicts; packets = header ++ world.texts.packets; counters = []; states = []; messages = [] }
+online header world = record nothing { verdicts = world.texts.verdicts; packets = header ++ world.texts.packets }
 
 -- what stands at the end of a capture that was read to its end
 abbrev pub closing : World → Outputs
@@ -51,12 +51,8 @@ replay_of header world (Ok tail) = whole header world
 replay_of header world (Err refusal) = online header world
 
 -- each output grew by a beginning of what it would grow by
-pub record Begins (old new all : Outputs) : Type 0 where
-  pub verdicts : GrewByBeginning old.verdicts new.verdicts all.verdicts
-  pub packets : GrewByBeginning old.packets new.packets all.packets
-  pub counters : GrewByBeginning old.counters new.counters all.counters
-  pub states : GrewByBeginning old.states new.states all.states
-  pub messages : GrewByBeginning old.messages new.messages all.messages
+abbrev pub Begins : (old new all : Outputs) → Type 0
+Begins old new all = (o : Output) → GrewByBeginning (of_output o old) (of_output o new) (of_output o all)
 
 -- ---- a run to the end
 
