@@ -1,6 +1,7 @@
 pub mod Anchors
 pub mod Filters
 pub mod Following
+pub mod Joined
 pub mod Macros
 pub mod Names
 pub mod Options

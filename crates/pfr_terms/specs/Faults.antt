@@ -1,5 +1,5 @@
 -- Which of several faults is told.
-use Rattle.std.specs.Prelude.{ℕ, ◌==◌, ◌&&◌, ◌||◌, Bool, nat_le, nat_lt, if◌then◌else◌, Option, Some, None}
+use Rattle.std.specs.Prelude.{◌≤◌, ℕ, ◌==◌, ◌&&◌, ◌||◌, Bool, nat_le, nat_lt, if◌then◌else◌, Option, Some, None}
 use Rattle.pfr_terms.specs.declared.error.ConfError.{ConfError}
 use Rattle.pfr_terms.specs.declared.error.ConfErrorKind.{ConfErrorKind}
 use Rattle.pfr_terms.specs.declared.error.ConfErrorKind.TheVariants.{BadByte, Unterminated, UnknownWord, LeftOut, BadNumber, BadAddress, OutOfOrder, TooDeep, Memory, UndefinedMacro, UndefinedTable, TooMany, Clash}
@@ -29,3 +29,11 @@ goes_first first second =
 unfoldable pub lower : Option ConfError → ConfError → ConfError
 lower None second = second
 lower (Some first) second = if goes_first first second then first else second
+
+-- the kind of a fault has a number that is at most that of each of two others
+abbrev pub IsOfLowerKind : ConfError → ConfError → ConfError → Type 0
+IsOfLowerKind told first second = (kind_number told.kind ≤ kind_number first.kind) × (kind_number told.kind ≤ kind_number second.kind)
+
+-- a fault stands on a line that is at most that of each of two others
+abbrev pub IsOnLowerLine : ConfError → ConfError → ConfError → Type 0
+IsOnLowerLine told first second = (told.line ≤ first.line) × (told.line ≤ second.line)

@@ -1,13 +1,13 @@
 //! Laws of the definitions, each the contract of a function that does nothing.
-ghost use Rattle.std.specs.Prelude.{◌≡◌, ◌≤◌, ◌⊎◌, None, Some};
+ghost use Rattle.std.specs.Prelude.{◌≡◌, ◌⊎◌, None, Some};
 ghost use Rattle.pfr_terms.specs.declared.error.ConfError.{ConfError};
-ghost use Rattle.pfr_terms.specs.Faults.{kind_number, lower};
+ghost use Rattle.pfr_terms.specs.Faults.{IsOfLowerKind, IsOnLowerLine, kind_number, lower};
 
 /// Of two faults one of the two is told, whose kind's number is at most that of each, and where these numbers are
 /// equal it is on the lower line. Where nothing was found before, the second is told.
 pub fn the_lower_kind_is_told()
     ensures alone { (second : ConfError) → lower None second ≡ second }
     ensures one { (first second : ConfError) → (lower (Some first) second ≡ first) ⊎ (lower (Some first) second ≡ second) }
-    ensures kind { (first second : ConfError) → (kind_number (lower (Some first) second).kind ≤ kind_number first.kind) × (kind_number (lower (Some first) second).kind ≤ kind_number second.kind) }
-    ensures line { (first second : ConfError) → kind_number first.kind ≡ kind_number second.kind → ((lower (Some first) second).line ≤ first.line) × ((lower (Some first) second).line ≤ second.line) }
+    ensures kind { (first second : ConfError) → IsOfLowerKind (lower (Some first) second) first second }
+    ensures line { (first second : ConfError) → kind_number first.kind ≡ kind_number second.kind → IsOnLowerLine (lower (Some first) second) first second }
 {}

@@ -1,6 +1,6 @@
 -- The words of a ruleset text, as pf.conf(5) is written: the text is cut into pieces, and each piece that doesn't
 -- only separate words is one.
-use Rattle.std.specs.Prelude.{ℕ, zero, suc, ◌+◌, ◌-◌, ◌==◌, ◌&&◌, ◌||◌, Bool, true, false, not, nat_le, if◌then◌else◌, List, [], ◌∷◌, ◌++◌, length, map, take, drop, slice_index, Option, Some, None}
+use Rattle.std.specs.Prelude.{◌≡◌, ◌≢◌, ℕ, zero, suc, ◌+◌, ◌-◌, ◌==◌, ◌&&◌, ◌||◌, Bool, true, false, not, nat_le, if◌then◌else◌, List, [], ◌∷◌, ◌++◌, length, map, take, drop, slice_index, Option, Some, None}
 use Rattle.std.specs.Option.{is_some}
 use denote.Enum.Bare.{sameb}
 use Rattle.pfr_words.specs.contracts.sign.Sign.{the_type}
@@ -193,3 +193,21 @@ words text = with_braces (words_on 1 (pieces text))
 -- the words, so many lines further down
 abbrev pub moved : ℕ → List Word → List Word
 moved lines ws = map (λ (w : Word). record w { line = lines + w.line }) ws
+
+-- ---- a text behind another
+
+-- a text that ends its last line: its last byte is no backslash, which would put the next line behind it
+abbrev pub EndsItsLine : List ℕ → Type 0
+EndsItsLine text = slice_index text (length text - 1) ≢ 92
+
+-- a text that is whole: it ends its last line, and each brace that it opens is closed in it
+abbrev pub IsWhole : List ℕ → Type 0
+IsWhole text = EndsItsLine text × (words text ≡ words_on 1 (pieces text))
+
+-- a text and, on the line below it, another
+abbrev pub joined : List ℕ → List ℕ → List ℕ
+joined first second = first ++ 10 ∷ second
+
+-- the words of two texts and of the end of the line between them
+abbrev pub words_in_turn : List ℕ → List ℕ → List Word
+words_in_turn first second = words first ++ record { line = 1 + newlines first; token = t.LineEnd } ∷ moved (1 + newlines first) (words second)

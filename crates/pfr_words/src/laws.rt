@@ -1,8 +1,7 @@
 //! Laws of the definitions, each the contract of a function that does nothing.
-ghost use Rattle.std.specs.Prelude.{◌≡◌, ◌≢◌, ◌≤◌, ◌+◌, ◌-◌, ◌++◌, ◌∷◌, List, ℕ, length, slice_index};
+ghost use Rattle.std.specs.Prelude.{◌≡◌, ◌≤◌, ◌+◌, List, ℕ, length};
 ghost use Rattle.std.specs.List.{All, concat};
-ghost use Rattle.pfr_words.specs.declared.word.Token.TheVariants.{LineEnd};
-ghost use Rattle.pfr_words.specs.Words.{moved, newlines, pieces, words, words_on};
+ghost use Rattle.pfr_words.specs.Words.{IsWhole, joined, newlines, pieces, words, words_in_turn};
 
 /// No byte of a text is lost or read twice: its pieces put together are the text, and each has a byte.
 pub fn pieces_are_the_text()
@@ -15,7 +14,7 @@ pub fn pieces_are_the_text()
 /// comment or a quote that is open where the first ends goes no further. The first may not end in a backslash, which
 /// would make the newline no end of the line, and each brace that it opens has to be closed in it.
 pub fn words_of_joined_texts()
-    ensures { (first second : List ℕ) → slice_index first (length first - 1) ≢ 92 → words first ≡ words_on 1 (pieces first) → words (first ++ 10 ∷ second) ≡ words first ++ record { line = 1 + newlines first; token = LineEnd } ∷ moved (1 + newlines first) (words second) }
+    ensures { (first second : List ℕ) → IsWhole first → words (joined first second) ≡ words_in_turn first second }
 {}
 
 /// Each word begins on a line of its text.

@@ -1,0 +1,45 @@
+-- Texts one below the other: words of the laws.
+use Rattle.std.specs.Prelude.{◌≡◌, ℕ, ◌+◌, List, ◌++◌, Result, Ok, Err}
+use Rattle.std.specs.List.{All}
+use Rattle.pfr_words.specs.declared.word.Word.{Word}
+use Rattle.pfr_words.specs.declared.word.Token.TheVariants.{LineEnd}
+use Rattle.pfr_words.specs.Words.{EndsItsLine, IsWhole, moved, newlines, words}
+use Rattle.pfr_terms.specs.declared.error.ConfError.{ConfError}
+use Rattle.pfr_conf.specs.declared.statement.Statement.{Statement}
+use Rattle.pfr_conf.specs.declared.statement.Statements.{Statements}
+use Rattle.pfr_conf.specs.Following.{MayFollow}
+use Rattle.pfr_conf.specs.Statements.{statements_in, statements_of}
+
+-- a text is read as these statements
+abbrev pub Says : List ℕ → Statements → Type 0
+Says text found = statements_of text ≡ Ok found
+
+-- a text is refused for this fault
+abbrev pub HasFault : List ℕ → ConfError → Type 0
+HasFault text e = statements_of text ≡ Err e
+
+-- a text of blank lines and comments: its words are only ends of lines
+abbrev pub SaysNothing : List ℕ → Type 0
+SaysNothing text = All (λ (w : Word). w.token ≡ LineEnd) (words text)
+
+-- a text is read as the one's statements and the other's behind them
+abbrev pub SaysBoth : List ℕ → Statements → Statements → Type 0
+SaysBoth text a b = Says text (record { statements = a.statements ++ b.statements })
+
+-- the one's statements are the first of the other's
+abbrev pub IsBeginning : Statements → Statements → Type 0
+IsBeginning a b = (more : List Statement) × (b.statements ≡ a.statements ++ more)
+
+-- two texts are read, the second so many lines further down, and no option of the second stands behind a rule of the first
+abbrev pub AreReadApart : ℕ → List ℕ → List ℕ → Statements → Statements → Type 0
+AreReadApart lines first second a b =
+    IsWhole first × Says first a × (statements_in (moved lines (words second)) ≡ Ok b) × MayFollow a.statements b.statements
+
+-- the same of two texts one below the other
+abbrev pub AreReadInTurn : List ℕ → List ℕ → Statements → Statements → Type 0
+AreReadInTurn first second a b = AreReadApart (1 + newlines first) first second a b
+
+-- the same of two texts with blank lines and comments between them
+abbrev pub AreAround : List ℕ → List ℕ → List ℕ → Statements → Statements → Type 0
+AreAround blank first second a b =
+    EndsItsLine blank × SaysNothing blank × AreReadApart (2 + newlines first + newlines blank) first second a b
