@@ -15,7 +15,26 @@ use Rattle.pfr_elements.specs.declared.definition.Taken.{Taken}
 use Rattle.pfr_elements.specs.declared.definition.Taken.TheVariants as taken
 use Rattle.pfr_elements.specs.declared.scope.Scope.{Scope}
 use Rattle.pfr_elements.specs.declared.element.Elements as E
+use Rattle.pfr_elements.specs.declared.element.ListUse.{ListUse}
 use Rattle.pfr_elements.specs.Values.{taken_at}
+
+-- ---- what may stand in a list
+
+pub record Kind (A B : Type 0) : Type 0 where
+  -- how it is read
+  pub form : Parser A
+  -- the macro that it uses, if it is a use and nothing else
+  pub use_in : A → Option MacroUse
+  -- whether it has a `!`
+  pub negated : A → Bool
+  -- what it means, if it is no use
+  pub meaning : Scope → A → Result B ConfError
+  -- what a thing of a macro's value means behind a `!`
+  pub turned : B → B
+  -- how many of the ruleset's tables have to be defined for a thing
+  pub tables : B → ℕ
+  -- what a macro's value means as a list of this kind
+  pub list_in : ListMeanings → ListMeaning B
 
 -- ---- one by one
 
@@ -48,10 +67,10 @@ noted (Err e) = do
   pure None
 
 -- one thing in a value, and what it means
-abbrev pub value_item : {A B : Type 0} → (Scope → A → Result B ConfError) → Parser A → Scope → Parser (Option B)
-value_item meaning form scope = do
-  x ← form
-  noted (meaning scope x)
+abbrev pub value_item : {A B : Type 0} → Kind A B → Scope → Parser (Option B)
+value_item kind scope = do
+  x ← kind.form
+  noted (kind.meaning scope x)
 
 abbrev pub with_some : {A : Type 0} → List A → Option A → List A
 with_some found None = found
@@ -117,9 +136,13 @@ with_list_by (Some e) keeps turned items found = with_fault e found
 with_list_by None keeps turned items found =
     record { items = if keeps then found.items ++ map turned items else found.items; fault = found.fault; count = found.count + min (length items) (most_elements + 1) }
 
+abbrev pub turned_if : {A : Type 0} → Bool → (A → A) → A → A
+turned_if is_negated turned x = if is_negated then turned x else x
+
 -- the things of a value, which count for one more than a list may have where they are more; where nothing is made of the list they are only counted
-abbrev pub with_list : {A : Type 0} → ℕ → ℕ → Bool → (A → A) → ListMeaning A → E.Elements A → E.Elements A
-with_list line defined keeps turned meant found = with_list_by (fault_at line defined meant) keeps turned meant.items found
+abbrev pub with_list : {A B : Type 0} → Kind A B → ListUse → ListMeaning B → E.Elements B → E.Elements B
+with_list kind used meant found =
+    with_list_by (fault_at used.line used.defined meant) used.keeps (turned_if used.is_negated kind.turned) meant.items found
 
 -- ---- the value of a macro that is one thing
 
@@ -143,32 +166,34 @@ fault_on line (Err e) = Err (at_line line e)
 
 -- ---- a list
 
-abbrev pub turned_if : {A : Type 0} → Bool → (A → A) → A → A
-turned_if is_negated turned x = if is_negated then turned x else x
+-- what words mean as a list
+abbrev pub listed : {A B : Type 0} → Kind A B → Scope → List Word → ListMeaning B
+listed kind scope ws = list_meaning kind.tables (value_items (value_item kind scope) (of_value ws))
 
--- what a list's things are: how they are read, what they mean, and which tables they name
-abbrev pub listed : {A B : Type 0} → (Scope → A → Result B ConfError) → Parser A → (B → ℕ) → Scope → List Word → ListMeaning B
-listed meaning form tables scope ws = list_meaning tables (value_items (value_item meaning form scope) (of_value ws))
+abbrev pub with_taken : {A B : Type 0} → Kind A B → Scope → ListUse → Result Taken ConfError → E.Elements B → E.Elements B
+with_taken kind scope used (Err e) found = with_fault e found
+with_taken kind scope used (Ok (taken.TooLong true)) found = record found { count = found.count + (most_elements + 1) }
+with_taken kind scope used (Ok (taken.TooLong false)) found = with_fault (unknown_word used.line) found
+with_taken kind scope used (Ok (taken.Word word)) found = with_list kind used (listed kind scope (words word)) found
+with_taken kind scope used (Ok (taken.Whole text)) found = with_list kind used (kind.list_in text.meanings.lists) found
 
-abbrev pub with_taken : {A : Type 0} → (List Word → ListMeaning A) → (ListMeanings → ListMeaning A) → (A → A) → Bool → ℕ → ℕ → Result Taken ConfError → E.Elements A → E.Elements A
-with_taken read list_in turned keeps defined line (Err e) found = with_fault e found
-with_taken read list_in turned keeps defined line (Ok (taken.TooLong true)) found = record found { count = found.count + (most_elements + 1) }
-with_taken read list_in turned keeps defined line (Ok (taken.TooLong false)) found = with_fault (unknown_word line) found
-with_taken read list_in turned keeps defined line (Ok (taken.Word word)) found = with_list line defined keeps turned (read (words word)) found
-with_taken read list_in turned keeps defined line (Ok (taken.Whole text)) found = with_list line defined keeps turned (list_in text.meanings.lists) found
+abbrev pub with_use : {A B : Type 0} → Kind A B → Scope → Bool → Bool → MacroUse → E.Elements B → E.Elements B
+with_use kind scope keeps is_negated found =
+    with_taken kind scope (record { line = found.line; defined = scope.defined; is_negated = is_negated; keeps = keeps }) (taken_at scope.macros is_negated found)
 
-abbrev pub with_use : {A : Type 0} → (List Word → ListMeaning A) → (ListMeanings → ListMeaning A) → (A → A) → Scope → Bool → Bool → MacroUse → E.Elements A → E.Elements A
-with_use read list_in turned scope keeps is_negated found = with_taken read list_in (turned_if is_negated turned) keeps scope.defined found.line (taken_at scope.macros is_negated found)
-
-abbrev pub with_written : {A B : Type 0} → (Scope → A → Result B ConfError) → Parser A → (B → ℕ) → (ListMeanings → ListMeaning B) → (B → B) → Scope → Bool → Bool → A → Option MacroUse → E.Elements B → E.Elements B
-with_written meaning form tables list_in turned scope keeps is_negated x None = with_meaning (meaning scope x)
-with_written meaning form tables list_in turned scope keeps is_negated x (Some found) = with_use (listed meaning form tables scope) list_in turned scope keeps is_negated found
+abbrev pub with_written : {A B : Type 0} → Kind A B → Scope → Bool → A → Option MacroUse → E.Elements B → E.Elements B
+with_written kind scope keeps x None = with_meaning (kind.meaning scope x)
+with_written kind scope keeps x (Some found) = with_use kind scope keeps (kind.negated x) found
 
 -- one more element of a list
-unfoldable pub with_element : {A B : Type 0} → (A → Option MacroUse) → (A → Bool) → (Scope → A → Result B ConfError) → Parser A → (B → ℕ) → (ListMeanings → ListMeaning B) → (B → B) → Scope → Bool → E.Elements B → A → E.Elements B
-with_element use_in negated meaning form tables list_in turned scope keeps found x = with_written meaning form tables list_in turned scope keeps (negated x) x (use_in x) found
+unfoldable pub with_element : {A B : Type 0} → Kind A B → Scope → Bool → E.Elements B → A → E.Elements B
+with_element kind scope keeps found x = with_written kind scope keeps x (kind.use_in x) found
 
 -- the elements of a list; those behind the one that is too many aren't looked at
 abbrev pub elements_from : {A B : Type 0} → (E.Elements B → A → E.Elements B) → E.Elements B → List A → E.Elements B
 elements_from one found [] = found
 elements_from one found (x ∷ xs) = if nat_lt most_elements found.count then found else elements_from one (one found x) xs
+
+-- what a list comes to
+abbrev pub elements_of : {A B : Type 0} → Kind A B → Scope → Bool → List A → E.Elements B
+elements_of kind scope keeps list = elements_from (with_element kind scope keeps) none_yet list

@@ -19,6 +19,7 @@ use Rattle.pfr_terms.specs.declared.address.Address.{Address}
 use Rattle.pfr_terms.specs.declared.address.Address.TheVariants as a
 use Rattle.pfr_terms.specs.declared.address.AddressMatch.{AddressMatch}
 use Rattle.pfr_terms.specs.declared.address.TableEntry.{TableEntry}
+use Rattle.pfr_terms.specs.Addresses as addresses
 use Rattle.pfr_terms.specs.Input.{Parser, ◌>>=◌, pure, unknown_word, left_out_at, free_word, finish, of_value}
 use Rattle.pfr_elements.specs.declared.scope.Scope.{Scope}
 use Rattle.pfr_elements.specs.declared.definition.ListMeaning.{ListMeaning}
@@ -28,8 +29,8 @@ use Rattle.pfr_elements.specs.declared.definition.Taken.TheVariants as taken
 use Rattle.pfr_elements.specs.Values.{taken_at}
 use Rattle.pfr_elements.specs.Interfaces.{whole, masked, form_of}
 use Rattle.pfr_elements.specs.Names.{last_place}
-use Rattle.pfr_elements.specs.Elements.{noted, one_read, fault_on, undefined_table}
-use Rattle.pfr_elements.specs.Terms.{use_in, misplaced}
+use Rattle.pfr_elements.specs.Elements.{Kind, noted, one_read, fault_on, undefined_table}
+use Rattle.pfr_elements.specs.Terms.{use_in, misplaced, no_table}
 
 -- ---- interface forms
 
@@ -121,6 +122,17 @@ host_tables c = tables_up_to c.hosts
 abbrev pub host_lists : ListMeanings → ListMeaning HostCriterion
 host_lists m = m.hosts
 
+abbrev pub host_kind : Kind AddressMatch HostCriterion
+host_kind = record {
+  form = addresses.address_match;
+  use_in = host_use;
+  negated = host_negated;
+  meaning = host_criterion;
+  turned = host_turned;
+  tables = host_tables;
+  list_in = host_lists;
+}
+
 -- ---- entries of tables
 
 abbrev pub entry_of : Bool → Result Net ConfError → Result Entry ConfError
@@ -145,3 +157,14 @@ entry_turned e = record e { is_negated = true }
 
 abbrev pub entry_lists : ListMeanings → ListMeaning Entry
 entry_lists m = m.entries
+
+abbrev pub entry_kind : Kind TableEntry Entry
+entry_kind = record {
+  form = addresses.table_entry;
+  use_in = entry_use;
+  negated = entry_negated;
+  meaning = entry_meaning;
+  turned = entry_turned;
+  tables = no_table;
+  list_in = entry_lists;
+}

@@ -1,11 +1,7 @@
 -- What a value means wherever it may be used, and what a macro is defined as.
-use Rattle.std.specs.Prelude.{ℕ, ◌==◌, true, false, if◌then◌else◌, List, [], ◌∷◌, ◌++◌, length, Option, Some, None}
+use Rattle.std.specs.Prelude.{◌≡◌, ℕ, ◌==◌, true, false, if◌then◌else◌, List, [], ◌∷◌, ◌++◌, length, Option, Some, None}
 use Rattle.pfr_words.specs.declared.word.Word.{Word}
 use Rattle.pfr_words.specs.Words.{words}
-use Rattle.pfr_terms.specs.Lists as lists
-use Rattle.pfr_terms.specs.Terms as terms
-use Rattle.pfr_terms.specs.Ports as ports
-use Rattle.pfr_terms.specs.Addresses as addresses
 use Rattle.pfr_elements.specs.declared.definition.ListMeaning.{ListMeaning}
 use Rattle.pfr_elements.specs.declared.definition.ListMeanings.{ListMeanings}
 use Rattle.pfr_elements.specs.declared.definition.Meanings.{Meanings}
@@ -16,10 +12,10 @@ use Rattle.pfr_elements.specs.declared.scope.Scope.{Scope}
 use Rattle.pfr_elements.specs.declared.value.Draft.{Draft}
 use Rattle.pfr_elements.specs.declared.value.Value.{Value}
 use Rattle.pfr_elements.specs.declared.value.Value.TheVariants.{Text, TooLong}
-use Rattle.pfr_elements.specs.Elements.{listed}
-use Rattle.pfr_elements.specs.Hosts.{form_read, host_criterion, host_tables, entry_meaning}
+use Rattle.pfr_elements.specs.Elements.{Kind, listed}
+use Rattle.pfr_elements.specs.Hosts.{form_read, host_kind, entry_kind}
 use Rattle.pfr_elements.specs.Single.{single_read}
-use Rattle.pfr_elements.specs.Terms.{itself, skipped, interface_meaning, no_table}
+use Rattle.pfr_elements.specs.Terms.{interface_kind, skipped_kind, protocol_kind, icmp_kind, port_kind}
 use Rattle.pfr_elements.specs.Values.{is_sound, only_plain}
 
 abbrev pub no_list : {A : Type 0} → ListMeaning A
@@ -31,14 +27,18 @@ no_lists = record { interfaces = no_list; skipped = no_list; protocols = no_list
 
 unfoldable pub list_meanings : Scope → List Word → ListMeanings
 list_meanings scope ws = record {
-  interfaces = listed interface_meaning terms.interface_match no_table scope ws;
-  skipped = listed skipped (lists.written terms.interface_name) no_table scope ws;
-  protocols = listed itself (lists.written terms.protocol) no_table scope ws;
-  icmp_types = listed itself (lists.written terms.icmp_match) no_table scope ws;
-  hosts = listed host_criterion addresses.address_match host_tables scope ws;
-  entries = listed entry_meaning addresses.table_entry no_table scope ws;
-  ports = listed itself (lists.written ports.port_match) no_table scope ws;
+  interfaces = listed interface_kind scope ws;
+  skipped = listed skipped_kind scope ws;
+  protocols = listed protocol_kind scope ws;
+  icmp_types = listed icmp_kind scope ws;
+  hosts = listed host_kind scope ws;
+  entries = listed entry_kind scope ws;
+  ports = listed port_kind scope ws;
 }
+
+-- where these are the lists that words mean, this is what the words mean as a list of one kind
+abbrev pub IsListOf : {A B : Type 0} → Kind A B → ListMeanings → ListMeaning B → Type 0
+IsListOf kind meanings found = (scope : Scope) (ws : List Word) → meanings ≡ list_meanings scope ws → found ≡ listed kind scope ws
 
 -- what words mean wherever they may stand; the lines of their faults will be those of uses
 unfoldable pub meanings_of : Scope → List Word → Meanings

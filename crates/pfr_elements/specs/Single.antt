@@ -1,9 +1,8 @@
 -- One address, where pf.conf(5) would take a pool of several: the target of a translation rule, and the source of a
 -- binat rule.
-use Rattle.std.specs.Prelude.{ℕ, ◌&&◌, ◌||◌, Bool, true, false, nat_lt, if◌then◌else◌, List, [], ◌∷◌, Option, None, Result, Ok, Err, codes}
+use Rattle.std.specs.Prelude.{ℕ, Bool, true, false, nat_lt, if◌then◌else◌, List, Option, None, Result, Ok, Err, codes}
 use Rattle.pfr_net.specs.declared.address.Ipv4Address.{Ipv4Address}
 use Rattle.pfr_net.specs.declared.network.Net.{Net}
-use Rattle.pfr_ruleset.specs.declared.hosts.HostSet.{HostSet}
 use Rattle.pfr_ruleset.specs.declared.hosts.HostSet.TheVariants as set
 use Rattle.pfr_ruleset.specs.declared.hosts.HostCriterion.{HostCriterion}
 use Rattle.pfr_words.specs.declared.sign.Sign.TheVariants as s
@@ -29,7 +28,7 @@ use Rattle.pfr_elements.specs.declared.definition.Taken.TheVariants as taken
 use Rattle.pfr_elements.specs.Values.{taken_at}
 use Rattle.pfr_elements.specs.Interfaces.{whole}
 use Rattle.pfr_elements.specs.Elements.{noted, value_item, value_items, one_read, fault_on, none_yet, with_meaning, elements_from}
-use Rattle.pfr_elements.specs.Hosts.{host_meaning, host_criterion}
+use Rattle.pfr_elements.specs.Hosts.{host_meaning, host_kind}
 use Rattle.pfr_elements.specs.Terms.{misplaced}
 
 -- ---- faults
@@ -83,7 +82,7 @@ one_meaning has_tables scope m = one_by has_tables scope m.is_negated m.address
 abbrev pub value_list : Scope → Parser (Option Ipv4Address)
 value_list scope = do
   _ ← (λ i. note (pool (line_ahead i)) i)
-  _ ← value_items (value_item host_criterion addresses.address_match scope)
+  _ ← value_items (value_item host_kind scope)
   pure None
 
 abbrev pub value_host : Bool → Scope → Parser (Option Ipv4Address)

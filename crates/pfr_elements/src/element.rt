@@ -1,19 +1,12 @@
 //! The elements of lists.
-ghost use Rattle.std.specs.Prelude.{◌≡◌, ◌<◌, ◌≤◌, ◌+◌, ◌++◌, ℕ, List, map, fold, max, length, Option, Result, Bool, Ok, Err, OnOk, IfOk, IfErr};
+ghost use Rattle.std.specs.Prelude.{◌≡◌, ◌<◌, ◌≤◌, ◌+◌, ◌++◌, map, fold, max, Ok, Err, OnOk, IfOk, IfErr};
 ghost use Rattle.std.specs.Bool.{Decides};
-ghost use Rattle.pfr_words.specs.declared.word.Word.{Word};
 ghost use Rattle.pfr_words.specs.Words.{words};
-ghost use Rattle.pfr_terms.specs.declared.error.ConfError.{ConfError};
-ghost use Rattle.pfr_terms.specs.declared.name.MacroUse.{MacroUse};
 ghost use Rattle.pfr_terms.specs.declared.error.ConfErrorKind.TheVariants.{Memory};
-ghost use Rattle.pfr_terms.specs.Input.{Parser, Reads};
-ghost use Rattle.pfr_elements.specs.declared.scope.Scope.{Scope};
-ghost use Rattle.pfr_elements.specs.declared.definition.ListMeaning.{ListMeaning};
-ghost use Rattle.pfr_elements.specs.declared.definition.ListMeanings.{ListMeanings};
-ghost use Rattle.pfr_elements.specs.Elements.{listed};
-ghost use Rattle.pfr_elements.specs.Meanings.{list_meanings};
+ghost use Rattle.pfr_terms.specs.Input.{Reads};
+ghost use Rattle.pfr_elements.specs.Meanings.{IsListOf};
 ghost use Rattle.pfr_elements.specs.Elements as spec;
-ghost use Rattle.pfr_elements.specs.Elements.{Puts};
+ghost use Rattle.pfr_elements.specs.Elements.{Kind, Puts};
 ghost use Rattle.pfr_elements.specs.Values.{Makes, MakesUnless};
 
 use crate::definition::{ListMeaning, ListMeanings, Taken};
@@ -44,49 +37,31 @@ pub trait Element: Sized {
     /// What it means.
     type Flat: Copy;
 
-    /// How it is read.
-    ghost form: { Parser Self };
-
-    /// The macro that it uses, if it is a use and nothing else.
-    ghost use_in: { Self → Option MacroUse };
-
-    /// Whether it has a `!`.
-    ghost negated: { Self → Bool };
-
-    /// What it means, if it is no use.
-    ghost meaning: { Scope → Self → Result Self.Flat ConfError };
-
-    /// What a thing of a macro's value means behind a `!`.
-    ghost turned: { Self.Flat → Self.Flat };
-
-    /// How many of the ruleset's tables have to be defined for it.
-    ghost tables: { Self.Flat → ℕ };
-
-    /// What a macro's value means as a list of this kind.
-    ghost list_in: { ListMeanings → ListMeaning Self.Flat };
+    /// How it is read, and what it means.
+    ghost kind: { Kind Self Self.Flat };
 
     fn macro_use(&self) -> Option<MacroUse<'_>>
-        ensures { result ≡ use_in self.now };
+        ensures { result ≡ kind.use_in self.now };
 
     fn is_negated(&self) -> bool
-        ensures { result ≡ negated self.now };
+        ensures { result ≡ kind.negated self.now };
 
     fn resolve(
         &self,
         alloc: Global,
         scope: &Scope<'_>,
     ) -> Result<Result<Self::Flat, ConfError>, ConfError>
-        ensures { Makes (meaning scope.now self.now) result };
+        ensures { Makes (kind.meaning scope.now self.now) result };
 
     fn turn(flat: Self::Flat) -> Self::Flat
-        ensures { result ≡ turned flat };
+        ensures { result ≡ kind.turned flat };
 
     fn tables(flat: Self::Flat) -> usize
-        ensures { result ≡ tables flat };
+        ensures { result ≡ kind.tables flat };
 
     fn list_in(meanings: &ListMeanings) -> &ListMeaning<Self::Flat>
-        ensures value { result.now ≡ list_in meanings.now }
-        ensures read { (scope : Scope) (ws : List Word) → meanings.now ≡ list_meanings scope ws → result.now ≡ listed meaning form tables scope ws };
+        ensures value { result.now ≡ kind.list_in meanings.now }
+        ensures read { IsListOf kind meanings.now result.now };
 
     /// Reads one in the value of a macro, and says what it means; of one at fault nothing.
     fn read_one(
@@ -94,7 +69,7 @@ pub trait Element: Sized {
         scope: &Scope<'_>,
         reader: &mut Reader<'_, '_>,
     ) -> Result<Option<Self::Flat>, ConfError>
-        ensures { Reads (spec.value_item meaning form scope.now reader.old) result reader.new };
+        ensures { Reads (spec.value_item kind scope.now reader.old) result reader.new };
 }
 
 /// Whether memory was refused.
@@ -131,7 +106,7 @@ fn put_item<T: Element>(
     reader: &mut Reader<'_, '_>,
     found: &mut Items<T::Flat>,
 ) -> Result<(), ConfError>
-    ensures { Puts (spec.put_item (spec.value_item T.meaning T.form scope.now) found.old reader.old) result found.new reader.new }
+    ensures { Puts (spec.put_item (spec.value_item T.kind scope.now) found.old reader.old) result found.new reader.new }
 {
     if let Some(flat) = T::read_one(alloc, scope, reader)? {
         found.push(flat)?;
@@ -147,7 +122,7 @@ fn put_members<T: Element>(
     reader: &mut Reader<'_, '_>,
     found: &mut Items<T::Flat>,
 ) -> Result<(), ConfError>
-    ensures { Puts (spec.members_behind (spec.value_item T.meaning T.form scope.now) found.old reader.old) result found.new reader.new }
+    ensures { Puts (spec.members_behind (spec.value_item T.kind scope.now) found.old reader.old) result found.new reader.new }
 {
     for _turn in 0..reader.turns() {
         put_item::<T>(alloc, scope, reader, found)?;
@@ -167,7 +142,7 @@ fn put_items<T: Element>(
     reader: &mut Reader<'_, '_>,
     found: &mut Items<T::Flat>,
 ) -> Result<(), ConfError>
-    ensures { Puts (spec.items_behind (spec.value_item T.meaning T.form scope.now) found.old reader.old) result found.new reader.new }
+    ensures { Puts (spec.items_behind (spec.value_item T.kind scope.now) found.old reader.old) result found.new reader.new }
 {
     if reader.open_list() {
         put_members::<T>(alloc, scope, reader, found)?;
@@ -184,7 +159,7 @@ pub(crate) fn value_items<T: Element>(
     scope: &Scope<'_>,
     reader: &mut Reader<'_, '_>,
 ) -> Result<Items<T::Flat>, ConfError>
-    ensures { Reads (spec.value_items (spec.value_item T.meaning T.form scope.now) reader.old) result reader.new }
+    ensures { Reads (spec.value_items (spec.value_item T.kind scope.now) reader.old) result reader.new }
 {
     let mut found = Items::new(alloc);
     put_items::<T>(alloc, scope, reader, &mut found).and(Ok(found))
@@ -268,7 +243,7 @@ fn put_values<T: Element>(
     values: &[T::Flat],
     is_negated: bool,
 ) -> Result<(), AllocError>
-    ensures put { OnOk result (found.new.items ≡ found.old.items ++ map (spec.turned_if is_negated T.turned) values.now) }
+    ensures put { OnOk result (found.new.items ≡ found.old.items ++ map (spec.turned_if is_negated T.kind.turned) values.now) }
     ensures kept { (found.new.fault ≡ found.old.fault) × (found.new.count ≡ found.old.count) }
 {
     for flat in values {
@@ -280,7 +255,7 @@ fn put_values<T: Element>(
 
 /// How many of the ruleset's tables have to be defined for things of a list.
 fn tables_of<T: Element>(items: &[T::Flat]) -> usize
-    ensures { result ≡ fold (λ most x. max most (T.tables x)) 0 items.now }
+    ensures { result ≡ fold (λ most x. max most (T.kind.tables x)) 0 items.now }
 {
     let mut most: usize = 0;
     for flat in items {
@@ -309,7 +284,7 @@ pub(crate) fn list_meaning<T: Element>(
     scope: &Scope<'_>,
     value: &[Word<'_>],
 ) -> Result<ListMeaning<T::Flat>, ConfError>
-    ensures { Makes (spec.listed T.meaning T.form T.tables scope.now value.now) result }
+    ensures { Makes (spec.listed T.kind scope.now value.now) result }
 {
     let mut reader = Reader::of_value(value);
     match value_items::<T>(alloc, scope, &mut reader) {
@@ -360,7 +335,7 @@ fn add_list<T: Element>(
     meant: &ListMeaning<T::Flat>,
 ) -> Result<(), ConfError>
     requires { found.old.count ≤ 1048576 }
-    ensures made { OnOk result (found.new ≡ spec.with_list used.line used.defined used.keeps (spec.turned_if used.is_negated T.turned) meant.now found.old) }
+    ensures made { OnOk result (found.new ≡ spec.with_list T.kind used meant.now found.old) }
     ensures refused { IfErr result (λ e. e.kind ≡ Memory) }
 {
     match fault_at(alloc, used.line, used.defined, meant)? {
@@ -381,7 +356,7 @@ fn text_meaning<T: Element>(
     scope: &Scope<'_>,
     text: &[u8],
 ) -> Result<ListMeaning<T::Flat>, ConfError>
-    ensures { Makes (spec.listed T.meaning T.form T.tables scope.now (words text.now)) result }
+    ensures { Makes (spec.listed T.kind scope.now (words text.now)) result }
 {
     let value = words(alloc, text)?;
     list_meaning::<T>(alloc, scope, value.as_slice())
@@ -396,7 +371,7 @@ fn add_word<T: Element>(
     word: &[u8],
 ) -> Result<(), ConfError>
     requires { found.old.count ≤ 1048576 }
-    ensures made { OnOk result (found.new ≡ spec.with_list used.line used.defined used.keeps (spec.turned_if used.is_negated T.turned) (spec.listed T.meaning T.form T.tables scope.now (words word.now)) found.old) }
+    ensures made { OnOk result (found.new ≡ spec.with_list T.kind used (spec.listed T.kind scope.now (words word.now)) found.old) }
     ensures refused { IfErr result (λ e. e.kind ≡ Memory) }
 {
     let meant = text_meaning::<T>(alloc, scope, word)?;
@@ -414,7 +389,7 @@ fn add_taken<T: Element>(
     taken: &Taken<'_>,
 ) -> Result<(), ConfError>
     requires { found.old.count ≤ 1048576 }
-    ensures made { OnOk result (found.new ≡ spec.with_taken (spec.listed T.meaning T.form T.tables scope.now) T.list_in (spec.turned_if used.is_negated T.turned) used.keeps used.defined used.line (Ok taken.now) found.old) }
+    ensures made { OnOk result (found.new ≡ spec.with_taken T.kind scope.now used (Ok taken.now) found.old) }
     ensures refused { IfErr result (λ e. e.kind ≡ Memory) }
 {
     match taken {
@@ -441,7 +416,7 @@ fn add_use<T: Element>(
     used: &MacroUse<'_>,
 ) -> Result<(), ConfError>
     requires { found.old.count ≤ 1048576 }
-    ensures made { OnOk result (found.new ≡ spec.with_use (spec.listed T.meaning T.form T.tables scope.now) T.list_in T.turned scope.now keeps is_negated used.now found.old) }
+    ensures made { OnOk result (found.new ≡ spec.with_use T.kind scope.now keeps is_negated used.now found.old) }
     ensures refused { IfErr result (λ e. e.kind ≡ Memory) }
 {
     let list_use = ListUse {
@@ -469,7 +444,7 @@ pub fn add_element<T: Element>(
     element: &T,
 ) -> Result<(), ConfError>
     requires { found.old.count ≤ 1048576 }
-    ensures made { OnOk result (found.new ≡ spec.with_element T.use_in T.negated T.meaning T.form T.tables T.list_in T.turned scope.now keeps found.old element.now) }
+    ensures made { OnOk result (found.new ≡ spec.with_element T.kind scope.now keeps found.old element.now) }
     ensures refused { IfErr result (λ e. e.kind ≡ Memory) }
 {
     match element.macro_use() {
@@ -490,7 +465,7 @@ fn put_elements<T: Element>(
     found: &mut Elements<T::Flat>,
     list: &[T],
 ) -> Result<(), ConfError>
-    ensures made { OnOk result (found.new ≡ spec.elements_from (spec.with_element T.use_in T.negated T.meaning T.form T.tables T.list_in T.turned scope.now keeps) found.old list.now) }
+    ensures made { OnOk result (found.new ≡ spec.elements_from (spec.with_element T.kind scope.now keeps) found.old list.now) }
     ensures refused { IfErr result (λ e. e.kind ≡ Memory) }
 {
     for element in list {
@@ -510,7 +485,7 @@ pub fn elements_of<T: Element>(
     keeps: bool,
     list: &[T],
 ) -> Result<Elements<T::Flat>, ConfError>
-    ensures { Makes (spec.elements_from (spec.with_element T.use_in T.negated T.meaning T.form T.tables T.list_in T.turned scope.now keeps) spec.none_yet list.now) result }
+    ensures { Makes (spec.elements_of T.kind scope.now keeps list.now) result }
 {
     let mut found = Elements::new(alloc);
     put_elements(alloc, scope, keeps, &mut found, list).and(Ok(found))

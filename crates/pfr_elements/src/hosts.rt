@@ -1,16 +1,12 @@
 //! What addresses mean in a list.
 ghost use Rattle.std.specs.Prelude.{◌≡◌, ◌<◌, ◌≤◌, Ok};
-ghost use Rattle.std.specs.Prelude.{List};
-ghost use Rattle.pfr_words.specs.declared.word.Word.{Word};
 ghost use Rattle.pfr_words.specs.Words.{words};
-ghost use Rattle.pfr_terms.specs.Addresses as addresses;
 ghost use Rattle.pfr_terms.specs.Input.{Reads};
-ghost use Rattle.pfr_elements.specs.Elements as elements;
+ghost use Rattle.pfr_elements.specs.Elements.{value_item};
 ghost use Rattle.pfr_elements.specs.Hosts as spec;
+ghost use Rattle.pfr_elements.specs.Meanings.{IsListOf};
 ghost use Rattle.pfr_elements.specs.Names.{last_place};
-ghost use Rattle.pfr_elements.specs.Terms as terms;
-ghost use Rattle.pfr_elements.specs.declared.scope.Scope.{Scope};
-ghost use Rattle.pfr_elements.specs.Meanings.{list_meanings};
+ghost use Rattle.pfr_elements.specs.Terms.{no_table};
 ghost use Rattle.pfr_elements.specs.Values.{Makes};
 
 use crate::definition::{ListMeaning, ListMeanings, Taken};
@@ -184,24 +180,11 @@ fn criterion(
 }
 
 impl<'a> Element for AddressMatch<'a> {
-    ghost use Rattle.pfr_terms.specs.Addresses as addresses;
     ghost use Rattle.pfr_elements.specs.Hosts as spec;
 
     type Flat = HostCriterion;
 
-    ghost form = { addresses.address_match };
-
-    ghost use_in = { spec.host_use };
-
-    ghost negated = { spec.host_negated };
-
-    ghost meaning = { spec.host_criterion };
-
-    ghost turned = { spec.host_turned };
-
-    ghost tables = { spec.host_tables };
-
-    ghost list_in = { spec.host_lists };
+    ghost kind = { spec.host_kind };
 
     fn macro_use(&self) -> Option<MacroUse<'_>> {
         match &self.address {
@@ -243,7 +226,7 @@ impl<'a> Element for AddressMatch<'a> {
     #[tactic(auto, unfolding(crate::specs::Meanings::list_meanings))]
     fn list_in(meanings: &ListMeanings) -> &ListMeaning<HostCriterion>
         ensures value { result.now ≡ spec.host_lists meanings.now }
-        ensures read { (scope : Scope) (ws : List Word) → meanings.now ≡ list_meanings scope ws → result.now ≡ elements.listed spec.host_criterion addresses.address_match spec.host_tables scope ws }
+        ensures read { IsListOf spec.host_kind meanings.now result.now }
     {
         &meanings.hosts
     }
@@ -253,7 +236,7 @@ impl<'a> Element for AddressMatch<'a> {
         scope: &Scope<'_>,
         reader: &mut Reader<'_, '_>,
     ) -> Result<Option<HostCriterion>, ConfError>
-        ensures { Reads (elements.value_item spec.host_criterion addresses.address_match scope.now reader.old) result reader.new }
+        ensures { Reads (value_item spec.host_kind scope.now reader.old) result reader.new }
     {
         let found = AddressMatch::read(alloc, reader)?;
         let meaning = criterion(alloc, scope, &found)?;
@@ -281,25 +264,11 @@ fn entry(
 }
 
 impl<'a> Element for TableEntry<'a> {
-    ghost use Rattle.pfr_terms.specs.Addresses as addresses;
     ghost use Rattle.pfr_elements.specs.Hosts as spec;
-    ghost use Rattle.pfr_elements.specs.Terms as terms;
 
     type Flat = Entry;
 
-    ghost form = { addresses.table_entry };
-
-    ghost use_in = { spec.entry_use };
-
-    ghost negated = { spec.entry_negated };
-
-    ghost meaning = { spec.entry_meaning };
-
-    ghost turned = { spec.entry_turned };
-
-    ghost tables = { terms.no_table };
-
-    ghost list_in = { spec.entry_lists };
+    ghost kind = { spec.entry_kind };
 
     fn macro_use(&self) -> Option<MacroUse<'_>> {
         use_in(&self.host)
@@ -327,7 +296,7 @@ impl<'a> Element for TableEntry<'a> {
     }
 
     fn tables(_flat: Entry) -> usize
-        ensures { result ≡ terms.no_table _flat }
+        ensures { result ≡ no_table _flat }
     {
         0
     }
@@ -335,7 +304,7 @@ impl<'a> Element for TableEntry<'a> {
     #[tactic(auto, unfolding(crate::specs::Meanings::list_meanings))]
     fn list_in(meanings: &ListMeanings) -> &ListMeaning<Entry>
         ensures value { result.now ≡ spec.entry_lists meanings.now }
-        ensures read { (scope : Scope) (ws : List Word) → meanings.now ≡ list_meanings scope ws → result.now ≡ elements.listed spec.entry_meaning addresses.table_entry terms.no_table scope ws }
+        ensures read { IsListOf spec.entry_kind meanings.now result.now }
     {
         &meanings.entries
     }
@@ -345,7 +314,7 @@ impl<'a> Element for TableEntry<'a> {
         scope: &Scope<'_>,
         reader: &mut Reader<'_, '_>,
     ) -> Result<Option<Entry>, ConfError>
-        ensures { Reads (elements.value_item spec.entry_meaning addresses.table_entry scope.now reader.old) result reader.new }
+        ensures { Reads (value_item spec.entry_kind scope.now reader.old) result reader.new }
     {
         let found = TableEntry::read(alloc, reader)?;
         let meaning = entry(alloc, scope, &found)?;

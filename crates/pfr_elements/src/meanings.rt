@@ -55,7 +55,7 @@ fn put_list<T: Element>(
     value: &[Word<'_>],
     out: &mut ListMeaning<T::Flat>,
 ) -> Result<(), ConfError>
-    ensures made { OnOk result (out.new ≡ listed T.meaning T.form T.tables scope.now value.now) }
+    ensures made { OnOk result (out.new ≡ listed T.kind scope.now value.now) }
     ensures refused { IfErr result (λ e. e.kind ≡ Memory) }
 {
     *out = list_meaning::<T>(alloc, scope, value)?;

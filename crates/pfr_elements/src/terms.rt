@@ -1,15 +1,12 @@
 //! What interfaces, protocols, ports and ICMP types mean in a list.
 ghost use Rattle.std.specs.Prelude.{◌≡◌};
-ghost use Rattle.std.specs.Prelude.{List};
-ghost use Rattle.pfr_words.specs.declared.word.Word.{Word};
-ghost use Rattle.pfr_terms.specs.Input.{Reads};
-ghost use Rattle.pfr_terms.specs.Lists as lists;
-ghost use Rattle.pfr_terms.specs.Ports as ports;
-ghost use Rattle.pfr_terms.specs.Terms as terms;
-ghost use Rattle.pfr_elements.specs.Elements as elements;
+ghost use Rattle.pfr_terms.specs.Input.{Parser, Reads};
+ghost use Rattle.pfr_elements.specs.Elements.{value_item};
+ghost use Rattle.pfr_elements.specs.Meanings.{IsListOf};
 ghost use Rattle.pfr_elements.specs.Terms as spec;
-ghost use Rattle.pfr_elements.specs.declared.scope.Scope.{Scope};
-ghost use Rattle.pfr_elements.specs.Meanings.{list_meanings};
+ghost use Rattle.pfr_elements.specs.Terms.{flat_item, plain};
+ghost use Rattle.pfr_elements.specs.declared.definition.ListMeaning.{ListMeaning};
+ghost use Rattle.pfr_elements.specs.declared.definition.ListMeanings.{ListMeanings};
 
 use crate::definition::{ListMeaning, ListMeanings};
 use crate::element::{Element, noted};
@@ -50,297 +47,223 @@ pub(crate) fn misplaced(found: &MacroUse<'_>) -> ConfError
     unknown_word(found.line)
 }
 
-fn itself<T: Copy>(written: &Written<'_, T>) -> Result<T, ConfError>
-    ensures { result ≡ spec.literal written.now }
+/// An item that means the same wherever it stands.
+pub trait Plain: Sized {
+    /// What it means.
+    type Flat: Copy;
+
+    /// How it is read.
+    ghost item: { Parser Self };
+
+    /// What it means.
+    ghost flat: { Self → Self.Flat };
+
+    /// What a macro's value means as a list of such items.
+    ghost list_in: { ListMeanings → ListMeaning Self.Flat };
+
+    fn flat(&self) -> Self::Flat
+        ensures { result ≡ flat self.now };
+
+    fn list_in(meanings: &ListMeanings) -> &ListMeaning<Self::Flat>
+        ensures value { result.now ≡ list_in meanings.now }
+        ensures read { IsListOf (plain item flat list_in) meanings.now result.now };
+
+    /// Reads one, and says what it means.
+    fn read_flat(alloc: Global, reader: &mut Reader<'_, '_>) -> Result<Self::Flat, ConfError>
+        ensures { Reads (flat_item item flat reader.old) result reader.new };
+}
+
+fn literal<T: Plain>(written: &Written<'_, T>) -> Result<T::Flat, ConfError>
+    ensures { result ≡ spec.literal T.flat written.now }
 {
     match written {
-        Written::Item(item) => Ok(*item),
+        Written::Item(item) => Ok(item.flat()),
         Written::Macro(found) => Err(misplaced(found)),
     }
 }
 
-impl<'a> Element for Written<'a, Protocol> {
-    ghost use Rattle.pfr_terms.specs.Lists as lists;
+impl<'a, T: Plain> Element for Written<'a, T> {
+    ghost use Rattle.pfr_elements.specs.Terms as spec;
+
+    type Flat = T::Flat;
+
+    ghost kind = { spec.plain T.item T.flat T.list_in };
+
+    fn macro_use(&self) -> Option<MacroUse<'_>> {
+        use_in(self)
+    }
+
+    fn is_negated(&self) -> bool {
+        false
+    }
+
+    fn resolve(
+        &self,
+        _alloc: Global,
+        _scope: &Scope<'_>,
+    ) -> Result<Result<T::Flat, ConfError>, ConfError> {
+        Ok(literal(self))
+    }
+
+    fn turn(flat: T::Flat) -> T::Flat
+        ensures { result ≡ spec.same flat }
+    {
+        flat
+    }
+
+    fn tables(_flat: T::Flat) -> usize
+        ensures { result ≡ spec.no_table _flat }
+    {
+        0
+    }
+
+    fn list_in(meanings: &ListMeanings) -> &ListMeaning<T::Flat>
+        ensures value { result.now ≡ T.list_in meanings.now }
+        ensures read { IsListOf (spec.plain T.item T.flat T.list_in) meanings.now result.now }
+    {
+        T::list_in(meanings)
+    }
+
+    #[tactic(auto, unfolding(pfr_terms::specs::Lists::written))]
+    fn read_one(
+        alloc: Global,
+        scope: &Scope<'_>,
+        reader: &mut Reader<'_, '_>,
+    ) -> Result<Option<T::Flat>, ConfError>
+        ensures { Reads (value_item (spec.plain T.item T.flat T.list_in) scope.now reader.old) result reader.new }
+    {
+        match reader.macro_ahead() {
+            Some(found) => {
+                reader.take();
+                Ok(noted(reader, Err(misplaced(&found))))
+            }
+            None => Ok(Some(T::read_flat(alloc, reader)?)),
+        }
+    }
+}
+
+impl Plain for Protocol {
     ghost use Rattle.pfr_terms.specs.Terms as terms;
     ghost use Rattle.pfr_elements.specs.Terms as spec;
 
     type Flat = Protocol;
 
-    ghost form = { lists.written terms.protocol };
+    ghost item = { terms.protocol };
 
-    ghost use_in = { spec.use_in };
-
-    ghost negated = { spec.never };
-
-    ghost meaning = { spec.itself };
-
-    ghost turned = { spec.same };
-
-    ghost tables = { spec.no_table };
+    ghost flat = { spec.same };
 
     ghost list_in = { spec.protocol_lists };
 
-    fn macro_use(&self) -> Option<MacroUse<'_>> {
-        use_in(self)
-    }
-
-    fn is_negated(&self) -> bool {
-        false
-    }
-
-    fn resolve(
-        &self,
-        _alloc: Global,
-        _scope: &Scope<'_>,
-    ) -> Result<Result<Protocol, ConfError>, ConfError> {
-        Ok(itself(self))
-    }
-
-    fn turn(flat: Protocol) -> Protocol
-        ensures { result ≡ spec.same flat }
-    {
-        flat
-    }
-
-    fn tables(_flat: Protocol) -> usize
-        ensures { result ≡ spec.no_table _flat }
-    {
-        0
+    fn flat(&self) -> Protocol {
+        *self
     }
 
     #[tactic(auto, unfolding(crate::specs::Meanings::list_meanings))]
     fn list_in(meanings: &ListMeanings) -> &ListMeaning<Protocol>
         ensures value { result.now ≡ spec.protocol_lists meanings.now }
-        ensures read { (scope : Scope) (ws : List Word) → meanings.now ≡ list_meanings scope ws → result.now ≡ elements.listed spec.itself (lists.written terms.protocol) spec.no_table scope ws }
+        ensures read { IsListOf spec.protocol_kind meanings.now result.now }
     {
         &meanings.protocols
     }
 
-    fn read_one(
-        alloc: Global,
-        scope: &Scope<'_>,
-        reader: &mut Reader<'_, '_>,
-    ) -> Result<Option<Protocol>, ConfError>
-        ensures { Reads (elements.value_item spec.itself (lists.written terms.protocol) scope.now reader.old) result reader.new }
+    fn read_flat(alloc: Global, reader: &mut Reader<'_, '_>) -> Result<Protocol, ConfError>
+        ensures { Reads (flat_item terms.protocol spec.same reader.old) result reader.new }
     {
-        let found = Written::<'_, Protocol>::read(alloc, reader)?;
-        Ok(noted(reader, itself(&found)))
+        Protocol::read(alloc, reader)
     }
 }
 
-impl<'a> Element for Written<'a, IcmpMatch> {
-    ghost use Rattle.pfr_terms.specs.Lists as lists;
+impl Plain for IcmpMatch {
     ghost use Rattle.pfr_terms.specs.Terms as terms;
     ghost use Rattle.pfr_elements.specs.Terms as spec;
 
     type Flat = IcmpMatch;
 
-    ghost form = { lists.written terms.icmp_match };
+    ghost item = { terms.icmp_match };
 
-    ghost use_in = { spec.use_in };
-
-    ghost negated = { spec.never };
-
-    ghost meaning = { spec.itself };
-
-    ghost turned = { spec.same };
-
-    ghost tables = { spec.no_table };
+    ghost flat = { spec.same };
 
     ghost list_in = { spec.icmp_lists };
 
-    fn macro_use(&self) -> Option<MacroUse<'_>> {
-        use_in(self)
-    }
-
-    fn is_negated(&self) -> bool {
-        false
-    }
-
-    fn resolve(
-        &self,
-        _alloc: Global,
-        _scope: &Scope<'_>,
-    ) -> Result<Result<IcmpMatch, ConfError>, ConfError> {
-        Ok(itself(self))
-    }
-
-    fn turn(flat: IcmpMatch) -> IcmpMatch
-        ensures { result ≡ spec.same flat }
-    {
-        flat
-    }
-
-    fn tables(_flat: IcmpMatch) -> usize
-        ensures { result ≡ spec.no_table _flat }
-    {
-        0
+    fn flat(&self) -> IcmpMatch {
+        *self
     }
 
     #[tactic(auto, unfolding(crate::specs::Meanings::list_meanings))]
     fn list_in(meanings: &ListMeanings) -> &ListMeaning<IcmpMatch>
         ensures value { result.now ≡ spec.icmp_lists meanings.now }
-        ensures read { (scope : Scope) (ws : List Word) → meanings.now ≡ list_meanings scope ws → result.now ≡ elements.listed spec.itself (lists.written terms.icmp_match) spec.no_table scope ws }
+        ensures read { IsListOf spec.icmp_kind meanings.now result.now }
     {
         &meanings.icmp_types
     }
 
-    fn read_one(
-        alloc: Global,
-        scope: &Scope<'_>,
-        reader: &mut Reader<'_, '_>,
-    ) -> Result<Option<IcmpMatch>, ConfError>
-        ensures { Reads (elements.value_item spec.itself (lists.written terms.icmp_match) scope.now reader.old) result reader.new }
+    fn read_flat(alloc: Global, reader: &mut Reader<'_, '_>) -> Result<IcmpMatch, ConfError>
+        ensures { Reads (flat_item terms.icmp_match spec.same reader.old) result reader.new }
     {
-        let found = Written::<'_, IcmpMatch>::read(alloc, reader)?;
-        Ok(noted(reader, itself(&found)))
+        IcmpMatch::read(alloc, reader)
     }
 }
 
-impl<'a> Element for Written<'a, PortMatch> {
-    ghost use Rattle.pfr_terms.specs.Lists as lists;
+impl Plain for PortMatch {
     ghost use Rattle.pfr_terms.specs.Ports as ports;
     ghost use Rattle.pfr_elements.specs.Terms as spec;
 
     type Flat = PortMatch;
 
-    ghost form = { lists.written ports.port_match };
+    ghost item = { ports.port_match };
 
-    ghost use_in = { spec.use_in };
-
-    ghost negated = { spec.never };
-
-    ghost meaning = { spec.itself };
-
-    ghost turned = { spec.same };
-
-    ghost tables = { spec.no_table };
+    ghost flat = { spec.same };
 
     ghost list_in = { spec.port_lists };
 
-    fn macro_use(&self) -> Option<MacroUse<'_>> {
-        use_in(self)
-    }
-
-    fn is_negated(&self) -> bool {
-        false
-    }
-
-    fn resolve(
-        &self,
-        _alloc: Global,
-        _scope: &Scope<'_>,
-    ) -> Result<Result<PortMatch, ConfError>, ConfError> {
-        Ok(itself(self))
-    }
-
-    fn turn(flat: PortMatch) -> PortMatch
-        ensures { result ≡ spec.same flat }
-    {
-        flat
-    }
-
-    fn tables(_flat: PortMatch) -> usize
-        ensures { result ≡ spec.no_table _flat }
-    {
-        0
+    fn flat(&self) -> PortMatch {
+        *self
     }
 
     #[tactic(auto, unfolding(crate::specs::Meanings::list_meanings))]
     fn list_in(meanings: &ListMeanings) -> &ListMeaning<PortMatch>
         ensures value { result.now ≡ spec.port_lists meanings.now }
-        ensures read { (scope : Scope) (ws : List Word) → meanings.now ≡ list_meanings scope ws → result.now ≡ elements.listed spec.itself (lists.written ports.port_match) spec.no_table scope ws }
+        ensures read { IsListOf spec.port_kind meanings.now result.now }
     {
         &meanings.ports
     }
 
-    fn read_one(
-        alloc: Global,
-        scope: &Scope<'_>,
-        reader: &mut Reader<'_, '_>,
-    ) -> Result<Option<PortMatch>, ConfError>
-        ensures { Reads (elements.value_item spec.itself (lists.written ports.port_match) scope.now reader.old) result reader.new }
+    fn read_flat(alloc: Global, reader: &mut Reader<'_, '_>) -> Result<PortMatch, ConfError>
+        ensures { Reads (flat_item ports.port_match spec.same reader.old) result reader.new }
     {
-        let found = Written::<'_, PortMatch>::read(alloc, reader)?;
-        Ok(noted(reader, itself(&found)))
+        PortMatch::read(alloc, reader)
     }
 }
 
-fn skipped(written: &Written<'_, InterfaceName<'_>>) -> Result<IfName, ConfError>
-    ensures { result ≡ spec.skip_name written.now }
-{
-    match written {
-        Written::Item(found) => Ok(IfName::new(found.name.text.as_slice())),
-        Written::Macro(found) => Err(misplaced(found)),
-    }
-}
-
-impl<'a> Element for Written<'a, InterfaceName<'a>> {
-    ghost use Rattle.pfr_terms.specs.Lists as lists;
+impl<'a> Plain for InterfaceName<'a> {
     ghost use Rattle.pfr_terms.specs.Terms as terms;
     ghost use Rattle.pfr_elements.specs.Terms as spec;
 
     type Flat = IfName;
 
-    ghost form = { lists.written terms.interface_name };
+    ghost item = { terms.interface_name };
 
-    ghost use_in = { spec.use_in };
-
-    ghost negated = { spec.never };
-
-    ghost meaning = { spec.skipped };
-
-    ghost turned = { spec.same };
-
-    ghost tables = { spec.no_table };
+    ghost flat = { spec.name_of };
 
     ghost list_in = { spec.skipped_lists };
 
-    fn macro_use(&self) -> Option<MacroUse<'_>> {
-        use_in(self)
-    }
-
-    fn is_negated(&self) -> bool {
-        false
-    }
-
-    fn resolve(
-        &self,
-        _alloc: Global,
-        _scope: &Scope<'_>,
-    ) -> Result<Result<IfName, ConfError>, ConfError> {
-        Ok(skipped(self))
-    }
-
-    fn turn(flat: IfName) -> IfName
-        ensures { result ≡ spec.same flat }
-    {
-        flat
-    }
-
-    fn tables(_flat: IfName) -> usize
-        ensures { result ≡ spec.no_table _flat }
-    {
-        0
+    fn flat(&self) -> IfName {
+        IfName::new(self.name.text.as_slice())
     }
 
     #[tactic(auto, unfolding(crate::specs::Meanings::list_meanings))]
     fn list_in(meanings: &ListMeanings) -> &ListMeaning<IfName>
         ensures value { result.now ≡ spec.skipped_lists meanings.now }
-        ensures read { (scope : Scope) (ws : List Word) → meanings.now ≡ list_meanings scope ws → result.now ≡ elements.listed spec.skipped (lists.written terms.interface_name) spec.no_table scope ws }
+        ensures read { IsListOf spec.skipped_kind meanings.now result.now }
     {
         &meanings.skipped
     }
 
-    fn read_one(
-        alloc: Global,
-        scope: &Scope<'_>,
-        reader: &mut Reader<'_, '_>,
-    ) -> Result<Option<IfName>, ConfError>
-        ensures { Reads (elements.value_item spec.skipped (lists.written terms.interface_name) scope.now reader.old) result reader.new }
+    fn read_flat(alloc: Global, reader: &mut Reader<'_, '_>) -> Result<IfName, ConfError>
+        ensures { Reads (flat_item terms.interface_name spec.name_of reader.old) result reader.new }
     {
-        let found = Written::<'_, InterfaceName<'_>>::read(alloc, reader)?;
-        Ok(noted(reader, skipped(&found)))
+        let found = InterfaceName::<'_>::read(alloc, reader)?;
+        Ok(IfName::new(found.name.text.as_slice()))
     }
 }
 
@@ -357,24 +280,11 @@ fn named(found: &InterfaceMatch<'_>) -> Result<InterfaceCriterion, ConfError>
 }
 
 impl<'a> Element for InterfaceMatch<'a> {
-    ghost use Rattle.pfr_terms.specs.Terms as terms;
     ghost use Rattle.pfr_elements.specs.Terms as spec;
 
     type Flat = InterfaceCriterion;
 
-    ghost form = { terms.interface_match };
-
-    ghost use_in = { spec.interface_use };
-
-    ghost negated = { spec.interface_negated };
-
-    ghost meaning = { spec.interface_meaning };
-
-    ghost turned = { spec.interface_turned };
-
-    ghost tables = { spec.no_table };
-
-    ghost list_in = { spec.interface_lists };
+    ghost kind = { spec.interface_kind };
 
     fn macro_use(&self) -> Option<MacroUse<'_>> {
         use_in(&self.interface)
@@ -410,7 +320,7 @@ impl<'a> Element for InterfaceMatch<'a> {
     #[tactic(auto, unfolding(crate::specs::Meanings::list_meanings))]
     fn list_in(meanings: &ListMeanings) -> &ListMeaning<InterfaceCriterion>
         ensures value { result.now ≡ spec.interface_lists meanings.now }
-        ensures read { (scope : Scope) (ws : List Word) → meanings.now ≡ list_meanings scope ws → result.now ≡ elements.listed spec.interface_meaning terms.interface_match spec.no_table scope ws }
+        ensures read { IsListOf spec.interface_kind meanings.now result.now }
     {
         &meanings.interfaces
     }
@@ -420,7 +330,7 @@ impl<'a> Element for InterfaceMatch<'a> {
         scope: &Scope<'_>,
         reader: &mut Reader<'_, '_>,
     ) -> Result<Option<InterfaceCriterion>, ConfError>
-        ensures { Reads (elements.value_item spec.interface_meaning terms.interface_match scope.now reader.old) result reader.new }
+        ensures { Reads (value_item spec.interface_kind scope.now reader.old) result reader.new }
     {
         let found = InterfaceMatch::read(alloc, reader)?;
         Ok(noted(reader, named(&found)))

@@ -15,21 +15,16 @@ use Rattle.pfr_terms.specs.declared.hosts.Criteria.{Criteria}
 use Rattle.pfr_terms.specs.declared.interface.InterfaceMatch.{InterfaceMatch}
 use Rattle.pfr_terms.specs.declared.name.MacroUse.{MacroUse}
 use Rattle.pfr_terms.specs.declared.name.Written.{Written}
-use Rattle.pfr_terms.specs.Addresses as addresses
-use Rattle.pfr_terms.specs.Input.{Parser, unknown_word}
-use Rattle.pfr_terms.specs.Lists as lists
-use Rattle.pfr_terms.specs.Ports as ports
-use Rattle.pfr_terms.specs.Terms as terms
-use Rattle.pfr_elements.specs.declared.definition.ListMeaning.{ListMeaning}
-use Rattle.pfr_elements.specs.declared.definition.ListMeanings.{ListMeanings}
+use Rattle.pfr_terms.specs.Input.{unknown_word}
 use Rattle.pfr_elements.specs.declared.definition.Taken.{Taken}
 use Rattle.pfr_elements.specs.declared.definition.Taken.TheVariants as taken
 use Rattle.pfr_elements.specs.declared.element.Elements as E
+use Rattle.pfr_elements.specs.declared.element.ListUse.{ListUse}
 use Rattle.pfr_elements.specs.declared.scope.Scope.{Scope}
-use Rattle.pfr_elements.specs.Elements.{elements_from, fault_at, first_fault, listed, most_elements, none_yet, turned_if, with_element, with_fault, with_list_by, with_meaning, with_taken, with_written}
-use Rattle.pfr_elements.specs.Hosts.{host_criterion, host_lists, host_negated, host_tables, host_turned, host_use}
+use Rattle.pfr_elements.specs.Elements.{Kind, elements_from, fault_at, first_fault, listed, most_elements, none_yet, turned_if, with_element, with_fault, with_list_by, with_meaning, with_taken, with_written}
+use Rattle.pfr_elements.specs.Hosts.{host_kind}
 use Rattle.pfr_elements.specs.Single.{criterion_of, single_sources, source_single, with_source}
-use Rattle.pfr_elements.specs.Terms.{icmp_lists, interface_lists, interface_meaning, interface_negated, interface_turned, interface_use, itself, never, no_table, port_lists, protocol_lists, same, use_in}
+use Rattle.pfr_elements.specs.Terms.{icmp_kind, interface_kind, port_kind, protocol_kind}
 use Rattle.pfr_elements.specs.Values.{taken_at}
 use Rattle.pfr_flat.specs.declared.choices.Choices as C
 use Rattle.pfr_flat.specs.declared.lists.Lists as L
@@ -64,22 +59,25 @@ list_counted None true turned items found before = λ few. (
     omega (arith, few, least, long, own))
 list_counted None false turned items found before = λ few. let least : length found.items ≤ found.count = before (omega (arith, few)) in omega (arith, least)
 
-taken_counted : {A : Type 0} (read : List Word → ListMeaning A) (list_in : ListMeanings → ListMeaning A) (turned : A → A) (keeps : Bool) (defined line : ℕ) (value : Result Taken ConfError) (found : E.Elements A) → IsCounted found → IsCounted (with_taken read list_in turned keeps defined line value found)
-taken_counted read list_in turned keeps defined line (Err e) found before = fault_counted e found before
-taken_counted read list_in turned keeps defined line (Ok (taken.TooLong true)) found before = λ few. absurd (omega (arith, few))
-taken_counted read list_in turned keeps defined line (Ok (taken.TooLong false)) found before = fault_counted (unknown_word line) found before
-taken_counted read list_in turned keeps defined line (Ok (taken.Word word)) found before = list_counted (fault_at line defined (read (words word))) keeps turned (read (words word)).items found before
-taken_counted read list_in turned keeps defined line (Ok (taken.Whole text)) found before = list_counted (fault_at line defined (list_in text.meanings.lists)) keeps turned (list_in text.meanings.lists).items found before
+taken_counted : {A B : Type 0} (kind : Kind A B) (scope : Scope) (used : ListUse) (value : Result Taken ConfError) (found : E.Elements B) → IsCounted found → IsCounted (with_taken kind scope used value found)
+taken_counted kind scope used (Err e) found before = fault_counted e found before
+taken_counted kind scope used (Ok (taken.TooLong true)) found before = λ few. absurd (omega (arith, few))
+taken_counted kind scope used (Ok (taken.TooLong false)) found before = fault_counted (unknown_word used.line) found before
+taken_counted kind scope used (Ok (taken.Word word)) found before =
+    let meant = listed kind scope (words word) in
+    list_counted (fault_at used.line used.defined meant) used.keeps (turned_if used.is_negated kind.turned) meant.items found before
+taken_counted kind scope used (Ok (taken.Whole text)) found before =
+    let meant = kind.list_in text.meanings.lists in
+    list_counted (fault_at used.line used.defined meant) used.keeps (turned_if used.is_negated kind.turned) meant.items found before
 
-written_counted : {A B : Type 0} (meaning : Scope → A → Result B ConfError) (form : Parser A) (tables : B → ℕ) (list_in : ListMeanings → ListMeaning B) (turned : B → B) (scope : Scope) (keeps is_negated : Bool) (x : A) (use_of : Option MacroUse) (found : E.Elements B)
-    → IsCounted found → IsCounted (with_written meaning form tables list_in turned scope keeps is_negated x use_of found)
-written_counted meaning form tables list_in turned scope keeps is_negated x None found before = meaning_counted (meaning scope x) found before
-written_counted meaning form tables list_in turned scope keeps is_negated x (Some u) found before = taken_counted (listed meaning form tables scope) list_in (turned_if is_negated turned) keeps scope.defined u.line (taken_at scope.macros is_negated u) found before
+written_counted : {A B : Type 0} (kind : Kind A B) (scope : Scope) (keeps : Bool) (x : A) (use_of : Option MacroUse) (found : E.Elements B) → IsCounted found → IsCounted (with_written kind scope keeps x use_of found)
+written_counted kind scope keeps x None found before = meaning_counted (kind.meaning scope x) found before
+written_counted kind scope keeps x (Some u) found before =
+    taken_counted kind scope (record { line = u.line; defined = scope.defined; is_negated = kind.negated x; keeps = keeps }) (taken_at scope.macros (kind.negated x) u) found before
 
-element_counted : {A B : Type 0} (use_of : A → Option MacroUse) (negated : A → Bool) (meaning : Scope → A → Result B ConfError) (form : Parser A) (tables : B → ℕ) (list_in : ListMeanings → ListMeaning B) (turned : B → B) (scope : Scope) (keeps : Bool) (found : E.Elements B) (x : A)
-    → IsCounted found → IsCounted (with_element use_of negated meaning form tables list_in turned scope keeps found x)
+element_counted : {A B : Type 0} (kind : Kind A B) (scope : Scope) (keeps : Bool) (found : E.Elements B) (x : A) → IsCounted found → IsCounted (with_element kind scope keeps found x)
 unfolding with_element
-element_counted use_of negated meaning form tables list_in turned scope keeps found x before = written_counted meaning form tables list_in turned scope keeps (negated x) x (use_of x) found before
+element_counted kind scope keeps found x before = written_counted kind scope keeps x (kind.use_in x) found before
 
 elements_counted : {A B : Type 0} (one : E.Elements B → A → E.Elements B) → ((found : E.Elements B) (x : A) → IsCounted found → IsCounted (one found x)) → (found : E.Elements B) (xs : List A) → IsCounted found → IsCounted (elements_from one found xs)
 elements_counted one each found [] before = before
@@ -109,19 +107,19 @@ pub record AreCounted (l : L.Lists) : Type 0 where
   pub destination_ports : IsListCounted l.destination_ports
 
 interfaces_counted : (scope : Scope) (keeps : Bool) (list : Option (List InterfaceMatch)) → IsListCounted (if_written (interfaces scope keeps) list)
-interfaces_counted scope keeps list = list_if_written _ (element_counted interface_use interface_negated interface_meaning terms.interface_match no_table interface_lists interface_turned scope keeps) list
+interfaces_counted scope keeps list = list_if_written _ (element_counted interface_kind scope keeps) list
 
 protocols_counted : (scope : Scope) (keeps : Bool) (list : Option (List (Written Protocol))) → IsListCounted (if_written (protocols scope keeps) list)
-protocols_counted scope keeps list = list_if_written _ (element_counted use_in never itself (lists.written terms.protocol) no_table protocol_lists same scope keeps) list
+protocols_counted scope keeps list = list_if_written _ (element_counted protocol_kind scope keeps) list
 
 types_counted : (scope : Scope) (keeps : Bool) (list : Option (List (Written IcmpMatch))) → IsListCounted (if_written (icmp_types scope keeps) list)
-types_counted scope keeps list = list_if_written _ (element_counted use_in never itself (lists.written terms.icmp_match) no_table icmp_lists same scope keeps) list
+types_counted scope keeps list = list_if_written _ (element_counted icmp_kind scope keeps) list
 
 ports_counted : (scope : Scope) (keeps : Bool) (list : Option (List (Written PortMatch))) → IsListCounted (if_written (port_list scope keeps) list)
-ports_counted scope keeps list = list_if_written _ (element_counted use_in never itself (lists.written ports.port_match) no_table port_lists same scope keeps) list
+ports_counted scope keeps list = list_if_written _ (element_counted port_kind scope keeps) list
 
 hosts_counted : (scope : Scope) (keeps : Bool) (list : Option (List AddressMatch)) → IsListCounted (if_written (host_list scope keeps) list)
-hosts_counted scope keeps list = list_if_written _ (element_counted host_use host_negated host_criterion addresses.address_match host_tables host_lists host_turned scope keeps) list
+hosts_counted scope keeps list = list_if_written _ (element_counted host_kind scope keeps) list
 
 pub sources_counted : (scope : Scope) (line : ℕ) (list : Option (List AddressMatch)) → IsListCounted (if_written (single_sources scope line) list)
 sources_counted scope line list = list_if_written (with_source scope line) (λ found m before. meaning_counted (criterion_of (source_single scope line m)) found before) list

@@ -19,9 +19,7 @@ use Rattle.pfr_terms.specs.declared.interface.InterfaceMatch.{InterfaceMatch}
 use Rattle.pfr_terms.specs.declared.name.MacroUse.{MacroUse}
 use Rattle.pfr_terms.specs.declared.name.Written.{Written}
 use Rattle.pfr_terms.specs.declared.name.Written.TheVariants as w
-use Rattle.pfr_terms.specs.Addresses as addresses
 use Rattle.pfr_terms.specs.Input.{Parser}
-use Rattle.pfr_terms.specs.Lists as lists
 use Rattle.pfr_terms.specs.Ports as ports
 use Rattle.pfr_terms.specs.Terms as terms
 use Rattle.pfr_conf.specs.declared.filter.FilterRule.{FilterRule}
@@ -29,9 +27,9 @@ use Rattle.pfr_elements.specs.declared.definition.ListMeaning.{ListMeaning}
 use Rattle.pfr_elements.specs.declared.definition.ListMeanings.{ListMeanings}
 use Rattle.pfr_elements.specs.declared.element.Elements as E
 use Rattle.pfr_elements.specs.declared.scope.Scope.{Scope}
-use Rattle.pfr_elements.specs.Elements.{elements_from, most_elements, none_yet, with_element, with_meaning, with_written}
-use Rattle.pfr_elements.specs.Hosts.{host_criterion, host_lists, host_negated, host_tables, host_turned, host_use, host_use_by}
-use Rattle.pfr_elements.specs.Terms.{icmp_lists, interface_lists, interface_meaning, interface_negated, interface_turned, interface_use, itself, never, no_table, port_lists, protocol_lists, same, use_in}
+use Rattle.pfr_elements.specs.Elements.{Kind, elements_from, most_elements, none_yet, with_element, with_meaning, with_written}
+use Rattle.pfr_elements.specs.Hosts.{host_kind, host_use_by}
+use Rattle.pfr_elements.specs.Terms.{icmp_kind, icmp_lists, interface_kind, plain, port_kind, port_lists, protocol_kind, protocol_lists, same, use_in}
 use Rattle.pfr_flat.specs.declared.choices.Choices as C
 use Rattle.pfr_flat.specs.declared.lists.Lists as L
 use Rattle.pfr_flat.specs.Choices.{combinations}
@@ -51,11 +49,10 @@ one_meant : {A : Type 0} (meant : Result A ConfError) (found : E.Elements A) →
 one_meant (Ok x) found = λ sound. (sound, length-append found.items (x ∷ []))
 one_meant (Err e) found = λ sound. absurd (is_fault found.fault e sound)
 
-one_more : {A B : Type 0} (use_of : A → Option MacroUse) (negated : A → Bool) (meaning : Scope → A → Result B ConfError) (form : Parser A) (tables : B → ℕ) (list_in : ListMeanings → ListMeaning B) (turned : B → B) (scope : Scope) (keeps : Bool) (found : E.Elements B) (x : A)
-    → use_of x ≡ None → HasOneMore found (with_element use_of negated meaning form tables list_in turned scope keeps found x)
+one_more : {A B : Type 0} (kind : Kind A B) (scope : Scope) (keeps : Bool) (found : E.Elements B) (x : A) → kind.use_in x ≡ None → HasOneMore found (with_element kind scope keeps found x)
 unfolding with_element
-one_more use_of negated meaning form tables list_in turned scope keeps found x none =
-    subst (λ (u : Option MacroUse). HasOneMore found (with_written meaning form tables list_in turned scope keeps (negated x) x u found)) (sym none) (one_meant (meaning scope x) found)
+one_more kind scope keeps found x none =
+    subst (λ (u : Option MacroUse). HasOneMore found (with_written kind scope keeps x u found)) (sym none) (one_meant (kind.meaning scope x) found)
 
 module _ {A B : Type 0} (one : E.Elements B → A → E.Elements B) (IsOne : A → Type 0) (each : (found : E.Elements B) (x : A) → IsOne x → HasOneMore found (one found x)) where
   as_many : (found : E.Elements B) (xs : List A) → All IsOne xs → (elements_from one found xs).count ≤ 1048576 → (elements_from one found xs).fault ≡ None → (found.fault ≡ None) × (length (elements_from one found xs).items ≡ length found.items + length xs)
@@ -113,19 +110,19 @@ plain_address (a.Table name) plain = refl
 plain_address (a.Macro found) plain = absurd plain
 
 interface_choices : (scope : Scope) (keeps : Bool) (list : Option (List InterfaceMatch)) → AllWritten (λ m. IsPlain m.interface) list → IsSound (if_written (interfaces scope keeps) list) → is_long (if_written (interfaces scope keeps) list) ≡ false → length (choices_of (items_of (if_written (interfaces scope keeps) list))) ≡ choices_in list
-interface_choices scope keeps list are sound short = list_choices _ (λ m. IsPlain m.interface) (λ found x plain. one_more interface_use interface_negated interface_meaning terms.interface_match no_table interface_lists interface_turned scope keeps found x (plain_use x.interface plain)) list are sound short
+interface_choices scope keeps list are sound short = list_choices _ (λ m. IsPlain m.interface) (λ found x plain. one_more interface_kind scope keeps found x (plain_use x.interface plain)) list are sound short
 
 protocol_choices : (scope : Scope) (keeps : Bool) (list : Option (List (Written Protocol))) → AllWritten IsPlain list → IsSound (if_written (protocols scope keeps) list) → is_long (if_written (protocols scope keeps) list) ≡ false → length (choices_of (items_of (if_written (protocols scope keeps) list))) ≡ choices_in list
-protocol_choices scope keeps list are sound short = list_choices _ IsPlain (λ found x plain. one_more use_in never itself (lists.written terms.protocol) no_table protocol_lists same scope keeps found x (plain_use x plain)) list are sound short
+protocol_choices scope keeps list are sound short = list_choices _ IsPlain (λ found x plain. one_more protocol_kind scope keeps found x (plain_use x plain)) list are sound short
 
 type_choices : (scope : Scope) (keeps : Bool) (list : Option (List (Written IcmpMatch))) → AllWritten IsPlain list → IsSound (if_written (icmp_types scope keeps) list) → is_long (if_written (icmp_types scope keeps) list) ≡ false → length (choices_of (items_of (if_written (icmp_types scope keeps) list))) ≡ choices_in list
-type_choices scope keeps list are sound short = list_choices _ IsPlain (λ found x plain. one_more use_in never itself (lists.written terms.icmp_match) no_table icmp_lists same scope keeps found x (plain_use x plain)) list are sound short
+type_choices scope keeps list are sound short = list_choices _ IsPlain (λ found x plain. one_more icmp_kind scope keeps found x (plain_use x plain)) list are sound short
 
 port_choices : (scope : Scope) (keeps : Bool) (list : Option (List (Written PortMatch))) → AllWritten IsPlain list → IsSound (if_written (port_list scope keeps) list) → is_long (if_written (port_list scope keeps) list) ≡ false → length (choices_of (items_of (if_written (port_list scope keeps) list))) ≡ choices_in list
-port_choices scope keeps list are sound short = list_choices _ IsPlain (λ found x plain. one_more use_in never itself (lists.written ports.port_match) no_table port_lists same scope keeps found x (plain_use x plain)) list are sound short
+port_choices scope keeps list are sound short = list_choices _ IsPlain (λ found x plain. one_more port_kind scope keeps found x (plain_use x plain)) list are sound short
 
 host_choices : (scope : Scope) (keeps : Bool) (list : Option (List AddressMatch)) → AllWritten (λ m. IsPlainAddress m.address) list → IsSound (if_written (host_list scope keeps) list) → is_long (if_written (host_list scope keeps) list) ≡ false → length (hosts_of (items_of (if_written (host_list scope keeps) list))) ≡ choices_in list
-host_choices scope keeps list are sound short = list_hosts _ (λ m. IsPlainAddress m.address) (λ found x plain. one_more host_use host_negated host_criterion addresses.address_match host_tables host_lists host_turned scope keeps found x (plain_address x.address plain)) list are sound short
+host_choices scope keeps list are sound short = list_hosts _ (λ m. IsPlainAddress m.address) (λ found x plain. one_more host_kind scope keeps found x (plain_address x.address plain)) list are sound short
 
 -- ---- all lists
 
@@ -197,9 +194,9 @@ anchor_exact scope keeps criteria c plain short is =
 
 -- ---- what a combination asks for
 
-module _ {A : Type 0} (form : Parser (Written A)) (list_in : ListMeanings → ListMeaning A) (scope : Scope) (keeps : Bool) where
+module _ {A : Type 0} (item : Parser A) (list_in : ListMeanings → ListMeaning A) (scope : Scope) (keeps : Bool) where
   abbrev itself_more : E.Elements A → Written A → E.Elements A
-  itself_more = with_element use_in never itself form no_table list_in same scope keeps
+  itself_more = with_element (plain item same list_in) scope keeps
 
   one_from : (list : List (Written A)) (found : E.Elements A) (x : Written A) → IsPlain x × Contains list x → All (λ (y : A). Contains list (w.Item y)) found.items → All (λ (y : A). Contains list (w.Item y)) (itself_more found x).items
   unfolding with_element
@@ -233,8 +230,8 @@ chosen : {A : Type 0} (P : A → Type 0) (xs : List A) (i : ℕ) (x : A) → All
 chosen P xs i x all is = subst P (get_or_from_slice_get xs i x x is) (all i x (slice_get_within xs i x is))
 
 ports_from : (scope : Scope) (keeps : Bool) (part : Option Part) → All (IsFrom (ports_of part)) (choices_of (items_of (if_written (port_list scope keeps) (ports_in part))))
-ports_from scope keeps None = choices_from (lists.written ports.port_match) port_lists scope keeps None
-ports_from scope keeps (Some part) = choices_from (lists.written ports.port_match) port_lists scope keeps part.ports
+ports_from scope keeps None = choices_from ports.port_match port_lists scope keeps None
+ports_from scope keeps (Some part) = choices_from ports.port_match port_lists scope keeps part.ports
 
 asked_of : (scope : Scope) (keeps : Bool) (rule : FilterRule) → All (AsksFrom rule) (combinations (choices (lists_of scope keeps rule.criteria rule.options.icmp_types)))
 unfolding lists_with
@@ -243,8 +240,8 @@ asked_of scope keeps rule = λ i m below. (
     let asked : PacketMatch = slice_index_or (combinations c) i m in
     let at = choices_at c asked i (slice_get-get_or (combinations c) i m below) in
     record {
-      protocol = chosen (IsFrom rule.criteria.protocols) c.protocols _ asked.protocol (choices_from (lists.written terms.protocol) protocol_lists scope keeps rule.criteria.protocols) at.5;
-      icmp = chosen (IsFrom rule.options.icmp_types) c.icmp_types _ asked.icmp (choices_from (lists.written terms.icmp_match) icmp_lists scope keeps rule.options.icmp_types) at.4;
+      protocol = chosen (IsFrom rule.criteria.protocols) c.protocols _ asked.protocol (choices_from terms.protocol protocol_lists scope keeps rule.criteria.protocols) at.5;
+      icmp = chosen (IsFrom rule.options.icmp_types) c.icmp_types _ asked.icmp (choices_from terms.icmp_match icmp_lists scope keeps rule.options.icmp_types) at.4;
       source_port = chosen (IsFrom (ports_of rule.criteria.hosts.source)) c.source_ports _ asked.source_port (ports_from scope keeps rule.criteria.hosts.source) at.2;
       destination_port = chosen (IsFrom (ports_of rule.criteria.hosts.destination)) c.destination_ports _ asked.destination_port (ports_from scope keeps rule.criteria.hosts.destination) at.0;
     })

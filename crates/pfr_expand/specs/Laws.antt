@@ -1,5 +1,5 @@
 -- Words of the laws: of which statements the filter rules of a ruleset are, and how many.
-use Rattle.std.specs.Prelude.{◌≡◌, ◌≢◌, ⊤, ℕ, zero, suc, ◌*◌, List, [], ◌∷◌, ◌++◌, length, All, Contains, false, Option, Some, None, IsSomeAnd, IfSome}
+use Rattle.std.specs.Prelude.{◌≡◌, ◌≢◌, ⊤, ℕ, zero, suc, ◌*◌, List, [], ◌∷◌, ◌++◌, length, All, Contains, false, Option, Some, None, IsSomeAnd, IfSome, ◌+◌, Ok, ◌≤◌}
 use Rattle.pfr_ruleset.specs.declared.port.PortMatch.{PortMatch}
 use Rattle.pfr_ruleset.specs.declared.policy.BlockPolicy.TheVariants.{Drop, Return}
 use Rattle.pfr_ruleset.specs.declared.flat.FilterAction.{FilterAction}
@@ -9,6 +9,9 @@ use Rattle.pfr_ruleset.specs.declared.flat.FlagsCriterion.TheVariants as asks
 use Rattle.pfr_ruleset.specs.declared.flat.FlatRule.{FlatRule}
 use Rattle.pfr_ruleset.specs.declared.flat.PacketMatch.{PacketMatch}
 use Rattle.pfr_ruleset.specs.declared.flat.StateRule.{StateRule}
+use Rattle.pfr_ruleset.specs.declared.interface.Interface.{Interface}
+use Rattle.pfr_ruleset.specs.declared.ruleset.Ruleset.{Ruleset}
+use Rattle.pfr_ruleset.specs.Rulesets.{counts}
 use Rattle.pfr_terms.specs.declared.address.Address.{Address}
 use Rattle.pfr_terms.specs.declared.address.Address.TheVariants as a
 use Rattle.pfr_terms.specs.declared.flags.FlagsMatch.{FlagsMatch}
@@ -27,6 +30,8 @@ use Rattle.pfr_conf.specs.declared.rule_options.StateKeeping.{StateKeeping}
 use Rattle.pfr_conf.specs.declared.rule_options.StateKeeping.TheVariants.{No, Keep}
 use Rattle.pfr_conf.specs.declared.statement.Statement.{Statement}
 use Rattle.pfr_conf.specs.declared.statement.Statement.TheVariants.{Filter}
+use Rattle.pfr_conf.specs.declared.statement.Statements.{Statements}
+use Rattle.pfr_expand.specs.Rulesets.{expanded}
 
 -- ---- lists as they are written
 
@@ -159,3 +164,26 @@ AreOfFilter (suc depth) x rules = AreByForm (AreInTurn (AreOfFilter depth)) (out
 abbrev pub AreOf : Statement → List FlatRule → Type 0
 AreOf (Filter x) rules = AreOfFilter 16 x rules
 AreOf other rules = rules ≡ []
+
+-- ---- what the laws say
+
+-- the counts of a ruleset are the lengths of its lists
+abbrev pub CountsAreLengths : Type 0
+CountsAreLengths =
+    (statements : Statements) (interface : Interface) (r : Ruleset)
+    → expanded statements interface ≡ Ok r
+    → counts r ≡ (length r.filter.rules, length r.translations.nats + length r.translations.rdrs + length r.translations.binats)
+
+-- there are at most 65536 rules of the filter and of translation together
+abbrev pub AtMostAllRules : Type 0
+AtMostAllRules =
+    (statements : Statements) (interface : Interface) (r : Ruleset)
+    → expanded statements interface ≡ Ok r
+    → length r.filter.rules + (length r.translations.nats + length r.translations.rdrs + length r.translations.binats) ≤ 65536
+
+-- the filter rules are those of the statements, one after the other
+abbrev pub EveryRuleIsOfOneStatement : Type 0
+EveryRuleIsOfOneStatement =
+    (statements : Statements) (interface : Interface) (r : Ruleset)
+    → expanded statements interface ≡ Ok r
+    → AreInTurn AreOf statements.statements r.filter.rules

@@ -1,5 +1,5 @@
 -- Options, as pf.conf(5) has them. Of one that is set twice the last counts; interfaces that are skipped add up.
-use Rattle.std.specs.Prelude.{ℕ, ◌+◌, ◌||◌, Bool, true, nat_lt, if◌then◌else◌, List, [], ◌∷◌, ◌++◌, length, fold, Option, Some, None, Result, Ok, Err}
+use Rattle.std.specs.Prelude.{ℕ, ◌+◌, ◌||◌, true, nat_lt, if◌then◌else◌, List, [], ◌∷◌, ◌++◌, length, fold, Option, Some, None, Result, Ok, Err}
 use Rattle.pfr_net.specs.Timeouts.{with_timeout}
 use Rattle.pfr_ruleset.specs.declared.interface.IfName.{IfName}
 use Rattle.pfr_ruleset.specs.declared.options.Options as O
@@ -8,8 +8,6 @@ use Rattle.pfr_terms.specs.declared.interface.InterfaceName.{InterfaceName}
 use Rattle.pfr_terms.specs.declared.name.Name.{Name}
 use Rattle.pfr_terms.specs.declared.name.Written.{Written}
 use Rattle.pfr_terms.specs.declared.name.Written.TheVariants as w
-use Rattle.pfr_terms.specs.Lists as lists
-use Rattle.pfr_terms.specs.Terms as terms
 use Rattle.pfr_conf.specs.declared.settings.TimeoutName.{TimeoutName}
 use Rattle.pfr_conf.specs.declared.settings.TimeoutName.TheVariants as timeout
 use Rattle.pfr_conf.specs.declared.settings.TimeoutSetting.{TimeoutSetting}
@@ -20,8 +18,8 @@ use Rattle.pfr_conf.specs.declared.options.SetOption.{SetOption}
 use Rattle.pfr_conf.specs.declared.options.SetOption.TheVariants as o
 use Rattle.pfr_elements.specs.declared.element.Elements as E
 use Rattle.pfr_elements.specs.declared.scope.Scope.{Scope}
-use Rattle.pfr_elements.specs.Elements.{elements_from, with_element, none_yet, most_elements}
-use Rattle.pfr_elements.specs.Terms.{use_in, never, same, no_table, skipped, skipped_lists}
+use Rattle.pfr_elements.specs.Elements.{elements_of, most_elements}
+use Rattle.pfr_elements.specs.Terms.{skipped_kind}
 use Rattle.pfr_elements.specs.Values.{plain_word_at}
 use Rattle.pfr_flat.specs.Counts.{too_many}
 
@@ -68,7 +66,7 @@ without_effect scope options (w.Item name) = Ok options
 without_effect scope options (w.Macro found) = checked options (plain_word_at scope.macros found)
 
 abbrev pub with_skipped_on : Scope → List (Written InterfaceName) → O.Options → Result O.Options ConfError
-with_skipped_on scope list options = with_skipped (first_line list) options (elements_from (with_element use_in never skipped (lists.written terms.interface_name) no_table skipped_lists same scope true) none_yet list)
+with_skipped_on scope list options = with_skipped (first_line list) options (elements_of skipped_kind scope true list)
 
 unfoldable pub with_option : Scope → SetOption → O.Options → Result O.Options ConfError
 with_option scope (o.SkipOn list) options = with_skipped_on scope list options

@@ -1,16 +1,14 @@
 -- Tables, as pf.conf(5) has them: each entry as often as it is written with one sign, and none with both.
-use Rattle.std.specs.Prelude.{ℕ, ◌+◌, ◌||◌, Bool, nat_lt, if◌then◌else◌, true, List, [], ◌∷◌, ◌++◌, length, drop, fold, Option, Some, None, Result, Ok, Err}
+use Rattle.std.specs.Prelude.{ℕ, ◌+◌, ◌||◌, Bool, nat_lt, if◌then◌else◌, true, List, [], ◌∷◌, length, drop, fold, Option, Some, None, Result, Ok, Err}
 use Rattle.pfr_ruleset.specs.declared.table.Entry.{Entry}
 use Rattle.pfr_ruleset.specs.Tables.{clashes, with_entry}
 use Rattle.pfr_terms.specs.declared.error.ConfError.{ConfError}
 use Rattle.pfr_terms.specs.declared.error.ConfErrorKind.TheVariants.{Clash}
 use Rattle.pfr_terms.specs.declared.address.TableEntry.{TableEntry}
-use Rattle.pfr_terms.specs.Addresses as addresses
 use Rattle.pfr_elements.specs.declared.element.Elements as E
 use Rattle.pfr_elements.specs.declared.scope.Scope.{Scope}
 use Rattle.pfr_elements.specs.Elements.{with_element, first_fault, most_elements}
-use Rattle.pfr_elements.specs.Hosts.{entry_use, entry_negated, entry_meaning, entry_turned, entry_lists}
-use Rattle.pfr_elements.specs.Terms.{no_table}
+use Rattle.pfr_elements.specs.Hosts.{entry_kind}
 use Rattle.pfr_expand.specs.declared.tables.Filling.{Filling}
 
 abbrev pub clash : ℕ → ConfError
@@ -30,7 +28,7 @@ filled_by line filling found =
 
 -- one entry more as it is written, which may be the use of a macro
 unfoldable pub with_written : Scope → Filling → TableEntry → Filling
-with_written scope filling x = filled_by x.line filling (with_element entry_use entry_negated entry_meaning addresses.table_entry no_table entry_lists entry_turned scope true filling.found x)
+with_written scope filling x = filled_by x.line filling (with_element entry_kind scope true filling.found x)
 
 -- all entries; those behind the one that is too many aren't looked at
 abbrev pub filled : Scope → Filling → List TableEntry → Filling

@@ -14,6 +14,7 @@ use Rattle.pfr_terms.specs.declared.address.Address.TheVariants as a
 use Rattle.pfr_elements.specs.declared.scope.Scope.{Scope}
 use Rattle.pfr_elements.specs.Hosts.{address_meaning, host_criterion}
 use Rattle.pfr_elements.specs.Names.{last_place}
+use Rattle.pfr_flat.specs.Laws.{AreOpposite, table_criterion}
 
 -- ---- each address is in a table or it isn't
 
@@ -92,14 +93,10 @@ criterion_at scope name is_negated place is known =
 ok_and : {T E : Type 0} (P : T → Type 0) (r : Result T E) (x : T) → r ≡ Ok x → P x → IsOkAnd r P
 ok_and P r x is p = rw is p
 
--- each address is held by one of the two and not by the other
-abbrev pub AreOpposite : HostCriterion → HostCriterion → Type 0
-AreOpposite negated plain = (tables : List (List Entry)) (address : ℕ) → (Holds tables negated address ↔ ¬ Holds tables plain address) × (Holds tables plain address ↔ ¬ Holds tables negated address)
-
 opposite : (place : ℕ) → AreOpposite (record { is_negated = true; hosts = set.Table place }) (record { is_negated = false; hosts = set.Table place })
 opposite place tables address =
     ((λ h. h, λ h. h), (λ h fails. fails h, λ h. elim (in_table_or_not (slice_get tables place) address) [ inl it ↦ it | inr fails ↦ absurd (h fails) ]))
 
-pub negated_table : (scope : Scope) (name : Name) (place : ℕ) → last_place name.text scope.tables ≡ Some place → place < scope.defined → IsOkAnd (host_criterion scope (record { is_negated = true; address = a.Table name })) (λ negated. IsOkAnd (host_criterion scope (record { is_negated = false; address = a.Table name })) (λ plain. AreOpposite negated plain))
+pub negated_table : (scope : Scope) (name : Name) (place : ℕ) → last_place name.text scope.tables ≡ Some place → place < scope.defined → IsOkAnd (table_criterion scope true name) (λ negated. IsOkAnd (table_criterion scope false name) (λ plain. AreOpposite negated plain))
 negated_table scope name place is known =
     ok_and _ _ _ (criterion_at scope name true place is known) (ok_and _ _ _ (criterion_at scope name false place is known) (opposite place))

@@ -1,4 +1,5 @@
 pub mod Choices
 pub mod Counts
+pub mod Laws
 pub mod Lists
 pub mod Translations

@@ -11,15 +11,11 @@ use Rattle.pfr_terms.specs.declared.interface.InterfaceMatch.{InterfaceMatch}
 use Rattle.pfr_terms.specs.declared.name.Written.{Written}
 use Rattle.pfr_terms.specs.declared.hosts.Part.{Part}
 use Rattle.pfr_terms.specs.declared.hosts.Criteria.{Criteria}
-use Rattle.pfr_terms.specs.Lists as lists
-use Rattle.pfr_terms.specs.Terms as terms
-use Rattle.pfr_terms.specs.Ports as ports
-use Rattle.pfr_terms.specs.Addresses as addresses
 use Rattle.pfr_elements.specs.declared.element.Elements as E
 use Rattle.pfr_elements.specs.declared.scope.Scope.{Scope}
-use Rattle.pfr_elements.specs.Elements.{elements_from, with_element, none_yet, most_elements}
-use Rattle.pfr_elements.specs.Hosts.{host_use, host_negated, host_criterion, host_turned, host_tables, host_lists}
-use Rattle.pfr_elements.specs.Terms.{use_in, never, itself, same, no_table, protocol_lists, icmp_lists, port_lists, interface_use, interface_negated, interface_meaning, interface_turned, interface_lists}
+use Rattle.pfr_elements.specs.Elements.{elements_of, most_elements}
+use Rattle.pfr_elements.specs.Hosts.{host_kind}
+use Rattle.pfr_elements.specs.Terms.{interface_kind, protocol_kind, icmp_kind, port_kind}
 use Rattle.pfr_flat.specs.declared.lists.Lists as L
 use Rattle.pfr_flat.specs.declared.choices.Choices as C
 use Rattle.pfr_flat.specs.Choices.{anyone}
@@ -31,19 +27,19 @@ if_written elements None = None
 if_written elements (Some list) = Some (elements list)
 
 abbrev pub interfaces : Scope → Bool → List InterfaceMatch → E.Elements InterfaceCriterion
-interfaces scope keeps list = elements_from (with_element interface_use interface_negated interface_meaning terms.interface_match no_table interface_lists interface_turned scope keeps) none_yet list
+interfaces scope keeps list = elements_of interface_kind scope keeps list
 
 abbrev pub protocols : Scope → Bool → List (Written Protocol) → E.Elements Protocol
-protocols scope keeps list = elements_from (with_element use_in never itself (lists.written terms.protocol) no_table protocol_lists same scope keeps) none_yet list
+protocols scope keeps list = elements_of protocol_kind scope keeps list
 
 abbrev pub icmp_types : Scope → Bool → List (Written IcmpMatch) → E.Elements IcmpMatch
-icmp_types scope keeps list = elements_from (with_element use_in never itself (lists.written terms.icmp_match) no_table icmp_lists same scope keeps) none_yet list
+icmp_types scope keeps list = elements_of icmp_kind scope keeps list
 
 abbrev pub port_list : Scope → Bool → List (Written PortMatch) → E.Elements PortMatch
-port_list scope keeps list = elements_from (with_element use_in never itself (lists.written ports.port_match) no_table port_lists same scope keeps) none_yet list
+port_list scope keeps list = elements_of port_kind scope keeps list
 
 abbrev pub host_list : Scope → Bool → List AddressMatch → E.Elements HostCriterion
-host_list scope keeps list = elements_from (with_element host_use host_negated host_criterion addresses.address_match host_tables host_lists host_turned scope keeps) none_yet list
+host_list scope keeps list = elements_of host_kind scope keeps list
 
 abbrev pub addresses_in : Option Part → Option (List AddressMatch)
 addresses_in None = None

@@ -2,7 +2,7 @@
 ghost use Rattle.std.specs.Prelude.{◌≡◌, ◌≤◌, ◌*◌, ◌++◌, [], map, Some, IfOk, IfErr, OnOk, min};
 ghost use Rattle.std.specs.Option.{option_map};
 ghost use Rattle.pfr_terms.specs.declared.error.ConfErrorKind.TheVariants.{Memory};
-ghost use Rattle.pfr_elements.specs.Elements.{elements_from, with_element, none_yet};
+ghost use Rattle.pfr_elements.specs.Elements.{elements_of};
 ghost use Rattle.pfr_elements.specs.Values.{Makes};
 ghost use Rattle.pfr_flat.specs.Lists as spec;
 
@@ -36,7 +36,7 @@ fn put_list<T: Element>(
     list: Option<&[T]>,
     out: &mut Option<Elements<T::Flat>>,
 ) -> Result<(), ConfError>
-    ensures made { OnOk result (out.new ≡ spec.if_written (elements_from (with_element T.use_in T.negated T.meaning T.form T.tables T.list_in T.turned scope.now keeps) none_yet) (option_map (λ l. l.now) list.entry)) }
+    ensures made { OnOk result (out.new ≡ spec.if_written (elements_of T.kind scope.now keeps) (option_map (λ l. l.now) list.entry)) }
     ensures refused { IfErr result (λ e. e.kind ≡ Memory) }
 {
     *out = match list {
