@@ -1,5 +1,5 @@
 -- A reader of captures between two calls, and what a call may do to it.
-use Rattle.std.specs.Prelude.{◌≡◌, ℕ, ◌+◌, ◌^◌, ◌<◌, ◌≤◌, List, [], ◌∷◌, ◌++◌, length, Option, Some, None, Result, Ok, Err, ⊤}
+use Rattle.std.specs.Prelude.{◌≡◌, ℕ, ◌+◌, ◌^◌, ◌<◌, ◌≤◌, List, [], ◌∷◌, ◌++◌, length, Option, Some, None, IfNone, IfSome, Result, Ok, Err, ⊤}
 use Rattle.std.specs.List.{flat_map, All}
 use Rattle.pfr_capture.specs.declared.capture.Form.{Form}
 use Rattle.pfr_capture.specs.declared.capture.Tail.{Tail}
@@ -78,6 +78,10 @@ answer_again (Err e) = Err e
 -- the text is a capture of the records given so far, which ends so
 abbrev pub EndsCapture : Reading → List ℕ → Result Tail CaptureError → Type 0
 EndsCapture reading before ending = (read : List ℕ) (records : List RecordBytes) → HasGiven reading read records → IsCapture (read ++ before) reading.form records ending
+
+-- where a call gives no record, the capture ends as its reading does
+abbrev pub EndsReading : (old new : Reading) → List ℕ → Option Record → Type 0
+EndsReading old new before found = IfNone found (IfSome new.over (EndsCapture old before))
 
 -- the tail of a reader whose reading ended at the end of the capture, and Clean for any other
 abbrev pub tail_of : Option (Result Tail CaptureError) → Tail

@@ -2,7 +2,7 @@
 ghost use Rattle.std.specs.Prelude.{◌≡◌, ◌≤◌, ◌+◌, ◌^◌, ◌++◌, [], take, drop, length, None, IsTrue, IfOk, IfErr, IfNone, IfSome, OnOk, OnErr};
 ghost use Rattle.pfr_capture.specs.Ahead.{CameBehind};
 ghost use Rattle.pfr_capture.specs.Header.{form_of, is_known_link, link_of, magic_of, resolution_of, version_of};
-ghost use Rattle.pfr_capture.specs.Reading.{Answers, EndsCapture, FieldsOf, Gave, LacksRecord, NextFails, OpenFails, Opens, ReadsOn, Refuses, RefusesHeader, StopsEarly, answer_again, given_by, tail_of};
+ghost use Rattle.pfr_capture.specs.Reading.{Answers, EndsReading, FieldsOf, Gave, LacksRecord, NextFails, OpenFails, Opens, ReadsOn, Refuses, RefusesHeader, StopsEarly, answer_again, given_by, tail_of};
 ghost use Rattle.pfr_capture.specs.Stepping.{IsHeaderFault, IsWhole, LookEnds, LookSays, StepSays, StepEnds, StepLacks, StepRefuses, Takes, taken_by};
 
 use crate::capture::{CaptureError, Form, Record, Resolution, Tail};
@@ -102,7 +102,7 @@ impl Capture {
         // Until then. What was given, followed by the rest, is always what the source had.
         ensures answers { self.old.over ≡ None → Answers self.old self.new result }
         ensures reads_on { self.old.over ≡ None → IsTrue (S.told source.old) → ReadsOn self.old self.new (S.unread source.old) (S.unread source.new) (given_by result) }
-        ensures end { self.old.over ≡ None → IsTrue (S.told source.old) → IfOk result (λ found. IfNone found (IfSome self.new.over (EndsCapture self.old (S.unread source.old)))) }
+        ensures end { self.old.over ≡ None → IsTrue (S.told source.old) → IfOk result (λ found. EndsReading self.old self.new (S.unread source.old) found) }
         ensures refused { self.old.over ≡ None → IsTrue (S.told source.old) → IfErr result (Refuses self.old (S.unread source.old)) }
         ensures lacks { self.old.over ≡ None → IfErr result (LacksRecord self.new) }
         ensures ok { self.old.over ≡ None → OnOk result (S.failures source.new ≡ S.failures source.old) }

@@ -1,5 +1,5 @@
 -- A book, and what it has emitted, as a world.
-use Rattle.std.specs.Prelude.{◌≡◌, ◌+◌, ℕ, List, [], ◌∷◌, Option, Some, None}
+use Rattle.std.specs.Prelude.{◌≡◌, ◌+◌, ◌-◌, ℕ, List, [], ◌∷◌, Option, Some, None, map, take}
 use Rattle.std.specs.List.{find}
 use Rattle.std.specs.Arc.{arc_value}
 use Rattle.pfr_headers.specs.declared.packet.View.{View}
@@ -10,9 +10,10 @@ use Rattle.pfr_record.specs.declared.speculation.Speculation.{Speculation}
 use Rattle.pfr_record.specs.Speculations.{Fits}
 use Rattle.pfr_capture.specs.declared.capture.Record.{Record}
 use Rattle.pfr_commit.specs.declared.book.Book.{Book}
-use Rattle.pfr_commit.specs.Emissions.{frame_of}
+use Rattle.pfr_commit.specs.declared.emitted.Emitted.{Emitted}
+use Rattle.pfr_commit.specs.Emissions.{frame_of, texts_of}
 use Rattle.pfr_commit.specs.Results.{is_of}
-use Rattle.pfr_commit.specs.World.{Texts, World, after, clock_at}
+use Rattle.pfr_commit.specs.World.{Frame, Texts, World, after, clock_at, world_after}
 
 -- the world that a book stands for, where these are the texts so far
 abbrev pub world_in : Book → Texts → World
@@ -21,10 +22,19 @@ world_in book texts = record { count = book.count; clock = book.clock; table = b
 abbrev pub job_of : Book → RunJob
 job_of book = arc_value book.job
 
+-- the same, where what was emitted are the texts so far
+abbrev pub world_with : Book → Emitted → World
+world_with book out = world_in book (texts_of out)
+
 -- a speculation was given, it is of this packet of this job, and its record holds in the table
 abbrev pub MayUse : Option Speculation → RunJob → ℕ → Clock → View → StateTable → Type 0
 MayUse None job number clock view table = ⊥
 MayUse (Some speculation) job number clock view table = Fits speculation job number clock view table
+
+-- the same of a book's next packet, with its view
+abbrev pub MayUseNext : Option Speculation → Book → Record → View → Type 0
+MayUseNext speculation book packet view =
+    MayUse speculation (job_of book) (book.count + 1) (clock_at book.clock (frame_of packet)) view book.table
 
 -- ---- a batch
 
@@ -41,3 +51,11 @@ abbrev pub RisesOver : RunJob → World → List Speculation → List (Record ×
 RisesOver job world results [] before last = last ≡ before
 RisesOver job world results (packet ∷ packets) before last =
     (next : ℕ) × RisesUnless (IsUsed job world results packet) before next × RisesOver job (after job world (frame_of packet.0)) results packets next last
+
+-- the packets of a batch, each with its view, as packets of a run
+abbrev pub frames_of : List (Record × View) → List Frame
+frames_of packets = map (λ packet. frame_of packet.0) packets
+
+-- the texts of a world that has come to a count of packets, of these
+abbrev pub texts_up_to : RunJob → World → ℕ → List Frame → Texts
+texts_up_to job world count frames = (world_after job world (take (count - world.count) frames)).texts

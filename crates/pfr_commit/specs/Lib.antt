@@ -2,6 +2,7 @@ pub mod Books
 pub mod Counters
 pub mod Emissions
 pub mod Endings
+pub mod Laws
 pub mod Lines
 pub mod Results
 pub mod Runs

@@ -28,10 +28,10 @@ impl Book {
     ) -> Result<(), AllocError>
         requires views { All (λ packet. packet.1 ≡ view_of packet.0.link packet.0.bytes.items) packets.now }
         requires few { self.old.count + length packets.now ≤ 2 ^ 43 }
-        ensures world { OnOk result (world_in self.new (texts_of out.new) ≡ spec.world_after (job_of self.old) (world_in self.old (texts_of out.old)) (map (λ packet. frame_of packet.0) packets.now)) }
-        ensures part { OnErr result (texts_of out.new ≡ (spec.world_after (job_of self.old) (world_in self.old (texts_of out.old)) (take (self.new.count - self.old.count) (map (λ packet. frame_of packet.0) packets.now))).texts) }
+        ensures world { OnOk result (world_with self.new out.new ≡ spec.world_after (job_of self.old) (world_with self.old out.old) (frames_of packets.now)) }
+        ensures part { OnErr result (texts_of out.new ≡ texts_up_to (job_of self.old) (world_with self.old out.old) self.new.count (frames_of packets.now)) }
         ensures counted { OnOk result (self.new.count ≡ self.old.count + length packets.now) }
-        ensures own { OnOk result (RisesOver (job_of self.old) (world_in self.old (texts_of out.old)) results.items packets.now self.old.own self.new.own) }
+        ensures own { OnOk result (RisesOver (job_of self.old) (world_with self.old out.old) results.items packets.now self.old.own self.new.own) }
         ensures job { self.new.job ≡ self.old.job }
         ensures within { (self.old.count ≤ self.new.count) × (self.new.count ≤ self.old.count + length packets.now) }
         ensures ok { OnOk result ((self.old.is_over ≡ false) × (self.new.is_over ≡ false)) }

@@ -214,7 +214,7 @@ impl Book {
         requires few { self.old.count < 2 ^ 43 }
         requires change { IfSome outcome.now.change (λ change. refusal change self.old.table.limit (purged clock self.old.table.states) ≡ None) }
         requires bytes { IfSome outcome.now.bytes (λ change. view_of packet.now.link packet.now.bytes.items ≡ Ipv4 change.packet) }
-        ensures world { OnOk result (world_in self.new (texts_of out.new) ≡ spec.with_outcome (world_in self.old (texts_of out.old)) (frame_of packet.now) clock outcome.now) }
+        ensures world { OnOk result (world_with self.new out.new ≡ spec.with_outcome (world_with self.old out.old) (frame_of packet.now) clock outcome.now) }
         ensures counted { OnOk result (self.new.count ≡ self.old.count + 1) }
         ensures kept { OnErr result ((self.new.count ≡ self.old.count) × (texts_of out.new ≡ texts_of out.old)) }
         ensures others { (self.new.job ≡ self.old.job) × (self.new.own ≡ self.old.own) × (self.new.is_over ≡ self.old.is_over) }
@@ -240,12 +240,12 @@ impl Book {
         requires view { view.now ≡ view_of packet.now.link packet.now.bytes.items }
         requires few { self.old.count < 2 ^ 43 }
         requires open { self.old.is_over ≡ false }
-        ensures world { OnOk result (world_in self.new (texts_of out.new) ≡ spec.after (job_of self.old) (world_in self.old (texts_of out.old)) (frame_of packet.now)) }
+        ensures world { OnOk result (world_with self.new out.new ≡ spec.after (job_of self.old) (world_with self.old out.old) (frame_of packet.now)) }
         ensures job { self.new.job ≡ self.old.job }
         ensures counted { OnOk result (self.new.count ≡ self.old.count + 1) }
         ensures kept { OnErr result ((self.new.count ≡ self.old.count) × (texts_of out.new ≡ texts_of out.old)) }
-        ensures used { OnOk result (MayUse speculation (job_of self.old) (self.old.count + 1) (spec.clock_at self.old.clock (frame_of packet.now)) view.now self.old.table → self.new.own ≡ self.old.own) }
-        ensures evaluated { OnOk result ((MayUse speculation (job_of self.old) (self.old.count + 1) (spec.clock_at self.old.clock (frame_of packet.now)) view.now self.old.table → ⊥) → self.new.own ≡ self.old.own + 1) }
+        ensures used { OnOk result (MayUseNext speculation self.old packet.now view.now → self.new.own ≡ self.old.own) }
+        ensures evaluated { OnOk result ((MayUseNext speculation self.old packet.now view.now → ⊥) → self.new.own ≡ self.old.own + 1) }
         ensures ok { OnOk result (self.new.is_over ≡ false) }
         ensures err { OnErr result (self.new.is_over ≡ true) }
     {
@@ -275,11 +275,11 @@ impl Book {
     ) -> Result<Emitted, AllocError>
         requires view { view ≡ view_of packet.now.link packet.now.bytes.items }
         requires few { self.old.count < 2 ^ 43 }
-        ensures world { IfOk result (λ emitted. world_in self.new (texts_of emitted) ≡ spec.after (job_of self.old) (world_in self.old spec.no_texts) (frame_of packet.now)) }
+        ensures world { IfOk result (λ emitted. world_with self.new emitted ≡ spec.after (job_of self.old) (world_in self.old spec.no_texts) (frame_of packet.now)) }
         ensures job { self.new.job ≡ self.old.job }
         ensures kept { OnErr result (self.new.count ≡ self.old.count) }
-        ensures used { OnOk result (MayUse speculation (job_of self.old) (self.old.count + 1) (spec.clock_at self.old.clock (frame_of packet.now)) view self.old.table → self.new.own ≡ self.old.own) }
-        ensures evaluated { OnOk result ((MayUse speculation (job_of self.old) (self.old.count + 1) (spec.clock_at self.old.clock (frame_of packet.now)) view self.old.table → ⊥) → self.new.own ≡ self.old.own + 1) }
+        ensures used { OnOk result (MayUseNext speculation self.old packet.now view → self.new.own ≡ self.old.own) }
+        ensures evaluated { OnOk result ((MayUseNext speculation self.old packet.now view → ⊥) → self.new.own ≡ self.old.own + 1) }
         ensures ok { OnOk result ((self.old.is_over ≡ false) × (self.new.is_over ≡ false)) }
         ensures err { OnErr result (self.new.is_over ≡ true) }
         ensures over { self.old.is_over ≡ true → self.new ≡ self.old }

@@ -31,15 +31,18 @@ abbrev pub IsBeginning : Statements → Statements → Type 0
 IsBeginning a b = (more : List Statement) × (b.statements ≡ a.statements ++ more)
 
 -- two texts are read, the second so many lines further down, and no option of the second stands behind a rule of the first
-abbrev pub AreReadApart : ℕ → List ℕ → List ℕ → Statements → Statements → Type 0
-AreReadApart lines first second a b =
-    IsWhole first × Says first a × (statements_in (moved lines (words second)) ≡ Ok b) × MayFollow a.statements b.statements
+pub record AreReadApart (lines : ℕ) (first second : List ℕ) (a b : Statements) : Type 0 where
+  pub whole : IsWhole first
+  pub says : Says first a
+  pub other : statements_in (moved lines (words second)) ≡ Ok b
+  pub follow : MayFollow a.statements b.statements
 
 -- the same of two texts one below the other
 abbrev pub AreReadInTurn : List ℕ → List ℕ → Statements → Statements → Type 0
 AreReadInTurn first second a b = AreReadApart (1 + newlines first) first second a b
 
 -- the same of two texts with blank lines and comments between them
-abbrev pub AreAround : List ℕ → List ℕ → List ℕ → Statements → Statements → Type 0
-AreAround blank first second a b =
-    EndsItsLine blank × SaysNothing blank × AreReadApart (2 + newlines first + newlines blank) first second a b
+pub record AreAround (blank first second : List ℕ) (a b : Statements) : Type 0 where
+  pub ends : EndsItsLine blank
+  pub nothing : SaysNothing blank
+  pub apart : AreReadApart (2 + newlines first + newlines blank) first second a b

@@ -1,3 +1,4 @@
 pub mod Hosts
+pub mod Laws
 pub mod Packets
 pub mod Transports

@@ -4,7 +4,7 @@
 -- IPv4 (RFC 791, section 3.1): checksum at 10, source at 12, destination at 16. Behind the header: TCP (RFC 9293, section
 -- 3.1): ports at 0 and 2, checksum at 16. UDP (RFC 768): ports at 0 and 2, checksum at 6. ICMP (RFC 792): checksum at 2, an
 -- echo's identifier at 4, the packet that an error tells of at 8.
-use Rattle.std.specs.Prelude.{◌≡◌, ◌⊎◌, ◌≤◌, ◌<◌, ℕ, ◌+◌, ◌*◌, ◌-◌, ◌^◌, List, [], ◌∷◌, take, drop, Some, ⊤}
+use Rattle.std.specs.Prelude.{◌≡◌, ◌⊎◌, ◌≤◌, ◌<◌, ℕ, ◌+◌, ◌*◌, ◌-◌, ◌^◌, List, [], ◌∷◌, take, drop, Some, ⊤, slice_index}
 use Rattle.pfr_net.specs.declared.endpoint.Endpoint.{Endpoint}
 use Rattle.pfr_headers.specs.declared.change.Change.{Change}
 use Rattle.pfr_headers.specs.declared.change.End.{End}
@@ -15,8 +15,12 @@ use Rattle.pfr_headers.specs.declared.packet.Packet.{Packet}
 use Rattle.pfr_headers.specs.declared.packet.View.TheVariants.{Ipv4}
 use Rattle.pfr_headers.specs.declared.transport.Transport.{Transport}
 use Rattle.pfr_headers.specs.declared.transport.Transport.TheVariants.{Fragment, Tcp, Udp, Icmp, Other}
-use Rattle.pfr_headers.specs.Checksum.{AreBytes}
+use Rattle.pfr_headers.specs.Checksum.{AreBytes, HeaderVerifies, Verifies, mended, mended_udp, word_at}
 use Rattle.pfr_headers.specs.View.{place_of, view_of}
+use Rattle.pfr_headers.specs.Rewriting.{rewritten}
+use Rattle.pfr_headers.specs.declared.tcp.TcpHeader.{TcpHeader}
+use Rattle.pfr_headers.specs.declared.udp.UdpHeader.{UdpHeader}
+use Rattle.pfr_headers.specs.declared.icmp.IcmpHeader.{IcmpHeader}
 
 -- ---- ends
 
@@ -120,3 +124,93 @@ pub record IsTranslated (link : ℕ) (bytes : List ℕ) (change : Change) (place
   pub are_bytes : AreBytes bytes
   pub address : change.to.address.0 < 2 ^ 32
   pub port : change.to.port.0 < 2 ^ 16
+
+-- ---- what the laws say
+
+-- an IPv4 header's checksum verifies behind the rewriting where it did before
+abbrev pub HeaderStillVerifies : Type 0
+HeaderStillVerifies =
+    (link : ℕ) (bytes : List ℕ) (change : Change) (place : ℕ)
+    → view_of link bytes ≡ Ipv4 change.packet
+    → place_of link bytes ≡ Some place
+    → AreBytes bytes
+    → change.to.address.0 < 2 ^ 32
+    → HeaderVerifies place change.packet.header_length bytes
+    → HeaderVerifies place change.packet.header_length (rewritten link change bytes)
+
+-- a mended checksum verifies, but where all words come out as 0
+abbrev pub MendedVerifies : Type 0
+MendedVerifies =
+    (rest rest' brought checksum rounds : ℕ)
+    → checksum ≤ 65535
+    → rest + brought ≡ rest' + 65535 * rounds
+    → Verifies (rest + checksum)
+    → 0 < rest' + mended checksum brought
+    → Verifies (rest' + mended checksum brought)
+
+-- a mended checksum of UDP verifies
+abbrev pub MendedUdpVerifies : Type 0
+MendedUdpVerifies =
+    (rest rest' brought checksum rounds : ℕ)
+    → checksum ≤ 65535
+    → 0 < checksum
+    → rest + brought ≡ rest' + 65535 * rounds
+    → Verifies (rest + checksum)
+    → Verifies (rest' + mended_udp checksum brought)
+
+-- a byte that is no part of the end that is translated, or of a checksum over it, stays
+abbrev pub OtherBytesStay : Type 0
+OtherBytesStay =
+    (link : ℕ) (bytes : List ℕ) (change : Change) (place byte : ℕ)
+    → view_of link bytes ≡ Ipv4 change.packet
+    → place_of link bytes ≡ Some place
+    → (place ≤ byte → IsOfEnd change.packet change.end (byte - place) → ⊥)
+    → slice_index (rewritten link change bytes) byte ≡ slice_index bytes byte
+
+-- TCP's checksum verifies behind the rewriting where it did before
+abbrev pub TcpStillVerifies : Type 0
+TcpStillVerifies =
+    (link place : ℕ) (bytes : List ℕ) (change : Change) (t : TcpHeader)
+    → IsTranslated link bytes change place
+    → change.packet.transport ≡ Tcp t
+    → Verifies (segment_sum (drop place bytes) change.packet)
+    → Verifies (segment_sum (drop place (rewritten link change bytes)) change.packet)
+
+-- UDP's, where there is one
+abbrev pub UdpStillVerifies : Type 0
+UdpStillVerifies =
+    (link place : ℕ) (bytes : List ℕ) (change : Change) (u : UdpHeader)
+    → IsTranslated link bytes change place
+    → change.packet.transport ≡ Udp u
+    → 0 < word_at (drop place bytes) (change.packet.header_length + 6)
+    → Verifies (segment_sum (drop place bytes) change.packet)
+    → Verifies (segment_sum (drop place (rewritten link change bytes)) change.packet)
+
+-- a UDP packet without a checksum has none behind the rewriting
+abbrev pub NoChecksumStays : Type 0
+NoChecksumStays =
+    (link place : ℕ) (bytes : List ℕ) (change : Change) (u : UdpHeader)
+    → IsTranslated link bytes change place
+    → change.packet.transport ≡ Udp u
+    → word_at (drop place bytes) (change.packet.header_length + 6) ≡ 0
+    → word_at (drop place (rewritten link change bytes)) (change.packet.header_length + 6) ≡ 0
+
+-- ICMP's, but where all words come out as 0
+abbrev pub IcmpStillVerifies : Type 0
+IcmpStillVerifies =
+    (link place : ℕ) (bytes : List ℕ) (change : Change) (i : IcmpHeader)
+    → IsTranslated link bytes change place
+    → change.packet.transport ≡ Icmp i
+    → CarriesTold change.packet i.message
+    → Verifies (message_sum (drop place bytes) change.packet)
+    → 0 < message_sum (drop place (rewritten link change bytes)) change.packet
+    → Verifies (message_sum (drop place (rewritten link change bytes)) change.packet)
+
+-- a packet that is rewritten to what stands at that end of it is the same
+abbrev pub SameEndChangesNothing : Type 0
+SameEndChangesNothing =
+    (link : ℕ) (bytes : List ℕ) (change : Change)
+    → view_of link bytes ≡ Ipv4 change.packet
+    → AreBytes bytes
+    → StandsIn change.packet change.end change.to change.packet.transport
+    → rewritten link change bytes ≡ bytes

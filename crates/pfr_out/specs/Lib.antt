@@ -1,3 +1,4 @@
+pub mod Laws
 pub mod Outputs
 pub mod Reading
 pub mod Replay

@@ -63,6 +63,20 @@ pub record PartWritten (old new piece : Outputs) (output : Output) : Type 0 wher
   pub before : (o : Output) → turn o < turn output → GrewAt o old new piece
   pub behind : (o : Output) → turn output < turn o → of_output o new ≡ of_output o old
 
+-- ---- by what the sinks show
+
+-- something of each sink stays
+abbrev pub Stay : {S A : Type 0} → (S → A) → (old new : Sinks S) → Type 0
+Stay of old new = each_of of new ≡ each_of of old
+
+-- where all tell their bytes, the outputs grew by a piece
+abbrev pub GrewBy : {S : Type 0} → (told : S → Bool) → (written : S → List ℕ) → (old new : Sinks S) → Outputs → Type 0
+GrewBy told written old new piece = AllTold (each_of told old) → Grew (each_of written old) (each_of written new) piece
+
+-- where all tell their bytes, an output took a part of its text of a piece
+abbrev pub TookPart : {S : Type 0} → (told : S → Bool) → (written : S → List ℕ) → (old new : Sinks S) → Outputs → Output → Type 0
+TookPart told written old new piece output = AllTold (each_of told old) → PartWritten (each_of written old) (each_of written new) piece output
+
 -- ---- failures
 
 -- the count of failures of one sink rose, and those of the others stayed

@@ -21,7 +21,7 @@ use Rattle.pfr_out.specs.declared.report.Stop.{Stop}
 use Rattle.pfr_out.specs.declared.report.Stop.TheVariants as stop
 use Rattle.pfr_out.specs.declared.settings.Settings.{Settings}
 use Rattle.pfr_out.specs.declared.sinks.Sinks.{Sinks}
-use Rattle.pfr_out.specs.Outputs.{AllTold, Grew, Outputs, PartWritten, RoseAt, batch_alone, ending_alone, header_alone, nothing, of_output}
+use Rattle.pfr_out.specs.Outputs.{AllTold, Grew, Outputs, PartWritten, RoseAt, batch_alone, each_of, ending_alone, header_alone, nothing, of_output}
 
 -- ---- what a replay writes
 
@@ -221,3 +221,25 @@ pub record IsFaultOf (text : List ℕ) (settings : Settings) (fault : ConfError)
 abbrev pub StopOf : (text seed : List ℕ) → Settings → (tells : Bool) → (before left : List ℕ) → (told : Sinks Bool) → (old new : Outputs) → Stop → Type 0
 StopOf text seed settings tells before left told old new (stop.Ruleset fault) = IsFaultOf text settings fault × (IsTrue tells → left ≡ before) × (AllTold told → new ≡ old)
 StopOf text seed settings tells before left told old new s = UnderJob text seed settings (λ job. IsTrue tells → Stopped job settings.batch before left told old new s)
+
+-- ---- by what the devices show
+
+-- where the source tells its bytes, a run came to the end of its capture
+abbrev pub Replays : {R S : Type 0} → (tells : R → Bool) → (unread : R → List ℕ) → (told : S → Bool) → (written : S → List ℕ) → RunJob → R → (sinks sinks' : Sinks S) → Report → Type 0
+Replays tells unread told written job source sinks sinks' report =
+    IsTrue (tells source) → Replayed job (unread source) (each_of told sinks) (each_of written sinks) (each_of written sinks') report
+
+-- it stopped behind its ruleset
+abbrev pub Stops : {R S : Type 0} → (tells : R → Bool) → (unread : R → List ℕ) → (told : S → Bool) → (written : S → List ℕ) → RunJob → ℕ → (source source' : R) → (sinks sinks' : Sinks S) → Stop → Type 0
+Stops tells unread told written job batch source source' sinks sinks' s =
+    IsTrue (tells source) → Stopped job batch (unread source) (unread source') (each_of told sinks) (each_of written sinks) (each_of written sinks') s
+
+-- the same by a ruleset's text, which means a ruleset then
+abbrev pub ReplaysRun : {R S : Type 0} → (tells : R → Bool) → (unread : R → List ℕ) → (told : S → Bool) → (written : S → List ℕ) → (text seed : List ℕ) → Settings → R → (sinks sinks' : Sinks S) → Report → Type 0
+ReplaysRun tells unread told written text seed settings source sinks sinks' report =
+    UnderJob text seed settings (λ job. Replays tells unread told written job source sinks sinks' report)
+
+-- and a run by a text stopped
+abbrev pub StopsRun : {R S : Type 0} → (tells : R → Bool) → (unread : R → List ℕ) → (told : S → Bool) → (written : S → List ℕ) → (text seed : List ℕ) → Settings → (source source' : R) → (sinks sinks' : Sinks S) → Stop → Type 0
+StopsRun tells unread told written text seed settings source source' sinks sinks' s =
+    StopOf text seed settings (tells source) (unread source) (unread source') (each_of told sinks) (each_of written sinks) (each_of written sinks') s

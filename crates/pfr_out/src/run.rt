@@ -1,12 +1,11 @@
 //! The replay of a capture.
-ghost use Rattle.std.specs.Prelude.{◌≡◌, ◌≤◌, ℕ, List, [], ◌++◌, None, Some, IsTrue, IfErr, IfOk, OnOk};
-ghost use Rattle.pfr_capture.specs.Reading.{HasGiven};
+ghost use Rattle.std.specs.Prelude.{◌≡◌, ◌≤◌, None, Some, IfErr, IfOk, OnOk};
 ghost use Rattle.pfr_commit.specs.Books.{job_of, world_in};
 ghost use Rattle.pfr_commit.specs.World.{no_texts, opening};
-ghost use Rattle.pfr_out.specs.Outputs.{AllTold, each_of};
+ghost use Rattle.pfr_out.specs.Outputs.{Stay, each_of};
 ghost use Rattle.pfr_out.specs.Reading.{BatchFails};
-ghost use Rattle.pfr_out.specs.Replay.{Replayed, StopFails, StopOf, Stopped, UnderJob};
-ghost use Rattle.pfr_out.specs.Taking.{IsLate, Reaches};
+ghost use Rattle.pfr_out.specs.Replay.{Replays, ReplaysRun, StopFails, Stops, StopsRun};
+ghost use Rattle.pfr_out.specs.Taking.{IsLate, ReachesOn, ReplaysOn, StopsOn};
 
 use crate::reading::{read_batch, wants_memory};
 use crate::report::{Report, Stop};
@@ -43,10 +42,10 @@ fn take_packets<R: Source, S: Sink>(
     requires world { world_in book.old no_texts ≡ opening (job_of book.old) }
     requires batch { (1 ≤ batch) × (batch ≤ 4096) }
     ensures told { (R.told source.new ≡ R.told source.old) × (each_of S.told sinks.new ≡ each_of S.told sinks.old) }
-    ensures reaches { IfOk result (λ end. IsTrue (R.told source.old) → (read : List ℕ) → HasGiven capture.old read [] → Reaches (job_of book.old) batch (read ++ R.unread source.old) (R.unread source.new) (each_of S.told sinks.old) (each_of S.written sinks.old) (each_of S.written sinks.new) (world_in book.new no_texts) end) }
-    ensures stopped { IfErr result (λ stop. IsTrue (R.told source.old) → (read : List ℕ) → HasGiven capture.old read [] → Stopped (job_of book.old) batch (read ++ R.unread source.old) (R.unread source.new) (each_of S.told sinks.old) (each_of S.written sinks.old) (each_of S.written sinks.new) stop) }
+    ensures reaches { IfOk result (λ end. ReachesOn R.told R.unread S.told S.written batch book.old book.new capture.old source.old source.new sinks.old sinks.new end) }
+    ensures stopped { IfErr result (λ stop. StopsOn R.told R.unread S.told S.written (job_of book.old) batch capture.old source.old source.new sinks.old sinks.new stop) }
     ensures late { IfErr result (λ stop. IsLate stop) }
-    ensures no_failure { IfOk result (λ end. BatchFails (Some end) (R.failures source.old) (R.failures source.new) × (each_of S.failures sinks.new ≡ each_of S.failures sinks.old)) }
+    ensures no_failure { IfOk result (λ end. BatchFails (Some end) (R.failures source.old) (R.failures source.new) × Stay S.failures sinks.old sinks.new) }
     ensures failure { IfErr result (λ stop. StopFails stop (R.failures source.old) (R.failures source.new) (each_of S.failures sinks.old) (each_of S.failures sinks.new)) }
 {
     match sinks.write_header(&capture.header()) {
@@ -84,8 +83,8 @@ fn replay_capture<R: Source, S: Sink>(
     requires world { world_in book no_texts ≡ opening (job_of book) }
     requires batch { (1 ≤ batch) × (batch ≤ 4096) }
     ensures told { (R.told source.new ≡ R.told source.old) × (each_of S.told sinks.new ≡ each_of S.told sinks.old) }
-    ensures ok { IfOk result (λ report. IsTrue (R.told source.old) → (read : List ℕ) → HasGiven capture.old read [] → Replayed (job_of book) (read ++ R.unread source.old) (each_of S.told sinks.old) (each_of S.written sinks.old) (each_of S.written sinks.new) report) }
-    ensures stopped { IfErr result (λ stop. IsTrue (R.told source.old) → (read : List ℕ) → HasGiven capture.old read [] → Stopped (job_of book) batch (read ++ R.unread source.old) (R.unread source.new) (each_of S.told sinks.old) (each_of S.written sinks.old) (each_of S.written sinks.new) stop) }
+    ensures ok { IfOk result (λ report. ReplaysOn R.told R.unread S.told S.written (job_of book) capture.old source.old sinks.old sinks.new report) }
+    ensures stopped { IfErr result (λ stop. StopsOn R.told R.unread S.told S.written (job_of book) batch capture.old source.old source.new sinks.old sinks.new stop) }
     ensures late { IfErr result (λ stop. IsLate stop) }
     ensures no_failure { OnOk result ((R.failures source.new ≡ R.failures source.old) × (each_of S.failures sinks.new ≡ each_of S.failures sinks.old)) }
     ensures failure { IfErr result (λ stop. StopFails stop (R.failures source.old) (R.failures source.new) (each_of S.failures sinks.old) (each_of S.failures sinks.new)) }
@@ -107,8 +106,8 @@ pub fn replay_job<H: AllocGlobal, R: Source, S: Sink>(
 ) -> Result<Report, Stop>
     requires batch { (1 ≤ batch) × (batch ≤ 4096) }
     ensures told { (R.told source.new ≡ R.told source.old) × (each_of S.told sinks.new ≡ each_of S.told sinks.old) }
-    ensures ok { IfOk result (λ report. IsTrue (R.told source.old) → Replayed job (R.unread source.old) (each_of S.told sinks.old) (each_of S.written sinks.old) (each_of S.written sinks.new) report) }
-    ensures stopped { IfErr result (λ stop. IsTrue (R.told source.old) → Stopped job batch (R.unread source.old) (R.unread source.new) (each_of S.told sinks.old) (each_of S.written sinks.old) (each_of S.written sinks.new) stop) }
+    ensures ok { IfOk result (λ report. Replays R.told R.unread S.told S.written job source.old sinks.old sinks.new report) }
+    ensures stopped { IfErr result (λ stop. Stops R.told R.unread S.told S.written job batch source.old source.new sinks.old sinks.new stop) }
     ensures late { IfErr result (λ stop. IsLate stop) }
     ensures no_failure { OnOk result ((R.failures source.new ≡ R.failures source.old) × (each_of S.failures sinks.new ≡ each_of S.failures sinks.old)) }
     ensures failure { IfErr result (λ stop. StopFails stop (R.failures source.old) (R.failures source.new) (each_of S.failures sinks.old) (each_of S.failures sinks.new)) }
@@ -152,11 +151,11 @@ pub fn replay<H: AllocGlobal, R: Source, S: Sink>(
     ensures told { (R.told source.new ≡ R.told source.old) × (each_of S.told sinks.new ≡ each_of S.told sinks.old) }
 
     // A run to the end.
-    ensures ok { IfOk result (λ report. UnderJob text.now seed settings.now (λ job. IsTrue (R.told source.old) → Replayed job (R.unread source.old) (each_of S.told sinks.old) (each_of S.written sinks.old) (each_of S.written sinks.new) report)) }
+    ensures ok { IfOk result (λ report. ReplaysRun R.told R.unread S.told S.written text.now seed settings.now source.old sinks.old sinks.new report) }
     ensures no_failure { OnOk result ((R.failures source.new ≡ R.failures source.old) × (each_of S.failures sinks.new ≡ each_of S.failures sinks.old)) }
 
     // A stop.
-    ensures stopped { IfErr result (λ stop. StopOf text.now seed settings.now (R.told source.old) (R.unread source.old) (R.unread source.new) (each_of S.told sinks.old) (each_of S.written sinks.old) (each_of S.written sinks.new) stop) }
+    ensures stopped { IfErr result (λ stop. StopsRun R.told R.unread S.told S.written text.now seed settings.now source.old source.new sinks.old sinks.new stop) }
     ensures failure { IfErr result (λ stop. StopFails stop (R.failures source.old) (R.failures source.new) (each_of S.failures sinks.old) (each_of S.failures sinks.new)) }
 {
     let job = match Job::new(rt.alloc(), text, settings.interface, settings.inside, seed) {

@@ -22,13 +22,13 @@ pub struct Sinks<S> {
 
 impl<S: Sink> Sinks<S> {
     ghost use Rattle.pfr_commit.specs.Emissions.{texts_of};
-    ghost use Rattle.pfr_out.specs.Outputs.{AllTold, Grew, PartWritten, RoseAt, batch_alone, each_of, ending_alone, header_alone};
+    ghost use Rattle.pfr_out.specs.Outputs.{GrewBy, RoseAt, TookPart, batch_alone, each_of, ending_alone, header_alone};
 
     /// Writes the header of a capture.
     pub(crate) fn write_header(&mut self, header: &[u8]) -> Result<(), Output>
         ensures told { each_of S.told self.new ≡ each_of S.told self.old }
-        ensures ok { OnOk result (AllTold (each_of S.told self.old) → Grew (each_of S.written self.old) (each_of S.written self.new) (header_alone header.now)) }
-        ensures fails { IfErr result (λ output. AllTold (each_of S.told self.old) → PartWritten (each_of S.written self.old) (each_of S.written self.new) (header_alone header.now) output) }
+        ensures ok { OnOk result (GrewBy S.told S.written self.old self.new (header_alone header.now)) }
+        ensures fails { IfErr result (λ output. TookPart S.told S.written self.old self.new (header_alone header.now) output) }
         ensures no_failure { OnOk result (each_of S.failures self.new ≡ each_of S.failures self.old) }
         ensures failure { IfErr result (λ output. RoseAt output (each_of S.failures self.old) (each_of S.failures self.new)) }
     {
@@ -38,8 +38,8 @@ impl<S: Sink> Sinks<S> {
     /// Writes what packets add: their lines, and then those that aren't blocked.
     pub(crate) fn write_batch(&mut self, batch: &Emitted) -> Result<(), Output>
         ensures told { each_of S.told self.new ≡ each_of S.told self.old }
-        ensures ok { OnOk result (AllTold (each_of S.told self.old) → Grew (each_of S.written self.old) (each_of S.written self.new) (batch_alone (texts_of batch.now))) }
-        ensures fails { IfErr result (λ output. AllTold (each_of S.told self.old) → PartWritten (each_of S.written self.old) (each_of S.written self.new) (batch_alone (texts_of batch.now)) output) }
+        ensures ok { OnOk result (GrewBy S.told S.written self.old self.new (batch_alone (texts_of batch.now))) }
+        ensures fails { IfErr result (λ output. TookPart S.told S.written self.old self.new (batch_alone (texts_of batch.now)) output) }
         ensures no_failure { OnOk result (each_of S.failures self.new ≡ each_of S.failures self.old) }
         ensures failure { IfErr result (λ output. RoseAt output (each_of S.failures self.old) (each_of S.failures self.new)) }
     {
@@ -50,8 +50,8 @@ impl<S: Sink> Sinks<S> {
     /// Writes what stands at the end of a run: the counters, and then the states.
     pub(crate) fn write_ending(&mut self, ending: &Ending) -> Result<(), Output>
         ensures told { each_of S.told self.new ≡ each_of S.told self.old }
-        ensures ok { OnOk result (AllTold (each_of S.told self.old) → Grew (each_of S.written self.old) (each_of S.written self.new) (ending_alone ending.now.counters.items ending.now.states.items)) }
-        ensures fails { IfErr result (λ output. AllTold (each_of S.told self.old) → PartWritten (each_of S.written self.old) (each_of S.written self.new) (ending_alone ending.now.counters.items ending.now.states.items) output) }
+        ensures ok { OnOk result (GrewBy S.told S.written self.old self.new (ending_alone ending.now.counters.items ending.now.states.items)) }
+        ensures fails { IfErr result (λ output. TookPart S.told S.written self.old self.new (ending_alone ending.now.counters.items ending.now.states.items) output) }
         ensures no_failure { OnOk result (each_of S.failures self.new ≡ each_of S.failures self.old) }
         ensures failure { IfErr result (λ output. RoseAt output (each_of S.failures self.old) (each_of S.failures self.new)) }
     {

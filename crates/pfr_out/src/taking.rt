@@ -2,11 +2,9 @@
 ghost use Rattle.std.specs.Prelude.{◌≡◌, ◌≤◌, ◌+◌, ◌^◌, false, length, IfErr, IfOk, OnOk, Ok};
 ghost use Rattle.std.specs.List.{All};
 ghost use Rattle.pfr_headers.specs.View.{view_of};
-ghost use Rattle.pfr_commit.specs.Books.{job_of, world_in};
-ghost use Rattle.pfr_commit.specs.World.{no_texts, world_after};
-ghost use Rattle.pfr_out.specs.Outputs.{AllTold, Grew, batch_alone, each_of};
-ghost use Rattle.pfr_out.specs.Replay.{closing, stop_for};
-ghost use Rattle.pfr_out.specs.Taking.{BatchStops, ConcludeFails, Concludes, EndStops, SinksFail, added_by, frames_of};
+ghost use Rattle.pfr_out.specs.Outputs.{GrewBy, batch_alone, each_of};
+ghost use Rattle.pfr_out.specs.Replay.{stop_for};
+ghost use Rattle.pfr_out.specs.Taking.{BatchStopsIn, ConcludeFails, ConcludesIn, EndStopsIn, HasTaken, SinksFail, closing_of, texts_added};
 
 use crate::report::{Report, Stop};
 use crate::sinks::Sinks;
@@ -27,10 +25,10 @@ pub(crate) fn take_batch<S: Sink>(
     requires few { book.old.count + length packets.now ≤ 2 ^ 43 }
     ensures told { each_of S.told sinks.new ≡ each_of S.told sinks.old }
     ensures job { book.new.job ≡ book.old.job }
-    ensures world { OnOk result (world_in book.new (added_by (job_of book.old) (world_in book.old no_texts) (frames_of packets.now)) ≡ world_after (job_of book.old) (world_in book.old no_texts) (frames_of packets.now)) }
+    ensures world { OnOk result (HasTaken book.old book.new packets.now) }
     ensures counted { OnOk result (book.new.count ≡ book.old.count + length packets.now) }
-    ensures written { OnOk result (AllTold (each_of S.told sinks.old) → Grew (each_of S.written sinks.old) (each_of S.written sinks.new) (batch_alone (added_by (job_of book.old) (world_in book.old no_texts) (frames_of packets.now)))) }
-    ensures stops { IfErr result (λ stop. BatchStops (added_by (job_of book.old) (world_in book.old no_texts) (frames_of packets.now)) book.old.count (each_of S.told sinks.old) (each_of S.written sinks.old) (each_of S.written sinks.new) stop) }
+    ensures written { OnOk result (GrewBy S.told S.written sinks.old sinks.new (batch_alone (texts_added book.old packets.now))) }
+    ensures stops { IfErr result (λ stop. BatchStopsIn S.told S.written book.old packets.now sinks.old sinks.new stop) }
     ensures no_failure { OnOk result (each_of S.failures sinks.new ≡ each_of S.failures sinks.old) }
     ensures failure { IfErr result (λ stop. SinksFail stop (each_of S.failures sinks.old) (each_of S.failures sinks.new)) }
 {
@@ -49,8 +47,8 @@ pub(crate) fn take_batch<S: Sink>(
 /// Writes what stands at the end of a run.
 pub(crate) fn close<S: Sink>(book: Book, tail: Tail, sinks: &mut Sinks<S>) -> Result<Report, Stop>
     ensures told { each_of S.told sinks.new ≡ each_of S.told sinks.old }
-    ensures closed { IfOk result (λ report. (report.committed ≡ book.count) × (report.tail ≡ tail) × (AllTold (each_of S.told sinks.old) → Grew (each_of S.written sinks.old) (each_of S.written sinks.new) (closing (world_in book no_texts)))) }
-    ensures stops { IfErr result (λ stop. EndStops (world_in book no_texts) (each_of S.told sinks.old) (each_of S.written sinks.old) (each_of S.written sinks.new) stop) }
+    ensures closed { IfOk result (λ report. (report.committed ≡ book.count) × (report.tail ≡ tail) × GrewBy S.told S.written sinks.old sinks.new (closing_of book)) }
+    ensures stops { IfErr result (λ stop. EndStopsIn S.told S.written book sinks.old sinks.new stop) }
     ensures no_failure { OnOk result (each_of S.failures sinks.new ≡ each_of S.failures sinks.old) }
     ensures failure { IfErr result (λ stop. SinksFail stop (each_of S.failures sinks.old) (each_of S.failures sinks.new)) }
 {
@@ -83,8 +81,8 @@ pub(crate) fn conclude<S: Sink>(
     sinks: &mut Sinks<S>,
 ) -> Result<Report, Stop>
     ensures told { each_of S.told sinks.new ≡ each_of S.told sinks.old }
-    ensures closed { IfOk result (λ report. (report.committed ≡ book.count) × (end ≡ Ok report.tail) × (AllTold (each_of S.told sinks.old) → Grew (each_of S.written sinks.old) (each_of S.written sinks.new) (closing (world_in book no_texts)))) }
-    ensures stops { IfErr result (λ stop. Concludes end (world_in book no_texts) (each_of S.told sinks.old) (each_of S.written sinks.old) (each_of S.written sinks.new) stop) }
+    ensures closed { IfOk result (λ report. (report.committed ≡ book.count) × (end ≡ Ok report.tail) × GrewBy S.told S.written sinks.old sinks.new (closing_of book)) }
+    ensures stops { IfErr result (λ stop. ConcludesIn S.told S.written end book sinks.old sinks.new stop) }
     ensures no_failure { OnOk result (each_of S.failures sinks.new ≡ each_of S.failures sinks.old) }
     ensures failure { IfErr result (λ stop. ConcludeFails end book.count (each_of S.failures sinks.old) (each_of S.failures sinks.new) stop) }
 {

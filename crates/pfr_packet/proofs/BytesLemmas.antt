@@ -19,7 +19,7 @@ use Rattle.pfr_track.specs.Tracking.{made, touched}
 use Rattle.pfr_states.specs.declared.change.Side.TheVariants.{Wire, Stack}
 use Rattle.pfr_states.specs.declared.change.TableChange.{TableChange}
 use Rattle.pfr_states.specs.declared.change.TableChange.TheVariants.{Touched}
-use Rattle.pfr_states.specs.States.{StateTable}
+use Rattle.pfr_states.specs.States.{StateTable, is_same_end}
 use Rattle.pfr_packet.specs.declared.keys.Subject.{Subject}
 use Rattle.pfr_packet.specs.declared.keys.Subject.TheVariants.{Alone, Told, Connection}
 use Rattle.pfr_packet.specs.declared.making.Passage.{Passage}
@@ -29,7 +29,7 @@ use Rattle.pfr_packet.specs.declared.verdict.Reason.TheVariants as reason
 use Rattle.pfr_packet.specs.Filtering.{conduct_of, decided, filtered, kept}
 use Rattle.pfr_packet.specs.Found.{passed, tracked}
 use Rattle.pfr_packet.specs.Job.{RunJob, is_skipped, timeouts_of}
-use Rattle.pfr_packet.specs.Keys.{is_same_end, side_of, subject_of, written_by}
+use Rattle.pfr_packet.specs.Keys.{side_of, subject_of, written_by}
 use Rattle.pfr_packet.specs.Making.{making, untranslated, with_keys, with_room}
 use Rattle.pfr_packet.specs.Outcomes.{blocked, without_leave}
 use Rattle.pfr_packet.specs.Plan.{Plan, done, found_in, has_room_in, outcome_of, purged_at}

@@ -1,5 +1,5 @@
 -- What packets are looked up by, and what is written into those whose connection is translated.
-use Rattle.std.specs.Prelude.{◌==◌, ◌&&◌, Bool, if◌then◌else◌, Option, Some, None}
+use Rattle.std.specs.Prelude.{if◌then◌else◌, Option, Some, None}
 use Rattle.pfr_net.specs.declared.address.Ipv4Address.{Ipv4Address}
 use Rattle.pfr_net.specs.declared.direction.Direction.{Direction}
 use Rattle.pfr_net.specs.declared.direction.Direction.TheVariants.{In, Out}
@@ -18,6 +18,7 @@ use Rattle.pfr_headers.specs.declared.transport.Transport.TheVariants as transpo
 use Rattle.pfr_track.specs.declared.key.Key.{Key}
 use Rattle.pfr_states.specs.declared.change.Side.{Side}
 use Rattle.pfr_states.specs.declared.change.Side.TheVariants.{Wire, Stack}
+use Rattle.pfr_states.specs.States.{is_same_end}
 use Rattle.pfr_packet.specs.declared.keys.Subject.{Subject}
 use Rattle.pfr_packet.specs.declared.keys.Subject.TheVariants.{Alone, Told, Connection}
 
@@ -73,9 +74,6 @@ end_of Out = Source
 abbrev pub translated_end : Direction → Key → Key → Endpoint
 translated_end In wire stack = stack.inside
 translated_end Out wire stack = wire.inside
-
-abbrev pub is_same_end : Endpoint → Endpoint → Bool
-is_same_end a b = a.address.0 == b.address.0 && a.port.0 == b.port.0
 
 abbrev pub written_by : Direction → Packet → Key → Key → Option Change
 written_by direction packet wire stack =

@@ -1,19 +1,35 @@
 -- Words of the laws: what becomes of the one state that a packet makes, touches or ends.
 use Rattle.std.specs.Prelude.{◌≡◌, ◌⊎◌, ℕ, Bool, true, false, List, [], Option, Some, None}
-use Rattle.std.specs.List.{Contains, slice_get}
+use Rattle.std.specs.List.{Contains, slice_get, All}
 use Rattle.pfr_net.specs.declared.rule_number.RuleNumber.{RuleNumber}
 use Rattle.pfr_ruleset.specs.declared.flat.FlatRule.{FlatRule}
 use Rattle.pfr_headers.specs.declared.icmp.IcmpMessage.{IcmpMessage}
 use Rattle.pfr_headers.specs.declared.icmp.IcmpMessage.TheVariants as message
 use Rattle.pfr_headers.specs.declared.transport.Transport.{Transport}
 use Rattle.pfr_headers.specs.declared.transport.Transport.TheVariants as transport
+use Rattle.pfr_headers.specs.declared.packet.View.{View}
+use Rattle.pfr_headers.specs.declared.change.Change.{Change}
+use Rattle.pfr_headers.specs.declared.packet.View.TheVariants.{Ipv4, Skip}
+use Rattle.pfr_headers.specs.declared.packet.Packet.{Packet}
+use Rattle.pfr_headers.specs.Ways.{direction_of}
+use Rattle.pfr_headers.specs.View.{has_options}
 use Rattle.pfr_track.specs.declared.state.State.{State}
 use Rattle.pfr_track.specs.declared.state.StateNumber.{StateNumber}
 use Rattle.pfr_track.specs.declared.time.Clock.{Clock}
+use Rattle.pfr_track.specs.declared.key.Key.{Key}
 use Rattle.pfr_states.specs.declared.change.TableChange.{TableChange}
 use Rattle.pfr_states.specs.declared.change.TableChange.TheVariants.{Made, Touched, Removed}
+use Rattle.pfr_states.specs.States.{StateTable, IsTable, purged, refusal}
 use Rattle.pfr_packet.specs.declared.outcome.Outcome.{Outcome}
 use Rattle.pfr_packet.specs.declared.verdict.Verdict.TheVariants.{Pass, Block, Skip}
+use Rattle.pfr_packet.specs.Job.{RunJob, is_skipped}
+use Rattle.pfr_packet.specs.Plan.{SameAnswer, purged_at, found_in, has_room_in}
+use Rattle.pfr_packet.specs.Steps.{asked_of, step_of}
+use Rattle.pfr_packet.specs.Verdicts.{lets_pass}
+use Rattle.pfr_packet.specs.declared.keys.Subject.TheVariants.{Connection, Told}
+use Rattle.pfr_packet.specs.Keys.{side_of, subject_of}
+use Rattle.pfr_packet.specs.Outcomes.{none_visited}
+use Rattle.pfr_packet.specs.declared.verdict.Reason.TheVariants.{StateLimit, SkipOn}
 
 -- the state that packet `number` makes
 pub record IsMadeBy (number : ℕ) (clock : Clock) (outcome : Outcome) (state : State) : Type 0 where
@@ -103,3 +119,87 @@ abbrev pub HasLeave : List FlatRule → List State → Outcome → Type 0
 HasLeave rules states outcome =
     ((number : RuleNumber) × (rule : FlatRule) × (slice_get rules number.0 ≡ Some rule) × (outcome.rule ≡ Some number) × (rule.allow_opts ≡ true))
     ⊎ ((state : State) × Contains states state × (outcome.state ≡ Some state.number) × (state.rules.allows_options ≡ true))
+
+-- ---- what the laws say
+
+-- what a packet comes to rests on nothing but what is asked for it
+abbrev pub SameAnswersGiveTheSame : Type 0
+SameAnswersGiveTheSame =
+    (job : RunJob) (number : ℕ) (clock : Clock) (view : View) (table other : StateTable)
+    → All (SameAnswer (purged_at clock table) (purged_at clock other)) (asked_of job number clock view table)
+    → (step_of job number clock view other ≡ step_of job number clock view table)
+    × (asked_of job number clock view other ≡ asked_of job number clock view table)
+
+-- the table that a packet was evaluated over refuses none of its changes
+abbrev pub NoChangeIsRefused : Type 0
+NoChangeIsRefused =
+    (job : RunJob) (number : ℕ) (clock : Clock) (view : View) (table : StateTable) (change : TableChange)
+    → IsTable table
+    → (step_of job number clock view table).change ≡ Some change
+    → refusal change table.limit (purged clock table.states) ≡ None
+
+-- what a packet changes is the one state that its outcome names
+abbrev pub ChangesAreOfTheNamed : Type 0
+ChangesAreOfTheNamed =
+    (job : RunJob) (number : ℕ) (clock : Clock) (view : View) (table : StateTable) (change : TableChange)
+    → (step_of job number clock view table).change ≡ Some change
+    → IsOwnChange number clock (purged clock table.states) (step_of job number clock view table) change
+
+-- what is written into a packet's bytes is made for that packet
+abbrev pub WrittenIsOfThePacket : Type 0
+WrittenIsOfThePacket =
+    (job : RunJob) (number : ℕ) (clock : Clock) (view : View) (table : StateTable) (change : Change)
+    → (step_of job number clock view table).bytes ≡ Some change
+    → view ≡ Ipv4 change.packet
+
+-- a packet that doesn't pass changes nothing, but that a state may be taken out
+abbrev pub BlockedOnlyRemoves : Type 0
+BlockedOnlyRemoves =
+    (job : RunJob) (number : ℕ) (clock : Clock) (view : View) (table : StateTable)
+    → lets_pass (step_of job number clock view table).verdict ≡ false
+    → only_removes (step_of job number clock view table).change ≡ true
+
+-- what is passed over asks nothing and changes nothing
+abbrev pub PassedOverChangesNothing : Type 0
+PassedOverChangesNothing =
+    (job : RunJob) (number : ℕ) (clock : Clock) (view : View) (table : StateTable)
+    → (view ≡ Skip) ⊎ (is_skipped job ≡ true)
+    → IsUntouched (step_of job number clock view table) × (asked_of job number clock view table ≡ [])
+
+-- what opens no connection changes no state
+abbrev pub OpensNoConnection : Type 0
+OpensNoConnection =
+    (job : RunJob) (number : ℕ) (clock : Clock) (packet : Packet) (table : StateTable)
+    → opens_connection packet.transport ≡ false
+    → (step_of job number clock (Ipv4 packet) table).change ≡ None
+
+-- where a state is found, no rule is visited
+abbrev pub NoRuleBehindAState : Type 0
+NoRuleBehindAState =
+    (job : RunJob) (number : ℕ) (clock : Clock) (packet : Packet) (table : StateTable) (key : Key) (state : State)
+    → (subject_of (direction_of job.inside packet) packet ≡ Told key) ⊎ (subject_of (direction_of job.inside packet) packet ≡ Connection key)
+    → found_in (purged_at clock table) (side_of (direction_of job.inside packet)) key ≡ Some state
+    → (step_of job number clock (Ipv4 packet) table).visited ≡ none_visited
+
+-- the limit of states blocks only where the table is full
+abbrev pub LimitBlocksWhereReached : Type 0
+LimitBlocksWhereReached =
+    (job : RunJob) (number : ℕ) (clock : Clock) (packet : Packet) (table : StateTable)
+    → (step_of job number clock (Ipv4 packet) table).reason ≡ StateLimit
+    → has_room_in (purged_at clock table) ≡ false
+
+-- nothing is written into a packet that doesn't pass
+abbrev pub BlockedIsNotWritten : Type 0
+BlockedIsNotWritten =
+    (job : RunJob) (number : ℕ) (clock : Clock) (packet : Packet) (table : StateTable)
+    → lets_pass (step_of job number clock (Ipv4 packet) table).verdict ≡ false
+    → (step_of job number clock (Ipv4 packet) table).bytes ≡ None
+
+-- a packet with IP options passes only where a rule or a state allows them
+abbrev pub OptionsPassByLeave : Type 0
+OptionsPassByLeave =
+    (job : RunJob) (number : ℕ) (clock : Clock) (packet : Packet) (table : StateTable)
+    → has_options packet ≡ true
+    → lets_pass (step_of job number clock (Ipv4 packet) table).verdict ≡ true
+    → ((step_of job number clock (Ipv4 packet) table).reason ≡ SkipOn → ⊥)
+    → HasLeave job.rules.filter.rules (purged_at clock table).states (step_of job number clock (Ipv4 packet) table)

@@ -22,6 +22,7 @@ use Rattle.pfr_track.specs.declared.time.Clock.{Clock}
 use Rattle.pfr_track.specs.Tracking.{made, touched}
 use Rattle.pfr_states.specs.States.{StateTable}
 use Rattle.pfr_packet.specs.declared.answers.Question.{Question}
+use Rattle.pfr_packet.specs.declared.evaluation.Arrival.{Arrival}
 use Rattle.pfr_packet.specs.declared.keys.Subject.{Subject}
 use Rattle.pfr_packet.specs.declared.keys.Subject.TheVariants.{Alone, Told, Connection}
 use Rattle.pfr_packet.specs.declared.making.Passage.{Passage}
@@ -85,6 +86,20 @@ subject_plan job number clock packet direction (Connection key) = asking_connect
 
 unfoldable pub packet_plan : RunJob → ℕ → Clock → Packet → Direction → Plan
 packet_plan job number clock packet direction = subject_plan job number clock packet direction (subject_of direction packet)
+
+-- the plans of a packet that arrives: as an error that tells of a connection, as the first of one, by its connection, and
+-- as it comes
+abbrev pub told_plan : Arrival → Key → Plan
+told_plan arrival key = asking_told arrival.job.now arrival.packet.now arrival.direction key
+
+abbrev pub opening_plan : Arrival → Passage → Plan
+opening_plan arrival passage = opening arrival.job.now arrival.number arrival.clock arrival.packet.now arrival.direction passage
+
+abbrev pub connection_plan : Arrival → Key → Plan
+connection_plan arrival key = asking_connection arrival.job.now arrival.number arrival.clock arrival.packet.now arrival.direction key
+
+abbrev pub arrival_plan : Arrival → Plan
+arrival_plan arrival = packet_plan arrival.job.now arrival.number arrival.clock arrival.packet.now arrival.direction
 
 -- ---- a frame
 

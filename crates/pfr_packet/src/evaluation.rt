@@ -41,7 +41,7 @@ impl Arrival<'_> {
     /// What it comes to as an ICMP error that tells of a connection.
     fn by_told<A: Answers>(&self, key: &Key, answers: &mut A) -> Result<Outcome, AllocError>
         ensures seen { A.seen answers.new ≡ A.seen answers.old }
-        ensures goes { IfOk result (λ outcome. Goes (A.seen answers.old) (spec.asking_told self.now.job.now self.now.packet.now self.now.direction key.now) outcome (A.asked answers.new)) }
+        ensures goes { IfOk result (λ outcome. Goes (A.seen answers.old) (spec.told_plan self.now key.now) outcome (A.asked answers.new)) }
         ensures kept { (question : Question) → A.asked answers.old question → A.asked answers.new question }
     {
         match answers.at(side_of(self.direction), key)? {
@@ -55,14 +55,14 @@ impl Arrival<'_> {
         ensures { result ≡ spec.following self.now.job.now self.now.clock self.now.packet.now self.now.direction state.now }
     {
         let timeouts = self.job.timeouts();
-        let touch = touch(state, self.packet, self.direction, self.clock, &timeouts);
+        let touch = touch(state, self.packet, self.direction, self.clock, timeouts);
         tracked(self.alloc, self.direction, self.packet, state, touch)
     }
 
     /// What it comes to as the first packet of a connection.
     fn open<A: Answers>(&self, passage: &Passage, answers: &mut A) -> Result<Outcome, AllocError>
         ensures seen { A.seen answers.new ≡ A.seen answers.old }
-        ensures goes { IfOk result (λ outcome. Goes (A.seen answers.old) (spec.opening self.now.job.now self.now.number self.now.clock self.now.packet.now self.now.direction passage.now) outcome (A.asked answers.new)) }
+        ensures goes { IfOk result (λ outcome. Goes (A.seen answers.old) (spec.opening_plan self.now passage.now) outcome (A.asked answers.new)) }
         ensures kept { (question : Question) → A.asked answers.old question → A.asked answers.new question }
     {
         let Filtered { outcome, kept } = Filtered::of(
@@ -81,7 +81,7 @@ impl Arrival<'_> {
                     passage.stack,
                     rules,
                     self.clock,
-                    &self.job.timeouts(),
+                    self.job.timeouts(),
                 );
                 make_state(self.packet, state, outcome, answers)
             }
@@ -92,7 +92,7 @@ impl Arrival<'_> {
     /// What it comes to by its connection.
     fn by_connection<A: Answers>(&self, key: &Key, answers: &mut A) -> Result<Outcome, AllocError>
         ensures seen { A.seen answers.new ≡ A.seen answers.old }
-        ensures goes { IfOk result (λ outcome. Goes (A.seen answers.old) (spec.asking_connection self.now.job.now self.now.number self.now.clock self.now.packet.now self.now.direction key.now) outcome (A.asked answers.new)) }
+        ensures goes { IfOk result (λ outcome. Goes (A.seen answers.old) (spec.connection_plan self.now key.now) outcome (A.asked answers.new)) }
         ensures kept { (question : Question) → A.asked answers.old question → A.asked answers.new question }
     {
         match answers.at(side_of(self.direction), key)? {
@@ -105,7 +105,7 @@ impl Arrival<'_> {
     #[tactic(auto, unfolding(crate::specs::Steps::packet_plan))]
     fn outcome<A: Answers>(&self, answers: &mut A) -> Result<Outcome, AllocError>
         ensures seen { A.seen answers.new ≡ A.seen answers.old }
-        ensures goes { IfOk result (λ outcome. Goes (A.seen answers.old) (spec.packet_plan self.now.job.now self.now.number self.now.clock self.now.packet.now self.now.direction) outcome (A.asked answers.new)) }
+        ensures goes { IfOk result (λ outcome. Goes (A.seen answers.old) (spec.arrival_plan self.now) outcome (A.asked answers.new)) }
         ensures kept { (question : Question) → A.asked answers.old question → A.asked answers.new question }
     {
         match subject_of(self.direction, self.packet) {

@@ -124,10 +124,10 @@ impl Job {
 
     /// The timeouts of the ruleset.
     #[inline]
-    pub(crate) fn timeouts(&self) -> Timeouts
-        ensures { result ≡ spec.timeouts_of self.now }
+    pub(crate) fn timeouts(&self) -> &Timeouts
+        ensures { result.now ≡ spec.timeouts_of self.now }
     {
-        self.rules.options.timeouts
+        &self.rules.options.timeouts
     }
 }
 

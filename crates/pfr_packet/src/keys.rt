@@ -1,5 +1,6 @@
 //! What packets are looked up by.
 ghost use Rattle.std.specs.Prelude.{◌≡◌, ◌&&◌, ◌==◌};
+ghost use Rattle.pfr_states.specs.States.{is_same_end};
 ghost use Rattle.pfr_packet.specs.Keys as spec;
 
 use pfr_headers::{Change, End, IcmpMessage, Inner, Packet, Transport};
@@ -154,7 +155,7 @@ fn translated_end(direction: Direction, wire: &Key, stack: &Key) -> Endpoint
 
 #[inline]
 fn is_same_end(a: &Endpoint, b: &Endpoint) -> bool
-    ensures { result ≡ spec.is_same_end a.now b.now }
+    ensures { result ≡ is_same_end a.now b.now }
 {
     a.address.0 == b.address.0 && a.port.0 == b.port.0
 }

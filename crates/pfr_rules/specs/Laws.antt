@@ -1,11 +1,13 @@
 -- Words of the laws: rulesets that are the same up to a place, or but for one rule or one anchor; packets that go the same
 -- way, and rules that they pass by.
-use Rattle.std.specs.Prelude.{◌≡◌, ◌≢◌, ◌≤◌, ℕ, min, Bool, false, nat_le, List, ◌∷◌, ◌++◌, length, map, Some}
+use Rattle.std.specs.Prelude.{◌≡◌, ◌≢◌, ◌≤◌, ℕ, min, Bool, false, nat_le, List, ◌∷◌, ◌++◌, length, map, Some, true}
 use Rattle.std.specs.List.{Contains, slice_get, filter}
 use Rattle.pfr_net.specs.declared.direction.Direction.{Direction}
 use Rattle.pfr_ruleset.specs.declared.flat.FlatAnchor.{FlatAnchor}
 use Rattle.pfr_ruleset.specs.declared.ruleset.Ruleset.{Ruleset}
+use Rattle.pfr_ruleset.specs.declared.flat.FlatRule.{FlatRule}
 use Rattle.pfr_headers.specs.declared.packet.Packet.{Packet}
+use Rattle.pfr_criteria.specs.Packets.{anchor_holds}
 use Rattle.pfr_rules.specs.Filter.{hit, deciding, visited}
 
 -- ---- rulesets that are the same up to a place
@@ -88,3 +90,50 @@ pub record PassesBy (flat : Ruleset) (packet : Packet) (direction : Direction) (
 pub record GoesTheSameWay (flat other : Ruleset) (packet : Packet) (direction : Direction) : Type 0 where
   pub decides : deciding other packet direction ≡ deciding flat packet direction
   pub visits : visited other packet direction ≡ visited flat packet direction
+
+-- ---- what the laws say
+
+-- what stands behind a quick rule that hits says nothing
+abbrev pub BehindAQuickHit : Type 0
+BehindAQuickHit =
+    (flat other : Ruleset) (packet : Packet) (direction : Direction) (place : ℕ) (rule : FlatRule)
+    → slice_get flat.filter.rules place ≡ Some rule
+    → rule.is_quick ≡ true
+    → hit flat packet direction place ≡ true
+    → IsSameUpTo place flat other
+    → GoesTheSameWay flat other packet direction
+
+-- a rule that a packet doesn't visit says nothing of it
+abbrev pub WhatIsNotVisited : Type 0
+WhatIsNotVisited =
+    (flat other : Ruleset) (packet : Packet) (direction : Direction) (place : ℕ)
+    → (Contains (visited flat packet direction) place → ⊥)
+    → IsSameBut place flat other
+    → GoesTheSameWay flat other packet direction
+
+-- whether an anchor is quick says nothing where no rule in it hits
+abbrev pub QuickWithoutAHit : Type 0
+QuickWithoutAHit =
+    (flat other : Ruleset) (packet : Packet) (direction : Direction) (anchor : FlatAnchor) (quick : Bool)
+    → NoneHits anchor flat packet direction
+    → IsSameButAnchor anchor (quick_or_not quick anchor) flat other
+    → GoesTheSameWay flat other packet direction
+
+-- what an anchor asks for, it asks for the rules in it alone
+abbrev pub AnchorAsksForItsOwn : Type 0
+AnchorAsksForItsOwn =
+    (flat other : Ruleset) (packet : Packet) (direction : Direction) (anchor asked : FlatAnchor)
+    → NoneHits anchor flat packet direction
+    → NoneHits anchor other packet direction
+    → IsSameButAnchor anchor (asking_like asked anchor) flat other
+    → deciding other packet direction ≡ deciding flat packet direction
+
+-- an anchor that doesn't hold lets a packet pass by all its rules
+abbrev pub AnchorLetsNothingIn : Type 0
+AnchorLetsNothingIn =
+    (flat : Ruleset) (packet : Packet) (direction : Direction) (anchor : FlatAnchor) (place : ℕ)
+    → Contains flat.filter.anchors anchor
+    → anchor_holds anchor flat.interface.name flat.tables packet direction ≡ false
+    → anchor.first ≤ place
+    → place ≤ anchor.last
+    → PassesBy flat packet direction place

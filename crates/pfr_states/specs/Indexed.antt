@@ -1,9 +1,9 @@
 -- What the indexes of a table answer: which state a number has, which number a key has, and which deadlines come.
-use Rattle.std.specs.Prelude.{◌≡◌, ◌==◌, ◌&&◌, Bool, true, is_some, List, map, Option}
+use Rattle.std.specs.Prelude.{◌≡◌, ◌==◌, ◌&&◌, Bool, true, false, cond, is_some, List, map, Option, Some, None}
 use Rattle.std.specs.List.{find}
 use Rattle.std.specs.Map.{values_of}
 use Rattle.std.specs.Option.{option_map}
-use Rattle.std.specs.Ordering.{nat_cmp, ordering_then}
+use Rattle.std.specs.Ordering.{is_gt, nat_cmp, ordering_then}
 use Rattle.std.specs.declared.cmp.Ordering.{Ordering}
 use Rattle.std.specs.BTreeSet as sorted
 use Rattle.std.specs.HashMap as hash
@@ -37,6 +37,22 @@ number_at side key states = option_map (λ state. state.number) (at side key sta
 abbrev pub number_of : {S : Type 0} → hash.HashMap Key StateNumber S → Key → Option StateNumber
 number_of index key = hash.get is_same_key index key
 
+-- two indexes answer alike
+abbrev pub AnswerAlike : {A B : Type 0} → (A → B) → (A → B) → Type 0
+AnswerAlike {A = A} new old = (question : A) → new question ≡ old question
+
+-- what they answer where a key is given to a number
+abbrev pub with_key : Key → StateNumber → (Key → Option StateNumber) → Key → Option StateNumber
+with_key key number answers question = cond (is_same_key key question) (Some number) (answers question)
+
+-- where a key is taken out
+abbrev pub without_key : Key → (Key → Option StateNumber) → Key → Option StateNumber
+without_key key answers question = cond (is_same_key key question) None (answers question)
+
+-- where a number has another key in the place of the one that it had
+abbrev pub with_moved : Key → Key → StateNumber → (Key → Option StateNumber) → Key → Option StateNumber
+with_moved old new number answers = with_key new number (without_key old answers)
+
 -- ---- deadlines
 
 -- by deadline, and then by number
@@ -53,6 +69,22 @@ due_at due states = find (λ state. is_same_due (state.deadline, state.number) d
 -- whether the deadline of a number is in an index of deadlines
 abbrev pub awaits : sorted.BTreeSet (Deadline × StateNumber) → Deadline × StateNumber → Bool
 awaits index due = sorted.contains due_cmp index due
+
+-- where the deadline of a number is put in
+abbrev pub with_due : Deadline × StateNumber → (Deadline × StateNumber → Bool) → Deadline × StateNumber → Bool
+with_due due answers question = cond (is_same_due due question) true (answers question)
+
+-- where it is taken out
+abbrev pub without_due : Deadline × StateNumber → (Deadline × StateNumber → Bool) → Deadline × StateNumber → Bool
+without_due due answers question = cond (is_same_due due question) false (answers question)
+
+-- where it is put off, from one to another
+abbrev pub with_later : Deadline → Deadline → StateNumber → (Deadline × StateNumber → Bool) → Deadline × StateNumber → Bool
+with_later from to number answers = with_due (to, number) (without_due (from, number) answers)
+
+-- no deadline that an index has goes before this one
+abbrev pub IsFirst : sorted.BTreeSet (Deadline × StateNumber) → Deadline × StateNumber → Type 0
+IsFirst index due = (other : Deadline × StateNumber) → awaits index other ≡ true → is_gt (due_cmp due other) ≡ false
 
 -- ---- a table of states with its indexes
 

@@ -121,10 +121,14 @@ with_change (Made state) states = with_state state states
 with_change (Touched state) states = with_touched state states
 with_change (Removed number) states = filter (λ state. not (is_number number state)) states
 
+-- one of the state's keys is taken by a state of another number
+abbrev pub another_shares : State → List State → Bool
+another_shares state states = list_any (λ other. not (is_number state.number other) && shares_key state other) states
+
 -- one of the state's keys is taken: of a touched state by one of another number
 abbrev pub is_taken : TableChange → List State → Bool
 is_taken (Made state) states = list_any (shares_key state) states
-is_taken (Touched state) states = list_any (λ other. not (is_number state.number other) && shares_key state other) states
+is_taken (Touched state) states = another_shares state states
 is_taken (Removed number) states = false
 
 abbrev pub is_too_many : TableChange → ℕ → List State → Bool

@@ -148,7 +148,7 @@ impl IndexedStates {
 
     /// Whether some state of another number has a key in common with this one.
     pub(crate) fn another_shares_key(&self, state: &State) -> bool
-        ensures { result ≡ list_any (λ other. not (spec.is_number state.now.number other) && spec.shares_key state.now other) self.now }
+        ensures { result ≡ spec.another_shares state.now self.now }
     {
         self.another_has_key(state.number, Side::Wire, &state.wire)
             || self.another_has_key(state.number, Side::Stack, &state.stack)
@@ -172,7 +172,7 @@ impl IndexedStates {
     /// Puts a state in the place of the one of its number. Where memory is refused nothing changes.
     fn replace(&mut self, old: &State, state: State) -> Result<(), AllocError>
         requires number { index.state_of state.number self.old ≡ Some old.now }
-        requires keys { list_any (λ other. not (spec.is_number state.number other) && spec.shares_key state other) self.old ≡ false }
+        requires keys { spec.another_shares state self.old ≡ false }
         ensures done { OnOk result (self.new ≡ spec.with_touched state self.old) }
         ensures kept { OnErr result (self.new ≡ self.old) }
     {
@@ -199,7 +199,7 @@ impl IndexedStates {
     /// Puts a state, whose keys none of another number has, in the place of the one of its number; where there is none,
     /// nothing changes. Where memory is refused nothing changes.
     pub(crate) fn touch(&mut self, state: State) -> Result<(), AllocError>
-        requires { list_any (λ other. not (spec.is_number state.number other) && spec.shares_key state other) self.old ≡ false }
+        requires { spec.another_shares state self.old ≡ false }
         ensures done { OnOk result (self.new ≡ spec.with_touched state self.old) }
         ensures kept { OnErr result (self.new ≡ self.old) }
     {
@@ -213,7 +213,7 @@ impl IndexedStates {
     /// refused nothing changes.
     pub(crate) fn renew(&mut self, state: &State) -> Result<bool, AllocError>
         ensures done { IfOk result (λ is_done. is_done ≡ true → self.new ≡ spec.with_touched state.now self.old) }
-        ensures free { IfOk result (λ is_done. is_done ≡ true → list_any (λ other. not (spec.is_number state.now.number other) && spec.shares_key state.now other) self.old ≡ false) }
+        ensures free { IfOk result (λ is_done. is_done ≡ true → spec.another_shares state.now self.old ≡ false) }
         ensures same { IfOk result (λ is_done. is_done ≡ false → self.new ≡ self.old) }
         ensures kept { OnErr result (self.new ≡ self.old) }
     {

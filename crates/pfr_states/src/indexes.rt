@@ -1,11 +1,10 @@
 //! Where the states of a table are found: by their keys, and by their deadlines.
 ghost use Rattle.std.specs.Prelude.{◌≡◌, ◌<◌, Some, None, true, false, cond, OnOk, OnErr, IfSome, IfNone};
-ghost use Rattle.std.specs.Ordering.{is_gt};
 ghost use Rattle.std.specs.HashMap.{spare};
 ghost use Rattle.pfr_track.specs.declared.key.Key.{Key};
 ghost use Rattle.pfr_track.specs.declared.time.Deadline.{Deadline};
 ghost use Rattle.pfr_track.specs.declared.state.StateNumber.{StateNumber};
-ghost use Rattle.pfr_states.specs.Indexed as index;
+ghost use Rattle.pfr_states.specs.Indexed.{AnswerAlike, IsFirst, awaits, number_of, with_due, with_key, with_later, with_moved, without_due, without_key};
 ghost use Rattle.pfr_states.specs.States as spec;
 
 use pfr_track::{Deadline, Key, State, StateNumber};
@@ -23,7 +22,7 @@ pub(crate) struct Indexes {
 /// Gives a key, for which there is room, to a number.
 fn give_key(numbers: &mut HashMap<Key, StateNumber>, key: Key, number: StateNumber)
     requires { 0 < spare numbers.old }
-    ensures { (q : Key) → index.number_of numbers.new q ≡ cond (spec.is_same_key key q) (Some number) (index.number_of numbers.old q) }
+    ensures { AnswerAlike (number_of numbers.new) (with_key key number (number_of numbers.old)) }
 {
     match numbers.insert(key, number) {
         Ok(_) => {}
@@ -37,7 +36,7 @@ fn make_room(
     from: &Key,
     to: &Key,
 ) -> Result<(), AllocError>
-    ensures same { (q : Key) → index.number_of numbers.new q ≡ index.number_of numbers.old q }
+    ensures same { AnswerAlike (number_of numbers.new) (number_of numbers.old) }
     ensures room { OnOk result (spec.is_same_key from.now to.now ≡ false → 0 < spare numbers.new) }
 {
     if from != to {
@@ -49,8 +48,8 @@ fn make_room(
 /// Gives a number, which has a key, another one in its place.
 fn move_key(numbers: &mut HashMap<Key, StateNumber>, from: &Key, to: Key, number: StateNumber)
     requires room { spec.is_same_key from.now to ≡ false → 0 < spare numbers.old }
-    requires there { index.number_of numbers.old from.now ≡ Some number }
-    ensures { (q : Key) → index.number_of numbers.new q ≡ cond (spec.is_same_key to q) (Some number) (cond (spec.is_same_key from.now q) None (index.number_of numbers.old q)) }
+    requires there { number_of numbers.old from.now ≡ Some number }
+    ensures { AnswerAlike (number_of numbers.new) (with_moved from.now to number (number_of numbers.old)) }
 {
     if *from != to {
         numbers.remove(from);
@@ -64,8 +63,8 @@ fn wait(
     deadline: Deadline,
     number: StateNumber,
 ) -> Result<(), AllocError>
-    ensures done { OnOk result ((q : Deadline × StateNumber) → index.awaits deadlines.new q ≡ cond (index.is_same_due (deadline, number) q) true (index.awaits deadlines.old q)) }
-    ensures kept { OnErr result ((q : Deadline × StateNumber) → index.awaits deadlines.new q ≡ index.awaits deadlines.old q) }
+    ensures done { OnOk result (AnswerAlike (awaits deadlines.new) (with_due (deadline, number) (awaits deadlines.old))) }
+    ensures kept { OnErr result (AnswerAlike (awaits deadlines.new) (awaits deadlines.old)) }
 {
     deadlines.insert((deadline, number))?;
     Ok(())
@@ -77,7 +76,7 @@ fn forget(
     deadline: Deadline,
     number: StateNumber,
 )
-    ensures { (q : Deadline × StateNumber) → index.awaits deadlines.new q ≡ cond (index.is_same_due (deadline, number) q) false (index.awaits deadlines.old q) }
+    ensures { AnswerAlike (awaits deadlines.new) (without_due (deadline, number) (awaits deadlines.old)) }
 {
     deadlines.remove(&(deadline, number));
 }
@@ -89,9 +88,9 @@ pub(crate) fn put_off(
     to: Deadline,
     number: StateNumber,
 ) -> Result<(), AllocError>
-    requires { index.awaits deadlines.old (from, number) ≡ true }
-    ensures done { OnOk result ((q : Deadline × StateNumber) → index.awaits deadlines.new q ≡ cond (index.is_same_due (to, number) q) true (cond (index.is_same_due (from, number) q) false (index.awaits deadlines.old q))) }
-    ensures kept { OnErr result ((q : Deadline × StateNumber) → index.awaits deadlines.new q ≡ index.awaits deadlines.old q) }
+    requires { awaits deadlines.old (from, number) ≡ true }
+    ensures done { OnOk result (AnswerAlike (awaits deadlines.new) (with_later from to number (awaits deadlines.old))) }
+    ensures kept { OnErr result (AnswerAlike (awaits deadlines.new) (awaits deadlines.old)) }
 {
     if from != to {
         wait(deadlines, to, number)?;
@@ -103,9 +102,9 @@ pub(crate) fn put_off(
 impl Indexes {
     /// Indexes without entries.
     pub(crate) fn new(alloc: Global) -> Indexes
-        ensures wire { (key : Key) → index.number_of result.wire key ≡ None }
-        ensures stack { (key : Key) → index.number_of result.stack key ≡ None }
-        ensures deadlines { (due : Deadline × StateNumber) → index.awaits result.deadlines due ≡ false }
+        ensures wire { (key : Key) → number_of result.wire key ≡ None }
+        ensures stack { (key : Key) → number_of result.stack key ≡ None }
+        ensures deadlines { (due : Deadline × StateNumber) → awaits result.deadlines due ≡ false }
     {
         Indexes {
             wire: HashMap::new(alloc),
@@ -116,9 +115,9 @@ impl Indexes {
 
     /// The least deadline, and of one deadline the least number.
     pub(crate) fn first_due(&self) -> Option<(Deadline, StateNumber)>
-        ensures there { IfSome result (λ due. index.awaits self.now.deadlines due ≡ true) }
-        ensures first { IfSome result (λ due. (other : Deadline × StateNumber) → index.awaits self.now.deadlines other ≡ true → is_gt (index.due_cmp due other) ≡ false) }
-        ensures none { IfNone result ((due : Deadline × StateNumber) → index.awaits self.now.deadlines due ≡ false) }
+        ensures there { IfSome result (λ due. awaits self.now.deadlines due ≡ true) }
+        ensures first { IfSome result (IsFirst self.now.deadlines) }
+        ensures none { IfNone result ((due : Deadline × StateNumber) → awaits self.now.deadlines due ≡ false) }
     {
         match self.deadlines.first() {
             Some(due) => Some(*due),
@@ -128,12 +127,12 @@ impl Indexes {
 
     /// Adds a state's keys and its deadline.
     pub(crate) fn add(&mut self, state: &State) -> Result<(), AllocError>
-        ensures wire { OnOk result ((key : Key) → index.number_of self.new.wire key ≡ cond (spec.is_same_key state.now.wire key) (Some state.now.number) (index.number_of self.old.wire key)) }
-        ensures stack { OnOk result ((key : Key) → index.number_of self.new.stack key ≡ cond (spec.is_same_key state.now.stack key) (Some state.now.number) (index.number_of self.old.stack key)) }
-        ensures deadlines { OnOk result ((due : Deadline × StateNumber) → index.awaits self.new.deadlines due ≡ cond (index.is_same_due (state.now.deadline, state.now.number) due) true (index.awaits self.old.deadlines due)) }
-        ensures same_wire { OnErr result ((key : Key) → index.number_of self.new.wire key ≡ index.number_of self.old.wire key) }
-        ensures same_stack { OnErr result ((key : Key) → index.number_of self.new.stack key ≡ index.number_of self.old.stack key) }
-        ensures same_deadlines { OnErr result ((due : Deadline × StateNumber) → index.awaits self.new.deadlines due ≡ index.awaits self.old.deadlines due) }
+        ensures wire { OnOk result (AnswerAlike (number_of self.new.wire) (with_key state.now.wire state.now.number (number_of self.old.wire))) }
+        ensures stack { OnOk result (AnswerAlike (number_of self.new.stack) (with_key state.now.stack state.now.number (number_of self.old.stack))) }
+        ensures deadlines { OnOk result (AnswerAlike (awaits self.new.deadlines) (with_due (state.now.deadline, state.now.number) (awaits self.old.deadlines))) }
+        ensures same_wire { OnErr result (AnswerAlike (number_of self.new.wire) (number_of self.old.wire)) }
+        ensures same_stack { OnErr result (AnswerAlike (number_of self.new.stack) (number_of self.old.stack)) }
+        ensures same_deadlines { OnErr result (AnswerAlike (awaits self.new.deadlines) (awaits self.old.deadlines)) }
     {
         self.wire.reserve(1)?;
         self.stack.reserve(1)?;
@@ -145,9 +144,9 @@ impl Indexes {
 
     /// Takes a state's keys and its deadline out.
     pub(crate) fn remove(&mut self, state: &State)
-        ensures wire { (key : Key) → index.number_of self.new.wire key ≡ cond (spec.is_same_key state.now.wire key) None (index.number_of self.old.wire key) }
-        ensures stack { (key : Key) → index.number_of self.new.stack key ≡ cond (spec.is_same_key state.now.stack key) None (index.number_of self.old.stack key) }
-        ensures deadlines { (due : Deadline × StateNumber) → index.awaits self.new.deadlines due ≡ cond (index.is_same_due (state.now.deadline, state.now.number) due) false (index.awaits self.old.deadlines due) }
+        ensures wire { AnswerAlike (number_of self.new.wire) (without_key state.now.wire (number_of self.old.wire)) }
+        ensures stack { AnswerAlike (number_of self.new.stack) (without_key state.now.stack (number_of self.old.stack)) }
+        ensures deadlines { AnswerAlike (awaits self.new.deadlines) (without_due (state.now.deadline, state.now.number) (awaits self.old.deadlines)) }
     {
         self.wire.remove(&state.wire);
         self.stack.remove(&state.stack);
@@ -156,15 +155,15 @@ impl Indexes {
 
     /// Puts a state's keys and deadline in the place of those that its number has.
     pub(crate) fn replace(&mut self, old: &State, new: &State) -> Result<(), AllocError>
-        requires wire { index.number_of self.old.wire old.now.wire ≡ Some new.now.number }
-        requires stack { index.number_of self.old.stack old.now.stack ≡ Some new.now.number }
-        requires deadline { index.awaits self.old.deadlines (old.now.deadline, new.now.number) ≡ true }
-        ensures wire { OnOk result ((key : Key) → index.number_of self.new.wire key ≡ cond (spec.is_same_key new.now.wire key) (Some new.now.number) (cond (spec.is_same_key old.now.wire key) None (index.number_of self.old.wire key))) }
-        ensures stack { OnOk result ((key : Key) → index.number_of self.new.stack key ≡ cond (spec.is_same_key new.now.stack key) (Some new.now.number) (cond (spec.is_same_key old.now.stack key) None (index.number_of self.old.stack key))) }
-        ensures deadlines { OnOk result ((due : Deadline × StateNumber) → index.awaits self.new.deadlines due ≡ cond (index.is_same_due (new.now.deadline, new.now.number) due) true (cond (index.is_same_due (old.now.deadline, new.now.number) due) false (index.awaits self.old.deadlines due))) }
-        ensures same_wire { OnErr result ((key : Key) → index.number_of self.new.wire key ≡ index.number_of self.old.wire key) }
-        ensures same_stack { OnErr result ((key : Key) → index.number_of self.new.stack key ≡ index.number_of self.old.stack key) }
-        ensures same_deadlines { OnErr result ((due : Deadline × StateNumber) → index.awaits self.new.deadlines due ≡ index.awaits self.old.deadlines due) }
+        requires wire { number_of self.old.wire old.now.wire ≡ Some new.now.number }
+        requires stack { number_of self.old.stack old.now.stack ≡ Some new.now.number }
+        requires deadline { awaits self.old.deadlines (old.now.deadline, new.now.number) ≡ true }
+        ensures wire { OnOk result (AnswerAlike (number_of self.new.wire) (with_moved old.now.wire new.now.wire new.now.number (number_of self.old.wire))) }
+        ensures stack { OnOk result (AnswerAlike (number_of self.new.stack) (with_moved old.now.stack new.now.stack new.now.number (number_of self.old.stack))) }
+        ensures deadlines { OnOk result (AnswerAlike (awaits self.new.deadlines) (with_later old.now.deadline new.now.deadline new.now.number (awaits self.old.deadlines))) }
+        ensures same_wire { OnErr result (AnswerAlike (number_of self.new.wire) (number_of self.old.wire)) }
+        ensures same_stack { OnErr result (AnswerAlike (number_of self.new.stack) (number_of self.old.stack)) }
+        ensures same_deadlines { OnErr result (AnswerAlike (awaits self.new.deadlines) (awaits self.old.deadlines)) }
     {
         make_room(&mut self.wire, &old.wire, &new.wire)?;
         make_room(&mut self.stack, &old.stack, &new.stack)?;

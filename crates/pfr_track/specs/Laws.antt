@@ -21,7 +21,10 @@ use Rattle.pfr_track.specs.declared.time.Clock.{Clock}
 use Rattle.pfr_track.specs.Datagrams as datagram
 use Rattle.pfr_track.specs.Sequences.{is_at_least}
 use Rattle.pfr_track.specs.Tcp.{code_of, has_reached}
-use Rattle.pfr_track.specs.Tracking.{with_packet}
+use Rattle.pfr_track.specs.Tracking.{with_packet, touched, made}
+use Rattle.pfr_track.specs.declared.key.Key.{Key}
+use Rattle.pfr_track.specs.declared.state.StateNumber.{StateNumber}
+use Rattle.pfr_track.specs.declared.state.StateRules.{StateRules}
 
 -- ---- what a packet leaves
 
@@ -157,3 +160,38 @@ abbrev pub turned_touch : Touch → Touch
 turned_touch (Touched next) = Touched (turned next)
 turned_touch Removed = Removed
 turned_touch Mismatch = Mismatch
+
+-- ---- what the laws say
+
+-- no packet takes an end back
+abbrev pub EndsNeverGoBack : Type 0
+EndsNeverGoBack =
+    (state next : State) (packet : Packet) (direction : Direction) (clock : Clock) (timeouts : Timeouts)
+    → touched state packet direction clock timeouts ≡ Touched next
+    → HaveMovedOn state.peers next.peers
+
+-- a packet that fits leaves the state what it was but for what it moves
+abbrev pub WhatAPacketLeaves : Type 0
+WhatAPacketLeaves =
+    (state next : State) (packet : Packet) (direction : Direction) (clock : Clock) (timeouts : Timeouts)
+    → touched state packet direction clock timeouts ≡ Touched next
+    → IsLeftBy state packet direction clock timeouts next
+
+-- a packet ends a state only where both ends have closed
+abbrev pub OnlyEndedAreRemoved : Type 0
+OnlyEndedAreRemoved =
+    (state : State) (packet : Packet) (direction : Direction) (clock : Clock) (timeouts : Timeouts)
+    → touched state packet direction clock timeouts ≡ Removed
+    → HaveClosed state.peers
+
+-- a new state waits by its timeout, and its ends are of the packet's kind
+abbrev pub NewStateWaits : Type 0
+NewStateWaits =
+    (number : StateNumber) (packet : Packet) (direction : Direction) (wire stack : Key) (rules : StateRules) (clock : Clock) (timeouts : Timeouts)
+    → IsNew packet clock timeouts (made number packet direction wire stack rules clock timeouts)
+
+-- a packet does to a turned state what it does to the state, turned
+abbrev pub BothDirectionsAgree : Type 0
+BothDirectionsAgree =
+    (state : State) (packet : Packet) (direction : Direction) (clock : Clock) (timeouts : Timeouts)
+    → touched (turned state) packet direction clock timeouts ≡ turned_touch (touched state packet direction clock timeouts)

@@ -3,5 +3,5 @@ use Rattle.pfr_conf.proofs.laws.blank_lines_and_comments_between_say_nothing.Goa
 
 pub returns : goal.returns
 returns c first blank second a b are =
-    let read = are.1.1 in
-    blank_between first blank second a b read.0.0 read.0.1 are.0 are.1.0 read.1.0 read.1.1.0 read.1.1.1
+    let read = are.apart in
+    blank_between first blank second a b read.whole.0 read.whole.1 are.ends are.nothing read.says read.other read.follow

@@ -1,0 +1,72 @@
+-- What the laws of a run say.
+use Rattle.std.specs.Prelude.{◌≡◌, ◌++◌, List, ◌∷◌, ◌<◌, ◌+◌, ◌^◌, length, ℕ, get_or}
+use Rattle.std.specs.List.{flat_map, Any, count_by, sum_by, Contains}
+use Rattle.pfr_ruleset.specs.Rulesets.{counts}
+use Rattle.pfr_track.specs.declared.state.State.{State}
+use Rattle.pfr_packet.specs.Job.{RunJob}
+use Rattle.pfr_packet.specs.declared.verdict.Verdict.{Verdict}
+use Rattle.pfr_commit.specs.declared.counters.Totals.{Totals}
+use Rattle.pfr_commit.specs.World.{Frame, World, world_after, world_of, packet_text}
+use Rattle.pfr_commit.specs.Lines.{verdict_line}
+use Rattle.pfr_commit.specs.Runs.{taken_in, capped, comes_to, total_of, counts_for, bytes_for, IsMadeAmong}
+
+-- packets that are taken in two parts leave what they leave together
+abbrev pub TwoPartsAreTheWhole : Type 0
+TwoPartsAreTheWhole =
+    (job : RunJob) (world : World) (first second : List Frame)
+    → world_after job world (first ++ second) ≡ world_after job (world_after job world first) second
+
+-- the verdicts are the lines of the packets, in the order of the capture
+abbrev pub EachHasItsLine : Type 0
+EachHasItsLine =
+    (job : RunJob) (frames : List Frame)
+    → (world_of job frames).texts.verdicts ≡ flat_map (λ p. verdict_line p.number p.clock p.outcome) (taken_in job frames)
+
+-- the packets are the records of those that aren't blocked, in that order
+abbrev pub EachHasItsRecord : Type 0
+EachHasItsRecord =
+    (job : RunJob) (frames : List Frame)
+    → (world_of job frames).texts.packets ≡ flat_map (λ p. packet_text p.frame p.outcome) (taken_in job frames)
+
+-- the clock is the second of one of the records
+abbrev pub ClockIsOfARecord : Type 0
+ClockIsOfARecord =
+    (job : RunJob) (frame : Frame) (frames : List Frame)
+    → Any (λ other. other.seconds ≡ (world_of job (frame ∷ frames)).clock.0) (frame ∷ frames)
+
+-- each total is the number of packets that came to its verdict
+abbrev pub TotalsCountVerdicts : Type 0
+TotalsCountVerdicts =
+    (job : RunJob) (frames : List Frame) (verdict : Verdict)
+    → total_of verdict (world_of job frames).counters.totals ≡ capped (count_by (comes_to verdict) (taken_in job frames))
+
+abbrev pub all_of : Totals → ℕ
+all_of totals = totals.passed + totals.blocked + totals.returned + totals.skipped
+
+-- all four together are the count
+abbrev pub TotalsAreTheCount : Type 0
+TotalsAreTheCount =
+    (job : RunJob) (frames : List Frame)
+    → length frames < 2 ^ 64
+    → all_of (world_of job frames).counters.totals ≡ (world_of job frames).count
+
+-- a rule's packets are those whose line names it for a reason that counts
+abbrev pub PacketsOfARule : Type 0
+PacketsOfARule =
+    (job : RunJob) (frames : List Frame) (rule : ℕ)
+    → rule < (counts job.rules).0
+    → get_or (world_of job frames).counters.filter.packets rule 0 ≡ capped (count_by (counts_for rule) (taken_in job frames))
+
+-- its bytes are theirs
+abbrev pub BytesOfARule : Type 0
+BytesOfARule =
+    (job : RunJob) (frames : List Frame) (rule : ℕ)
+    → rule < (counts job.rules).0
+    → get_or (world_of job frames).counters.filter.bytes rule 0 ≡ capped (sum_by (bytes_for rule) (taken_in job frames))
+
+-- each state was made by a packet of the run that passed
+abbrev pub StatesAreOfPackets : Type 0
+StatesAreOfPackets =
+    (job : RunJob) (frames : List Frame) (state : State)
+    → Contains (world_of job frames).table.states state
+    → IsMadeAmong (taken_in job frames) state
