@@ -46,9 +46,9 @@ def known_cases(case):
     came = udp(P, 53, H, 1000)
     yield case("an error that goes out", "pass in\nblock out", (came, "in pass rule r=0 s=1; 0,1; made 1"),
                (icmp_error(H, UNREACHABLE, 3, came), "out pass state-error r=0 s=1; -; -"))
-    yield case("an error that goes out and tells of an answer", RULES, (UDP_OUT, MADE),
+    yield case("an error that goes out and embeds an answer", RULES, (UDP_OUT, MADE),
                (error(came, source=H, destination=P), "out pass state-error r=1 s=1; -; -"))
-    yield case("an error that comes in and tells of an answer", "pass in\nblock out",
+    yield case("an error that comes in and embeds an answer", "pass in\nblock out",
                (came, "in pass rule r=0 s=1; 0,1; made 1"), (error(UDP_OUT), "in pass state-error r=0 s=1; -; -"))
     yield case("an error to another host", RULES, (UDP_OUT, MADE), (error(UDP_OUT, destination="192.0.2.1"), TOLD))
     yield case("an error and a full table", "set limit states 1\n" + RULES, (UDP_OUT, MADE), (error(UDP_OUT), TOLD))
@@ -106,11 +106,11 @@ def unknown_cases(case):
                (error(udp(P, 53, H, 1000)), FILTERED),
                (error(UDP_OUT, source=H, destination=P), "out pass rule r=1 s=-; 0,1; -"))
     neighbour = udp(H, 1, "10.0.0.6", 2)
-    yield case("an error from the inside to the inside tells of a packet from the outside", RULES, (neighbour, MADE),
+    yield case("an error from the inside to the inside embeds a packet from the outside", RULES, (neighbour, MADE),
                (icmp_error("10.0.0.6", UNREACHABLE, 3, neighbour), "out pass rule r=1 s=-; 0,1; -"),
                (error(udp("10.0.0.6", 2, H, 1), source="10.0.0.6"), "out pass state-error r=1 s=1; -; -"))
     passing_by = udp(P, 1, ROUTER, 2)
-    yield case("an error from the outside to the outside tells of a packet from the inside", "pass in",
+    yield case("an error from the outside to the outside embeds a packet from the inside", "pass in",
                (passing_by, "in pass rule r=0 s=1; 0; made 1"),
                (icmp_error(ROUTER, UNREACHABLE, 3, passing_by), "in pass rule r=0 s=-; 0; -"))
     yield case("an error of other ports, addresses, protocols", RULES, (UDP_OUT, MADE),

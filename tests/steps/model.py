@@ -5,7 +5,7 @@ A packet goes through these steps, in this order, until one of them says what be
 1. One that is no IPv4 packet is skipped (`not-ip`).
 2. One of an interface that `set skip on` names passes (`skip-on`).
 3. One that is too short is blocked (`short`).
-4. A fragment, and an ICMP message that is no echo, is filtered and makes no state. But an ICMP error that tells of the
+4. A fragment, and an ICMP message that is no echo, is filtered and makes no state. But an ICMP error that embeds the
    connection of a state passes (`state-error`), and leaves the state as it is.
 5. One of the connection of a state does to the state what tracking says: where it is accepted it passes (`state`), else it
    is blocked (`state-mismatch`), and maybe the state is removed.

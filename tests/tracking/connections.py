@@ -1,5 +1,5 @@
-"""What a packet tells of connections in a model of the run: the key that its state is looked up by, the connection that an
-ICMP error tells of, and what the tracking of states asks of the packet."""
+"""What a packet shows of connections in a model of the run: the key that its state is looked up by, the connection that an
+ICMP error embeds, and what the tracking of states asks of the packet."""
 
 import struct
 from typing import NamedTuple
@@ -68,7 +68,7 @@ def connection(packet, datagram, direction):
 
 
 def told_connection(packet, datagram, direction):
-    """The key of the connection that an ICMP error tells of; None for a packet that is no such error, or doesn't quote
+    """The key of the connection that an ICMP error embeds; None for a packet that is no such error, or doesn't quote
     enough of a packet.
 
     The error quotes a packet that went the other way. What is quoted counts as far as it was captured, whatever the

@@ -67,7 +67,7 @@ fn bytes(alloc: Global, words: &mut Words<'_>) -> Result<Vec<u8>, AllocError> {
     }
 }
 
-/// The packet that a line tells.
+/// The packet that a line names.
 fn record(alloc: Global, words: &mut Words<'_>) -> Result<Record, AllocError> {
     let link = words.number().unwrap_or(0);
     let seconds = words.number().unwrap_or(0);
@@ -99,7 +99,7 @@ fn put_packets(alloc: Global, out: &mut String, bytes: &[u8]) -> Result<(), Allo
     writeln!(out, "packets {digits}")
 }
 
-/// Tells what was emitted behind these places, and how far a book has come.
+/// Prints what was emitted behind these places, and how far a book has come.
 fn put_emitted(
     alloc: Global,
     out: &mut String,

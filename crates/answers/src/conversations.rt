@@ -129,8 +129,8 @@ fn icmp(kind: u8, message: IcmpMessage) -> Transport {
     })
 }
 
-/// A UDP packet that an error tells of.
-fn told() -> IcmpMessage {
+/// A UDP packet that an error embeds.
+fn embedded() -> IcmpMessage {
     IcmpMessage::Error(Inner {
         header_length: 20,
         protocol: Protocol::UDP,
@@ -145,7 +145,7 @@ fn told() -> IcmpMessage {
 fn carried(kind: u8, header: TcpHeader) -> (Protocol, Transport) {
     match kind {
         1 => (Protocol::ICMP, icmp(8, IcmpMessage::Echo(7))),
-        2 => (Protocol::ICMP, icmp(3, told())),
+        2 => (Protocol::ICMP, icmp(3, embedded())),
         3 => (Protocol::ICMP, icmp(13, IcmpMessage::Other)),
         4 => (Protocol(47), Transport::Fragment),
         5 => (Protocol(47), Transport::Other),

@@ -100,7 +100,7 @@ fn status_of(stop: &Stop) -> u8 {
 }
 
 /// Says in one line what is wrong, and answers the status to end with.
-pub fn tell<E: io::Write>(failure: &Failure<'_>, err: &mut E) -> u8 {
+pub fn report<E: io::Write>(failure: &Failure<'_>, err: &mut E) -> u8 {
     // Where this can't be written either, the status alone says it.
     let _ = writeln!(err, "pfreplay: {failure}");
     failure.status()

@@ -18,7 +18,7 @@ pub fn replay<'a, R: Files + AllocGlobal, O: Write>(
     asked: &RunWords<'a>,
     out: &mut O,
 ) -> Result<u8, Failure<'a>> {
-    // A fault of the ruleset is told before any other file is touched.
+    // A fault of the ruleset is reported before any other file is touched.
     let job = job_of(rt, asked)?;
     let mut source = ReaderSource::new(opened(rt, asked.capture)?);
     let mut sinks = sinks(rt, &asked.outputs)?;

@@ -1,5 +1,5 @@
 //! What the program does.
-use crate::failure::{DONE, Failure, tell};
+use crate::failure::{DONE, Failure, report};
 use crate::files::ruleset_text;
 use crate::replaying::replay;
 use crate::summary::Summary;
@@ -18,7 +18,7 @@ pub fn run<R: Files + AllocGlobal, O: Write, E: Write>(
 ) -> u8 {
     match work(rt, words, out) {
         Ok(status) => status,
-        Err(failure) => tell(&failure, err),
+        Err(failure) => report(&failure, err),
     }
 }
 

@@ -5,6 +5,7 @@ ghost use Rattle.pfr_cli.specs.Seeds.{byte_at};
 
 use crate::failure::Failure;
 use pfr_net::Net;
+use pfr_ruleset::interface::LONGEST_NAME;
 use pfr_ruleset::{IfName, Interface};
 use std::alloc::{AllocError, Global};
 
@@ -18,9 +19,6 @@ pub const INSIDE: &str = "NETS";
 pub const SEED: &str = "HEX";
 /// The form of the value behind the flags that name a file.
 pub const FILE: &str = "FILE";
-
-/// The longest name of an interface, in bytes.
-const LONGEST_NAME: usize = 15;
 
 /// The interface of this name, which has 1 to 15 bytes, and this address, with the length of its prefix.
 pub fn interface<'a>(name: &'a str, address: &'a str) -> Result<Interface, Failure<'a>> {

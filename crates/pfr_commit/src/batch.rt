@@ -1,8 +1,8 @@
 //! Packets that are taken together.
-ghost use Rattle.std.specs.Prelude.{◌≡◌, ◌≤◌, ◌+◌, ◌-◌, ◌^◌, false, true, length, map, take, OnOk, OnErr};
+ghost use Rattle.std.specs.Prelude.{◌≡◌, ◌≤◌, ◌+◌, ◌^◌, false, true, length, OnOk, OnErr};
 ghost use Rattle.std.specs.List.{All};
 ghost use Rattle.pfr_headers.specs.View.{view_of};
-ghost use Rattle.pfr_commit.specs.Emissions.{frame_of, texts_of};
+ghost use Rattle.pfr_commit.specs.Emissions.{texts_of};
 ghost use Rattle.pfr_commit.specs.World as spec;
 
 use crate::book::Book;
@@ -14,7 +14,7 @@ use pfr_record::Speculation;
 use std::alloc::AllocError;
 
 impl Book {
-    ghost use Rattle.pfr_commit.specs.Books.{RisesOver, job_of, world_in};
+    ghost use Rattle.pfr_commit.specs.Books.{RisesOver, frames_of, job_of, texts_up_to, world_with};
 
     /// Takes the next packets, and puts what they add behind what was emitted. Each has its record's view. The results may be
     /// in any order; some may be missing, and some of other packets or other jobs. Of several of one packet the first is

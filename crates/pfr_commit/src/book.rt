@@ -96,7 +96,7 @@ fn put_line(
 }
 
 impl Book {
-    ghost use Rattle.pfr_commit.specs.Books.{MayUse, job_of, world_in};
+    ghost use Rattle.pfr_commit.specs.Books.{MayUse, MayUseNext, job_of, world_in, world_with};
 
     /// A book that has taken no packet of a job.
     #[tactic(auto, unfolding(crate::specs::World::opening))]

@@ -45,6 +45,7 @@ pub fn rules_are_counted_by_their_lines()
 pub fn every_state_is_of_a_packet_that_passed()
     ensures { StatesAreOfPackets }
 {
+    // a state is made or touched by the packet that names it
     every_change_is_of_the_named_state();
 }
 
@@ -52,5 +53,6 @@ pub fn every_state_is_of_a_packet_that_passed()
 pub fn every_run_leaves_a_table()
     ensures { (job : RunJob) (frames : List Frame) → IsTable (world_of job frames).table }
 {
+    // so each change that a packet comes to leaves a table
     no_change_is_refused();
 }

@@ -9,7 +9,7 @@ use Rattle.pfr_terms.specs.declared.name.Written.{Written}
 use Rattle.pfr_terms.specs.declared.name.Written.TheVariants as w
 use Rattle.pfr_terms.specs.declared.error.ConfErrorKind.TheVariants.{BadNumber}
 use Rattle.pfr_terms.specs.Input.{Parser, ◌>>=◌, plain_ahead, quoted_ahead, macro_ahead}
-use Rattle.pfr_terms.proofs.Stays.{Stays, Sight, stays_pure, stays_pure_told, stays_then, stays_first, stays_turn, stays_told, stays_told_so, stays_found, stays_if, stays_any, stays_by, stays_at, stays_test, stays_fault, stays_loop, stays_eat_word, stays_eat_word_so, stays_eat_sign, stays_named, stays_taken, stays_refuse, stays_faulty, stays_leave_out, stays_expect_word, stays_number_in, plain_sight, plain_shows, quoted_sight, quoted_shows, macro_sight, macro_shows, refusal_sight, left_out_sight, word_sight, sees_sight, named_sight, named_shows}
+use Rattle.pfr_terms.proofs.Stays.{Stays, Sight, stays_pure, stays_pure_told, stays_then, stays_first, stays_turn, stays_by_test, stays_by_test_so, stays_found, stays_if, stays_any, stays_by, stays_at, stays_test, stays_fault, stays_loop, stays_eat_word, stays_eat_word_so, stays_eat_sign, stays_named, stays_taken, stays_refuse, stays_faulty, stays_leave_out, stays_expect_word, stays_number_in, plain_sight, plain_shows, quoted_sight, quoted_shows, macro_sight, macro_shows, refusal_sight, left_out_sight, word_sight, sees_sight, named_sight, named_shows}
 use Rattle.pfr_terms.proofs.TermStays.{stays_written, stays_list, stays_interface_name, stays_icmp_match, stays_flags_match, stays_criteria}
 use Rattle.pfr_conf.specs.declared.options.SetOption.TheVariants as o
 use Rattle.pfr_conf.specs.declared.settings.TimeoutName.{TimeoutName}
@@ -180,7 +180,7 @@ either_found one other false = other
 found_if : {B : Type 0} {before to sees : Bool} {closing count : ℕ} {eaten : B → Bool} {p p' q q' : Parser B} (may_come : Bool) (word : List ℕ)
     → Stays before to closing false (λ b. false) count p p' → Stays before to closing false eaten count q q'
     → Stays before to closing sees eaten count (rule_options.eat_if may_come word >>= (λ found. if found then p else q)) (rule_options.eat_if may_come word >>= (λ found. if found then p' else q'))
-found_if may_come word one other = stays_told_so (λ found. found) (eat_if_stays may_come word) (either_found one other)
+found_if may_come word one other = stays_by_test_so (λ found. found) (eat_if_stays may_come word) (either_found one other)
 
 with_binding_stays : {inside : Bool} {count : ℕ} (eaten : StateOptions → Bool) (found : StateOptions) (binding : Option Binding) → Stays inside inside 0 false (λ b. if is_there binding then false else eaten b) count (rule_options.with_binding found binding) (rule_options.with_binding found binding)
 with_binding_stays eaten found (Some binding) = stays_pure _
@@ -188,7 +188,7 @@ with_binding_stays eaten found None = timeout_refusal_stays
 
 state_option_stays : {inside sees : Bool} {count : ℕ} {eaten : StateOptions → Bool} (found : StateOptions) → Stays inside inside 0 sees eaten count (rule_options.state_option found) (rule_options.state_option found)
 unfolding rule_options.state_option
-state_option_stays found = found_if _ _ (stays_pure _) (stays_if _ timeout_refusal_stays (stays_told_so is_there binding_stays (with_binding_stays _ found)))
+state_option_stays found = found_if _ _ (stays_pure _) (stays_if _ timeout_refusal_stays (stays_by_test_so is_there binding_stays (with_binding_stays _ found)))
 
 state_options_stays : {inside sees : Bool} {count : ℕ} → Stays inside inside 0 sees (λ (options : StateOptions). false) count rule_options.state_options rule_options.state_options
 state_options_stays = stays_loop rule_options.state_option_more _ (λ count more other rest found.
@@ -215,7 +215,7 @@ with_keeping_stays found None = last_option_stays found
 
 later_option_stays : {inside sees : Bool} {count : ℕ} (found : R.RuleOptions) → Stays inside inside 0 sees was_read count (rule_options.later_option found) (rule_options.later_option found)
 unfolding rule_options.later_option
-later_option_stays found = stays_if _ (last_option_stays found) (stays_told_so is_there state_keeping_stays (with_keeping_stays found))
+later_option_stays found = stays_if _ (last_option_stays found) (stays_by_test_so is_there state_keeping_stays (with_keeping_stays found))
 
 rule_option_stays : {sees : Bool} {count : ℕ} (found : R.RuleOptions) → Stays false false 0 sees was_read count (rule_options.rule_option found) (rule_options.rule_option found)
 unfolding rule_options.rule_option
@@ -229,7 +229,7 @@ either_turn false more done = done
 
 rule_options_stays : {sees : Bool} {count : ℕ} → Stays false false 0 sees (λ (options : R.RuleOptions). false) count rule_options.rule_options rule_options.rule_options
 rule_options_stays = stays_loop rule_options.rule_option_more _ (λ count more other rest found.
-    stays_told was_read (rule_option_stays found) (λ read. either_turn read.0 (rest read.1) (stays_pure read.1)))
+    stays_by_test was_read (rule_option_stays found) (λ read. either_turn read.0 (rest read.1) (stays_pure read.1)))
 
 -- ---- filter rules
 

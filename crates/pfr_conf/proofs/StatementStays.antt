@@ -12,7 +12,7 @@ use Rattle.pfr_terms.specs.Input.{Input, Outcome, Parser, and_then, ◌>>=◌, p
 use Rattle.pfr_terms.specs.declared.error.ConfErrorKind.TheVariants.{OutOfOrder}
 use Rattle.pfr_terms.specs.Lists.{members}
 use Rattle.pfr_terms.specs.Addresses.{table_entry}
-use Rattle.pfr_terms.proofs.Stays.{longer, mode, Closed, Fine, Sees, Sight, Tells, Follows, Stays, skip_longer, skip_closers, skip_closed, skip_length, stays_pure, stays_then, stays_first, stays_turn, stays_told, stays_found, stays_if, stays_any, stays_by, stays_at, stays_test, either_follows, stays_fault, stays_loop, stays_eat_word, stays_eat_word_so, stays_eat_sign, stays_expect_sign, stays_named, stays_taken, stays_refuse, stays_faulty, stays_open_list, stays_close_list, stays_open_body, stays_close_body, plain_sight, plain_shows, quoted_sight, quoted_shows, macro_sight, macro_shows, line_sight, refusal_sight, left_out_sight, end_sight, word_sight, word_tells, named_sight}
+use Rattle.pfr_terms.proofs.Stays.{longer, mode, Closed, Fine, Sees, Sight, IsTest, Follows, Stays, skip_longer, skip_closers, skip_closed, skip_length, stays_pure, stays_then, stays_first, stays_turn, stays_by_test, stays_found, stays_if, stays_any, stays_by, stays_at, stays_test, either_follows, stays_fault, stays_loop, stays_eat_word, stays_eat_word_so, stays_eat_sign, stays_expect_sign, stays_named, stays_taken, stays_refuse, stays_faulty, stays_open_list, stays_close_list, stays_open_body, stays_close_body, plain_sight, plain_shows, quoted_sight, quoted_shows, macro_sight, macro_shows, line_sight, refusal_sight, left_out_sight, end_sight, word_sight, word_test, named_sight}
 use Rattle.pfr_terms.proofs.TermStays.{stays_members, stays_table_name, stays_table_entry, stays_criteria}
 use Rattle.pfr_conf.specs.declared.filter.Action as A
 use Rattle.pfr_conf.specs.declared.anchor.AnchorRule.{AnchorRule}
@@ -109,14 +109,14 @@ follows_same line ys to closing eaten all count x y x' y' follows e f = rw (← 
 stays_same : {A : Type 0} {before to sees : Bool} {closing count : ℕ} {eaten : A → Bool} {p q p' q' : Parser A} → ((i : Input) → p i ≡ p' i) → ((i : Input) → q i ≡ q' i) → Stays before to closing sees eaten count p q → Stays before to closing sees eaten count p' q'
 stays_same {to = to} {closing = closing} {eaten = eaten} e f stays = record { from = λ line ys i fine braces sees within. follows_same line ys to closing eaten _ _ _ _ _ _ (stays.from line ys i fine braces sees within) (e i) (f (longer line ys i)) }
 
--- where a test tells that the next word is there
-seen_follows : {A : Type 0} {sees : Bool} {count : ℕ} {p q p' q' : Parser A} (test : Input → Bool) (line : ℕ) (ys : List Word) (i : Input) (found : Bool) → Tells test → test i ≡ found
+-- where a test finds that the next word is there
+seen_follows : {A : Type 0} {sees : Bool} {count : ℕ} {p q p' q' : Parser A} (test : Input → Bool) (line : ℕ) (ys : List Word) (i : Input) (found : Bool) → IsTest test → test i ≡ found
     → Stays false false 0 true (λ a. false) count p p' → Stays false false 0 sees (λ a. false) count q q' → Fine false i → Sees sees i → length i.words < count
     → Follows line ys false 0 (λ a. false) (closers i.words) (length i.words) (if found then p i else q i) (if found then p' (longer line ys i) else q' (longer line ys i))
 seen_follows test line ys i true tells is one other fine sees within = one.from line ys i fine (omega arith) (tells.starts i is) within
 seen_follows test line ys i false tells is one other fine sees within = other.from line ys i fine (omega arith) sees within
 
-stays_seen : {A : Type 0} {sees : Bool} {count : ℕ} {p q p' q' : Parser A} (test : Input → Bool) → Sight test → Tells test
+stays_seen : {A : Type 0} {sees : Bool} {count : ℕ} {p q p' q' : Parser A} (test : Input → Bool) → Sight test → IsTest test
     → Stays false false 0 true (λ a. false) count p p' → Stays false false 0 sees (λ a. false) count q q'
     → Stays false false 0 sees (λ a. false) count (λ i. if test i then p i else q i) (λ i. if test i then p' i else q' i)
 stays_seen test sight tells one other = record { from = λ line ys i fine braces sees within. rw (sight.alike line ys i) (seen_follows test line ys i (test i) tells refl one other fine sees within) }
@@ -166,7 +166,7 @@ anchor_of_stays item stays line = stays_then stays_taken (λ done. stays_then (a
 rule_or_stays : {count : ℕ} (anchor : ℕ → Parser FilterStatement) → ((line : ℕ) → Stays false false 0 true (λ (x : FilterStatement). false) count (anchor line) (anchor line)) → (line : ℕ) (found : Option A.Action)
     → Stays false false 0 false (λ (x : FilterStatement). false) count (anchors.rule_or anchor line found) (anchors.rule_or anchor line found)
 rule_or_stays anchor stays line (Some found) = stays_then (stays_filter_rule line found) (λ read. stays_pure _)
-rule_or_stays anchor stays line None = stays_seen (sees_word (codes "anchor")) (word_sight _) (word_tells _) (stays line) stays_refuse
+rule_or_stays anchor stays line None = stays_seen (sees_word (codes "anchor")) (word_sight _) (word_test _) (stays line) stays_refuse
 
 rule_or_anchor_stays : {sees : Bool} {count : ℕ} (anchor : ℕ → Parser FilterStatement) → ((line : ℕ) → Stays false false 0 true (λ (x : FilterStatement). false) count (anchor line) (anchor line))
     → Stays false false 0 sees (λ (x : FilterStatement). false) count (anchors.rule_or_anchor anchor) (anchors.rule_or_anchor anchor)
@@ -222,7 +222,7 @@ either_turn true more done = more
 either_turn false more done = done
 
 flags_stay : {sees : Bool} {count : ℕ} → Stays false false 0 sees (λ (a : Unit {0}). false) count tables.flags tables.flags
-flags_stay = stays_loop tables.flag_more tt (λ count more other rest done. stays_told (λ found. found) flag_stays (λ is_flag. either_turn is_flag (rest tt) (stays_pure tt)))
+flags_stay = stays_loop tables.flag_more tt (λ count more other rest done. stays_by_test (λ found. found) flag_stays (λ is_flag. either_turn is_flag (rest tt) (stays_pure tt)))
 
 entries_stay : {sees : Bool} {count : ℕ} → Stays false false 0 sees (λ (a : List TableEntry). false) count tables.entries tables.entries
 unfolding tables.entries
@@ -273,7 +273,7 @@ set_follows : {count : ℕ} (sees : Bool) (so_far : statements.Lines) (line : �
     (if not found then statements.rule_or_definition so_far i else if statements.may_set so_far.0 then statements.set_statement so_far i else faulty OutOfOrder i)
     (if not found then statements.rule_or_definition so_far (longer line ys i) else if statements.may_set so_far.0 then statements.set_statement so_far (longer line ys i) else faulty OutOfOrder (longer line ys i))
 set_follows before so_far line ys i false is fine sees within = (rule_or_definition_stays so_far).from line ys i fine (omega arith) sees within
-set_follows before so_far line ys i true is fine sees within = either_follows (statements.may_set so_far.0) line ys i (set_statement_stays so_far) (stays_faulty OutOfOrder) fine (omega arith) ((word_tells (codes "set")).starts i is) within
+set_follows before so_far line ys i true is fine sees within = either_follows (statements.may_set so_far.0) line ys i (set_statement_stays so_far) (stays_faulty OutOfOrder) fine (omega arith) ((word_test (codes "set")).starts i is) within
 
 pub any_statement_stays : {sees : Bool} {count : ℕ} (so_far : statements.Lines) → Stays false false 0 sees (λ (a : statements.Lines). false) count (statements.any_statement so_far) (statements.any_statement so_far)
 unfolding statements.any_statement

@@ -37,7 +37,7 @@ says_nothing text all = ap whole (none_more (turns (start (words text))) (sectio
 
 -- ---- a text with another behind it
 
--- of a list that is read without the lines behind it is told what is read with them; a fault is the same
+-- of a list that is read without the lines behind it it is said what is read with them; a fault is the same
 abbrev pub Goes : (List Statement → Outcome (List Statement) → Type 0) → Outcome (List Statement) → Outcome (List Statement) → Type 0
 Goes R (Ok r) other = R r.0 other
 Goes R (Err e) other = other ≡ Err e

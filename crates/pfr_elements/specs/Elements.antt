@@ -125,7 +125,7 @@ faulty e = record { items = []; tables = 0; fault = Some e }
 abbrev pub undefined_table : ℕ → ConfError
 undefined_table line = record { line = line; kind = UndefinedTable }
 
--- all faults of a value stand where it is used, and the lowest is told; a table that isn't defined there is one
+-- all faults of a value stand where it is used, and the lowest is reported; a table that isn't defined there is one
 abbrev pub fault_at : {A : Type 0} → ℕ → ℕ → ListMeaning A → Option ConfError
 fault_at line defined meant =
     if nat_le meant.tables defined then option_map (at_line line) meant.fault

@@ -35,7 +35,7 @@ use Rattle.pfr_expand.specs.Laws.{AllWritten, AsksAsWritten, AsksFrom, AreByForm
 use Rattle.pfr_expand.proofs.CountLemmas.{AreCounted, combinations_few, is_fault, lists_counted, within}
 use Rattle.pfr_expand.proofs.PlainLemmas.{anchor_exact, rule_asks, rule_exact}
 
--- rules behind those that there were, of what is told, and no more than are counted
+-- rules behind those that there were, of what is said, and no more than are counted
 pub record Extends (AreMade : List FlatRule → Type 0) (old new : Body) : Type 0 where
   pub own : List FlatRule
   pub sound : old.fault ≡ None

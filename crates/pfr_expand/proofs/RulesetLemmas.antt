@@ -55,7 +55,7 @@ pub record IsFew (work : Work) : Type 0 where
   pub all : length work.flat.filter.rules + work.translations ≤ 65536
   pub translations : translation_count work.flat.translations ≤ work.translations
 
--- rules of the filter behind those that there were, of what is told
+-- rules of the filter behind those that there were, of what is said
 pub record Advances (AreMade : List FlatRule → Type 0) (work next : Work) : Type 0 where
   pub own : List FlatRule
   pub rules : next.flat.filter.rules ≡ work.flat.filter.rules ++ own

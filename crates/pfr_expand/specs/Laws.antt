@@ -150,7 +150,7 @@ pub record AreOfAnchor (AreOfBody : List FlatRule → Type 0) (anchor : AnchorRu
   pub are_copies : rules ≡ copies times body
   pub count : ArePlain anchor.criteria → times ≡ combinations_in anchor.criteria
 
--- the rules of a filter rule, or of an anchor where it is told which are rules of its body
+-- the rules of a filter rule, or of an anchor where it is known which are rules of its body
 abbrev pub AreByForm : (List FilterStatement → List FlatRule → Type 0) → FilterStatement-F FilterStatement → List FlatRule → Type 0
 AreByForm AreOfBody (FilterStatement-F.Rule rule) rules = AreOfRule rule rules
 AreByForm AreOfBody (FilterStatement-F.Anchor anchor body) rules = AreOfAnchor (AreOfBody body) anchor rules

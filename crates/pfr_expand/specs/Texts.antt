@@ -15,7 +15,7 @@ abbrev pub expanded_by : Result Statements ConfError → Interface → Result Ru
 expanded_by (Err fault) interface = Err fault
 expanded_by (Ok statements) interface = expanded statements interface
 
--- a text longer than a MiB is refused whole; else the first fault of its statements is told, and then of what they mean
+-- a text longer than a MiB is refused whole; else the first fault of its statements is reported, and then of what they mean
 unfoldable pub ruleset_of : List ℕ → Interface → Result Ruleset ConfError
 ruleset_of text interface =
     if nat_lt 1048576 (length text) then Err (record { line = 1; kind = TooMany })

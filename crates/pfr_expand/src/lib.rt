@@ -2,7 +2,7 @@
 //!
 //! [`ruleset_of`] reads a text, and [`expand`] makes the ruleset of its statements. It gives macros their values, tables
 //! their entries and interface forms their addresses, and makes one flat rule of each combination of the elements of a
-//! rule's lists. Of the faults that only this shows it tells the first.
+//! rule's lists. Of the faults that only this shows it reports the first.
 #![tactic(auto)]
 
 pub mod body;

@@ -190,6 +190,7 @@ fn put(
     requires { number ≤ 65536 }
     ensures { OnOk result (out.new ≡ spec.with_rules number passes change matches.now out.old) }
 {
+    // a slice's length is a number of the machine, so numbers don't run over
     let _few = matches.len();
     match change {
         Change::Nat(target) => { put_translations(&mut out.nats, number, passes, target, matches) }

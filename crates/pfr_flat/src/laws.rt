@@ -33,5 +33,6 @@ pub fn negated_table_is_the_negation()
 pub fn list_by_a_macro_is_the_list<T: Element>(meanings: &ListMeanings)
     ensures { ListByMacro T.kind meanings.now }
 {
+    // the call's clauses say what a macro's value means as such a list
     let _meant = T::list_in(meanings);
 }

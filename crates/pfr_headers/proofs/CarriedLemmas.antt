@@ -13,8 +13,8 @@ use Rattle.pfr_headers.specs.declared.transport.Transport.{Transport}
 use Rattle.pfr_headers.specs.declared.transport.Transport.TheVariants.{Tcp, Udp, Icmp}
 use Rattle.pfr_headers.specs.declared.udp.UdpHeader.{UdpHeader}
 use Rattle.pfr_headers.specs.Checksum.{AreBytes, Verifies, Word, with_words, word_at}
-use Rattle.pfr_headers.specs.Laws.{CarriesTold, IsTranslated, message_sum, segment_sum}
-use Rattle.pfr_headers.specs.Rewriting.{echo_words, error_words, header_words, packet_words, rewritten, told_in, words_of}
+use Rattle.pfr_headers.specs.Laws.{CarriesEmbedded, IsTranslated, message_sum, segment_sum}
+use Rattle.pfr_headers.specs.Rewriting.{echo_words, error_words, header_words, packet_words, rewritten, embedded_in, words_of}
 use Rattle.pfr_headers.specs.Room.{BehindFits}
 use Rattle.pfr_headers.specs.View.{header_length_of, packet_of, place_of, view_of}
 use Rattle.pfr_headers.proofs.FieldLemmas.{inner_known}
@@ -35,47 +35,47 @@ datagram_at link place bytes change is at =
     let new = with_words (words_of d change) d in
     rw at (subst (λ (n : ℕ). drop n (take place bytes ++ new) ≡ new) (length-take-le place bytes within) (drop-append_seam (take place bytes) new))
 
--- no other packet is told of
-alone : (d : List ℕ) (change : Change) → told_in change.packet.transport ≡ None → words_of d change ≡ packet_words d change.packet change.end change.to
+-- no other packet is embedded
+alone : (d : List ℕ) (change : Change) → embedded_in change.packet.transport ≡ None → words_of d change ≡ packet_words d change.packet change.end change.to
 unfolding words_of
 alone d change none = rw none refl
 
-telling : (d : List ℕ) (change : Change) (inner : Inner) → told_in change.packet.transport ≡ Some inner → words_of d change ≡ error_words d change.packet inner change.end change.to
+embedding : (d : List ℕ) (change : Change) (inner : Inner) → embedded_in change.packet.transport ≡ Some inner → words_of d change ≡ error_words d change.packet inner change.end change.to
 unfolding words_of
-telling d change inner is = rw is refl
+embedding d change inner is = rw is refl
 
-told_of_tcp : (t : Transport) (x : TcpHeader) → t ≡ Tcp x → told_in t ≡ None
-told_of_tcp t x is = rw is refl
+embedded_of_tcp : (t : Transport) (x : TcpHeader) → t ≡ Tcp x → embedded_in t ≡ None
+embedded_of_tcp t x is = rw is refl
 
-told_of_udp : (t : Transport) (x : UdpHeader) → t ≡ Udp x → told_in t ≡ None
-told_of_udp t x is = rw is refl
+embedded_of_udp : (t : Transport) (x : UdpHeader) → t ≡ Udp x → embedded_in t ≡ None
+embedded_of_udp t x is = rw is refl
 
--- the datagram after a change of a packet that tells of no other
-rewritten_alone : (link place : ℕ) (bytes : List ℕ) (change : Change) → IsTranslated link bytes change place → told_in change.packet.transport ≡ None → drop place (rewritten link change bytes) ≡ with_words (packet_words (drop place bytes) change.packet change.end change.to) (drop place bytes)
+-- the datagram after a change of a packet that embeds no other
+rewritten_alone : (link place : ℕ) (bytes : List ℕ) (change : Change) → IsTranslated link bytes change place → embedded_in change.packet.transport ≡ None → drop place (rewritten link change bytes) ≡ with_words (packet_words (drop place bytes) change.packet change.end change.to) (drop place bytes)
 rewritten_alone link place bytes change is none = datagram_at link place bytes change is.view is.begins ∙ ap (λ (ws : List Word). with_words ws (drop place bytes)) (alone (drop place bytes) change none)
 
 pub frame_tcp : (link place : ℕ) (bytes : List ℕ) (change : Change) (t : TcpHeader) → IsTranslated link bytes change place → change.packet.transport ≡ Tcp t → Verifies (segment_sum (drop place bytes) change.packet) → Verifies (segment_sum (drop place (rewritten link change bytes)) change.packet)
 frame_tcp link place bytes change t is kind before =
     let d = drop place bytes in
     let there = packet_there link place bytes change.packet is.begins is.view in
-    rw (rewritten_alone link place bytes change is (told_of_tcp change.packet.transport t kind))
+    rw (rewritten_alone link place bytes change is (embedded_of_tcp change.packet.transport t kind))
     (tcp_datagram d change.packet change.end change.to t there kind (bytes_behind place bytes is.are_bytes) is.address is.port before)
 
 pub frame_udp : (link place : ℕ) (bytes : List ℕ) (change : Change) (u : UdpHeader) → IsTranslated link bytes change place → change.packet.transport ≡ Udp u → 0 < word_at (drop place bytes) (change.packet.header_length + 6) → Verifies (segment_sum (drop place bytes) change.packet) → Verifies (segment_sum (drop place (rewritten link change bytes)) change.packet)
 frame_udp link place bytes change u is kind some before =
     let d = drop place bytes in
     let there = packet_there link place bytes change.packet is.begins is.view in
-    rw (rewritten_alone link place bytes change is (told_of_udp change.packet.transport u kind))
+    rw (rewritten_alone link place bytes change is (embedded_of_udp change.packet.transport u kind))
     (udp_datagram d change.packet change.end change.to u there kind (bytes_behind place bytes is.are_bytes) is.address is.port some before)
 
 pub frame_unsummed : (link place : ℕ) (bytes : List ℕ) (change : Change) (u : UdpHeader) → IsTranslated link bytes change place → change.packet.transport ≡ Udp u → word_at (drop place bytes) (change.packet.header_length + 6) ≡ 0 → word_at (drop place (rewritten link change bytes)) (change.packet.header_length + 6) ≡ 0
 frame_unsummed link place bytes change u is kind none =
     let d = drop place bytes in
     let there = packet_there link place bytes change.packet is.begins is.view in
-    rw (rewritten_alone link place bytes change is (told_of_udp change.packet.transport u kind)) (no_checksum d change.packet change.end change.to u there kind none)
+    rw (rewritten_alone link place bytes change is (embedded_of_udp change.packet.transport u kind)) (no_checksum d change.packet change.end change.to u there kind none)
 
 -- by the message
-message_verifies : (d : List ℕ) (change : Change) (i : IcmpHeader) (m : IcmpMessage) → packet_of d ≡ Some change.packet → change.packet.transport ≡ Icmp i → i.message ≡ m → AreBytes d → change.to.address.0 < 4294967296 → change.to.port.0 < 65536 → CarriesTold change.packet m
+message_verifies : (d : List ℕ) (change : Change) (i : IcmpHeader) (m : IcmpMessage) → packet_of d ≡ Some change.packet → change.packet.transport ≡ Icmp i → i.message ≡ m → AreBytes d → change.to.address.0 < 4294967296 → change.to.port.0 < 65536 → CarriesEmbedded change.packet m
     → Verifies (message_sum d change.packet) → 0 < message_sum (with_words (words_of d change) d) change.packet → Verifies (message_sum (with_words (words_of d change) d) change.packet)
 unfolding packet_words
 message_verifies d change i (message.Echo identifier) there kind is are address port carries before some =
@@ -86,7 +86,7 @@ message_verifies d change i (message.Echo identifier) there kind is are address 
     let fits : BehindFits (length d) p.header_length (Icmp i) = subst (BehindFits (length d) p.header_length) kind (transport_room d p there) in
     let header = header_words d 0 change.end to.address in
     let now = with_words header d in
-    let none : told_in p.transport ≡ None = rw (kind, is) refl in
+    let none : embedded_in p.transport ≡ None = rw (kind, is) refl in
     let joined : with_words (words_of d change) d ≡ with_words (echo_words d p.header_length to.port) now =
     ap (λ (ws : List Word). with_words ws d) (alone d change none)
     ∙ (rw (kind, is) (with_append header (echo_words d p.header_length to.port) d)) in
@@ -96,12 +96,12 @@ message_verifies d change i (message.Echo identifier) there kind is are address 
     subst (λ (t : List ℕ). Verifies (message_sum t p)) (sym joined) v
 message_verifies d change i (message.Error inner) there kind is are address port carries before some =
     let p = change.packet in
-    let told : told_in p.transport ≡ Some inner = rw (kind, is) refl in
-    let fits = inner_room d p inner there told in
+    let embedded : embedded_in p.transport ≡ Some inner = rw (kind, is) refl in
+    let fits = inner_room d p inner there embedded in
     let e = drop 8 (drop (header_length_of d) d) in
-    let even = (inner_there d p inner there told).header_length in
-    let joined = ap (λ (ws : List Word). with_words ws d) (telling d change inner told) in
-    let v = error_datagram d p inner (2 * (slice_index e 0 % 16)) change.end change.to are (inner_known d p inner there told) (omega (arith, even)) (header_room d p there).0 fits.header carries fits.behind address port before
+    let even = (inner_there d p inner there embedded).header_length in
+    let joined = ap (λ (ws : List Word). with_words ws d) (embedding d change inner embedded) in
+    let v = error_datagram d p inner (2 * (slice_index e 0 % 16)) change.end change.to are (inner_known d p inner there embedded) (omega (arith, even)) (header_room d p there).0 fits.header carries fits.behind address port before
     (subst (λ (t : List ℕ). 0 < message_sum t p) joined some) in
     subst (λ (t : List ℕ). Verifies (message_sum t p)) (sym joined) v
 message_verifies d change i message.Other there kind is are address port carries before some =
@@ -111,14 +111,14 @@ message_verifies d change i message.Other there kind is are address port carries
     let long = room.0 in
     let most = room.1 in
     let header = header_words d 0 change.end to.address in
-    let none : told_in p.transport ≡ None = rw (kind, is) refl in
+    let none : embedded_in p.transport ≡ None = rw (kind, is) refl in
     let joined : with_words (words_of d change) d ≡ with_words header d =
     ap (λ (ws : List Word). with_words ws d) (alone d change none)
     ∙ (rw (kind, is) (with_append header [] d)) in
     let same = message_same header d p (0 + 10) (0 + 20) (header_span d 0 change.end to.address) (omega arith) (omega arith) in
     subst Verifies (sym (ap (λ (t : List ℕ). message_sum t p) joined ∙ same)) before
 
-pub frame_icmp : (link place : ℕ) (bytes : List ℕ) (change : Change) (i : IcmpHeader) → IsTranslated link bytes change place → change.packet.transport ≡ Icmp i → CarriesTold change.packet i.message → Verifies (message_sum (drop place bytes) change.packet)
+pub frame_icmp : (link place : ℕ) (bytes : List ℕ) (change : Change) (i : IcmpHeader) → IsTranslated link bytes change place → change.packet.transport ≡ Icmp i → CarriesEmbedded change.packet i.message → Verifies (message_sum (drop place bytes) change.packet)
     → 0 < message_sum (drop place (rewritten link change bytes)) change.packet → Verifies (message_sum (drop place (rewritten link change bytes)) change.packet)
 frame_icmp link place bytes change i is kind carries before some =
     let d = drop place bytes in

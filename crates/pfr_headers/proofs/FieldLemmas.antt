@@ -18,8 +18,8 @@ use Rattle.pfr_headers.specs.declared.packet.View.TheVariants.{Ipv4}
 use Rattle.pfr_headers.specs.declared.transport.Transport.{Transport}
 use Rattle.pfr_headers.specs.declared.transport.Transport.TheVariants.{Fragment, Tcp, Udp, Icmp, Other}
 use Rattle.pfr_headers.specs.Checksum.{Word, with_word, with_words, word}
-use Rattle.pfr_headers.specs.Laws.{IsIn, IsOfEcho, IsOfEnd, IsOfHeader, IsOfMessage, IsOfTcp, IsOfTold, IsOfTransport, IsOfUdp, of_end, of_other}
-use Rattle.pfr_headers.specs.Rewriting.{behind_words, echo_or_none, echo_words, end_address, error_words, header_words, inner_words, other_end, outer_words, packet_words, port_place, rewritten, tcp_words, told_by, told_in, told_words, udp_words, words_for, words_of}
+use Rattle.pfr_headers.specs.Laws.{IsIn, IsOfEcho, IsOfEnd, IsOfHeader, IsOfMessage, IsOfTcp, IsOfEmbedded, IsOfTransport, IsOfUdp, of_end, of_other}
+use Rattle.pfr_headers.specs.Rewriting.{behind_words, echo_or_none, echo_words, end_address, error_words, header_words, inner_words, other_end, outer_words, packet_words, port_place, rewritten, tcp_words, embedded_by, embedded_in, embedded_words, udp_words, words_for, words_of}
 use Rattle.pfr_headers.specs.Room.{BehindFits}
 use Rattle.pfr_headers.specs.Transport.{InnerPorts, IsInner}
 use Rattle.pfr_headers.specs.View.{header_length_of, packet_of, place_of, view_of}
@@ -99,31 +99,31 @@ port_of : (at : ℕ) (end : End) (port : Port) → AllOf (λ byte. IsIn (at + of
 port_of at Source port = (((omega arith, omega arith), (omega arith, omega arith)), record {})
 port_of at Destination port = (((omega arith, omega arith), (omega arith, omega arith)), record {})
 
--- behind the header of a packet that an error tells of, which is of TCP, UDP or ICMP
+-- behind the header of a packet that an error embeds, which is of TCP, UDP or ICMP
 abbrev pub Known : ℕ → Type 0
 Known protocol = (protocol ≡ 6) ⊎ ((protocol ≡ 17) ⊎ (protocol ≡ 1))
 
-told_of : (d : List ℕ) (protocol at : ℕ) (end : End) (s : ℕ) (port : Port) → Known protocol → AllOf (IsOfTold protocol at (of_end end 0 2)) (told_words d protocol at end s port)
-unfolding told_words
-told_of d protocol at end s port (inl is) =
-    subst (λ (n : ℕ). AllOf (IsOfTold n at (of_end end 0 2)) (told_words d n at end s port)) (sym is)
-    (all_wider (λ byte. IsIn (at + of_end end 0 2) 2 byte) (IsOfTold 6 at (of_end end 0 2)) (word (at + port_place end) port.0 ∷ []) (λ byte of. inl (refl, of)) (port_of at end port))
-told_of d protocol at end s port (inr (inl is)) =
-    subst (λ (n : ℕ). AllOf (IsOfTold n at (of_end end 0 2)) (told_words d n at end s port)) (sym is)
-    (all_wider (IsOfUdp at (of_end end 0 2)) (IsOfTold 17 at (of_end end 0 2)) (udp_words d at end s port) (λ byte of. inr (inl (refl, of))) (udp_of d at end s port))
-told_of d protocol at end s port (inr (inr is)) =
-    subst (λ (n : ℕ). AllOf (IsOfTold n at (of_end end 0 2)) (told_words d n at end s port)) (sym is)
-    (all_wider (IsOfEcho at) (IsOfTold 1 at (of_end end 0 2)) (echo_words d at port) (λ byte of. inr (inr (refl, of))) (echo_of d at port))
+embedded_of : (d : List ℕ) (protocol at : ℕ) (end : End) (s : ℕ) (port : Port) → Known protocol → AllOf (IsOfEmbedded protocol at (of_end end 0 2)) (embedded_words d protocol at end s port)
+unfolding embedded_words
+embedded_of d protocol at end s port (inl is) =
+    subst (λ (n : ℕ). AllOf (IsOfEmbedded n at (of_end end 0 2)) (embedded_words d n at end s port)) (sym is)
+    (all_wider (λ byte. IsIn (at + of_end end 0 2) 2 byte) (IsOfEmbedded 6 at (of_end end 0 2)) (word (at + port_place end) port.0 ∷ []) (λ byte of. inl (refl, of)) (port_of at end port))
+embedded_of d protocol at end s port (inr (inl is)) =
+    subst (λ (n : ℕ). AllOf (IsOfEmbedded n at (of_end end 0 2)) (embedded_words d n at end s port)) (sym is)
+    (all_wider (IsOfUdp at (of_end end 0 2)) (IsOfEmbedded 17 at (of_end end 0 2)) (udp_words d at end s port) (λ byte of. inr (inl (refl, of))) (udp_of d at end s port))
+embedded_of d protocol at end s port (inr (inr is)) =
+    subst (λ (n : ℕ). AllOf (IsOfEmbedded n at (of_end end 0 2)) (embedded_words d n at end s port)) (sym is)
+    (all_wider (IsOfEcho at) (IsOfEmbedded 1 at (of_end end 0 2)) (echo_words d at port) (λ byte of. inr (inr (refl, of))) (echo_of d at port))
 
 abbrev IsOfInner : ℕ → Inner → ℕ → ℕ → ℕ → Type 0
-IsOfInner at inner address port byte = IsOfHeader at address byte ⊎ IsOfTold inner.protocol.0 (at + inner.header_length) port byte
+IsOfInner at inner address port byte = IsOfHeader at address byte ⊎ IsOfEmbedded inner.protocol.0 (at + inner.header_length) port byte
 
 inner_of : (d : List ℕ) (at : ℕ) (inner : Inner) (end : End) (to : Endpoint) → Known inner.protocol.0 → AllOf (IsOfInner at inner (of_end end 12 16) (of_end end 0 2)) (inner_words d at inner end to)
 unfolding inner_words
 inner_of d at inner end to known =
     all_append (IsOfInner at inner (of_end end 12 16) (of_end end 0 2)) (header_words d at end to.address) _
     (all_wider (IsOfHeader at (of_end end 12 16)) _ (header_words d at end to.address) (λ byte of. inl of) (header_of d at end to.address))
-    (all_wider (IsOfTold inner.protocol.0 (at + inner.header_length) (of_end end 0 2)) _ _ (λ byte of. inr of) (told_of d inner.protocol.0 (at + inner.header_length) end _ to.port known))
+    (all_wider (IsOfEmbedded inner.protocol.0 (at + inner.header_length) (of_end end 0 2)) _ _ (λ byte of. inr of) (embedded_of d inner.protocol.0 (at + inner.header_length) end _ to.port known))
 
 other_is : (end : End) (a b : ℕ) → of_end (other_end end) a b ≡ of_other end a b
 other_is Source a b = refl
@@ -136,25 +136,25 @@ outer_of d p inner end to false e = rw e (record {})
 
 -- what an error writes behind its own header
 abbrev IsOfError : ℕ → Inner → End → ℕ → Type 0
-IsOfError at inner end byte = IsIn (at + 2) 2 byte ⊎ IsOfHeader (at + 8) (of_other end 12 16) byte ⊎ IsOfTold inner.protocol.0 (at + 8 + inner.header_length) (of_other end 0 2) byte
+IsOfError at inner end byte = IsIn (at + 2) 2 byte ⊎ IsOfHeader (at + 8) (of_other end 12 16) byte ⊎ IsOfEmbedded inner.protocol.0 (at + 8 + inner.header_length) (of_other end 0 2) byte
 
-message_of : (at : ℕ) (end : End) (m : IcmpMessage) (inner : Inner) → told_by m ≡ Some inner → (byte : ℕ) → IsOfError at inner end byte → IsOfMessage at end m byte
-message_of at end (message.Echo identifier) inner told byte of = absurd (cc)
-message_of at end (message.Error carried) inner told byte of = subst (λ (i : Inner). IsOfError at i end byte) (let e : inner ≡ carried = cc in e) of
-message_of at end message.Other inner told byte of = absurd (cc)
+message_of : (at : ℕ) (end : End) (m : IcmpMessage) (inner : Inner) → embedded_by m ≡ Some inner → (byte : ℕ) → IsOfError at inner end byte → IsOfMessage at end m byte
+message_of at end (message.Echo identifier) inner embedded byte of = absurd (cc)
+message_of at end (message.Error carried) inner embedded byte of = subst (λ (i : Inner). IsOfError at i end byte) (let e : inner ≡ carried = cc in e) of
+message_of at end message.Other inner embedded byte of = absurd (cc)
 
-transport_of : (at : ℕ) (end : End) (t : Transport) (inner : Inner) → told_in t ≡ Some inner → (byte : ℕ) → IsOfError at inner end byte → IsOfTransport at end t byte
-transport_of at end Fragment inner told byte of = absurd (cc)
-transport_of at end (Tcp t) inner told byte of = absurd (cc)
-transport_of at end (Udp u) inner told byte of = absurd (cc)
-transport_of at end (Icmp i) inner told byte of = message_of at end i.message inner told byte of
-transport_of at end Other inner told byte of = absurd (cc)
+transport_of : (at : ℕ) (end : End) (t : Transport) (inner : Inner) → embedded_in t ≡ Some inner → (byte : ℕ) → IsOfError at inner end byte → IsOfTransport at end t byte
+transport_of at end Fragment inner embedded byte of = absurd (cc)
+transport_of at end (Tcp t) inner embedded byte of = absurd (cc)
+transport_of at end (Udp u) inner embedded byte of = absurd (cc)
+transport_of at end (Icmp i) inner embedded byte of = message_of at end i.message inner embedded byte of
+transport_of at end Other inner embedded byte of = absurd (cc)
 
-error_of : (d : List ℕ) (p : Packet) (inner : Inner) (end : End) (to : Endpoint) → told_in p.transport ≡ Some inner → Known inner.protocol.0 → AllOf (IsOfEnd p end) (error_words d p inner end to)
+error_of : (d : List ℕ) (p : Packet) (inner : Inner) (end : End) (to : Endpoint) → embedded_in p.transport ≡ Some inner → Known inner.protocol.0 → AllOf (IsOfEnd p end) (error_words d p inner end to)
 unfolding error_words
-error_of d p inner end to told known =
+error_of d p inner end to embedded known =
     let carried = inner_words d (p.header_length + 8) inner (other_end end) to in
-    let of_error = λ (byte : ℕ) (of : IsOfError p.header_length inner end byte). transport_of p.header_length end p.transport inner told byte of in
+    let of_error = λ (byte : ℕ) (of : IsOfError p.header_length inner end byte). transport_of p.header_length end p.transport inner embedded byte of in
     all_append (IsOfEnd p end) carried _
     (all_wider (IsOfInner (p.header_length + 8) inner (of_end (other_end end) 12 16) (of_end (other_end end) 0 2)) (IsOfEnd p end) carried
     (λ byte of. inr (of_error byte (inr (subst (λ (n : ℕ). IsOfInner (p.header_length + 8) inner n (of_other end 0 2) byte) (other_is end 12 16) (subst (λ (n : ℕ). IsOfInner (p.header_length + 8) inner (of_end (other_end end) 12 16) n byte) (other_is end 0 2) of)))))
@@ -165,24 +165,24 @@ error_of d p inner end to told known =
 
 -- ---- any other packet
 
-echo_or_none_of : (d : List ℕ) (at : ℕ) (end : End) (port : Port) (m : IcmpMessage) → told_by m ≡ None → AllOf (IsOfMessage at end m) (echo_or_none d at port m)
-echo_or_none_of d at end port (message.Echo identifier) told = echo_of d at port
-echo_or_none_of d at end port (message.Error inner) told = record {}
-echo_or_none_of d at end port message.Other told = record {}
+echo_or_none_of : (d : List ℕ) (at : ℕ) (end : End) (port : Port) (m : IcmpMessage) → embedded_by m ≡ None → AllOf (IsOfMessage at end m) (echo_or_none d at port m)
+echo_or_none_of d at end port (message.Echo identifier) embedded = echo_of d at port
+echo_or_none_of d at end port (message.Error inner) embedded = record {}
+echo_or_none_of d at end port message.Other embedded = record {}
 
-behind_of : (d : List ℕ) (at : ℕ) (end : End) (s : ℕ) (port : Port) (t : Transport) → told_in t ≡ None → AllOf (IsOfTransport at end t) (behind_words d at end s port t)
-behind_of d at end s port Fragment told = record {}
-behind_of d at end s port (Tcp t) told = tcp_of d at end s port
-behind_of d at end s port (Udp u) told = udp_of d at end s port
-behind_of d at end s port (Icmp i) told = echo_or_none_of d at end port i.message told
-behind_of d at end s port Other told = record {}
+behind_of : (d : List ℕ) (at : ℕ) (end : End) (s : ℕ) (port : Port) (t : Transport) → embedded_in t ≡ None → AllOf (IsOfTransport at end t) (behind_words d at end s port t)
+behind_of d at end s port Fragment embedded = record {}
+behind_of d at end s port (Tcp t) embedded = tcp_of d at end s port
+behind_of d at end s port (Udp u) embedded = udp_of d at end s port
+behind_of d at end s port (Icmp i) embedded = echo_or_none_of d at end port i.message embedded
+behind_of d at end s port Other embedded = record {}
 
-packet_of_end : (d : List ℕ) (p : Packet) (end : End) (to : Endpoint) → told_in p.transport ≡ None → AllOf (IsOfEnd p end) (packet_words d p end to)
+packet_of_end : (d : List ℕ) (p : Packet) (end : End) (to : Endpoint) → embedded_in p.transport ≡ None → AllOf (IsOfEnd p end) (packet_words d p end to)
 unfolding packet_words
-packet_of_end d p end to told =
+packet_of_end d p end to embedded =
     all_append (IsOfEnd p end) (header_words d 0 end to.address) _
     (all_wider (IsOfHeader 0 (of_end end 12 16)) (IsOfEnd p end) _ (λ byte of. inl of) (header_of d 0 end to.address))
-    (all_wider (IsOfTransport p.header_length end p.transport) (IsOfEnd p end) _ (λ byte of. inr of) (behind_of d p.header_length end _ to.port p.transport told))
+    (all_wider (IsOfTransport p.header_length end p.transport) (IsOfEnd p end) _ (λ byte of. inr of) (behind_of d p.header_length end _ to.port p.transport embedded))
 
 -- ---- all words lie within the datagram
 
@@ -210,7 +210,7 @@ unfolding outer_words
 outer_lies size d p inner end to true e room = rw e (header_lies size d 0 end to.address room)
 outer_lies size d p inner end to false e room = rw e (record {})
 
-pub words_lie : (d : List ℕ) (change : Change) (told : Option Inner) → told_in change.packet.transport ≡ told → packet_of d ≡ Some change.packet → AllWithin (length d) (words_for d change told)
+pub words_lie : (d : List ℕ) (change : Change) (embedded : Option Inner) → embedded_in change.packet.transport ≡ embedded → packet_of d ≡ Some change.packet → AllWithin (length d) (words_for d change embedded)
 unfolding error_words packet_words
 words_lie d change None is there =
     let room = header_room d change.packet there in
@@ -237,10 +237,10 @@ known_by protocol s source destination (inr r) = inr (inr r.0)
 known_inner : (e : List ℕ) (inner : Inner) → IsInner e inner → Known inner.protocol.0
 known_inner e inner i = subst Known (sym i.protocol) (known_by (slice_index e 9) (drop (4 * (slice_index e 0 % 16)) e) inner.source_port.0 inner.destination_port.0 i.ports)
 
-pub inner_known : (d : List ℕ) (p : Packet) (inner : Inner) → packet_of d ≡ Some p → told_in p.transport ≡ Some inner → Known inner.protocol.0
-inner_known d p inner there told = known_inner (drop 8 (drop (header_length_of d) d)) inner (inner_there d p inner there told)
+pub inner_known : (d : List ℕ) (p : Packet) (inner : Inner) → packet_of d ≡ Some p → embedded_in p.transport ≡ Some inner → Known inner.protocol.0
+inner_known d p inner there embedded = known_inner (drop 8 (drop (header_length_of d) d)) inner (inner_there d p inner there embedded)
 
-words_of_end : (d : List ℕ) (change : Change) (told : Option Inner) → told_in change.packet.transport ≡ told → packet_of d ≡ Some change.packet → AllOf (IsOfEnd change.packet change.end) (words_for d change told)
+words_of_end : (d : List ℕ) (change : Change) (embedded : Option Inner) → embedded_in change.packet.transport ≡ embedded → packet_of d ≡ Some change.packet → AllOf (IsOfEnd change.packet change.end) (words_for d change embedded)
 words_of_end d change None is there = packet_of_end d change.packet change.end change.to is
 words_of_end d change (Some inner) is there = error_of d change.packet inner change.end change.to is (inner_known d change.packet inner there is)
 

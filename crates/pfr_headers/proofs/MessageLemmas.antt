@@ -1,4 +1,4 @@
--- The checksum of an ICMP message still verifies after it is rewritten, that of an error with the packet that it tells of.
+-- The checksum of an ICMP message still verifies after it is rewritten, that of an error with the packet that it embeds.
 use Rattle.std.specs.Prelude.{⊤}
 use Rattle.std.proofs.Common.{◌≡◌, ◌⊎◌, inl, inr, ◌≤◌, ◌<◌, ◌-◌, ◌+◌, ◌*◌, ◌/◌, ◌%◌, ◌++◌, ℕ, Bool, true, false, eqb, List, [], ◌∷◌, length, take, drop, refl, sym, ◌∙◌, ap, subst, arith}
 use Rattle.pfr_net.specs.declared.address.Ipv4Address.{Ipv4Address}
@@ -10,10 +10,10 @@ use Rattle.pfr_headers.specs.declared.icmp.Inner.{Inner}
 use Rattle.pfr_headers.specs.declared.packet.Packet.{Packet}
 use Rattle.pfr_headers.specs.Checksum.{AreBytes, Verifies, Word, difference, difference_of, mended, mended_udp, with_word, with_words, word, word_at}
 use Rattle.pfr_headers.specs.Laws.{message_sum, sum_of}
-use Rattle.pfr_headers.specs.Rewriting.{address_place, address_words, echo_words, end_address, error_words, header_words, inner_words, other_end, outer_words, port_place, told_words, udp_words}
+use Rattle.pfr_headers.specs.Rewriting.{address_place, address_words, echo_words, end_address, error_words, header_words, inner_words, other_end, outer_words, port_place, embedded_words, udp_words}
 use Rattle.pfr_headers.proofs.ChecksumLemmas.{mends, udp_within}
 use Rattle.pfr_headers.proofs.FieldLemmas.{Known}
-use Rattle.pfr_headers.proofs.RewritingLemmas.{header_span, inner_span, port_most, told_span}
+use Rattle.pfr_headers.proofs.RewritingLemmas.{header_span, inner_span, port_most, embedded_span}
 use Rattle.pfr_headers.proofs.SumLemmas.{Covers, Moves, covers, mending, moves_none, moves_then, moves_word, part_sum}
 use Rattle.pfr_headers.proofs.VerifyingLemmas.{all_within, word_small}
 use Rattle.pfr_headers.proofs.WordLemmas.{Spans, behind, kept, length_with, length_with_all, outside, with_append}
@@ -40,7 +40,7 @@ echo_datagram d p port now are size same kept room enough small before some =
     echo_verifies (part_sum from n) d now from port size (record { rounds = 0; is = omega (arith, same) }) kept are small room
     (covers from n 2 (length d) (from + 4) (omega arith) (omega arith) (omega arith)) (covers from n 1 (length d) (from + 2) (omega arith) (omega arith) (omega arith)) before some
 
--- ---- an error: all words of the packet that it tells of are summed
+-- ---- an error: all words of the packet that it embeds are summed
 
 record Ready (sum : List ℕ → ℕ) (size : ℕ) (d : List ℕ) (w : Word) : Type 0 where
   covers : Covers sum size w.place
@@ -113,11 +113,11 @@ udp_apart : (d : List ℕ) (at : ℕ) (end : End) (s : ℕ) (port : Port) → Ap
 unfolding udp_words
 udp_apart d at end s port = let most = port_most end in ((inl (omega arith), record {}), (record {}, record {}))
 
-told_apart : (d : List ℕ) (protocol at : ℕ) (end : End) (s : ℕ) (port : Port) → Known protocol → Apart (told_words d protocol at end s port)
-unfolding told_words echo_words
-told_apart d protocol at end s port (inl is) = subst (λ (n : ℕ). Apart (told_words d n at end s port)) (sym is) (record {}, record {})
-told_apart d protocol at end s port (inr (inl is)) = subst (λ (n : ℕ). Apart (told_words d n at end s port)) (sym is) (udp_apart d at end s port)
-told_apart d protocol at end s port (inr (inr is)) = subst (λ (n : ℕ). Apart (told_words d n at end s port)) (sym is) ((inr (omega arith), record {}), (record {}, record {}))
+embedded_apart : (d : List ℕ) (protocol at : ℕ) (end : End) (s : ℕ) (port : Port) → Known protocol → Apart (embedded_words d protocol at end s port)
+unfolding embedded_words echo_words
+embedded_apart d protocol at end s port (inl is) = subst (λ (n : ℕ). Apart (embedded_words d n at end s port)) (sym is) (record {}, record {})
+embedded_apart d protocol at end s port (inr (inl is)) = subst (λ (n : ℕ). Apart (embedded_words d n at end s port)) (sym is) (udp_apart d at end s port)
+embedded_apart d protocol at end s port (inr (inr is)) = subst (λ (n : ℕ). Apart (embedded_words d n at end s port)) (sym is) ((inr (omega arith), record {}), (record {}, record {}))
 
 -- a word at an even distance from where a message begins
 ready_at : (from n k size : ℕ) (d : List ℕ) (place value : ℕ) → AreBytes d → place ≡ from + 2 * k → 2 * k + 2 ≤ n → place + 2 ≤ size → value < 65536 → Ready (part_sum from n) size d (word place value)
@@ -148,21 +148,21 @@ port_ready : (from n half at size : ℕ) (d : List ℕ) (end : End) (port : Port
 port_ready from n half at size d Source port are even enough room small = ready_at from n half size d (at + 0) port.0 are (omega (arith, even)) (omega arith) (omega arith) small
 port_ready from n half at size d Destination port are even enough room small = ready_at from n (half + 1) size d (at + 2) port.0 are (omega (arith, even)) (omega arith) (omega arith) small
 
-told_ready : (from n half at size : ℕ) (d : List ℕ) (protocol : ℕ) (end : End) (s : ℕ) (port : Port) → Known protocol → AreBytes d → at ≡ from + 2 * half → 2 * half + 8 ≤ n → at + 8 ≤ size → port.0 < 65536 → AllReady (part_sum from n) size d (told_words d protocol at end s port)
-unfolding told_words udp_words echo_words
-told_ready from n half at size d protocol end s port (inl is) are even enough room small =
-    subst (λ (m : ℕ). AllReady (part_sum from n) size d (told_words d m at end s port)) (sym is) (port_ready from n half at size d end port are even enough room small, record {})
-told_ready from n half at size d protocol end s port (inr (inl is)) are even enough room small =
+embedded_ready : (from n half at size : ℕ) (d : List ℕ) (protocol : ℕ) (end : End) (s : ℕ) (port : Port) → Known protocol → AreBytes d → at ≡ from + 2 * half → 2 * half + 8 ≤ n → at + 8 ≤ size → port.0 < 65536 → AllReady (part_sum from n) size d (embedded_words d protocol at end s port)
+unfolding embedded_words udp_words echo_words
+embedded_ready from n half at size d protocol end s port (inl is) are even enough room small =
+    subst (λ (m : ℕ). AllReady (part_sum from n) size d (embedded_words d m at end s port)) (sym is) (port_ready from n half at size d end port are even enough room small, record {})
+embedded_ready from n half at size d protocol end s port (inr (inl is)) are even enough room small =
     let checksum = mended_udp (word_at d (at + 6)) (s + difference (word_at d (at + port_place end)) port.0) in
     let within = udp_within (word_at d (at + 6)) (s + difference (word_at d (at + port_place end)) port.0) in
-    subst (λ (m : ℕ). AllReady (part_sum from n) size d (told_words d m at end s port)) (sym is) (
+    subst (λ (m : ℕ). AllReady (part_sum from n) size d (embedded_words d m at end s port)) (sym is) (
       port_ready from n half at size d end port are even enough room small,
       (ready_at from n (half + 3) size d (at + 6) checksum are (omega (arith, even)) (omega arith) (omega arith) (omega arith), record {}),
     )
-told_ready from n half at size d protocol end s port (inr (inr is)) are even enough room small =
+embedded_ready from n half at size d protocol end s port (inr (inr is)) are even enough room small =
     let checksum = mended (word_at d (at + 2)) (difference (word_at d (at + 4)) port.0) in
     let within = (mends (word_at d (at + 2)) (difference (word_at d (at + 4)) port.0)).within in
-    subst (λ (m : ℕ). AllReady (part_sum from n) size d (told_words d m at end s port)) (sym is) (
+    subst (λ (m : ℕ). AllReady (part_sum from n) size d (embedded_words d m at end s port)) (sym is) (
       ready_at from n (half + 2) size d (at + 4) port.0 are (omega (arith, even)) (omega arith) (omega arith) small,
       (ready_at from n (half + 1) size d (at + 2) checksum are (omega (arith, even)) (omega arith) (omega arith) (omega arith), record {}),
     )
@@ -174,12 +174,12 @@ inner_moves d from n half inner end to are known even long enough room address p
     let at = from + 8 + inner.header_length in
     let addresses = difference_of d (address_words (from + 8 + address_place end) to.address) in
     let header = header_words d (from + 8) end to.address in
-    let told = told_words d inner.protocol.0 at end addresses to.port in
-    moves_all (part_sum from n) (length d) (header ++ told) d refl
-    (ready_append (part_sum from n) (length d) d header told
+    let embedded = embedded_words d inner.protocol.0 at end addresses to.port in
+    moves_all (part_sum from n) (length d) (header ++ embedded) d refl
+    (ready_append (part_sum from n) (length d) d header embedded
     (header_ready from n (length d) d end to.address are (omega arith) (omega arith) address)
-    (told_ready from n (4 + half) at (length d) d inner.protocol.0 end addresses to.port known are (omega (arith, even)) (omega (arith, even)) (omega arith) port))
-    (apart_append header told (from + 8 + 10) (from + 8 + 20) at (at + 8) (header_span d (from + 8) end to.address) (told_span d inner.protocol.0 at end addresses to.port) (omega arith) (header_apart d (from + 8) end to.address) (told_apart d inner.protocol.0 at end addresses to.port known))
+    (embedded_ready from n (4 + half) at (length d) d inner.protocol.0 end addresses to.port known are (omega (arith, even)) (omega (arith, even)) (omega arith) port))
+    (apart_append header embedded (from + 8 + 10) (from + 8 + 20) at (at + 8) (header_span d (from + 8) end to.address) (embedded_span d inner.protocol.0 at end addresses to.port) (omega arith) (header_apart d (from + 8) end to.address) (embedded_apart d inner.protocol.0 at end addresses to.port known))
 
 outer_span : (d : List ℕ) (p : Packet) (inner : Inner) (end : End) (to : Endpoint) (same : Bool) → eqb (end_address end p.source p.destination).0 (end_address (other_end end) inner.source inner.destination).0 ≡ same → Spans 10 20 (outer_words d p inner end to)
 unfolding outer_words
@@ -192,19 +192,19 @@ unfolding error_words
 error_datagram d p inner half end to are known even long long_inner enough room address port before some =
     let from = p.header_length in
     let n = p.total_length - p.header_length in
-    let told = inner_words d (from + 8) inner (other_end end) to in
-    let brought = difference_of d told in
-    let now = with_words told d in
+    let embedded = inner_words d (from + 8) inner (other_end end) to in
+    let brought = difference_of d embedded in
+    let now = with_words embedded d in
     let checksum = word (from + 2) (mended (word_at d (from + 2)) brought) in
     let then = with_word checksum now in
     let outer = outer_words d p inner end to in
     let span = inner_span d (from + 8) inner (other_end end) to long_inner in
-    let size : length now ≡ length d = length_with_all told d (all_within told (from + 8 + 10) (from + 8 + inner.header_length + 8) (length d) span room) in
+    let size : length now ≡ length d = length_with_all embedded d (all_within embedded (from + 8 + 10) (from + 8 + inner.header_length + 8) (length d) span room) in
     let size_then = length_with checksum now (omega (arith, size)) in
     let moved = inner_moves d from n half inner (other_end end) to are known even long_inner (omega arith) room address port in
-    let same = outside told d (from + 8 + 10) (from + 8 + inner.header_length + 8) (from + 2) span room (inr (omega arith)) in
+    let same = outside embedded d (from + 8 + 10) (from + 8 + inner.header_length + 8) (from + 2) span room (inr (omega arith)) in
     let last = message_same outer then p 10 20 (outer_span d p inner end to _ refl) long (omega (arith, size, size_then)) in
-    let joined : with_words (told ++ (checksum ∷ outer)) d ≡ with_words outer then = with_append told (checksum ∷ outer) d in
+    let joined : with_words (embedded ++ (checksum ∷ outer)) d ≡ with_words outer then = with_append embedded (checksum ∷ outer) d in
     let some_then : 0 < message_sum then p = subst (λ (m : ℕ). 0 < m) (ap (λ (t : List ℕ). message_sum t p) joined ∙ last) some in
     let v = mending (part_sum from n) (length d) (from + 2) brought d now (covers from n 1 (length d) (from + 2) (omega arith) (omega arith) (omega arith)) refl size moved same (word_small (from + 2) d are) before some_then in
     subst Verifies (sym (ap (λ (t : List ℕ). message_sum t p) joined ∙ last)) v

@@ -14,7 +14,7 @@ use Rattle.pfr_headers.specs.declared.packet.Packet.{Packet}
 use Rattle.pfr_headers.specs.declared.transport.Transport.{Transport}
 use Rattle.pfr_headers.specs.declared.transport.Transport.TheVariants.{Fragment, Tcp, Udp, Icmp, Other}
 use Rattle.pfr_headers.specs.Checksum.{Word, difference_of, mended, with_word, with_words, word, word_at}
-use Rattle.pfr_headers.specs.Rewriting.{address_place, address_words, behind_words, echo_or_none, echo_words, end_address, error_words, header_words, inner_words, other_end, outer_words, packet_words, port_place, rewritten, tcp_words, told_by, told_in, told_words, udp_words, words_of}
+use Rattle.pfr_headers.specs.Rewriting.{address_place, address_words, behind_words, echo_or_none, echo_words, end_address, error_words, header_words, inner_words, other_end, outer_words, packet_words, port_place, rewritten, tcp_words, embedded_by, embedded_in, embedded_words, udp_words, words_of}
 use Rattle.pfr_headers.specs.declared.change.Change.{Change}
 use Rattle.pfr_headers.specs.declared.packet.View.TheVariants.{Ipv4}
 use Rattle.pfr_headers.specs.Transport.{IsInner, IsMessage, IsTransport}
@@ -55,14 +55,14 @@ pub echo_span : (d : List ℕ) (at : ℕ) (port : Port) → Spans at (at + 8) (e
 unfolding echo_words
 echo_span d at port = (omega arith, omega arith, (omega arith, omega arith, record {}))
 
-told_by_tests : (d : List ℕ) (protocol at : ℕ) (end : End) (addresses : ℕ) (port : Port) (tcp udp : Bool) → eqb protocol 6 ≡ tcp → eqb protocol 17 ≡ udp → Spans at (at + 8) (told_words d protocol at end addresses port)
-unfolding told_words
-told_by_tests d protocol at end addresses port true udp a b = rw a (let most = port_most end in (omega arith, omega arith, record {}))
-told_by_tests d protocol at end addresses port false true a b = rw (a, b) (udp_span d at end addresses port)
-told_by_tests d protocol at end addresses port false false a b = rw (a, b) (echo_span d at port)
+embedded_by_tests : (d : List ℕ) (protocol at : ℕ) (end : End) (addresses : ℕ) (port : Port) (tcp udp : Bool) → eqb protocol 6 ≡ tcp → eqb protocol 17 ≡ udp → Spans at (at + 8) (embedded_words d protocol at end addresses port)
+unfolding embedded_words
+embedded_by_tests d protocol at end addresses port true udp a b = rw a (let most = port_most end in (omega arith, omega arith, record {}))
+embedded_by_tests d protocol at end addresses port false true a b = rw (a, b) (udp_span d at end addresses port)
+embedded_by_tests d protocol at end addresses port false false a b = rw (a, b) (echo_span d at port)
 
-pub told_span : (d : List ℕ) (protocol at : ℕ) (end : End) (addresses : ℕ) (port : Port) → Spans at (at + 8) (told_words d protocol at end addresses port)
-told_span d protocol at end addresses port = told_by_tests d protocol at end addresses port _ _ refl refl
+pub embedded_span : (d : List ℕ) (protocol at : ℕ) (end : End) (addresses : ℕ) (port : Port) → Spans at (at + 8) (embedded_words d protocol at end addresses port)
+embedded_span d protocol at end addresses port = embedded_by_tests d protocol at end addresses port _ _ refl refl
 
 pub inner_span : (d : List ℕ) (at : ℕ) (inner : Inner) (end : End) (to : Endpoint) → 20 ≤ inner.header_length → Spans (at + 10) (at + inner.header_length + 8) (inner_words d at inner end to)
 unfolding inner_words
@@ -70,7 +70,7 @@ inner_span d at inner end to long =
     spans_append (header_words d at end to.address) _ _ _
     (spans_wider (header_words d at end to.address) (at + 10) (at + 20) (at + 10) (at + inner.header_length + 8) (header_span d at end to.address) (omega arith) (omega arith))
     (spans_wider _ (at + inner.header_length) (at + inner.header_length + 8) (at + 10) (at + inner.header_length + 8)
-    (told_span d inner.protocol.0 (at + inner.header_length) end (difference_of d (address_words (at + address_place end) to.address)) to.port) (omega arith) (omega arith))
+    (embedded_span d inner.protocol.0 (at + inner.header_length) end (difference_of d (address_words (at + address_place end) to.address)) to.port) (omega arith) (omega arith))
 
 -- the words of a header are the same after words before it were written
 
@@ -89,14 +89,14 @@ unfolding echo_words
 echo_same before d low high at port spans within over =
     rw (outside before d low high (at + 4) spans within (inl (omega arith)), outside before d low high (at + 2) spans within (inl (omega arith))) refl
 
-told_same_by : (before : List Word) (d : List ℕ) (low high protocol at : ℕ) (end : End) (s : ℕ) (port : Port) (tcp udp : Bool) → eqb protocol 6 ≡ tcp → eqb protocol 17 ≡ udp → Spans low high before → high ≤ length d → high ≤ at → told_words (with_words before d) protocol at end s port ≡ told_words d protocol at end s port
-unfolding told_words
-told_same_by before d low high protocol at end s port true udp a b spans within over = rw a refl
-told_same_by before d low high protocol at end s port false true a b spans within over = rw (a, b) (udp_same before d low high at end s port spans within over)
-told_same_by before d low high protocol at end s port false false a b spans within over = rw (a, b) (echo_same before d low high at port spans within over)
+embedded_same_by : (before : List Word) (d : List ℕ) (low high protocol at : ℕ) (end : End) (s : ℕ) (port : Port) (tcp udp : Bool) → eqb protocol 6 ≡ tcp → eqb protocol 17 ≡ udp → Spans low high before → high ≤ length d → high ≤ at → embedded_words (with_words before d) protocol at end s port ≡ embedded_words d protocol at end s port
+unfolding embedded_words
+embedded_same_by before d low high protocol at end s port true udp a b spans within over = rw a refl
+embedded_same_by before d low high protocol at end s port false true a b spans within over = rw (a, b) (udp_same before d low high at end s port spans within over)
+embedded_same_by before d low high protocol at end s port false false a b spans within over = rw (a, b) (echo_same before d low high at port spans within over)
 
-told_same : (before : List Word) (d : List ℕ) (low high protocol at : ℕ) (end : End) (s : ℕ) (port : Port) → Spans low high before → high ≤ length d → high ≤ at → told_words (with_words before d) protocol at end s port ≡ told_words d protocol at end s port
-told_same before d low high protocol at end s port spans within over = told_same_by before d low high protocol at end s port _ _ refl refl spans within over
+embedded_same : (before : List Word) (d : List ℕ) (low high protocol at : ℕ) (end : End) (s : ℕ) (port : Port) → Spans low high before → high ≤ length d → high ≤ at → embedded_words (with_words before d) protocol at end s port ≡ embedded_words d protocol at end s port
+embedded_same before d low high protocol at end s port spans within over = embedded_same_by before d low high protocol at end s port _ _ refl refl spans within over
 
 -- and after words behind it were
 header_same : (before : List Word) (d : List ℕ) (low high header : ℕ) (end : End) (address : Ipv4Address) → Spans low high before → high ≤ length d → header + 20 ≤ low → header_words (with_words before d) header end address ≡ header_words d header end address
@@ -109,26 +109,26 @@ header_same before d low high header end address spans within under =
       outside before d low high (header + address_place end + 2) spans within (inr (omega arith)),
     ) refl
 
--- the packet that an error tells of
+-- the packet that an error embeds
 
-pub inner_written : (d b c : List ℕ) (at : ℕ) (inner : Inner) (end : End) (to : Endpoint) (s : ℕ) → InnerFits (length d) at inner → b ≡ with_words (header_words d at end to.address) d → s ≡ difference_of d (address_words (at + address_place end) to.address) → c ≡ with_words (told_words b inner.protocol.0 (at + inner.header_length) end s to.port) b → c ≡ with_words (inner_words d at inner end to) d
+pub inner_written : (d b c : List ℕ) (at : ℕ) (inner : Inner) (end : End) (to : Endpoint) (s : ℕ) → InnerFits (length d) at inner → b ≡ with_words (header_words d at end to.address) d → s ≡ difference_of d (address_words (at + address_place end) to.address) → c ≡ with_words (embedded_words b inner.protocol.0 (at + inner.header_length) end s to.port) b → c ≡ with_words (inner_words d at inner end to) d
 unfolding inner_words
 inner_written d b c at inner end to s fits first sum then =
     let long = fits.header in
     let room = fits.behind in
-    let same = told_same (header_words d at end to.address) d (at + 10) (at + 20) inner.protocol.0 (at + inner.header_length) end s to.port (header_span d at end to.address) (omega arith) (omega arith) in
+    let same = embedded_same (header_words d at end to.address) d (at + 10) (at + 20) inner.protocol.0 (at + inner.header_length) end s to.port (header_span d at end to.address) (omega arith) (omega arith) in
     then ∙ (rw (first, same, sum) (sym (with_append (header_words d at end to.address) _ d)))
 
-pub inner_brings : (d b : List ℕ) (at : ℕ) (inner : Inner) (end : End) (to : Endpoint) (s r t : ℕ) → InnerFits (length d) at inner → b ≡ with_words (header_words d at end to.address) d → s ≡ difference_of d (address_words (at + address_place end) to.address) → r ≡ difference_of d (header_words d at end to.address) → t ≡ difference_of b (told_words b inner.protocol.0 (at + inner.header_length) end s to.port) → r + t ≡ difference_of d (inner_words d at inner end to)
+pub inner_brings : (d b : List ℕ) (at : ℕ) (inner : Inner) (end : End) (to : Endpoint) (s r t : ℕ) → InnerFits (length d) at inner → b ≡ with_words (header_words d at end to.address) d → s ≡ difference_of d (address_words (at + address_place end) to.address) → r ≡ difference_of d (header_words d at end to.address) → t ≡ difference_of b (embedded_words b inner.protocol.0 (at + inner.header_length) end s to.port) → r + t ≡ difference_of d (inner_words d at inner end to)
 unfolding inner_words
 inner_brings d b at inner end to s r t fits first sum brings then =
     let long = fits.header in
     let room = fits.behind in
-    let same = told_same (header_words d at end to.address) d (at + 10) (at + 20) inner.protocol.0 (at + inner.header_length) end s to.port (header_span d at end to.address) (omega arith) (omega arith) in
-    let told = told_words d inner.protocol.0 (at + inner.header_length) end s to.port in
-    let still = difference_same (header_words d at end to.address) told d (at + 10) (at + 20) (at + inner.header_length) (at + inner.header_length + 8) (header_span d at end to.address) (told_span d inner.protocol.0 (at + inner.header_length) end s to.port) (omega arith) (omega arith) in
-    let second : t ≡ difference_of d told = then ∙ (rw (first, same) still) in
-    rw (brings, second, ← sum) (sym (difference_append (header_words d at end to.address) told d))
+    let same = embedded_same (header_words d at end to.address) d (at + 10) (at + 20) inner.protocol.0 (at + inner.header_length) end s to.port (header_span d at end to.address) (omega arith) (omega arith) in
+    let embedded = embedded_words d inner.protocol.0 (at + inner.header_length) end s to.port in
+    let still = difference_same (header_words d at end to.address) embedded d (at + 10) (at + 20) (at + inner.header_length) (at + inner.header_length + 8) (header_span d at end to.address) (embedded_span d inner.protocol.0 (at + inner.header_length) end s to.port) (omega arith) (omega arith) in
+    let second : t ≡ difference_of d embedded = then ∙ (rw (first, same) still) in
+    rw (brings, second, ← sum) (sym (difference_append (header_words d at end to.address) embedded d))
 
 -- an error
 
@@ -218,26 +218,26 @@ header_room d p is =
 pub transport_room : (d : List ℕ) (p : Packet) → packet_of d ≡ Some p → BehindFits (length d) p.header_length p.transport
 transport_room d p is = let all = packet_by d p is in behind_room d p p.transport all.header all.transport
 
-told_message : (e : List ℕ) (kind : ℕ) (s : List ℕ) (m : IcmpMessage) (inner : Inner) → IsMessage kind s m → told_by m ≡ Some inner → IsInner (drop 8 s) inner
-told_message e kind s (message.Echo identifier) inner is told = none_some inner (told_by (message.Echo identifier)) told refl
-told_message e kind s (message.Error carried) inner is told = subst (λ (i : Inner). IsInner (drop 8 s) i) (same_some carried inner told) is.1
-told_message e kind s message.Other inner is told = none_some inner (told_by message.Other) told refl
+embedded_message : (e : List ℕ) (kind : ℕ) (s : List ℕ) (m : IcmpMessage) (inner : Inner) → IsMessage kind s m → embedded_by m ≡ Some inner → IsInner (drop 8 s) inner
+embedded_message e kind s (message.Echo identifier) inner is embedded = none_some inner (embedded_by (message.Echo identifier)) embedded refl
+embedded_message e kind s (message.Error carried) inner is embedded = subst (λ (i : Inner). IsInner (drop 8 s) i) (same_some carried inner embedded) is.1
+embedded_message e kind s message.Other inner is embedded = none_some inner (embedded_by message.Other) embedded refl
 
-told_transport : (protocol : ℕ) (fragment : Bool) (whole : ℕ) (s : List ℕ) (t : Transport) (inner : Inner) → IsTransport protocol fragment whole s t → told_in t ≡ Some inner → IsInner (drop 8 s) inner
-told_transport protocol fragment whole s Fragment inner is told = none_some inner (told_in Fragment) told refl
-told_transport protocol fragment whole s (Tcp t) inner is told = none_some inner (told_in (Tcp t)) told refl
-told_transport protocol fragment whole s (Udp u) inner is told = none_some inner (told_in (Udp u)) told refl
-told_transport protocol fragment whole s (Icmp i) inner is told = told_message s (slice_index s 0) s i.message inner is.2.message told
-told_transport protocol fragment whole s Other inner is told = none_some inner (told_in Other) told refl
+embedded_transport : (protocol : ℕ) (fragment : Bool) (whole : ℕ) (s : List ℕ) (t : Transport) (inner : Inner) → IsTransport protocol fragment whole s t → embedded_in t ≡ Some inner → IsInner (drop 8 s) inner
+embedded_transport protocol fragment whole s Fragment inner is embedded = none_some inner (embedded_in Fragment) embedded refl
+embedded_transport protocol fragment whole s (Tcp t) inner is embedded = none_some inner (embedded_in (Tcp t)) embedded refl
+embedded_transport protocol fragment whole s (Udp u) inner is embedded = none_some inner (embedded_in (Udp u)) embedded refl
+embedded_transport protocol fragment whole s (Icmp i) inner is embedded = embedded_message s (slice_index s 0) s i.message inner is.2.message embedded
+embedded_transport protocol fragment whole s Other inner is embedded = none_some inner (embedded_in Other) embedded refl
 
--- the packet that an error tells of is there
-pub inner_there : (d : List ℕ) (p : Packet) (inner : Inner) → packet_of d ≡ Some p → told_in p.transport ≡ Some inner → IsInner (drop 8 (drop (header_length_of d) d)) inner
-inner_there d p inner is told = told_transport (slice_index d 9) (is_fragment d) (total_length_of d - header_length_of d) (drop (header_length_of d) d) p.transport inner (packet_by d p is).transport told
+-- the packet that an error embeds is there
+pub inner_there : (d : List ℕ) (p : Packet) (inner : Inner) → packet_of d ≡ Some p → embedded_in p.transport ≡ Some inner → IsInner (drop 8 (drop (header_length_of d) d)) inner
+inner_there d p inner is embedded = embedded_transport (slice_index d 9) (is_fragment d) (total_length_of d - header_length_of d) (drop (header_length_of d) d) p.transport inner (packet_by d p is).transport embedded
 
-pub inner_room : (d : List ℕ) (p : Packet) (inner : Inner) → packet_of d ≡ Some p → told_in p.transport ≡ Some inner → InnerFits (length d) (p.header_length + 8) inner
-inner_room d p inner is told =
+pub inner_room : (d : List ℕ) (p : Packet) (inner : Inner) → packet_of d ≡ Some p → embedded_in p.transport ≡ Some inner → InnerFits (length d) (p.header_length + 8) inner
+inner_room d p inner is embedded =
     let all = packet_by d p is in
-    let i = inner_there d p inner is told in
+    let i = inner_there d p inner is embedded in
     let same = all.header.header_length in
     let first = i.header_length in
     let least = i.at_least in

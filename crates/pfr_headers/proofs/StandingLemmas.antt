@@ -19,7 +19,7 @@ use Rattle.pfr_headers.specs.declared.transport.Transport.{Transport}
 use Rattle.pfr_headers.specs.declared.transport.Transport.TheVariants.{Fragment, Tcp, Udp, Icmp, Other}
 use Rattle.pfr_headers.specs.Checksum.{AreBytes, Word, difference, difference_of, mended, mended_udp, with_word, with_words, word, word_at}
 use Rattle.pfr_headers.specs.Laws.{StandsIn, StandsInMessage, of_end, of_other}
-use Rattle.pfr_headers.specs.Rewriting.{address_place, address_words, behind_words, echo_or_none, echo_words, end_address, error_words, header_words, inner_words, other_end, outer_words, packet_words, port_place, rewritten, tcp_words, told_by, told_in, told_words, udp_words, words_for, words_of}
+use Rattle.pfr_headers.specs.Rewriting.{address_place, address_words, behind_words, echo_or_none, echo_words, end_address, error_words, header_words, inner_words, other_end, outer_words, packet_words, port_place, rewritten, tcp_words, embedded_by, embedded_in, embedded_words, udp_words, words_for, words_of}
 use Rattle.pfr_headers.specs.Transport.{InnerPorts, IsIcmp, IsInner, IsMessage, IsTcp, IsTransport, IsUdp}
 use Rattle.pfr_headers.specs.View.{header_length_of, is_fragment, packet_of, place_of, total_length_of, view_of}
 use Rattle.pfr_headers.proofs.ChecksumLemmas.{one_at_least}
@@ -154,7 +154,7 @@ address_at : (bytes : List ℕ) (at : ℕ) (end : End) (source destination addre
 address_at bytes at Source source destination address is first second = ap (λ (a : Ipv4Address). a.0) is ∙ first
 address_at bytes at Destination source destination address is first second = ap (λ (a : Ipv4Address). a.0) is ∙ second
 
--- ---- a packet that tells of no other
+-- ---- a packet that embeds no other
 
 own_header : (d : List ℕ) (p : Packet) (end : End) (address : Ipv4Address) → packet_of d ≡ Some p → AreBytes d → address ≡ of_end end p.source p.destination → AllStand d (header_words d 0 end address)
 own_header d p end address there are is =
@@ -171,13 +171,13 @@ own_addresses d p end address there are is =
 abbrev Behind : List ℕ → Transport → Type 0
 Behind d t = IsTransport (slice_index d 9) (is_fragment d) (total_length_of d - header_length_of d) (drop (header_length_of d) d) t
 
-echo_or_none_stands : (d : List ℕ) (p : Packet) (end : End) (to : Endpoint) (m : IcmpMessage) (kind : ℕ) → AreBytes d → IsMessage kind (drop p.header_length d) m → told_by m ≡ None → StandsInMessage p end to m → AllStand d (echo_or_none d p.header_length to.port m)
+echo_or_none_stands : (d : List ℕ) (p : Packet) (end : End) (to : Endpoint) (m : IcmpMessage) (kind : ℕ) → AreBytes d → IsMessage kind (drop p.header_length d) m → embedded_by m ≡ None → StandsInMessage p end to m → AllStand d (echo_or_none d p.header_length to.port m)
 echo_or_none_stands d p end to (message.Echo identifier) kind are is none stands =
     echo_stands d p.header_length to.port are (ap (λ (e : Endpoint). e.port.0) stands ∙ is.1 ∙ word_behind p.header_length 4 d)
 echo_or_none_stands d p end to (message.Error inner) kind are is none stands = record {}
 echo_or_none_stands d p end to message.Other kind are is none stands = record {}
 
-behind_stands : (d : List ℕ) (p : Packet) (end : End) (addresses : ℕ) (to : Endpoint) (t : Transport) → AreBytes d → p.header_length ≡ header_length_of d → Behind d t → told_in t ≡ None → addresses ≡ 0 → StandsIn p end to t → AllStand d (behind_words d p.header_length end addresses to.port t)
+behind_stands : (d : List ℕ) (p : Packet) (end : End) (addresses : ℕ) (to : Endpoint) (t : Transport) → AreBytes d → p.header_length ≡ header_length_of d → Behind d t → embedded_in t ≡ None → addresses ≡ 0 → StandsIn p end to t → AllStand d (behind_words d p.header_length end addresses to.port t)
 behind_stands d p end addresses to Fragment are same is none nothing stands = record {}
 behind_stands d p end addresses to (Tcp t) are same is none nothing stands =
     let tcp = subst (λ (n : ℕ). IsTcp (total_length_of d - header_length_of d) (drop n d) t) (sym same) is.2 in
@@ -191,19 +191,19 @@ behind_stands d p end addresses to (Icmp i) are same is none nothing stands =
 behind_stands d p end addresses to Other are same is none nothing stands = record {}
 
 -- such a packet has its own address at the end
-own_message : (p : Packet) (end : End) (to : Endpoint) (m : IcmpMessage) → told_by m ≡ None → StandsInMessage p end to m → to.address ≡ of_end end p.source p.destination
+own_message : (p : Packet) (end : End) (to : Endpoint) (m : IcmpMessage) → embedded_by m ≡ None → StandsInMessage p end to m → to.address ≡ of_end end p.source p.destination
 own_message p end to (message.Echo identifier) none stands = ap (λ (e : Endpoint). e.address) stands
 own_message p end to (message.Error inner) none stands = absurd (cc)
 own_message p end to message.Other none stands = stands
 
-own_address : (p : Packet) (end : End) (to : Endpoint) (t : Transport) → told_in t ≡ None → StandsIn p end to t → to.address ≡ of_end end p.source p.destination
+own_address : (p : Packet) (end : End) (to : Endpoint) (t : Transport) → embedded_in t ≡ None → StandsIn p end to t → to.address ≡ of_end end p.source p.destination
 own_address p end to Fragment none stands = stands
 own_address p end to (Tcp t) none stands = ap (λ (e : Endpoint). e.address) stands
 own_address p end to (Udp u) none stands = ap (λ (e : Endpoint). e.address) stands
 own_address p end to (Icmp i) none stands = own_message p end to i.message none stands
 own_address p end to Other none stands = stands
 
-packet_stands : (d : List ℕ) (p : Packet) (end : End) (to : Endpoint) → packet_of d ≡ Some p → AreBytes d → told_in p.transport ≡ None → StandsIn p end to p.transport → AllStand d (packet_words d p end to)
+packet_stands : (d : List ℕ) (p : Packet) (end : End) (to : Endpoint) → packet_of d ≡ Some p → AreBytes d → embedded_in p.transport ≡ None → StandsIn p end to p.transport → AllStand d (packet_words d p end to)
 unfolding packet_words
 packet_stands d p end to there are none stands =
     let all = packet_by d p there in
@@ -221,14 +221,14 @@ both : (end : End) (source destination : ℕ) → destination ≡ source → of_
 both Source source destination same = refl
 both Destination source destination same = same
 
-told_stands : (d : List ℕ) (at : ℕ) (end : End) (s : ℕ) (port : Port) (protocol source destination : ℕ) → AreBytes d → s ≡ 0 → InnerPorts protocol (drop at d) source destination → port.0 ≡ of_end end source destination → AllStand d (told_words d protocol at end s port)
-unfolding told_words
-told_stands d at end s port protocol source destination are nothing (inl (inl is, first, second)) stands =
-    subst (λ (n : ℕ). AllStand d (told_words d n at end s port)) (sym is) (port_stands d at end (record { 0 = source }) (record { 0 = destination }) port (same_port end port source destination stands) first second, record {})
-told_stands d at end s port protocol source destination are nothing (inl (inr is, first, second)) stands =
-    subst (λ (n : ℕ). AllStand d (told_words d n at end s port)) (sym is) (udp_stands d at end s port are nothing (port_stands d at end (record { 0 = source }) (record { 0 = destination }) port (same_port end port source destination stands) first second))
-told_stands d at end s port protocol source destination are nothing (inr (is, kind, first, second)) stands =
-    subst (λ (n : ℕ). AllStand d (told_words d n at end s port)) (sym is) (echo_stands d at port are (stands ∙ both end source destination second ∙ first ∙ word_behind at 4 d))
+embedded_stands : (d : List ℕ) (at : ℕ) (end : End) (s : ℕ) (port : Port) (protocol source destination : ℕ) → AreBytes d → s ≡ 0 → InnerPorts protocol (drop at d) source destination → port.0 ≡ of_end end source destination → AllStand d (embedded_words d protocol at end s port)
+unfolding embedded_words
+embedded_stands d at end s port protocol source destination are nothing (inl (inl is, first, second)) stands =
+    subst (λ (n : ℕ). AllStand d (embedded_words d n at end s port)) (sym is) (port_stands d at end (record { 0 = source }) (record { 0 = destination }) port (same_port end port source destination stands) first second, record {})
+embedded_stands d at end s port protocol source destination are nothing (inl (inr is, first, second)) stands =
+    subst (λ (n : ℕ). AllStand d (embedded_words d n at end s port)) (sym is) (udp_stands d at end s port are nothing (port_stands d at end (record { 0 = source }) (record { 0 = destination }) port (same_port end port source destination stands) first second))
+embedded_stands d at end s port protocol source destination are nothing (inr (is, kind, first, second)) stands =
+    subst (λ (n : ℕ). AllStand d (embedded_words d n at end s port)) (sym is) (echo_stands d at port are (stands ∙ both end source destination second ∙ first ∙ word_behind at 4 d))
 
 number_at : (end : End) (source destination : Port) → (of_end end source destination).0 ≡ of_end end source.0 destination.0
 number_at Source source destination = refl
@@ -258,7 +258,7 @@ inner_stands d at inner end to are is address port =
     let own = address_at d at end inner.source inner.destination to.address address (is.source ∙ number_behind at 12 d) (is.destination ∙ number_behind at 16 d) in
     let nothing = nothing_brought d (address_words (at + address_place end) to.address) (address_stands d (at + address_place end) to.address are own) in
     stand_append d (header_words d at end to.address) _ (header_stands d at end to.address are own)
-    (told_stands d (at + inner.header_length) end _ to.port inner.protocol.0 inner.source_port.0 inner.destination_port.0 are nothing ports (ap (λ (p : Port). p.0) port ∙ number_at end inner.source_port inner.destination_port))
+    (embedded_stands d (at + inner.header_length) end _ to.port inner.protocol.0 inner.source_port.0 inner.destination_port.0 are nothing ports (ap (λ (p : Port). p.0) port ∙ number_at end inner.source_port inner.destination_port))
 
 outer_stands : (d : List ℕ) (p : Packet) (inner : Inner) (end : End) (to : Endpoint) (same : Bool) → eqb (end_address end p.source p.destination).0 (end_address (other_end end) inner.source inner.destination).0 ≡ same → packet_of d ≡ Some p → AreBytes d → to.address ≡ of_other end inner.source inner.destination → AllStand d (outer_words d p inner end to)
 unfolding outer_words
@@ -266,12 +266,12 @@ outer_stands d p inner end to true e there are address =
     rw e (own_header d p end to.address there are (address ∙ outer_address end p.source p.destination inner.source inner.destination (eqb-true _ _ e)))
 outer_stands d p inner end to false e there are address = rw e (record {})
 
-error_stands : (d : List ℕ) (p : Packet) (inner : Inner) (end : End) (to : Endpoint) → packet_of d ≡ Some p → AreBytes d → told_in p.transport ≡ Some inner → to.address ≡ of_other end inner.source inner.destination → to.port ≡ of_other end inner.source_port inner.destination_port → AllStand d (error_words d p inner end to)
+error_stands : (d : List ℕ) (p : Packet) (inner : Inner) (end : End) (to : Endpoint) → packet_of d ≡ Some p → AreBytes d → embedded_in p.transport ≡ Some inner → to.address ≡ of_other end inner.source inner.destination → to.port ≡ of_other end inner.source_port inner.destination_port → AllStand d (error_words d p inner end to)
 unfolding error_words
-error_stands d p inner end to there are told address port =
+error_stands d p inner end to there are embedded address port =
     let h = (packet_by d p there).header in
     let e : drop 8 (drop (header_length_of d) d) ≡ drop (p.header_length + 8) d = drop-drop 8 (header_length_of d) d ∙ ap (λ (n : ℕ). drop (n + 8) d) (sym h.header_length) in
-    let is = subst (λ (t : List ℕ). IsInner t inner) e (inner_there d p inner there told) in
+    let is = subst (λ (t : List ℕ). IsInner t inner) e (inner_there d p inner there embedded) in
     let carried = inner_words d (p.header_length + 8) inner (other_end end) to in
     let stands = inner_stands d (p.header_length + 8) inner (other_end end) to are is (address ∙ sym (other_address end inner.source inner.destination)) (port ∙ sym (other_port end inner.source_port inner.destination_port)) in
     stand_append d carried (word (p.header_length + 2) (mended (word_at d (p.header_length + 2)) (difference_of d carried)) ∷ outer_words d p inner end to) stands
@@ -279,19 +279,19 @@ error_stands d p inner end to there are told address port =
 
 -- ---- the frame
 
-in_message : (p : Packet) (end : End) (to : Endpoint) (m : IcmpMessage) (inner : Inner) → told_by m ≡ Some inner → StandsInMessage p end to m → to ≡ record { address = of_other end inner.source inner.destination; port = of_other end inner.source_port inner.destination_port }
-in_message p end to (message.Echo identifier) inner told stands = absurd (cc)
-in_message p end to (message.Error carried) inner told stands = stands ∙ ap (λ (i : Inner). record { address = of_other end i.source i.destination; port = of_other end i.source_port i.destination_port }) (same_some carried inner told)
-in_message p end to message.Other inner told stands = absurd (cc)
+in_message : (p : Packet) (end : End) (to : Endpoint) (m : IcmpMessage) (inner : Inner) → embedded_by m ≡ Some inner → StandsInMessage p end to m → to ≡ record { address = of_other end inner.source inner.destination; port = of_other end inner.source_port inner.destination_port }
+in_message p end to (message.Echo identifier) inner embedded stands = absurd (cc)
+in_message p end to (message.Error carried) inner embedded stands = stands ∙ ap (λ (i : Inner). record { address = of_other end i.source i.destination; port = of_other end i.source_port i.destination_port }) (same_some carried inner embedded)
+in_message p end to message.Other inner embedded stands = absurd (cc)
 
-in_transport : (p : Packet) (end : End) (to : Endpoint) (t : Transport) (inner : Inner) → told_in t ≡ Some inner → StandsIn p end to t → to ≡ record { address = of_other end inner.source inner.destination; port = of_other end inner.source_port inner.destination_port }
-in_transport p end to Fragment inner told stands = absurd (cc)
-in_transport p end to (Tcp t) inner told stands = absurd (cc)
-in_transport p end to (Udp u) inner told stands = absurd (cc)
-in_transport p end to (Icmp i) inner told stands = in_message p end to i.message inner told stands
-in_transport p end to Other inner told stands = absurd (cc)
+in_transport : (p : Packet) (end : End) (to : Endpoint) (t : Transport) (inner : Inner) → embedded_in t ≡ Some inner → StandsIn p end to t → to ≡ record { address = of_other end inner.source inner.destination; port = of_other end inner.source_port inner.destination_port }
+in_transport p end to Fragment inner embedded stands = absurd (cc)
+in_transport p end to (Tcp t) inner embedded stands = absurd (cc)
+in_transport p end to (Udp u) inner embedded stands = absurd (cc)
+in_transport p end to (Icmp i) inner embedded stands = in_message p end to i.message inner embedded stands
+in_transport p end to Other inner embedded stands = absurd (cc)
 
-words_stand : (d : List ℕ) (change : Change) (told : Option Inner) → told_in change.packet.transport ≡ told → packet_of d ≡ Some change.packet → AreBytes d → StandsIn change.packet change.end change.to change.packet.transport → AllStand d (words_for d change told)
+words_stand : (d : List ℕ) (change : Change) (embedded : Option Inner) → embedded_in change.packet.transport ≡ embedded → packet_of d ≡ Some change.packet → AreBytes d → StandsIn change.packet change.end change.to change.packet.transport → AllStand d (words_for d change embedded)
 words_stand d change None is there are stands = packet_stands d change.packet change.end change.to there are is stands
 words_stand d change (Some inner) is there are stands =
     let same = in_transport change.packet change.end change.to change.packet.transport inner is stands in

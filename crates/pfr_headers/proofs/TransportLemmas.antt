@@ -11,7 +11,7 @@ use Rattle.pfr_headers.specs.declared.icmp.IcmpHeader.{IcmpHeader}
 use Rattle.pfr_headers.specs.declared.icmp.IcmpMessage.{IcmpMessage}
 use Rattle.pfr_headers.specs.declared.icmp.IcmpMessage.TheVariants as message
 use Rattle.pfr_headers.specs.declared.icmp.Inner.{Inner}
-use Rattle.pfr_headers.specs.Transport.{IsIcmp, IsInner, IsMessage, IsTcp, IsTransport, IsUdp, InnerPorts, as_icmp, as_tcp, as_udp, has_eight, has_inner, has_tcp, icmp_of, icmp_with, inner_behind, inner_of, inner_with, is_echo, is_error, message_of, tcp_fields, tcp_length_of, tcp_of, told_of, transport_of, udp_fields, udp_of}
+use Rattle.pfr_headers.specs.Transport.{IsIcmp, IsInner, IsMessage, IsTcp, IsTransport, IsUdp, InnerPorts, as_icmp, as_tcp, as_udp, has_eight, has_inner, has_tcp, icmp_of, icmp_with, inner_behind, inner_of, inner_with, is_echo, is_error, message_of, tcp_fields, tcp_length_of, tcp_of, embedded_of, transport_of, udp_fields, udp_of}
 
 pub not_true : (a : Bool) → not a ≡ true → a ≡ false
 not_true true e = absurd (cc)
@@ -111,7 +111,7 @@ udp_by whole s u true is e =
     subst (λ (v : UdpHeader). IsUdp whole s v) (same_some _ _ (rw is at e)) (record { captured = p.0; within_total = p.1; source = refl; destination = refl; payload_length = refl })
 udp_by whole s u false is e = none_some u (udp_of whole s) e (rw is refl)
 
--- the packet that an ICMP error tells of
+-- the packet that an ICMP error embeds
 
 inner_tests : (e : List ℕ) (i : Inner) → IsInner e i → has_inner e ≡ true
 inner_tests e i h =
@@ -213,13 +213,13 @@ inner_by e i false is found = none_some i (inner_of e) found (rw is refl)
 
 -- messages
 
-told_inner : (e : List ℕ) (found : Option Inner) → inner_of e ≡ found → ((i : Inner) → IsInner e i → ⊥) → told_of (inner_of e) ≡ message.Other
-told_inner e None is none = rw is refl
-told_inner e (Some i) is none = absurd (none i (inner_by e i _ refl is))
+embedded_inner : (e : List ℕ) (found : Option Inner) → inner_of e ≡ found → ((i : Inner) → IsInner e i → ⊥) → embedded_of (inner_of e) ≡ message.Other
+embedded_inner e None is none = rw is refl
+embedded_inner e (Some i) is none = absurd (none i (inner_by e i _ refl is))
 
 other_message : (kind : ℕ) (s : List ℕ) (error : Bool) → is_echo kind ≡ false → is_error kind ≡ error → (is_error kind ≡ true → (i : Inner) → IsInner (drop 8 s) i → ⊥) → message_of kind s ≡ message.Other
 unfolding message_of
-other_message kind s true echo error none = rw (echo, error) (told_inner (drop 8 s) _ refl (none error))
+other_message kind s true echo error none = rw (echo, error) (embedded_inner (drop 8 s) _ refl (none error))
 other_message kind s false echo error none = rw (echo, error) refl
 
 three_kinds : (kind : ℕ) (three eleven : Bool) → eqb kind 3 ≡ three → eqb kind 11 ≡ eleven → is_error kind ≡ true → is_echo kind ≡ false
@@ -236,14 +236,14 @@ message_is kind s (message.Echo identifier) is = rw (is.0, is.1) refl
 message_is kind s (message.Error inner) is = rw (not_both kind is.0, is.0, inner_is (drop 8 s) inner is.1) refl
 message_is kind s message.Other is = other_message kind s _ is.0 refl is.1
 
-told_from : (kind : ℕ) (s : List ℕ) (found : Option Inner) → is_echo kind ≡ false → is_error kind ≡ true → inner_of (drop 8 s) ≡ found → IsMessage kind s (told_of found)
-told_from kind s None echo error is = (echo, λ e i h. none_some i (inner_of (drop 8 s)) (inner_is (drop 8 s) i h) is)
-told_from kind s (Some i) echo error is = (error, inner_by (drop 8 s) i _ refl is)
+embedded_from : (kind : ℕ) (s : List ℕ) (found : Option Inner) → is_echo kind ≡ false → is_error kind ≡ true → inner_of (drop 8 s) ≡ found → IsMessage kind s (embedded_of found)
+embedded_from kind s None echo error is = (echo, λ e i h. none_some i (inner_of (drop 8 s)) (inner_is (drop 8 s) i h) is)
+embedded_from kind s (Some i) echo error is = (error, inner_by (drop 8 s) i _ refl is)
 
 message_by : (kind : ℕ) (s : List ℕ) (echo error : Bool) → is_echo kind ≡ echo → is_error kind ≡ error → IsMessage kind s (message_of kind s)
 unfolding message_of
 message_by kind s true error a b = rw a (a, refl)
-message_by kind s false true a b = rw (a, b) (told_from kind s (inner_of (drop 8 s)) a b refl)
+message_by kind s false true a b = rw (a, b) (embedded_from kind s (inner_of (drop 8 s)) a b refl)
 message_by kind s false false a b = rw (a, b) (a, λ e. absurd (cc))
 
 -- ICMP

@@ -17,7 +17,7 @@ use Rattle.pfr_headers.specs.declared.packet.Packet.{Packet}
 use Rattle.pfr_headers.specs.declared.transport.Transport.{Transport}
 use Rattle.pfr_headers.specs.declared.transport.Transport.TheVariants.{Fragment, Tcp, Udp, Icmp, Other}
 use Rattle.pfr_headers.specs.Checksum.{AreBytes, HeaderVerifies, Verifies, Word, difference_of, mended, sum_of_words, with_word, with_words, word, word_at}
-use Rattle.pfr_headers.specs.Rewriting.{address_place, address_words, behind_words, echo_or_none, echo_words, end_address, error_words, header_words, inner_words, other_end, outer_words, packet_words, rewritten, tcp_words, told_in, udp_words, words_for, words_of}
+use Rattle.pfr_headers.specs.Rewriting.{address_place, address_words, behind_words, echo_or_none, echo_words, end_address, error_words, header_words, inner_words, other_end, outer_words, packet_words, rewritten, tcp_words, embedded_in, udp_words, words_for, words_of}
 use Rattle.pfr_headers.specs.Room.{BehindFits, InnerFits}
 use Rattle.pfr_headers.specs.declared.packet.View.TheVariants.{Ipv4}
 use Rattle.pfr_headers.specs.View.{HoldsIpv4, packet_of, place_of, view_of}
@@ -143,7 +143,7 @@ error_verifies count d p inner end to are words long fits small some before =
     rw (sym (append_assoc carried (checksum ∷ []) (outer_words d p inner end to)), with_append first (outer_words d p inner end to) d, sym same) after
 
 -- all words of a change
-words_verify : (count : ℕ) (d : List ℕ) (change : Change) (told : Option Inner) → told_in change.packet.transport ≡ told → packet_of d ≡ Some change.packet → AreSmall d → 2 * count ≡ change.packet.header_length → change.to.address.0 < 4294967296 → 0 < word_at d 2 → Verifies (sum_of_words count d) → Verifies (sum_of_words count (with_words (words_for d change told) d))
+words_verify : (count : ℕ) (d : List ℕ) (change : Change) (embedded : Option Inner) → embedded_in change.packet.transport ≡ embedded → packet_of d ≡ Some change.packet → AreSmall d → 2 * count ≡ change.packet.header_length → change.to.address.0 < 4294967296 → 0 < word_at d 2 → Verifies (sum_of_words count d) → Verifies (sum_of_words count (with_words (words_for d change embedded) d))
 words_verify count d change None is there are words small some before =
     let room = header_room d change.packet there in
     packet_verifies count d change.packet change.end change.to are words room.0 room.1 (transport_room d change.packet there) small some before

@@ -3,7 +3,7 @@
 --
 -- IPv4 (RFC 791, section 3.1): checksum at 10, source at 12, destination at 16. Behind the header: TCP (RFC 9293, section
 -- 3.1): ports at 0 and 2, checksum at 16. UDP (RFC 768): ports at 0 and 2, checksum at 6. ICMP (RFC 792): checksum at 2, an
--- echo's identifier at 4, the packet that an error tells of at 8.
+-- echo's identifier at 4, the packet that an error embeds at 8.
 use Rattle.std.specs.Prelude.{◌≡◌, ◌⊎◌, ◌≤◌, ◌<◌, ℕ, ◌+◌, ◌*◌, ◌-◌, ◌^◌, List, [], ◌∷◌, take, drop, Some, ⊤, slice_index}
 use Rattle.pfr_net.specs.declared.endpoint.Endpoint.{Endpoint}
 use Rattle.pfr_headers.specs.declared.change.Change.{Change}
@@ -34,7 +34,7 @@ of_other Source source destination = destination
 of_other Destination source destination = source
 
 -- what stands at an end of a packet: its address, and its port or an echo's identifier; in an error it is what stands at the
--- other end of the packet that it tells of
+-- other end of the packet that it embeds
 abbrev pub StandsInMessage : Packet → End → Endpoint → IcmpMessage → Type 0
 StandsInMessage p end to (message.Echo identifier) = to ≡ record { address = of_end end p.source p.destination; port = record { 0 = identifier } }
 StandsInMessage p end to (message.Error inner) = to ≡ record { address = of_other end inner.source inner.destination; port = of_other end inner.source_port inner.destination_port }
@@ -67,16 +67,16 @@ IsOfUdp at port byte = IsIn (at + port) 2 byte ⊎ IsIn (at + 6) 2 byte
 abbrev pub IsOfEcho : ℕ → ℕ → Type 0
 IsOfEcho at byte = IsIn (at + 2) 4 byte
 
--- behind the header of a packet that an error tells of: the port, and the checksum of UDP, or what an echo has
-abbrev pub IsOfTold : ℕ → ℕ → ℕ → ℕ → Type 0
-IsOfTold protocol at port byte =
+-- behind the header of a packet that an error embeds: the port, and the checksum of UDP, or what an echo has
+abbrev pub IsOfEmbedded : ℕ → ℕ → ℕ → ℕ → Type 0
+IsOfEmbedded protocol at port byte =
     ((protocol ≡ 6) × IsIn (at + port) 2 byte) ⊎ ((protocol ≡ 17) × IsOfUdp at port byte) ⊎ ((protocol ≡ 1) × IsOfEcho at byte)
 
--- of a message: an error's checksum, and the packet that it tells of at its other end
+-- of a message: an error's checksum, and the packet that it embeds at its other end
 abbrev pub IsOfMessage : ℕ → End → IcmpMessage → ℕ → Type 0
 IsOfMessage at end (message.Echo identifier) byte = IsOfEcho at byte
 IsOfMessage at end (message.Error inner) byte =
-    IsIn (at + 2) 2 byte ⊎ IsOfHeader (at + 8) (of_other end 12 16) byte ⊎ IsOfTold inner.protocol.0 (at + 8 + inner.header_length) (of_other end 0 2) byte
+    IsIn (at + 2) 2 byte ⊎ IsOfHeader (at + 8) (of_other end 12 16) byte ⊎ IsOfEmbedded inner.protocol.0 (at + 8 + inner.header_length) (of_other end 0 2) byte
 IsOfMessage at end message.Other byte = ⊥
 
 abbrev pub IsOfTransport : ℕ → End → Transport → ℕ → Type 0
@@ -112,10 +112,10 @@ message_sum d p = sum_of (carried d p)
 abbrev pub segment_sum : List ℕ → Packet → ℕ
 segment_sum d p = sum_of (take 8 (drop 12 d)) + (p.protocol.0 + (p.total_length - p.header_length)) + sum_of (carried d p)
 
--- the packet that an error tells of lies within the error's total length, as far as it is translated
-abbrev pub CarriesTold : Packet → IcmpMessage → Type 0
-CarriesTold p (message.Error inner) = p.header_length + 8 + inner.header_length + 8 ≤ p.total_length
-CarriesTold p _ = ⊤
+-- the packet that an error embeds lies within the error's total length, as far as it is translated
+abbrev pub CarriesEmbedded : Packet → IcmpMessage → Type 0
+CarriesEmbedded p (message.Error inner) = p.header_length + 8 + inner.header_length + 8 ≤ p.total_length
+CarriesEmbedded p _ = ⊤
 
 -- a frame whose packet is translated, with the place of its datagram, and numbers as wide as their fields
 pub record IsTranslated (link : ℕ) (bytes : List ℕ) (change : Change) (place : ℕ) : Type 0 where
@@ -201,7 +201,7 @@ IcmpStillVerifies =
     (link place : ℕ) (bytes : List ℕ) (change : Change) (i : IcmpHeader)
     → IsTranslated link bytes change place
     → change.packet.transport ≡ Icmp i
-    → CarriesTold change.packet i.message
+    → CarriesEmbedded change.packet i.message
     → Verifies (message_sum (drop place bytes) change.packet)
     → 0 < message_sum (drop place (rewritten link change bytes)) change.packet
     → Verifies (message_sum (drop place (rewritten link change bytes)) change.packet)

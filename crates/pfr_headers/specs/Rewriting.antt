@@ -3,7 +3,7 @@
 --
 -- IPv4 (RFC 791, section 3.1): checksum at 10, source at 12, destination at 16. Behind the header: TCP (RFC 9293,
 -- section 3.1): ports at 0 and 2, checksum at 16. UDP (RFC 768): ports at 0 and 2, checksum at 6. Both checksums are
--- over the addresses too. ICMP (RFC 792): checksum at 2, an echo's identifier at 4, the packet that an error tells of
+-- over the addresses too. ICMP (RFC 792): checksum at 2, an echo's identifier at 4, the packet that an error embeds
 -- at 8.
 use Rattle.std.specs.Prelude.{ℕ, ◌+◌, ◌/◌, ◌%◌, ◌==◌, if◌then◌else◌, List, [], ◌∷◌, ◌++◌, take, drop, Option, Some, None}
 use Rattle.pfr_net.specs.declared.address.Ipv4Address.{Ipv4Address}
@@ -62,18 +62,18 @@ echo_words d at identifier =
     word (at + 4) identifier.0
     ∷ (word (at + 2) (mended (word_at d (at + 2)) (difference (word_at d (at + 4)) identifier.0)) ∷ [])
 
--- behind the header of a packet that an error tells of; a TCP checksum there stays, it may not have been captured
-unfoldable pub told_words : List ℕ → ℕ → ℕ → End → ℕ → Port → List Word
-told_words d protocol at end addresses port =
+-- behind the header of a packet that an error embeds; a TCP checksum there stays, it may not have been captured
+unfoldable pub embedded_words : List ℕ → ℕ → ℕ → End → ℕ → Port → List Word
+embedded_words d protocol at end addresses port =
     if protocol == 6 then word (at + port_place end) port.0 ∷ [] else
     if protocol == 17 then udp_words d at end addresses port else
     echo_words d at port
 
--- the packet that an error tells of, whose header begins at a place
+-- the packet that an error embeds, whose header begins at a place
 unfoldable pub inner_words : List ℕ → ℕ → Inner → End → Endpoint → List Word
 inner_words d at inner end to =
     header_words d at end to.address
-    ++ told_words d inner.protocol.0 (at + inner.header_length) end (difference_of d (address_words (at + address_place end) to.address)) to.port
+    ++ embedded_words d inner.protocol.0 (at + inner.header_length) end (difference_of d (address_words (at + address_place end) to.address)) to.port
 
 -- the address at one end
 abbrev pub end_address : End → Ipv4Address → Ipv4Address → Ipv4Address
@@ -111,14 +111,14 @@ packet_words d p end to =
     header_words d 0 end to.address
     ++ behind_words d p.header_length end (difference_of d (address_words (address_place end) to.address)) to.port p.transport
 
--- the packet that an error tells of
-abbrev pub told_by : IcmpMessage → Option Inner
-told_by (message.Error inner) = Some inner
-told_by _ = None
+-- the packet that an error embeds
+abbrev pub embedded_by : IcmpMessage → Option Inner
+embedded_by (message.Error inner) = Some inner
+embedded_by _ = None
 
-abbrev pub told_in : Transport → Option Inner
-told_in (Icmp i) = told_by i.message
-told_in _ = None
+abbrev pub embedded_in : Transport → Option Inner
+embedded_in (Icmp i) = embedded_by i.message
+embedded_in _ = None
 
 -- all words that a change writes into its packet's datagram
 abbrev pub words_for : List ℕ → Change → Option Inner → List Word
@@ -126,7 +126,7 @@ words_for d change (Some inner) = error_words d change.packet inner change.end c
 words_for d change None = packet_words d change.packet change.end change.to
 
 unfoldable pub words_of : List ℕ → Change → List Word
-words_of d change = words_for d change (told_in change.packet.transport)
+words_of d change = words_for d change (embedded_in change.packet.transport)
 
 abbrev pub rewritten_at : Change → List ℕ → Option ℕ → List ℕ
 rewritten_at change bytes None = bytes

@@ -4,7 +4,7 @@ use Rattle.pfr_headers.specs.declared.icmp.Inner.{Inner}
 use Rattle.pfr_headers.specs.declared.transport.Transport.{Transport}
 use Rattle.pfr_headers.specs.declared.transport.Transport.TheVariants.{Tcp, Udp, Icmp}
 
--- the packet that an error tells of, whose header begins at a place
+-- the packet that an error embeds, whose header begins at a place
 pub record InnerFits (size at : ℕ) (inner : Inner) : Type 0 where
   pub header : 20 ≤ inner.header_length
   pub behind : at + inner.header_length + 8 ≤ size

@@ -62,7 +62,7 @@ InnerPorts protocol s source destination =
     (((protocol ≡ 6) ⊎ (protocol ≡ 17)) × (source ≡ big_number 2 s) × (destination ≡ big_number 2 (drop 2 s)))
     ⊎ ((protocol ≡ 1) × (is_echo (slice_index s 0) ≡ true) × (source ≡ big_number 2 (drop 4 s)) × (destination ≡ source))
 
--- The packet that an ICMP error tells of: `e` is what was captured behind the error's 8 bytes. Its IPv4 header
+-- The packet that an ICMP error embeds: `e` is what was captured behind the error's 8 bytes. Its IPv4 header
 -- and 8 bytes behind it are there, and it is the first part of a TCP or UDP packet, or of an ICMP echo.
 pub record IsInner (e : List ℕ) (i : Inner) : Type 0 where
   pub version : slice_index e 0 / 16 ≡ 4
@@ -128,7 +128,7 @@ udp_fields whole s = record {
 unfoldable pub udp_of : ℕ → List ℕ → Option UdpHeader
 udp_of whole s = if has_eight whole s then Some (udp_fields whole s) else None
 
--- a packet that an error tells of is there as far as it must be
+-- a packet that an error embeds is there as far as it must be
 abbrev pub has_inner : List ℕ → Bool
 has_inner e = not (nat_lt (length e) 20 || (not (slice_index e 0 / 16 == 4) || (nat_lt (4 * (slice_index e 0 % 16)) 20 || (nat_lt (length e) (4 * (slice_index e 0 % 16) + 8) || not (big_number 2 (drop 6 e) % 8192 == 0)))))
 
@@ -151,14 +151,14 @@ inner_behind e s =
 unfoldable pub inner_of : List ℕ → Option Inner
 inner_of e = if has_inner e then inner_behind e (drop (4 * (slice_index e 0 % 16)) e) else None
 
-abbrev pub told_of : Option Inner → IcmpMessage
-told_of None = message.Other
-told_of (Some inner) = message.Error inner
+abbrev pub embedded_of : Option Inner → IcmpMessage
+embedded_of None = message.Other
+embedded_of (Some inner) = message.Error inner
 
 unfoldable pub message_of : ℕ → List ℕ → IcmpMessage
 message_of kind s =
     if is_echo kind then message.Echo (big_number 2 (drop 4 s)) else
-    if is_error kind then told_of (inner_of (drop 8 s)) else
+    if is_error kind then embedded_of (inner_of (drop 8 s)) else
     message.Other
 
 abbrev pub icmp_with : List ℕ → IcmpMessage → IcmpHeader

@@ -9,7 +9,7 @@ pub enum End {
     Destination,
 }
 
-/// A packet of which one end is translated. In an ICMP error that tells of a packet, it is the other end of that
+/// A packet of which one end is translated. In an ICMP error that embeds a packet, it is the other end of that
 /// packet that is translated, and with it the error's own end where that has the same address.
 #[derive(Clone, Copy)]
 pub struct Change {

@@ -18,13 +18,13 @@ pub struct IcmpHeader {
 pub enum IcmpMessage {
     /// An echo (type 8) or its reply (type 0), with its identifier.
     Echo(u16),
-    /// An error (types 3, 11 and 12) that tells of a packet of TCP or UDP, or of an ICMP echo.
+    /// An error (types 3, 11 and 12) that embeds a packet of TCP or UDP, or of an ICMP echo.
     Error(Inner),
-    /// Another message, also an error that tells of no such packet or of too little of it.
+    /// Another message, also an error that embeds no such packet or of too little of it.
     Other,
 }
 
-/// The packet that an ICMP error tells of. Its header begins 8 bytes behind the error's own IPv4 header.
+/// The packet that an ICMP error embeds. Its header begins 8 bytes behind the error's own IPv4 header.
 #[derive(Clone, Copy, PartialEq, Eq)]
 pub struct Inner {
     /// The length of its IPv4 header in bytes, options included: 20 to 60.

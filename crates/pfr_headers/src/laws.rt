@@ -30,7 +30,7 @@ pub fn checksums_still_verify()
 
 /// A frame keeps its length when its packet is rewritten, and what is no part of the address, the port or the identifier of
 /// the end that is translated, or of a checksum over them, stays as it is. An error's TCP checksum stays too, of the packet
-/// that it tells of.
+/// that it embeds.
 pub fn the_rest_stays()
     ensures length { (link : ℕ) (bytes : List ℕ) (change : Change) → view_of link bytes ≡ Ipv4 change.packet → length (rewritten link change bytes) ≡ length bytes }
     ensures bytes { OtherBytesStay }
@@ -38,7 +38,7 @@ pub fn the_rest_stays()
 
 /// The checksum of what a packet carries still verifies after the packet was rewritten: that of TCP, that of UDP where there is
 /// one (where there is none, there is none afterwards), and that of ICMP, of an error with all that changes in the packet that
-/// it tells of. The one exception is an ICMP message of which all words come out as 0, and an error whose total length ends
+/// it embeds. The one exception is an ICMP message of which all words come out as 0, and an error whose total length ends
 /// before what is translated in it.
 pub fn carried_checksums_still_verify()
     ensures tcp { TcpStillVerifies }

@@ -1,4 +1,4 @@
-//! ICMP messages, and the packets that errors tell of.
+//! ICMP messages, and the packets that errors embed.
 ghost use Rattle.std.specs.Prelude.{◌≡◌, ◌≤◌, length};
 ghost use Rattle.pfr_headers.specs.Transport.{has_inner, icmp_of, inner_of, inner_behind, is_echo, is_error, message_of};
 

@@ -2,7 +2,7 @@
 ghost use Rattle.std.specs.Prelude.{◌≡◌, ◌≤◌, ◌<◌, ◌+◌, ◌⊎◌, length, Some};
 ghost use Rattle.pfr_headers.specs.declared.packet.View.TheVariants.{Ipv4};
 ghost use Rattle.pfr_headers.specs.Checksum.{difference_of, with_words};
-ghost use Rattle.pfr_headers.specs.Rewriting.{address_place, address_words, behind_words, echo_words, end_address, error_words, header_words, inner_words, other_end, outer_words, packet_words, port_place, rewritten, tcp_words, told_in, told_words, udp_words, words_of};
+ghost use Rattle.pfr_headers.specs.Rewriting.{address_place, address_words, behind_words, echo_words, end_address, error_words, header_words, inner_words, other_end, outer_words, packet_words, port_place, rewritten, tcp_words, embedded_in, embedded_words, udp_words, words_of};
 ghost use Rattle.pfr_headers.specs.View.{packet_of, view_of};
 ghost use Rattle.pfr_headers.specs.Room.{BehindFits, InnerFits};
 
@@ -122,11 +122,11 @@ fn rewrite_echo(bytes: &mut [u8], at: usize, identifier: Port) -> u32
     identifiers + checksum
 }
 
-/// Rewrites what is behind the header of a packet that an error tells of. A TCP checksum there stays: it may not have
+/// Rewrites what is behind the header of a packet that an error embeds. A TCP checksum there stays: it may not have
 /// been captured.
 #[inline]
-#[tactic(auto, unfolding(crate::specs::Rewriting::told_words))]
-fn rewrite_told(
+#[tactic(auto, unfolding(crate::specs::Rewriting::embedded_words))]
+fn rewrite_embedded(
     bytes: &mut [u8],
     protocol: u8,
     at: usize,
@@ -136,8 +136,8 @@ fn rewrite_told(
 ) -> u32
     requires room { at + 8 ≤ length bytes.old }
     requires sum { addresses ≤ 262140 }
-    ensures written { bytes.new ≡ with_words (told_words bytes.old protocol at end addresses port) bytes.old }
-    ensures brings { result ≡ difference_of bytes.old (told_words bytes.old protocol at end addresses port) }
+    ensures written { bytes.new ≡ with_words (embedded_words bytes.old protocol at end addresses port) bytes.old }
+    ensures brings { result ≡ difference_of bytes.old (embedded_words bytes.old protocol at end addresses port) }
     ensures within { result ≤ 262140 }
 {
     match Protocol(protocol) {
@@ -147,7 +147,7 @@ fn rewrite_told(
     }
 }
 
-/// Rewrites the packet that an error tells of, whose header begins at a place. Answers what that brings to the sums over
+/// Rewrites the packet that an error embeds, whose header begins at a place. Answers what that brings to the sums over
 /// it.
 #[inline]
 fn rewrite_inner(bytes: &mut [u8], at: usize, inner: &Inner, end: End, to: Endpoint) -> u32
@@ -158,12 +158,12 @@ fn rewrite_inner(bytes: &mut [u8], at: usize, inner: &Inner, end: End, to: Endpo
 {
     let (addresses, header) = rewrite_header(bytes, at, end, to.address);
     let behind = at + usize::from(inner.header_length);
-    let told = rewrite_told(bytes, inner.protocol.0, behind, end, addresses, to.port);
-    header + told
+    let embedded = rewrite_embedded(bytes, inner.protocol.0, behind, end, addresses, to.port);
+    header + embedded
 }
 
-/// Rewrites the header of an error, where it has the address of the end that is translated in the packet that it tells
-/// of.
+/// Rewrites the header of an error, where it has the address of the end that is translated in the packet that it embeds
+///.
 #[inline]
 #[tactic(auto, unfolding(crate::specs::Rewriting::outer_words))]
 fn rewrite_outer(bytes: &mut [u8], packet: &Packet, inner: &Inner, end: End, to: Endpoint)
@@ -177,7 +177,7 @@ fn rewrite_outer(bytes: &mut [u8], packet: &Packet, inner: &Inner, end: End, to:
     }
 }
 
-/// Rewrites an error and the packet that it tells of.
+/// Rewrites an error and the packet that it embeds.
 #[inline]
 fn rewrite_error(bytes: &mut [u8], packet: &Packet, inner: &Inner, end: End, to: Endpoint)
     requires header { 20 ≤ packet.now.header_length }
@@ -219,7 +219,7 @@ fn rewrite_behind(
     }
 }
 
-/// Rewrites a packet that tells of no other.
+/// Rewrites a packet that embeds no other.
 #[inline]
 fn rewrite_packet(bytes: &mut [u8], packet: &Packet, end: End, to: Endpoint)
     requires header { (20 ≤ packet.now.header_length) × (packet.now.header_length ≤ length bytes.old) }
@@ -231,10 +231,10 @@ fn rewrite_packet(bytes: &mut [u8], packet: &Packet, end: End, to: Endpoint)
     rewrite_behind(bytes, &packet.transport, at, end, addresses, to.port);
 }
 
-/// The packet that an error tells of.
+/// The packet that an error embeds.
 #[inline]
-fn told_in(transport: &Transport) -> Option<Inner>
-    ensures { result ≡ told_in transport.now }
+fn embedded_in(transport: &Transport) -> Option<Inner>
+    ensures { result ≡ embedded_in transport.now }
 {
     match transport {
         Transport::Icmp(icmp) => match icmp.message {
@@ -253,7 +253,7 @@ fn rewrite_datagram(bytes: &mut [u8], change: &Change)
     requires { packet_of bytes.old ≡ Some change.now.packet }
     ensures { bytes.new ≡ with_words (words_of bytes.old change.now) bytes.old }
 {
-    match told_in(&change.packet.transport) {
+    match embedded_in(&change.packet.transport) {
         Some(inner) => rewrite_error(bytes, &change.packet, &inner, change.end, change.to),
         None => rewrite_packet(bytes, &change.packet, change.end, change.to),
     }

@@ -21,7 +21,7 @@ use Rattle.pfr_states.specs.declared.change.TableChange.{TableChange}
 use Rattle.pfr_states.specs.declared.change.TableChange.TheVariants.{Touched}
 use Rattle.pfr_states.specs.States.{StateTable, is_same_end}
 use Rattle.pfr_packet.specs.declared.keys.Subject.{Subject}
-use Rattle.pfr_packet.specs.declared.keys.Subject.TheVariants.{Alone, Told, Connection}
+use Rattle.pfr_packet.specs.declared.keys.Subject.TheVariants.{Alone, Embedded, Connection}
 use Rattle.pfr_packet.specs.declared.making.Passage.{Passage}
 use Rattle.pfr_packet.specs.declared.outcome.Outcome.{Outcome}
 use Rattle.pfr_packet.specs.declared.verdict.Reason.{Reason}
@@ -33,7 +33,7 @@ use Rattle.pfr_packet.specs.Keys.{side_of, subject_of, written_by}
 use Rattle.pfr_packet.specs.Making.{making, untranslated, with_keys, with_room}
 use Rattle.pfr_packet.specs.Outcomes.{blocked, without_leave}
 use Rattle.pfr_packet.specs.Plan.{Plan, done, found_in, has_room_in, outcome_of, purged_at}
-use Rattle.pfr_packet.specs.Steps.{by_connection, by_told, opened, packet_plan, passed_over, plan, step_of, subject_plan}
+use Rattle.pfr_packet.specs.Steps.{by_connection, by_embedded, opened, packet_plan, passed_over, plan, step_of, subject_plan}
 use Rattle.pfr_packet.specs.Verdicts.{lets_pass}
 use Rattle.pfr_packet.proofs.ChangeLemmas.{passing}
 
@@ -94,9 +94,9 @@ opened_writes job number clock table packet direction passage outcome h None = h
 opened_writes job number clock table packet direction passage outcome h (Some rules) =
     passing_writes table packet (made (record { 0 = number }) packet direction passage.wire passage.stack rules clock (timeouts_of job)) outcome h (lets_pass outcome.verdict)
 
-by_told_writes : (job : RunJob) (table : StateTable) (packet : Packet) (direction : Direction) (found : Option State) → Writes packet (outcome_of table (by_told job packet direction found))
-by_told_writes job table packet direction None = filtered_writes job.rules packet direction
-by_told_writes job table packet direction (Some state) = passed_writes direction packet state reason.StateError None
+by_embedded_writes : (job : RunJob) (table : StateTable) (packet : Packet) (direction : Direction) (found : Option State) → Writes packet (outcome_of table (by_embedded job packet direction found))
+by_embedded_writes job table packet direction None = filtered_writes job.rules packet direction
+by_embedded_writes job table packet direction (Some state) = passed_writes direction packet state reason.StateError None
 
 by_connection_writes : (job : RunJob) (number : ℕ) (clock : Clock) (table : StateTable) (packet : Packet) (direction : Direction) (key : Key) (found : Option State)
     → Writes packet (outcome_of table (by_connection job number clock packet direction key found))
@@ -108,7 +108,7 @@ by_connection_writes job number clock table packet direction key (Some state) = 
 subject_writes : (job : RunJob) (number : ℕ) (clock : Clock) (table : StateTable) (packet : Packet) (direction : Direction) (subject : Subject)
     → Writes packet (outcome_of table (subject_plan job number clock packet direction subject))
 subject_writes job number clock table packet direction Alone = filtered_writes job.rules packet direction
-subject_writes job number clock table packet direction (Told key) = by_told_writes job table packet direction (found_in table (side_of direction) key)
+subject_writes job number clock table packet direction (Embedded key) = by_embedded_writes job table packet direction (found_in table (side_of direction) key)
 subject_writes job number clock table packet direction (Connection key) = by_connection_writes job number clock table packet direction key (found_in table (side_of direction) key)
 
 packet_writes : (job : RunJob) (number : ℕ) (clock : Clock) (table : StateTable) (packet : Packet) (direction : Direction)

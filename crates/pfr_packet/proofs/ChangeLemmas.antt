@@ -24,7 +24,7 @@ use Rattle.pfr_states.specs.declared.change.TableChange.{TableChange}
 use Rattle.pfr_states.specs.declared.change.TableChange.TheVariants.{Made, Touched, Removed}
 use Rattle.pfr_states.specs.States.{StateTable, is_same_key, key_on, lives, purged, refusal}
 use Rattle.pfr_packet.specs.declared.keys.Subject.{Subject}
-use Rattle.pfr_packet.specs.declared.keys.Subject.TheVariants.{Alone, Told, Connection}
+use Rattle.pfr_packet.specs.declared.keys.Subject.TheVariants.{Alone, Embedded, Connection}
 use Rattle.pfr_packet.specs.declared.making.Passage.{Passage}
 use Rattle.pfr_packet.specs.declared.outcome.Outcome.{Outcome}
 use Rattle.pfr_packet.specs.declared.verdict.Reason.{Reason}
@@ -32,14 +32,14 @@ use Rattle.pfr_packet.specs.declared.verdict.Reason.TheVariants as reason
 use Rattle.pfr_packet.specs.declared.verdict.Verdict.{Verdict}
 use Rattle.pfr_packet.specs.declared.verdict.Verdict.TheVariants as verdict
 use Rattle.pfr_packet.specs.Filtering.{conduct_of, decided, filtered, kept}
-use Rattle.pfr_packet.specs.Found.{passed, told, tracked}
+use Rattle.pfr_packet.specs.Found.{passed, embedded, tracked}
 use Rattle.pfr_packet.specs.Job.{RunJob, is_skipped, timeouts_of}
 use Rattle.pfr_packet.specs.Keys.{side_of, subject_of, written_by}
 use Rattle.pfr_packet.specs.Laws.{IsOwnChange, only_removes}
 use Rattle.pfr_packet.specs.Making.{making, untranslated, with_keys, with_room}
 use Rattle.pfr_packet.specs.Outcomes.{blocked, by_state, without_leave}
 use Rattle.pfr_packet.specs.Plan.{Plan, done, found_in, has_room_in, outcome_of, purged_at}
-use Rattle.pfr_packet.specs.Steps.{by_connection, by_told, opened, packet_plan, passed_over, plan, step_of, subject_plan}
+use Rattle.pfr_packet.specs.Steps.{by_connection, by_embedded, opened, packet_plan, passed_over, plan, step_of, subject_plan}
 use Rattle.pfr_packet.specs.Verdicts.{lets_pass}
 use Rattle.pfr_packet.proofs.FreeLemmas.{AreApart, made_free, removed_free, touched_free}
 use Rattle.pfr_packet.proofs.Members.{found_there, from_filter}
@@ -97,8 +97,8 @@ passed_stands : (number : ℕ) (clock : Clock) (table : StateTable) (direction :
     → Comes number clock table (passing direction packet state why change) change → Stands number clock table (passed direction packet state why change)
 passed_stands number clock table direction packet state why change h = leave_stands number clock table packet state.rules.allows_options (passing direction packet state why change) h
 
-told_stands : (number : ℕ) (clock : Clock) (table : StateTable) (direction : Direction) (packet : Packet) (state : State) → Stands number clock table (told direction packet state)
-told_stands number clock table direction packet state = passed_stands number clock table direction packet state reason.StateError None tt
+embedded_stands : (number : ℕ) (clock : Clock) (table : StateTable) (direction : Direction) (packet : Packet) (state : State) → Stands number clock table (embedded direction packet state)
+embedded_stands number clock table direction packet state = passed_stands number clock table direction packet state reason.StateError None tt
 
 tracked_stands : Leaves → (number : ℕ) (clock : Clock) (table : StateTable) (packet : Packet) (direction : Direction) (timeouts : Timeouts) (state : State) → Contains table.states state
     → (t : Touch) → touched state packet direction clock timeouts ≡ t → Stands number clock table (tracked direction packet state t)
@@ -173,9 +173,9 @@ opened_stands job number clock table packet direction passage outcome h (Some ru
 
 -- ---- a packet
 
-by_told_stands : (job : RunJob) (number : ℕ) (clock : Clock) (table : StateTable) (packet : Packet) (direction : Direction) (found : Option State) → Stands number clock table (outcome_of table (by_told job packet direction found))
-by_told_stands job number clock table packet direction None = filtered_stands number clock table job.rules packet direction
-by_told_stands job number clock table packet direction (Some state) = told_stands number clock table direction packet state
+by_embedded_stands : (job : RunJob) (number : ℕ) (clock : Clock) (table : StateTable) (packet : Packet) (direction : Direction) (found : Option State) → Stands number clock table (outcome_of table (by_embedded job packet direction found))
+by_embedded_stands job number clock table packet direction None = filtered_stands number clock table job.rules packet direction
+by_embedded_stands job number clock table packet direction (Some state) = embedded_stands number clock table direction packet state
 
 by_connection_stands : Leaves → (job : RunJob) (number : ℕ) (clock : Clock) (table : StateTable) (packet : Packet) (direction : Direction) (key : Key)
     → (found : Option State) → found_in table (side_of direction) key ≡ found → Stands number clock table (outcome_of table (by_connection job number clock packet direction key found))
@@ -189,7 +189,7 @@ by_connection_stands leaves job number clock table packet direction key (Some st
 subject_stands : Leaves → (job : RunJob) (number : ℕ) (clock : Clock) (table : StateTable) (packet : Packet) (direction : Direction) (subject : Subject)
     → Stands number clock table (outcome_of table (subject_plan job number clock packet direction subject))
 subject_stands leaves job number clock table packet direction Alone = filtered_stands number clock table job.rules packet direction
-subject_stands leaves job number clock table packet direction (Told key) = by_told_stands job number clock table packet direction (found_in table (side_of direction) key)
+subject_stands leaves job number clock table packet direction (Embedded key) = by_embedded_stands job number clock table packet direction (found_in table (side_of direction) key)
 subject_stands leaves job number clock table packet direction (Connection key) =
     by_connection_stands leaves job number clock table packet direction key (found_in table (side_of direction) key) refl
 

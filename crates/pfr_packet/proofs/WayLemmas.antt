@@ -29,31 +29,31 @@ use Rattle.pfr_states.specs.declared.change.TableChange.{TableChange}
 use Rattle.pfr_states.specs.declared.change.TableChange.TheVariants.{Touched}
 use Rattle.pfr_states.specs.States.{StateTable}
 use Rattle.pfr_packet.specs.declared.keys.Subject.{Subject}
-use Rattle.pfr_packet.specs.declared.keys.Subject.TheVariants.{Alone, Told, Connection}
+use Rattle.pfr_packet.specs.declared.keys.Subject.TheVariants.{Alone, Embedded, Connection}
 use Rattle.pfr_packet.specs.declared.making.Passage.{Passage}
 use Rattle.pfr_packet.specs.declared.outcome.Outcome.{Outcome}
 use Rattle.pfr_packet.specs.declared.verdict.Reason.{Reason}
 use Rattle.pfr_packet.specs.declared.verdict.Reason.TheVariants as reason
 use Rattle.pfr_packet.specs.Filtering.{conduct_at, conduct_of, decided, filtered, kept, reason_of}
-use Rattle.pfr_packet.specs.Found.{told, tracked}
+use Rattle.pfr_packet.specs.Found.{embedded, tracked}
 use Rattle.pfr_packet.specs.Job.{RunJob, is_skipped, timeouts_of}
 use Rattle.pfr_packet.specs.Keys.{message_subject, side_of, subject_by, subject_of}
 use Rattle.pfr_packet.specs.Laws.{HasLeave, IsUntouched, message_opens, opens_connection}
 use Rattle.pfr_packet.specs.Making.{making, untranslated, with_keys, with_made, with_room}
 use Rattle.pfr_packet.specs.Outcomes.{blocked, none_visited, without_leave}
 use Rattle.pfr_packet.specs.Plan.{Plan, done, found_in, has_room_in, outcome_of, purged_at}
-use Rattle.pfr_packet.specs.Steps.{asked_of, by_connection, by_told, opened, packet_plan, passed_over, plan, step_of, subject_plan}
+use Rattle.pfr_packet.specs.Steps.{asked_of, by_connection, by_embedded, opened, packet_plan, passed_over, plan, step_of, subject_plan}
 use Rattle.pfr_packet.specs.Verdicts.{lets_pass}
 use Rattle.pfr_packet.proofs.ChangeLemmas.{found_in_states, passing}
 
 -- no state is found for the packet
 abbrev pub NoneFound : StateTable → Packet → Direction → Type 0
-NoneFound table packet direction = (key : Key) → ((subject_of direction packet ≡ Told key) ⊎ (subject_of direction packet ≡ Connection key)) → found_in table (side_of direction) key ≡ None
+NoneFound table packet direction = (key : Key) → ((subject_of direction packet ≡ Embedded key) ⊎ (subject_of direction packet ≡ Connection key)) → found_in table (side_of direction) key ≡ None
 
 -- what holds of the outcome, whichever way the packet goes
 pub record Ways (job : RunJob) (table : StateTable) (packet : Packet) (direction : Direction) (P : Outcome → Type 0) : Type 0 where
   pub by_rules : NoneFound table packet direction → P (filtered job.rules packet direction)
-  pub by_error : (key : Key) (state : State) → subject_of direction packet ≡ Told key → found_in table (side_of direction) key ≡ Some state → P (told direction packet state)
+  pub by_error : (key : Key) (state : State) → subject_of direction packet ≡ Embedded key → found_in table (side_of direction) key ≡ Some state → P (embedded direction packet state)
   pub by_state : (key : Key) (state : State) (t : Touch) → subject_of direction packet ≡ Connection key → found_in table (side_of direction) key ≡ Some state → P (tracked direction packet state t)
   pub makes : (key : Key) (state : State) → subject_of direction packet ≡ Connection key → NoneFound table packet direction → lets_pass (filtered job.rules packet direction).verdict ≡ true
       → P (with_made packet state (filtered job.rules packet direction))
@@ -84,20 +84,20 @@ opened_way job number clock table packet direction passage P w key is none (Some
     passing_way job table packet direction P w key (made (record { 0 = number }) packet direction passage.wire passage.stack rules clock (timeouts_of job)) is none (lets_pass (filtered job.rules packet direction).verdict) refl
 
 -- the subject of a packet is one
-none_at : (table : StateTable) (packet : Packet) (direction : Direction) (subject : Subject) (key : Key) → subject_of direction packet ≡ subject → (subject ≡ Told key) ⊎ (subject ≡ Connection key)
+none_at : (table : StateTable) (packet : Packet) (direction : Direction) (subject : Subject) (key : Key) → subject_of direction packet ≡ subject → (subject ≡ Embedded key) ⊎ (subject ≡ Connection key)
     → found_in table (side_of direction) key ≡ None → NoneFound table packet direction
-none_at table packet direction subject key is one none = λ other at. rw (same_key other (elim at [ inl told ↦ inl (sym is ∙ told) | inr own ↦ inr (sym is ∙ own) ]) one) none
+none_at table packet direction subject key is one none = λ other at. rw (same_key other (elim at [ inl embedded ↦ inl (sym is ∙ embedded) | inr own ↦ inr (sym is ∙ own) ]) one) none
   where
-    same_key : (other : Key) → (subject ≡ Told other) ⊎ (subject ≡ Connection other) → (subject ≡ Told key) ⊎ (subject ≡ Connection key) → other ≡ key
-    same_key other (inl a) (inl b) = (let e : Told other ≡ Told key = sym a ∙ b in cc e)
-    same_key other (inl a) (inr b) = (let e : Told other ≡ Connection key = sym a ∙ b in absurd (cc e))
-    same_key other (inr a) (inl b) = (let e : Connection other ≡ Told key = sym a ∙ b in absurd (cc e))
+    same_key : (other : Key) → (subject ≡ Embedded other) ⊎ (subject ≡ Connection other) → (subject ≡ Embedded key) ⊎ (subject ≡ Connection key) → other ≡ key
+    same_key other (inl a) (inl b) = (let e : Embedded other ≡ Embedded key = sym a ∙ b in cc e)
+    same_key other (inl a) (inr b) = (let e : Embedded other ≡ Connection key = sym a ∙ b in absurd (cc e))
+    same_key other (inr a) (inl b) = (let e : Connection other ≡ Embedded key = sym a ∙ b in absurd (cc e))
     same_key other (inr a) (inr b) = (let e : Connection other ≡ Connection key = sym a ∙ b in cc e)
 
-told_way : (job : RunJob) (table : StateTable) (packet : Packet) (direction : Direction) (P : Outcome → Type 0) → Ways job table packet direction P → (key : Key) → subject_of direction packet ≡ Told key
-    → (found : Option State) → found_in table (side_of direction) key ≡ found → P (outcome_of table (by_told job packet direction found))
-told_way job table packet direction P w key is None none = w.by_rules (none_at table packet direction (Told key) key is (inl refl) none)
-told_way job table packet direction P w key is (Some state) found = w.by_error key state is found
+embedded_way : (job : RunJob) (table : StateTable) (packet : Packet) (direction : Direction) (P : Outcome → Type 0) → Ways job table packet direction P → (key : Key) → subject_of direction packet ≡ Embedded key
+    → (found : Option State) → found_in table (side_of direction) key ≡ found → P (outcome_of table (by_embedded job packet direction found))
+embedded_way job table packet direction P w key is None none = w.by_rules (none_at table packet direction (Embedded key) key is (inl refl) none)
+embedded_way job table packet direction P w key is (Some state) found = w.by_error key state is found
 
 connection_way : (job : RunJob) (number : ℕ) (clock : Clock) (table : StateTable) (packet : Packet) (direction : Direction) (P : Outcome → Type 0) → Ways job table packet direction P → (key : Key) → subject_of direction packet ≡ Connection key
     → (found : Option State) → found_in table (side_of direction) key ≡ found → P (outcome_of table (by_connection job number clock packet direction key found))
@@ -108,10 +108,10 @@ connection_way job number clock table packet direction P w key is (Some state) f
 subject_way : (job : RunJob) (number : ℕ) (clock : Clock) (table : StateTable) (packet : Packet) (direction : Direction) (P : Outcome → Type 0) → Ways job table packet direction P → (subject : Subject) → subject_of direction packet ≡ subject
     → P (outcome_of table (subject_plan job number clock packet direction subject))
 subject_way job number clock table packet direction P w Alone is = w.by_rules (λ key at. elim at [
-  | inl told ↦ (let e : Alone ≡ Told key = sym is ∙ told in absurd (cc e))
+  | inl embedded ↦ (let e : Alone ≡ Embedded key = sym is ∙ embedded in absurd (cc e))
   | inr own ↦ (let e : Alone ≡ Connection key = sym is ∙ own in absurd (cc e))
 ])
-subject_way job number clock table packet direction P w (Told key) is = told_way job table packet direction P w key is (found_in table (side_of direction) key) refl
+subject_way job number clock table packet direction P w (Embedded key) is = embedded_way job table packet direction P w key is (found_in table (side_of direction) key) refl
 subject_way job number clock table packet direction P w (Connection key) is = connection_way job number clock table packet direction P w key is (found_in table (side_of direction) key) refl
 
 pub packet_way : (job : RunJob) (number : ℕ) (clock : Clock) (table : StateTable) (packet : Packet) (direction : Direction) (P : Outcome → Type 0) → Ways job table packet direction P
@@ -183,7 +183,7 @@ no_state_of job number clock packet table opens =
 
 -- where a state is found no rule is visited
 pub none_visited_of : (job : RunJob) (number : ℕ) (clock : Clock) (packet : Packet) (table : StateTable) (key : Key) (state : State)
-    → (subject_of (direction_of job.inside packet) packet ≡ Told key) ⊎ (subject_of (direction_of job.inside packet) packet ≡ Connection key)
+    → (subject_of (direction_of job.inside packet) packet ≡ Embedded key) ⊎ (subject_of (direction_of job.inside packet) packet ≡ Connection key)
     → found_in (purged_at clock table) (side_of (direction_of job.inside packet)) key ≡ Some state → (step_of job number clock (Ipv4 packet) table).visited ≡ none_visited
 none_visited_of job number clock packet table key state subject found =
     let direction = direction_of job.inside packet in

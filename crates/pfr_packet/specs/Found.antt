@@ -19,9 +19,9 @@ abbrev pub passed : Direction → Packet → State → Reason → Option TableCh
 passed direction packet state why change =
     without_leave packet state.rules.allows_options (record (by_state direction state Pass why) { bytes = written_by direction packet state.wire state.stack; change = change })
 
--- an ICMP error that tells of a packet of the state's connection: the state stays as it is
-abbrev pub told : Direction → Packet → State → Outcome
-told direction packet state = passed direction packet state reason.StateError None
+-- an ICMP error that embeds a packet of the state's connection: the state stays as it is
+abbrev pub embedded : Direction → Packet → State → Outcome
+embedded direction packet state = passed direction packet state reason.StateError None
 
 -- a packet with the state's key, by what it does to the state
 abbrev pub tracked : Direction → Packet → State → Touch → Outcome

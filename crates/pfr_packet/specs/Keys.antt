@@ -20,7 +20,7 @@ use Rattle.pfr_states.specs.declared.change.Side.{Side}
 use Rattle.pfr_states.specs.declared.change.Side.TheVariants.{Wire, Stack}
 use Rattle.pfr_states.specs.States.{is_same_end}
 use Rattle.pfr_packet.specs.declared.keys.Subject.{Subject}
-use Rattle.pfr_packet.specs.declared.keys.Subject.TheVariants.{Alone, Told, Connection}
+use Rattle.pfr_packet.specs.declared.keys.Subject.TheVariants.{Alone, Embedded, Connection}
 
 -- packets that come in are looked up on the wire side, those that go out on the stack side
 abbrev pub side_of : Direction → Side
@@ -43,15 +43,15 @@ abbrev pub own_key : Direction → Packet → Port → Port → Key
 own_key direction packet source destination =
     key_of direction packet.protocol (endpoint packet.source source) (endpoint packet.destination destination)
 
--- the packet that an error tells of went the other way
-abbrev pub told_key : Direction → Inner → Key
-told_key direction inner =
+-- the packet that an error embeds went the other way
+abbrev pub embedded_key : Direction → Inner → Key
+embedded_key direction inner =
     key_of (opposite direction) inner.protocol (endpoint inner.source inner.source_port) (endpoint inner.destination inner.destination_port)
 
 -- an echo has its identifier as both ports
 abbrev pub message_subject : Direction → Packet → IcmpMessage → Subject
 message_subject direction packet (message.Echo identifier) = Connection (own_key direction packet (record { 0 = identifier }) (record { 0 = identifier }))
-message_subject direction packet (message.Error inner) = Told (told_key direction inner)
+message_subject direction packet (message.Error inner) = Embedded (embedded_key direction inner)
 message_subject direction packet message.Other = Alone
 
 abbrev pub subject_by : Direction → Packet → Transport → Subject

@@ -26,7 +26,7 @@ use Rattle.pfr_packet.specs.Job.{RunJob, is_skipped}
 use Rattle.pfr_packet.specs.Plan.{SameAnswer, purged_at, found_in, has_room_in}
 use Rattle.pfr_packet.specs.Steps.{asked_of, step_of}
 use Rattle.pfr_packet.specs.Verdicts.{lets_pass}
-use Rattle.pfr_packet.specs.declared.keys.Subject.TheVariants.{Connection, Told}
+use Rattle.pfr_packet.specs.declared.keys.Subject.TheVariants.{Connection, Embedded}
 use Rattle.pfr_packet.specs.Keys.{side_of, subject_of}
 use Rattle.pfr_packet.specs.Outcomes.{none_visited}
 use Rattle.pfr_packet.specs.declared.verdict.Reason.TheVariants.{StateLimit, SkipOn}
@@ -177,7 +177,7 @@ OpensNoConnection =
 abbrev pub NoRuleBehindAState : Type 0
 NoRuleBehindAState =
     (job : RunJob) (number : ℕ) (clock : Clock) (packet : Packet) (table : StateTable) (key : Key) (state : State)
-    → (subject_of (direction_of job.inside packet) packet ≡ Told key) ⊎ (subject_of (direction_of job.inside packet) packet ≡ Connection key)
+    → (subject_of (direction_of job.inside packet) packet ≡ Embedded key) ⊎ (subject_of (direction_of job.inside packet) packet ≡ Connection key)
     → found_in (purged_at clock table) (side_of (direction_of job.inside packet)) key ≡ Some state
     → (step_of job number clock (Ipv4 packet) table).visited ≡ none_visited
 

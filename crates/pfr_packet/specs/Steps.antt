@@ -4,7 +4,7 @@
 --   packets of an interface that isn't filtered pass
 --   what is too short is blocked
 --   a part of a packet, and an ICMP message of no connection, is filtered, and makes no state
---   an ICMP error passes by the state of the packet that it tells of; without one it is filtered, and makes no state
+--   an ICMP error passes by the state of the packet that it embeds; without one it is filtered, and makes no state
 --   a packet of a state's connection is tracked
 --   any other is filtered, and where it passes makes the state that the deciding rule keeps, if there is a place for it
 --
@@ -24,13 +24,13 @@ use Rattle.pfr_states.specs.States.{StateTable}
 use Rattle.pfr_packet.specs.declared.answers.Question.{Question}
 use Rattle.pfr_packet.specs.declared.evaluation.Arrival.{Arrival}
 use Rattle.pfr_packet.specs.declared.keys.Subject.{Subject}
-use Rattle.pfr_packet.specs.declared.keys.Subject.TheVariants.{Alone, Told, Connection}
+use Rattle.pfr_packet.specs.declared.keys.Subject.TheVariants.{Alone, Embedded, Connection}
 use Rattle.pfr_packet.specs.declared.making.Passage.{Passage}
 use Rattle.pfr_packet.specs.declared.outcome.Outcome.{Outcome}
 use Rattle.pfr_packet.specs.declared.verdict.Reason.TheVariants as reason
 use Rattle.pfr_packet.specs.declared.verdict.Verdict.TheVariants as verdict
 use Rattle.pfr_packet.specs.Filtering.{filtered, kept}
-use Rattle.pfr_packet.specs.Found.{told, tracked}
+use Rattle.pfr_packet.specs.Found.{embedded, tracked}
 use Rattle.pfr_packet.specs.Job.{RunJob, is_skipped, timeouts_of}
 use Rattle.pfr_packet.specs.Keys.{side_of, subject_of}
 use Rattle.pfr_packet.specs.Making.{making, untranslated}
@@ -43,14 +43,14 @@ use Rattle.pfr_packet.specs.Verdicts.{lets_pass}
 abbrev pub alone : RunJob → Packet → Direction → Outcome
 alone job packet direction = filtered job.rules packet direction
 
--- ---- an error that tells of a connection
+-- ---- an error, by the packet that it embeds
 
-abbrev pub by_told : RunJob → Packet → Direction → Option State → Plan
-by_told job packet direction None = done (alone job packet direction)
-by_told job packet direction (Some state) = done (told direction packet state)
+abbrev pub by_embedded : RunJob → Packet → Direction → Option State → Plan
+by_embedded job packet direction None = done (alone job packet direction)
+by_embedded job packet direction (Some state) = done (embedded direction packet state)
 
-abbrev pub asking_told : RunJob → Packet → Direction → Key → Plan
-asking_told job packet direction key = ask_at (side_of direction) key (by_told job packet direction)
+abbrev pub asking_embedded : RunJob → Packet → Direction → Key → Plan
+asking_embedded job packet direction key = ask_at (side_of direction) key (by_embedded job packet direction)
 
 -- ---- a packet of a connection
 
@@ -81,16 +81,16 @@ asking_connection job number clock packet direction key = ask_at (side_of direct
 
 abbrev pub subject_plan : RunJob → ℕ → Clock → Packet → Direction → Subject → Plan
 subject_plan job number clock packet direction Alone = done (alone job packet direction)
-subject_plan job number clock packet direction (Told key) = asking_told job packet direction key
+subject_plan job number clock packet direction (Embedded key) = asking_embedded job packet direction key
 subject_plan job number clock packet direction (Connection key) = asking_connection job number clock packet direction key
 
 unfoldable pub packet_plan : RunJob → ℕ → Clock → Packet → Direction → Plan
 packet_plan job number clock packet direction = subject_plan job number clock packet direction (subject_of direction packet)
 
--- the plans of a packet that arrives: as an error that tells of a connection, as the first of one, by its connection, and
+-- the plans of a packet that arrives: as an error, as the first packet of a connection, by its connection, and
 -- as it comes
-abbrev pub told_plan : Arrival → Key → Plan
-told_plan arrival key = asking_told arrival.job.now arrival.packet.now arrival.direction key
+abbrev pub embedded_plan : Arrival → Key → Plan
+embedded_plan arrival key = asking_embedded arrival.job.now arrival.packet.now arrival.direction key
 
 abbrev pub opening_plan : Arrival → Passage → Plan
 opening_plan arrival passage = opening arrival.job.now arrival.number arrival.clock arrival.packet.now arrival.direction passage

@@ -7,7 +7,7 @@ ghost use Rattle.pfr_packet.specs.Steps as spec;
 
 use crate::answers::Answers;
 use crate::filtering::Filtered;
-use crate::found::{told, tracked};
+use crate::found::{embedded, tracked};
 use crate::job::Job;
 use crate::keys::{Subject, side_of, subject_of};
 use crate::making::{Passage, make_state};
@@ -38,14 +38,14 @@ impl Arrival<'_> {
         Ok(filtered.outcome)
     }
 
-    /// What it comes to as an ICMP error that tells of a connection.
-    fn by_told<A: Answers>(&self, key: &Key, answers: &mut A) -> Result<Outcome, AllocError>
+    /// What it comes to as an ICMP error, by the connection of the packet that it embeds.
+    fn by_embedded<A: Answers>(&self, key: &Key, answers: &mut A) -> Result<Outcome, AllocError>
         ensures seen { A.seen answers.new ≡ A.seen answers.old }
-        ensures goes { IfOk result (λ outcome. Goes (A.seen answers.old) (spec.told_plan self.now key.now) outcome (A.asked answers.new)) }
+        ensures goes { IfOk result (λ outcome. Goes (A.seen answers.old) (spec.embedded_plan self.now key.now) outcome (A.asked answers.new)) }
         ensures kept { (question : Question) → A.asked answers.old question → A.asked answers.new question }
     {
         match answers.at(side_of(self.direction), key)? {
-            Some(state) => Ok(told(self.alloc, self.direction, self.packet, &state)),
+            Some(state) => Ok(embedded(self.alloc, self.direction, self.packet, &state)),
             None => self.filtered(),
         }
     }
@@ -110,7 +110,7 @@ impl Arrival<'_> {
     {
         match subject_of(self.direction, self.packet) {
             Subject::Alone => self.filtered(),
-            Subject::Told(key) => self.by_told(&key, answers),
+            Subject::Embedded(key) => self.by_embedded(&key, answers),
             Subject::Connection(key) => self.by_connection(&key, answers),
         }
     }

@@ -29,9 +29,9 @@ fn passed(
     outcome
 }
 
-/// What an ICMP error comes to that tells of a packet of a state's connection: it passes, and the state stays as it is.
-pub(crate) fn told(alloc: Global, direction: Direction, packet: &Packet, state: &State) -> Outcome
-    ensures { result ≡ spec.told direction packet.now state.now }
+/// What an ICMP error comes to that embeds a packet of a state's connection: it passes, and the state stays as it is.
+pub(crate) fn embedded(alloc: Global, direction: Direction, packet: &Packet, state: &State) -> Outcome
+    ensures { result ≡ spec.embedded direction packet.now state.now }
 {
     passed(alloc, direction, packet, state, Reason::StateError, None)
 }

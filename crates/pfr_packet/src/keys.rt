@@ -13,8 +13,8 @@ use pfr_track::Key;
 pub enum Subject {
     /// Nothing: a part of a packet, or an ICMP message that belongs to no connection.
     Alone,
-    /// The connection of the packet that an ICMP error tells of.
-    Told(Key),
+    /// The connection of the packet that an ICMP error embeds.
+    Embedded(Key),
     /// The packet's own connection.
     Connection(Key),
 }
@@ -79,10 +79,10 @@ fn own_key(direction: Direction, packet: &Packet, source: Port, destination: Por
     )
 }
 
-/// The key of the connection that an error tells of: its packet went the other way.
+/// The key of the packet that an error embeds, which went the other way.
 #[inline]
-fn told_key(direction: Direction, inner: &Inner) -> Key
-    ensures { result ≡ spec.told_key direction inner.now }
+fn embedded_key(direction: Direction, inner: &Inner) -> Key
+    ensures { result ≡ spec.embedded_key direction inner.now }
 {
     key_of(
         opposite(direction),
@@ -102,7 +102,7 @@ fn message_subject(direction: Direction, packet: &Packet, message: &IcmpMessage)
             let port = Port(*identifier);
             Subject::Connection(own_key(direction, packet, port, port))
         }
-        IcmpMessage::Error(inner) => Subject::Told(told_key(direction, inner)),
+        IcmpMessage::Error(inner) => Subject::Embedded(embedded_key(direction, inner)),
         IcmpMessage::Other => Subject::Alone,
     }
 }

@@ -17,7 +17,9 @@ pub fn same_answers_give_the_same_outcome()
 pub fn no_change_is_refused()
     ensures { NoChangeIsRefused }
 {
+    // the state that is touched is the one of its key
     one_state_answers_a_key();
+    // and it keeps its keys
     what_a_packet_leaves();
 }
 
@@ -26,6 +28,7 @@ pub fn no_change_is_refused()
 pub fn every_change_is_of_the_named_state()
     ensures { ChangesAreOfTheNamed }
 {
+    // a touched state keeps its number, its keys and its rules
     what_a_packet_leaves();
 }
 
@@ -38,6 +41,7 @@ pub fn what_is_written_is_of_the_packet()
 pub fn what_is_blocked_only_removes()
     ensures { BlockedOnlyRemoves }
 {
+    // a packet that touches a state passes by it
     what_a_packet_leaves();
 }
 
@@ -52,7 +56,7 @@ pub fn what_opens_no_connection_leaves_the_table()
     ensures { OpensNoConnection }
 {}
 
-/// Where a state is found for a packet, or for the packet that an ICMP error tells of, no rule is visited.
+/// Where a state is found for a packet, or for the packet that an ICMP error embeds, no rule is visited.
 pub fn no_rule_is_visited_behind_a_state()
     ensures { NoRuleBehindAState }
 {}

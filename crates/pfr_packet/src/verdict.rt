@@ -55,7 +55,7 @@ pub enum Reason {
     IpOption,
     /// It belongs to the connection of a state.
     State,
-    /// It is an ICMP error that tells of a packet of a state's connection.
+    /// It is an ICMP error that embeds a packet of a state's connection.
     StateError,
     /// It has the key of a state, but doesn't belong to its connection now.
     StateMismatch,

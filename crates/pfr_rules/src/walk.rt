@@ -81,6 +81,7 @@ fn behind(openings: &[usize], place: usize) -> usize
     requires { place < length openings.now }
     ensures { result ≡ place + 1 }
 {
+    // a place below a slice's length has a number behind it
     let _last = openings.len();
     place + 1
 }

@@ -231,7 +231,7 @@ pub stays_turn : {A B : Type 0} {before to sees : Bool} {closing : ℕ} {eaten :
     → Stays before to closing sees eaten (suc count) (p >>= f) (q >>= g)
 stays_turn {eaten = eaten} {count = count} first more = stays_bind (λ a. true) (λ a b. false) (λ a. count) first more (λ a j n fewer below. omega (arith, fewer, below)) (λ a b k j n fewer then_fewer. fewer_first (eaten b) k j n then_fewer fewer)
 
--- behind what tells whether it takes a word
+-- behind a test of whether it takes a word
 either_count : (taken : Bool) (count j n : ℕ) → Fewer taken j n → n < suc count → j < (if taken then count else suc count)
 either_count true count j n fewer below = omega (arith, fewer, below)
 either_count false count j n fewer below = omega (arith, fewer, below)
@@ -240,19 +240,19 @@ either_fewer : (taken eaten : Bool) (k j n : ℕ) → Fewer taken j n → Fewer 
 either_fewer true eaten k j n fewer more = fewer_first eaten k j n more fewer
 either_fewer false eaten k j n fewer more = fewer_then eaten k j n more fewer
 
-pub stays_told : {A B : Type 0} {before to sees : Bool} {closing : ℕ} (taken : A → Bool) {eaten : B → Bool} {count : ℕ} {p q : Parser A} {f g : A → Parser B}
+pub stays_by_test : {A B : Type 0} {before to sees : Bool} {closing : ℕ} (taken : A → Bool) {eaten : B → Bool} {count : ℕ} {p q : Parser A} {f g : A → Parser B}
     → Stays before before 0 sees taken (suc count) p q → ((a : A) → Stays before to closing false (λ b. if taken a then false else eaten b) (if taken a then count else suc count) (f a) (g a))
     → Stays before to closing sees eaten (suc count) (p >>= f) (q >>= g)
-stays_told taken {eaten = eaten} {count = count} first more = stays_bind taken (λ a b. if taken a then false else eaten b) (λ a. if taken a then count else suc count) first more
+stays_by_test taken {eaten = eaten} {count = count} first more = stays_bind taken (λ a b. if taken a then false else eaten b) (λ a. if taken a then count else suc count) first more
     (λ a j n fewer below. either_count (taken a) count j n fewer below) (λ a b k j n fewer then_fewer. either_fewer (taken a) (eaten b) k j n fewer then_fewer)
 
 same_count : (taken : Bool) (count j n : ℕ) → Fewer taken j n → n < count → j < count
 same_count taken count j n fewer below = let any = fewer_any taken j n fewer in omega (arith, any, below)
 
-pub stays_told_so : {A B : Type 0} {before to sees : Bool} {closing : ℕ} (taken : A → Bool) {eaten : B → Bool} {count : ℕ} {p q : Parser A} {f g : A → Parser B}
+pub stays_by_test_so : {A B : Type 0} {before to sees : Bool} {closing : ℕ} (taken : A → Bool) {eaten : B → Bool} {count : ℕ} {p q : Parser A} {f g : A → Parser B}
     → Stays before before 0 sees taken count p q → ((a : A) → Stays before to closing false (λ b. if taken a then false else eaten b) count (f a) (g a))
     → Stays before to closing sees eaten count (p >>= f) (q >>= g)
-stays_told_so taken {eaten = eaten} {count = count} first more = stays_bind taken (λ a b. if taken a then false else eaten b) (λ a. count) first more
+stays_by_test_so taken {eaten = eaten} {count = count} first more = stays_bind taken (λ a b. if taken a then false else eaten b) (λ a. count) first more
     (λ a j n fewer below. same_count (taken a) count j n fewer below) (λ a b k j n fewer then_fewer. either_fewer (taken a) (eaten b) k j n fewer then_fewer)
 
 pub stays_pure_told : {A : Type 0} {inside sees : Bool} {count : ℕ} {eaten : A → Bool} (a : A) → eaten a ≡ false → Stays inside inside 0 sees eaten count (pure a) (pure a)
@@ -281,7 +281,7 @@ pub record Sight {X : Type 0} (ahead : Input → X) : Type 0 where
 pub record Shows {X : Type 0} (ahead : Input → Option X) : Type 0 where
   pub starts : (i : Input) (x : X) → ahead i ≡ Some x → Starts i.words
 
-pub record Tells (test : Input → Bool) : Type 0 where
+pub record IsTest (test : Input → Bool) : Type 0 where
   pub starts : (i : Input) → test i ≡ true → Starts i.words
 
 first_alike : {X : Type 0} (f : Word → Option X) (line : ℕ) (ys ws : List Word) → f (record { line = line; token = t.LineEnd }) ≡ None → of_first f (ws ++ record { line = line; token = t.LineEnd } ∷ ys) ≡ of_first f ws
@@ -351,25 +351,25 @@ pub number_shows : Shows number_ahead
 unfolding number_ahead
 number_shows = named_shows number_of refl
 
-word_tells_by : (word : List ℕ) (found : Option (List ℕ)) (i : Input) → plain_ahead i ≡ found → is_word word found ≡ true → Starts i.words
-word_tells_by word None i e is = absurd (cc)
-word_tells_by word (Some text) i e is = plain_shows.starts i text e
+word_test_by : (word : List ℕ) (found : Option (List ℕ)) (i : Input) → plain_ahead i ≡ found → is_word word found ≡ true → Starts i.words
+word_test_by word None i e is = absurd (cc)
+word_test_by word (Some text) i e is = plain_shows.starts i text e
 
-pub word_tells : (word : List ℕ) → Tells (sees_word word)
+pub word_test : (word : List ℕ) → IsTest (sees_word word)
 unfolding sees_word
-word_tells word = record { starts = λ i is. word_tells_by word (plain_ahead i) i refl is }
+word_test word = record { starts = λ i is. word_test_by word (plain_ahead i) i refl is }
 
 pub word_sight : (word : List ℕ) → Sight (sees_word word)
 unfolding sees_word
 word_sight word = named_sight (is_word word)
 
-sign_tells_by : (sign : Sign) (ws : List Word) → Plain sign → first_is sign ws ≡ true → Starts ws
-sign_tells_by sign [] plain is = absurd (cc)
-sign_tells_by sign (w ∷ ws) plain is = inner_token w.token sign plain is
+sign_test_by : (sign : Sign) (ws : List Word) → Plain sign → first_is sign ws ≡ true → Starts ws
+sign_test_by sign [] plain is = absurd (cc)
+sign_test_by sign (w ∷ ws) plain is = inner_token w.token sign plain is
 
-pub sign_tells : (sign : Sign) → Plain sign → Tells (sees_sign sign)
+pub sign_test : (sign : Sign) → Plain sign → IsTest (sees_sign sign)
 unfolding sees_sign
-sign_tells sign plain = record { starts = λ i is. sign_tells_by sign i.words plain is }
+sign_test sign plain = record { starts = λ i is. sign_test_by sign i.words plain is }
 
 first_is_alike : (sign : Sign) (line : ℕ) (ys ws : List Word) → first_is sign (ws ++ record { line = line; token = t.LineEnd } ∷ ys) ≡ first_is sign ws
 first_is_alike sign line ys [] = refl
@@ -535,11 +535,11 @@ eat_follows line ys i false fine starts = record { same = refl; fine = fine; bra
 
 pub stays_eat_sign_so : {inside sees : Bool} {count : ℕ} (sign : Sign) → Plain sign → Stays inside inside 0 sees (λ (found : Bool). found) count (eat_sign sign) (eat_sign sign)
 unfolding eat_sign
-stays_eat_sign_so sign plain = record { from = λ line ys i fine braces sees within. rw ((sees_sight sign).alike line ys i) (eat_follows line ys i (sees_sign sign i) fine ((sign_tells sign plain).starts i)) }
+stays_eat_sign_so sign plain = record { from = λ line ys i fine braces sees within. rw ((sees_sight sign).alike line ys i) (eat_follows line ys i (sees_sign sign i) fine ((sign_test sign plain).starts i)) }
 
 pub stays_eat_word_so : {inside sees : Bool} {count : ℕ} (word : List ℕ) → Stays inside inside 0 sees (λ (found : Bool). found) count (eat_word word) (eat_word word)
 unfolding eat_word
-stays_eat_word_so word = record { from = λ line ys i fine braces sees within. rw ((word_sight word).alike line ys i) (eat_follows line ys i (sees_word word i) fine ((word_tells word).starts i)) }
+stays_eat_word_so word = record { from = λ line ys i fine braces sees within. rw ((word_sight word).alike line ys i) (eat_follows line ys i (sees_word word i) fine ((word_test word).starts i)) }
 
 pub stays_any : {A : Type 0} {before to sees : Bool} {closing count : ℕ} (eaten : A → Bool) {p q : Parser A} → Stays before to closing sees eaten count p q → Stays before to closing sees (λ a. false) count p q
 stays_any {to = to} {closing = closing} eaten {p = p} {q = q} stays = record {
@@ -566,12 +566,12 @@ either_found one other false = other
 pub stays_found : {B : Type 0} {before to sees : Bool} {closing count : ℕ} {eaten : B → Bool} {p p' q q' : Parser B} (word : List ℕ)
     → Stays before to closing false (λ b. false) count p p' → Stays before to closing false eaten count q q'
     → Stays before to closing sees eaten count (eat_word word >>= (λ found. if found then p else q)) (eat_word word >>= (λ found. if found then p' else q'))
-stays_found word one other = stays_told_so (λ found. found) (stays_eat_word_so word) (either_found one other)
+stays_found word one other = stays_by_test_so (λ found. found) (stays_eat_word_so word) (either_found one other)
 
 pub stays_found_sign : {B : Type 0} {before to sees : Bool} {closing count : ℕ} {eaten : B → Bool} {p p' q q' : Parser B} (sign : Sign) → Plain sign
     → Stays before to closing false (λ b. false) count p p' → Stays before to closing false eaten count q q'
     → Stays before to closing sees eaten count (eat_sign sign >>= (λ found. if found then p else q)) (eat_sign sign >>= (λ found. if found then p' else q'))
-stays_found_sign sign plain one other = stays_told_so (λ found. found) (stays_eat_sign_so sign plain) (either_found one other)
+stays_found_sign sign plain one other = stays_by_test_so (λ found. found) (stays_eat_sign_so sign plain) (either_found one other)
 
 -- ---- turns
 

@@ -1,10 +1,10 @@
--- Which of several faults is told.
+-- Which of several faults is reported.
 use Rattle.std.specs.Prelude.{◌≤◌, ℕ, ◌==◌, ◌&&◌, ◌||◌, Bool, nat_le, nat_lt, if◌then◌else◌, Option, Some, None}
 use Rattle.pfr_terms.specs.declared.error.ConfError.{ConfError}
 use Rattle.pfr_terms.specs.declared.error.ConfErrorKind.{ConfErrorKind}
 use Rattle.pfr_terms.specs.declared.error.ConfErrorKind.TheVariants.{BadByte, Unterminated, UnknownWord, LeftOut, BadNumber, BadAddress, OutOfOrder, TooDeep, Memory, UndefinedMacro, UndefinedTable, TooMany, Clash}
 
--- of two faults at one word the one with the lower number is told
+-- of two faults at one word the one with the lower number is reported
 unfoldable pub kind_number : ConfErrorKind → ℕ
 kind_number BadByte = 1
 kind_number Unterminated = 2
@@ -32,8 +32,8 @@ lower (Some first) second = if goes_first first second then first else second
 
 -- the kind of a fault has a number that is at most that of each of two others
 abbrev pub IsOfLowerKind : ConfError → ConfError → ConfError → Type 0
-IsOfLowerKind told first second = (kind_number told.kind ≤ kind_number first.kind) × (kind_number told.kind ≤ kind_number second.kind)
+IsOfLowerKind reported first second = (kind_number reported.kind ≤ kind_number first.kind) × (kind_number reported.kind ≤ kind_number second.kind)
 
 -- a fault stands on a line that is at most that of each of two others
 abbrev pub IsOnLowerLine : ConfError → ConfError → ConfError → Type 0
-IsOnLowerLine told first second = (told.line ≤ first.line) × (told.line ≤ second.line)
+IsOnLowerLine reported first second = (reported.line ≤ first.line) × (reported.line ≤ second.line)

@@ -35,7 +35,7 @@ pub record Input : Type 0 where
 abbrev pub start : List Word → Input
 start words = record { words = words; line = 1; in_list = false; gathers = false; gathered = None }
 
--- a macro's value, of whose faults the lowest is told
+-- a macro's value, of whose faults the lowest is reported
 abbrev pub of_value : List Word → Input
 of_value words = record { words = words; line = 1; in_list = false; gathers = true; gathered = None }
 

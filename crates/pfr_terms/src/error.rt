@@ -71,7 +71,7 @@ pub enum ConfErrorKind {
 }
 
 impl ConfErrorKind {
-    /// The number of the kind: of several faults at one word the lowest is told.
+    /// The number of the kind: of several faults at one word the lowest is reported.
     #[tactic(auto, unfolding(crate::specs::Faults::kind_number))]
     pub fn number(&self) -> u8
         ensures { result ≡ faults.kind_number self.now }
@@ -165,7 +165,7 @@ pub fn lower(first: Option<ConfError>, second: ConfError) -> ConfError
     }
 }
 
-/// Whether the first of two faults is told.
+/// Whether the first of two faults is reported.
 fn goes_first(first: &ConfError, second: &ConfError) -> bool
     ensures { result ≡ faults.goes_first first.now second.now }
 {

@@ -3,9 +3,9 @@ ghost use Rattle.std.specs.Prelude.{◌≡◌, ◌⊎◌, None, Some};
 ghost use Rattle.pfr_terms.specs.declared.error.ConfError.{ConfError};
 ghost use Rattle.pfr_terms.specs.Faults.{IsOfLowerKind, IsOnLowerLine, kind_number, lower};
 
-/// Of two faults one of the two is told, whose kind's number is at most that of each, and where these numbers are
-/// equal it is on the lower line. Where nothing was found before, the second is told.
-pub fn the_lower_kind_is_told()
+/// Of two faults one of the two is reported, whose kind's number is at most that of each, and where these numbers are
+/// equal it is on the lower line. Where nothing was found before, the second is reported.
+pub fn the_lower_kind_is_reported()
     ensures alone { (second : ConfError) → lower None second ≡ second }
     ensures one { (first second : ConfError) → (lower (Some first) second ≡ first) ⊎ (lower (Some first) second ≡ second) }
     ensures kind { (first second : ConfError) → IsOfLowerKind (lower (Some first) second) first second }

@@ -18,7 +18,7 @@ use std::mem::replace;
 /// blank.
 ///
 /// A text is read up to its first fault. A macro's value is read on behind a plain word that is at fault, since of all
-/// its faults the one of the lowest kind is told: such faults are gathered, and something stands for the item that the
+/// its faults the one of the lowest kind is reported: such faults are gathered, and something stands for the item that the
 /// word isn't.
 #[derive(Drop)]
 pub struct Reader<'w, 'a> {

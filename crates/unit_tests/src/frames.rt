@@ -15,7 +15,7 @@ pub(crate) const TRANSLATED: [u8; 28] = [
     0x51, 0, 0x35, 0, 8, 0x50, 0x1b,
 ];
 
-/// An error from 203.0.113.9 to 192.0.2.1 that tells of it: port unreachable.
+/// An error from 203.0.113.9 to 192.0.2.1 that embeds it: port unreachable.
 pub(crate) const ERROR: [u8; 28] = [
     0x45, 0, 0, 0x38, 0, 2, 0, 0, 0x40, 1, 0x7c, 0xb8, 203, 0, 113, 9, 192, 0, 2, 1, 3, 3, 0xe9,
     0x52, 0, 0, 0, 0,
@@ -75,7 +75,7 @@ fn is_syn(packet: &Packet, header: [u32; 8]) -> bool {
     }
 }
 
-/// Whether a packet that an error tells of has this header length, protocol, source, destination and these ports.
+/// Whether a packet that an error embeds has this header length, protocol, source, destination and these ports.
 fn is_inner(inner: &Inner, header: [u32; 6]) -> bool {
     let found = [
         u32::from(inner.header_length),
@@ -88,7 +88,7 @@ fn is_inner(inner: &Inner, header: [u32; 6]) -> bool {
     found == header
 }
 
-/// Whether a packet is an ICMP error of this type and code that tells of such a packet.
+/// Whether a packet is an ICMP error of this type and code that embeds such a packet.
 fn tells_of(packet: &Packet, kind: u8, code: u8, header: [u32; 6]) -> bool {
     match packet.transport {
         Transport::Icmp(icmp) => match icmp.message {

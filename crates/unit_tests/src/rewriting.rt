@@ -6,7 +6,7 @@ use pfr_headers::{Change, End, View, rewrite, view};
 use pfr_net::{Endpoint, Ipv4Address, Port};
 use std::process::Abort;
 
-/// The error that tells of the translated query, translated back to 10.0.0.5:1000.
+/// The error that embeds the translated query, translated back to 10.0.0.5:1000.
 const ERROR_BACK: [u8; 28] = [
     0x45, 0, 0, 0x38, 0, 2, 0, 0, 0x40, 1, 0x34, 0xb5, 203, 0, 113, 9, 10, 0, 0, 5, 3, 3, 0x31,
     0x56, 0, 0, 0, 0,
@@ -236,7 +236,7 @@ fn a_captured_error(rt: HostRuntime) {
     assert!(rt; verifies(&error, 0));
     rewrite_end(&mut error, End::Destination, 0xc000_0201, 50001);
     assert!(rt; verifies(&error, 0));
-    // the error's destination and the source of the packet that it tells of
+    // the error's destination and the source of the packet that it embeds
     assert_eq!(rt; [error[16], error[40]], [192, 192]);
     assert_eq!(rt; checksum_of(add_words(0, &error[28..48])), 0);
 }
