@@ -19,7 +19,6 @@ use Rattle.pfr_terms.specs.Input.{unknown_word}
 use Rattle.pfr_elements.specs.declared.definition.Taken.{Taken}
 use Rattle.pfr_elements.specs.declared.definition.Taken.TheVariants as taken
 use Rattle.pfr_elements.specs.declared.element.Elements as E
-use Rattle.pfr_elements.specs.declared.element.ListUse.{ListUse}
 use Rattle.pfr_elements.specs.declared.scope.Scope.{Scope}
 use Rattle.pfr_elements.specs.Elements.{Kind, elements_from, fault_at, first_fault, listed, most_elements, none_yet, turned_if, with_element, with_fault, with_list_by, with_meaning, with_taken, with_written}
 use Rattle.pfr_elements.specs.Hosts.{host_kind}
@@ -59,21 +58,22 @@ list_counted None true turned items found before = λ few. (
     omega (arith, few, least, long, own))
 list_counted None false turned items found before = λ few. let least : length found.items ≤ found.count = before (omega (arith, few)) in omega (arith, least)
 
-taken_counted : {A B : Type 0} (kind : Kind A B) (scope : Scope) (used : ListUse) (value : Result Taken ConfError) (found : E.Elements B) → IsCounted found → IsCounted (with_taken kind scope used value found)
-taken_counted kind scope used (Err e) found before = fault_counted e found before
-taken_counted kind scope used (Ok (taken.TooLong true)) found before = λ few. absurd (omega (arith, few))
-taken_counted kind scope used (Ok (taken.TooLong false)) found before = fault_counted (unknown_word used.line) found before
-taken_counted kind scope used (Ok (taken.Word word)) found before =
+taken_counted : {A B : Type 0} (kind : Kind A B) (scope : Scope) (line defined : ℕ) (is_negated keeps : Bool) (value : Result Taken ConfError) (found : E.Elements B)
+    → IsCounted found → IsCounted (with_taken kind scope (record { line = line; defined = defined; is_negated = is_negated; keeps = keeps }) value found)
+taken_counted kind scope line defined is_negated keeps (Err e) found before = fault_counted e found before
+taken_counted kind scope line defined is_negated keeps (Ok (taken.TooLong true)) found before = λ few. absurd (omega (arith, few))
+taken_counted kind scope line defined is_negated keeps (Ok (taken.TooLong false)) found before = fault_counted (unknown_word line) found before
+taken_counted kind scope line defined is_negated keeps (Ok (taken.Word word)) found before =
     let meant = listed kind scope (words word) in
-    list_counted (fault_at used.line used.defined meant) used.keeps (turned_if used.is_negated kind.turned) meant.items found before
-taken_counted kind scope used (Ok (taken.Whole text)) found before =
+    list_counted (fault_at line defined meant) keeps (turned_if is_negated kind.turned) meant.items found before
+taken_counted kind scope line defined is_negated keeps (Ok (taken.Whole text)) found before =
     let meant = kind.list_in text.meanings.lists in
-    list_counted (fault_at used.line used.defined meant) used.keeps (turned_if used.is_negated kind.turned) meant.items found before
+    list_counted (fault_at line defined meant) keeps (turned_if is_negated kind.turned) meant.items found before
 
 written_counted : {A B : Type 0} (kind : Kind A B) (scope : Scope) (keeps : Bool) (x : A) (use_of : Option MacroUse) (found : E.Elements B) → IsCounted found → IsCounted (with_written kind scope keeps x use_of found)
 written_counted kind scope keeps x None found before = meaning_counted (kind.meaning scope x) found before
 written_counted kind scope keeps x (Some u) found before =
-    taken_counted kind scope (record { line = u.line; defined = scope.defined; is_negated = kind.negated x; keeps = keeps }) (taken_at scope.macros (kind.negated x) u) found before
+    taken_counted kind scope u.line scope.defined (kind.negated x) keeps (taken_at scope.macros (kind.negated x) u) found before
 
 element_counted : {A B : Type 0} (kind : Kind A B) (scope : Scope) (keeps : Bool) (found : E.Elements B) (x : A) → IsCounted found → IsCounted (with_element kind scope keeps found x)
 unfolding with_element
