@@ -30,7 +30,12 @@ fn passed(
 }
 
 /// What an ICMP error comes to that embeds a packet of a state's connection: it passes, and the state stays as it is.
-pub(crate) fn embedded(alloc: Global, direction: Direction, packet: &Packet, state: &State) -> Outcome
+pub(crate) fn embedded(
+    alloc: Global,
+    direction: Direction,
+    packet: &Packet,
+    state: &State,
+) -> Outcome
     ensures { result ≡ spec.embedded direction packet.now state.now }
 {
     passed(alloc, direction, packet, state, Reason::StateError, None)
