@@ -15,10 +15,10 @@ use Rattle.pfr_capture.specs.Header.{form_of, opening_of}
 use Rattle.pfr_capture.specs.Reading.{EndsCapture, Gave, HasGiven, LacksRecord, NextFails, Reading, ReadsOn, Refuses, bytes_of}
 use Rattle.pfr_capture.specs.Records.{IsCapture, RecordBytes, text_of}
 use Rattle.pfr_capture.proofs.CaptureLemmas.{IsFront, given_first}
+use Rattle.pfr_commit.specs.Books.{frames_of}
 use Rattle.pfr_commit.specs.World.{Frame}
 use Rattle.pfr_out.specs.Reading.{BatchSays, End, EndsBehind, IsPacket, records_of}
 use Rattle.pfr_out.specs.Replay.{OfEvery, frame_in}
-use Rattle.pfr_out.specs.Taking.{frames_of}
 
 -- packets of a capture, as packets of a run
 pub same_frames : (form : Form) (packets : List (Record × View)) → All (IsPacket form) packets → frames_of packets ≡ map (frame_in form) (records_of packets)

@@ -13,6 +13,7 @@ use Rattle.pfr_capture.specs.declared.capture.Tail.{Tail}
 use Rattle.pfr_capture.specs.Reading.{Gave, HasGiven, LacksRecord, OpenFails, Reading, ReadsOn, RefusesHeader, StopsEarly}
 use Rattle.pfr_capture.specs.Records.{IsCapture, RecordBytes}
 use Rattle.pfr_capture.proofs.CaptureLemmas.{IsFront, read_is_capture}
+use Rattle.pfr_commit.specs.Books.{frames_of}
 use Rattle.pfr_commit.specs.World.{Texts, World, no_texts, opening, world_after, world_of}
 use Rattle.pfr_commit.proofs.WorldLemmas.{behind, world_append, world_behind, world_count, world_none}
 use Rattle.pfr_out.specs.declared.report.Output.{Output}
@@ -24,7 +25,7 @@ use Rattle.pfr_out.specs.declared.sinks.Sinks.{Sinks}
 use Rattle.pfr_out.specs.Outputs.{AllTold, Grew, Outputs, PartWritten, batch_alone, header_alone}
 use Rattle.pfr_out.specs.Reading.{BatchFails, BatchSays, End, EndsBehind, IsPacket, records_of, wants_memory}
 use Rattle.pfr_out.specs.Replay.{Failing, Holds, HoldsAllRead, HoldsAll, HoldsPartOfBatch, HoldsPartOfEnding, IsBoundary, IsJob, OfEvery, Replayed, StopOf, Stopped, Wanting, closing, frame_in, online, run_of, StopFails, stop_for, whole}
-use Rattle.pfr_out.specs.Taking.{BatchStops, ConcludeFails, Concludes, EndStops, IsLate, Reaches, SinksFail, TakenAll, frames_of}
+use Rattle.pfr_out.specs.Taking.{BatchStops, ConcludeFails, Concludes, EndStops, IsLate, Reaches, SinksFail, TakenAll}
 use Rattle.pfr_out.proofs.ReadingLemmas.{header_is, of_every, same_frames}
 use Rattle.pfr_out.proofs.WritingLemmas.{grew_twice, header_is_online, online_behind, whole_is}
 

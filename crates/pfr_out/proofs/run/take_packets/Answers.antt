@@ -1,9 +1,8 @@
 use Rattle.std.proofs.Common.{◌≡◌, ◌+◌, ◌∙◌, ◌≤◌, ◌^◌, false, true, IsTrue, length, refl, sym, ap, arith}
-use Rattle.pfr_commit.specs.Books.{job_of, world_in}
+use Rattle.pfr_commit.specs.Books.{frames_of, job_of, world_in}
 use Rattle.pfr_commit.specs.World.{no_texts, world_after}
 use Rattle.pfr_commit.proofs.BookLemmas.{same_job}
 use Rattle.pfr_out.specs.Reading.{wants_memory}
-use Rattle.pfr_out.specs.Taking.{frames_of}
 use Rattle.pfr_out.proofs.ReadingLemmas.{all_viewed}
 use Rattle.pfr_out.proofs.RunLemmas.{at_start, bare, batch_stopped, batch_stops_for, header_stopped, memory_stopped, next_head, opening_count, reached, says_on, sinks_stop_late, wanted_gave}
 use Rattle.pfr_out.proofs.WritingLemmas.{still_told}
