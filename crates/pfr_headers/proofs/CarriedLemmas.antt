@@ -36,7 +36,7 @@ datagram_at link place bytes change is at =
     rw at (subst (λ (n : ℕ). drop n (take place bytes ++ new) ≡ new) (length-take-le place bytes within) (drop-append_seam (take place bytes) new))
 
 -- no other packet is embedded
-alone : (d : List ℕ) (change : Change) → embedded_in change.packet.transport ≡ None → words_of d change ≡ packet_words d change.packet change.end change.to
+pub alone : (d : List ℕ) (change : Change) → embedded_in change.packet.transport ≡ None → words_of d change ≡ packet_words d change.packet change.end change.to
 unfolding words_of
 alone d change none = rw none refl
 

@@ -248,7 +248,7 @@ pub datagram_length : (d : List ℕ) (change : Change) → packet_of d ≡ Some 
 unfolding words_of
 datagram_length d change there = length_with_all _ d (words_lie d change _ refl there)
 
-datagram_byte : (d : List ℕ) (change : Change) (byte : ℕ) → packet_of d ≡ Some change.packet → (IsOfEnd change.packet change.end byte → ⊥) → slice_index (with_words (words_of d change) d) byte ≡ slice_index d byte
+pub datagram_byte : (d : List ℕ) (change : Change) (byte : ℕ) → packet_of d ≡ Some change.packet → (IsOfEnd change.packet change.end byte → ⊥) → slice_index (with_words (words_of d change) d) byte ≡ slice_index d byte
 unfolding words_of
 datagram_byte d change byte there none = all_aside (IsOfEnd change.packet change.end) _ d byte (words_lie d change _ refl there) (words_of_end d change _ refl there) none
 

@@ -7,6 +7,7 @@ pub mod RewritingLemmas
 pub mod SegmentLemmas
 pub mod StandingLemmas
 pub mod SumLemmas
+pub mod TranslatedLemmas
 pub mod TransportLemmas
 pub mod VerifyingLemmas
 pub mod ViewLemmas

@@ -139,7 +139,7 @@ unfolding echo_words
 echo_stands bytes at port are is = (is, (mended_same (word_at bytes (at + 2)) _ (word_small (at + 2) bytes are) (no_difference (word_at bytes (at + 4)) port.0 is), record {}))
 
 -- the word at a place of what stands behind another
-word_behind : (from place : ℕ) (bytes : List ℕ) → big_number 2 (drop place (drop from bytes)) ≡ word_at bytes (from + place)
+pub word_behind : (from place : ℕ) (bytes : List ℕ) → big_number 2 (drop place (drop from bytes)) ≡ word_at bytes (from + place)
 word_behind from place bytes = ap (λ (t : List ℕ). big_number 2 t) (drop-drop place from bytes)
 
 number_behind : (from place : ℕ) (bytes : List ℕ) → big_number 4 (drop place (drop from bytes)) ≡ big_number 4 (drop (from + place) bytes)

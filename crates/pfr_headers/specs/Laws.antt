@@ -4,7 +4,7 @@
 -- IPv4 (RFC 791, section 3.1): checksum at 10, source at 12, destination at 16. Behind the header: TCP (RFC 9293, section
 -- 3.1): ports at 0 and 2, checksum at 16. UDP (RFC 768): ports at 0 and 2, checksum at 6. ICMP (RFC 792): checksum at 2, an
 -- echo's identifier at 4, the packet that an error embeds at 8.
-use Rattle.std.specs.Prelude.{◌≡◌, ◌⊎◌, ◌≤◌, ◌<◌, ℕ, ◌+◌, ◌*◌, ◌-◌, ◌^◌, List, [], ◌∷◌, take, drop, Some, ⊤, slice_index}
+use Rattle.std.specs.Prelude.{◌≡◌, ◌⊎◌, ◌≤◌, ◌<◌, ℕ, ◌+◌, ◌*◌, ◌-◌, ◌^◌, List, [], ◌∷◌, take, drop, Some, None, ⊤, slice_index}
 use Rattle.pfr_net.specs.declared.endpoint.Endpoint.{Endpoint}
 use Rattle.pfr_headers.specs.declared.change.Change.{Change}
 use Rattle.pfr_headers.specs.declared.change.End.{End}
@@ -17,7 +17,8 @@ use Rattle.pfr_headers.specs.declared.transport.Transport.{Transport}
 use Rattle.pfr_headers.specs.declared.transport.Transport.TheVariants.{Fragment, Tcp, Udp, Icmp, Other}
 use Rattle.pfr_headers.specs.Checksum.{AreBytes, HeaderVerifies, Verifies, mended, mended_udp, word_at}
 use Rattle.pfr_headers.specs.View.{place_of, view_of}
-use Rattle.pfr_headers.specs.Rewriting.{rewritten}
+use Rattle.pfr_headers.specs.Rewriting.{embedded_in, rewritten}
+use Rattle.pfr_headers.specs.Translated.{translated}
 use Rattle.pfr_headers.specs.declared.tcp.TcpHeader.{TcpHeader}
 use Rattle.pfr_headers.specs.declared.udp.UdpHeader.{UdpHeader}
 use Rattle.pfr_headers.specs.declared.icmp.IcmpHeader.{IcmpHeader}
@@ -214,3 +215,13 @@ SameEndChangesNothing =
     → AreBytes bytes
     → StandsIn change.packet change.end change.to change.packet.transport
     → rewritten link change bytes ≡ bytes
+
+-- a packet that embeds no other is, once it is rewritten, the packet behind its translation
+abbrev pub RewrittenIsTranslated : Type 0
+RewrittenIsTranslated =
+    (link : ℕ) (bytes : List ℕ) (change : Change)
+    → view_of link bytes ≡ Ipv4 change.packet
+    → embedded_in change.packet.transport ≡ None
+    → change.to.address.0 < 2 ^ 32
+    → change.to.port.0 < 2 ^ 16
+    → view_of link (rewritten link change bytes) ≡ Ipv4 (translated change.end change.to change.packet)

@@ -3,6 +3,7 @@ pub mod Laws
 pub mod Rewriting
 pub mod Room
 pub mod TcpOptions
+pub mod Translated
 pub mod Transport
 pub mod View
 pub mod Ways

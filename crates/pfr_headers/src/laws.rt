@@ -1,6 +1,6 @@
 //! Laws of the definitions, each the contract of a function that does nothing.
 ghost use Rattle.std.specs.Prelude.{◌≡◌, List, length, ℕ};
-ghost use Rattle.pfr_headers.specs.Laws.{HeaderStillVerifies, IcmpStillVerifies, MendedUdpVerifies, MendedVerifies, NoChecksumStays, OtherBytesStay, SameEndChangesNothing, TcpStillVerifies, UdpStillVerifies};
+ghost use Rattle.pfr_headers.specs.Laws.{HeaderStillVerifies, IcmpStillVerifies, MendedUdpVerifies, MendedVerifies, NoChecksumStays, OtherBytesStay, RewrittenIsTranslated, SameEndChangesNothing, TcpStillVerifies, UdpStillVerifies};
 ghost use Rattle.pfr_headers.specs.declared.packet.View.{View};
 ghost use Rattle.pfr_headers.specs.declared.packet.View.TheVariants.{Ipv4};
 ghost use Rattle.pfr_headers.specs.declared.change.Change.{Change};
@@ -50,4 +50,10 @@ pub fn carried_checksums_still_verify()
 /// A packet that is rewritten to what stands at that end of it is the same, byte for byte.
 pub fn what_stands_there_changes_nothing()
     ensures { SameEndChangesNothing }
+{}
+
+/// What is written is what is judged: a packet that embeds no other is seen, once it is rewritten, as the packet behind its
+/// translation.
+pub fn what_is_written_is_the_translated_packet()
+    ensures { RewrittenIsTranslated }
 {}

@@ -16,6 +16,7 @@ mod rewriting;
 mod segment;
 pub mod tcp;
 mod tcp_options;
+mod translated;
 pub mod transport;
 pub mod udp;
 mod way;
