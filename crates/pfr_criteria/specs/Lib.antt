@@ -1,4 +1,5 @@
 pub mod Hosts
 pub mod Laws
 pub mod Packets
+pub mod Translations
 pub mod Transports

@@ -8,7 +8,9 @@
 pub mod hosts;
 pub mod laws;
 pub mod packets;
+pub mod translations;
 pub mod transports;
 
 pub use hosts::host_holds;
 pub use packets::{anchor_holds, is_named, match_holds, rule_holds};
+pub use translations::{binat_holds, translation_holds};

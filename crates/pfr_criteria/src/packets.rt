@@ -27,7 +27,7 @@ pub fn is_named(name: &IfName, other: &IfName) -> bool
     name.bytes.as_slice() == other.bytes.as_slice()
 }
 
-fn interface_holds(criterion: &Option<InterfaceCriterion>, name: &IfName) -> bool
+pub(crate) fn interface_holds(criterion: &Option<InterfaceCriterion>, name: &IfName) -> bool
     ensures { result ≡ spec.interface_holds criterion.now name.now }
 {
     match criterion {
@@ -37,7 +37,7 @@ fn interface_holds(criterion: &Option<InterfaceCriterion>, name: &IfName) -> boo
     }
 }
 
-fn protocol_holds(written: Option<Protocol>, number: u8) -> bool
+pub(crate) fn protocol_holds(written: Option<Protocol>, number: u8) -> bool
     ensures { result ≡ spec.protocol_holds written number }
 {
     match written {
