@@ -2,3 +2,4 @@ pub mod Counts
 pub mod Filter
 pub mod Laws
 pub mod Numbers
+pub mod Translating

@@ -3,15 +3,21 @@
 //! [`filter`] answers what pf.conf(5) says under "Packet filtering" and "Anchors": the last rule that hits decides, unless a
 //! `quick` rule or anchor ends the walk before. Its contract says so by the places of rules in a flat list, and says which
 //! rules were visited on the way.
+//!
+//! [`translate`] answers what it says under "Translation": the first rule of a kind that holds decides.
 #![tactic(auto)]
 
 pub mod counts;
 pub mod decision;
+pub mod hit;
 pub mod laws;
+mod translating;
 pub mod visits;
 mod walk;
 
 pub use decision::Decision;
+pub use hit::{Hit, NewEnd, PortMapping};
 pub use pfr_net::RuleNumber;
+pub use translating::translate;
 pub use visits::Visits;
 pub use walk::filter;

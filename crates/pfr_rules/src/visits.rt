@@ -16,8 +16,9 @@ struct Run {
     ghost fits: { first + count ≤ 18446744073709551616 },
 }
 
-/// The numbers of the rules that a walk visits, in rising order. Contracts see the list. Where no rule is passed over the
-/// numbers are one run, and take no memory.
+/// The numbers of the rules that a walk visits, in the order in which it does. Filter rules are visited in rising order, and so
+/// are the translation rules of a kind. Contracts see the list. Where no number is passed over they are one run, and take no
+/// memory.
 #[derive(Drop)]
 pub struct Visits {
     before: Vec<Run>,

@@ -1,0 +1,74 @@
+//! What a translation rule makes of a packet that it holds for.
+ghost use Rattle.std.specs.Prelude.{◌≡◌};
+ghost use Rattle.pfr_rules.specs.Translating as spec;
+
+use pfr_net::{Ipv4Address, Port, RuleNumber};
+use pfr_ruleset::{NatAddress, PortChange, PortMatch};
+
+/// The port behind a translation, by the port before it.
+#[derive(Clone, Copy)]
+pub enum PortMapping {
+    Kept,
+    To(Port),
+    /// The first port goes to the second, and every other one as far.
+    Shifted(Port, Port),
+}
+
+/// What stands at the end of a packet that is translated.
+#[derive(Clone, Copy)]
+pub enum NewEnd {
+    /// This address, and a port by the one that stands there.
+    Mapped(Ipv4Address, PortMapping),
+    /// An address, and a port that is picked.
+    Picked(NatAddress),
+}
+
+/// A translation rule that translates a packet: its number, and what it says.
+#[derive(Clone, Copy)]
+pub struct Hit {
+    pub number: RuleNumber,
+    /// The packet isn't filtered.
+    pub passes: bool,
+    /// The source of a packet that goes out, the destination of one that comes in.
+    pub new_end: NewEnd,
+}
+
+/// The first of the ports that are asked for.
+#[inline]
+fn first_port(ports: Option<PortMatch>) -> Port
+    ensures { result ≡ spec.first_port ports }
+{
+    match ports {
+        None => Port(0),
+        Some(PortMatch::Compare(_, port)) => Port(port),
+        Some(PortMatch::Range(_, low, _)) => Port(low),
+    }
+}
+
+/// What a rule that asks for these destination ports makes of them.
+#[inline]
+pub(crate) fn mapping(ports: Option<PortMatch>, change: PortChange) -> PortMapping
+    ensures { result ≡ spec.mapping ports change }
+{
+    match change {
+        PortChange::Kept => PortMapping::Kept,
+        PortChange::To(port) => PortMapping::To(Port(port)),
+        PortChange::From(port) => PortMapping::Shifted(first_port(ports), Port(port)),
+    }
+}
+
+impl PortMapping {
+    /// The port behind the translation, at most 65535.
+    #[inline]
+    pub fn mapped(self, port: Port) -> Port
+        ensures { result ≡ spec.mapped self port }
+    {
+        match self {
+            PortMapping::Kept => port,
+            PortMapping::To(to) => to,
+            PortMapping::Shifted(first, to) => {
+                Port(to.0.saturating_add(port.0.saturating_sub(first.0)))
+            }
+        }
+    }
+}

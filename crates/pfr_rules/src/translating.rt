@@ -1,0 +1,206 @@
+//! Which translation rule translates a packet.
+ghost use Rattle.std.specs.Prelude.{◌≡◌, ◌++◌, IfOk, OnOk};
+ghost use Rattle.std.specs.List.{find};
+ghost use Rattle.std.specs.Option.{option_copied};
+ghost use Rattle.pfr_rules.specs.Translating as spec;
+ghost use Rattle.pfr_rules.specs.Translating.{Kind};
+
+use crate::hit::{Hit, NewEnd, PortMapping, mapping};
+use crate::visits::Visits;
+use pfr_criteria::{binat_holds, translation_holds};
+use pfr_headers::Packet;
+use pfr_net::{Direction, Ipv4Address, RuleNumber};
+use pfr_ruleset::{FlatTranslation, HostSet, NatAddress, RdrAddress, Ruleset};
+use std::alloc::{AllocError, Global};
+
+/// A translation rule of one kind.
+trait TranslationRule {
+    /// How it is asked.
+    ghost kind: { Kind Self };
+
+    fn number(&self) -> usize
+        ensures { result ≡ kind.number self.now };
+
+    /// Whether it holds for a packet.
+    fn holds(&self, flat: &Ruleset, packet: &Packet, direction: Direction) -> bool
+        ensures { result ≡ kind.holds flat.now packet.now direction self.now };
+
+    /// What it makes of a packet that it holds for. None behind `no`.
+    fn hit(&self, packet: &Packet, direction: Direction) -> Option<Hit>
+        ensures { result ≡ kind.hit packet.now direction self.now };
+}
+
+/// What a rule with this number makes of a packet.
+#[inline]
+fn hit_by(number: usize, passes: bool, new_end: NewEnd) -> Hit
+    ensures { result ≡ record { number = record { 0 = number }; passes = passes; new_end = new_end } }
+{
+    Hit {
+        number: RuleNumber(number),
+        passes,
+        new_end,
+    }
+}
+
+impl TranslationRule for FlatTranslation<NatAddress> {
+    ghost use Rattle.pfr_rules.specs.Translating as spec;
+
+    ghost kind = { spec.nats };
+
+    fn number(&self) -> usize {
+        self.number
+    }
+
+    fn holds(&self, flat: &Ruleset, packet: &Packet, _direction: Direction) -> bool {
+        translation_holds(self, &flat.interface.name, flat.tables.as_slice(), packet)
+    }
+
+    fn hit(&self, _packet: &Packet, _direction: Direction) -> Option<Hit> {
+        Some(hit_by(self.number, self.passes, NewEnd::Picked(self.target?)))
+    }
+}
+
+impl TranslationRule for FlatTranslation<RdrAddress> {
+    ghost use Rattle.pfr_rules.specs.Translating as spec;
+
+    ghost kind = { spec.rdrs };
+
+    fn number(&self) -> usize {
+        self.number
+    }
+
+    fn holds(&self, flat: &Ruleset, packet: &Packet, _direction: Direction) -> bool {
+        translation_holds(self, &flat.interface.name, flat.tables.as_slice(), packet)
+    }
+
+    fn hit(&self, _packet: &Packet, _direction: Direction) -> Option<Hit> {
+        let RdrAddress { address, port } = self.target?;
+        let mapping = mapping(self.packet.destination_port, port);
+        Some(hit_by(self.number, self.passes, NewEnd::Mapped(address, mapping)))
+    }
+}
+
+/// The one address of these, else another.
+#[inline]
+fn address_or(other: Ipv4Address, hosts: HostSet) -> Ipv4Address
+    ensures { result ≡ spec.address_or other hosts }
+{
+    match hosts {
+        HostSet::Network(network) => network.address,
+        _ => other,
+    }
+}
+
+impl TranslationRule for FlatTranslation<Ipv4Address> {
+    ghost use Rattle.pfr_rules.specs.Translating as spec;
+
+    ghost kind = { spec.binats };
+
+    fn number(&self) -> usize {
+        self.number
+    }
+
+    fn holds(&self, flat: &Ruleset, packet: &Packet, direction: Direction) -> bool {
+        binat_holds(
+            self,
+            &flat.interface.name,
+            flat.tables.as_slice(),
+            packet,
+            direction,
+        )
+    }
+
+    fn hit(&self, packet: &Packet, direction: Direction) -> Option<Hit> {
+        let target = self.target?;
+        let address = match direction {
+            Direction::In => address_or(packet.destination, self.packet.source.hosts),
+            Direction::Out => target,
+        };
+        Some(hit_by(
+            self.number,
+            self.passes,
+            NewEnd::Mapped(address, PortMapping::Kept),
+        ))
+    }
+}
+
+/// The first rule of a kind that holds for a packet. The numbers of those that are asked are put behind the visited ones.
+fn first_holding<'a, R: TranslationRule>(
+    rules: &'a [R],
+    flat: &Ruleset,
+    packet: &Packet,
+    direction: Direction,
+    visits: &mut Visits,
+) -> Result<Option<&'a R>, AllocError>
+    ensures found { IfOk result (λ found. option_copied found ≡ find (R.kind.holds flat.now packet.now direction) rules.now) }
+    ensures visits { OnOk result (visits.new ≡ visits.old ++ spec.asked_in R.kind flat.now packet.now direction rules.now) }
+{
+    for rule in rules {
+        visits.push(rule.number())?;
+        if rule.holds(flat, packet, direction) {
+            return Ok(Some(rule));
+        }
+    }
+    Ok(None)
+}
+
+/// What the first rule of a kind that holds makes of a packet.
+fn hit_in<R: TranslationRule>(
+    rules: &[R],
+    flat: &Ruleset,
+    packet: &Packet,
+    direction: Direction,
+    visits: &mut Visits,
+) -> Result<Option<Hit>, AllocError>
+    ensures hit { IfOk result (λ hit. hit ≡ spec.hit_in R.kind flat.now packet.now direction rules.now) }
+    ensures visits { OnOk result (visits.new ≡ visits.old ++ spec.asked_in R.kind flat.now packet.now direction rules.now) }
+{
+    match first_holding(rules, flat, packet, direction, visits)? {
+        Some(rule) => Ok(rule.hit(packet, direction)),
+        None => Ok(None),
+    }
+}
+
+/// What the kind that is asked behind `binat` makes of a packet: `rdr` for one that comes in, `nat` for one that goes out.
+fn other_hit(
+    flat: &Ruleset,
+    packet: &Packet,
+    direction: Direction,
+    visits: &mut Visits,
+) -> Result<Option<Hit>, AllocError>
+    ensures hit { IfOk result (λ hit. hit ≡ spec.other_hit flat.now packet.now direction) }
+    ensures visits { OnOk result (visits.new ≡ visits.old ++ spec.others_asked flat.now packet.now direction) }
+{
+    match direction {
+        Direction::In => {
+            let rules = flat.translations.rdrs.as_slice();
+            hit_in(rules, flat, packet, direction, visits)
+        }
+        Direction::Out => {
+            let rules = flat.translations.nats.as_slice();
+            hit_in(rules, flat, packet, direction, visits)
+        }
+    }
+}
+
+/// What the translation rules make of a packet, and which of them are visited, in the order in which they are asked. Of a kind
+/// the first rule that holds decides: it translates the packet, or behind `no` leaves it to the next kind. `binat` comes
+/// first, then `rdr` for a packet that comes in and `nat` for one that goes out.
+#[tactic(auto, unfolding(crate::specs::Translating::hit_of, crate::specs::Translating::translations_visited))]
+pub fn translate(
+    alloc: Global,
+    flat: &Ruleset,
+    packet: &Packet,
+    direction: Direction,
+) -> Result<(Option<Hit>, Visits), AllocError>
+    ensures hit { IfOk result (λ answer. answer.0 ≡ spec.hit_of flat.now packet.now direction) }
+    ensures visits { IfOk result (λ answer. answer.1 ≡ spec.translations_visited flat.now packet.now direction) }
+{
+    let mut visits = Visits::new(alloc);
+    let binats = flat.translations.binats.as_slice();
+    let mut hit = hit_in(binats, flat, packet, direction, &mut visits)?;
+    if hit.is_none() {
+        hit = other_hit(flat, packet, direction, &mut visits)?;
+    }
+    Ok((hit, visits))
+}
