@@ -189,6 +189,8 @@ same_reasons reason.StateError = refl
 same_reasons reason.StateMismatch = refl
 same_reasons reason.StateInsert = refl
 same_reasons reason.StateLimit = refl
+same_reasons reason.NatExhausted = refl
+same_reasons reason.NatPass = refl
 
 same_length : (view : View) → length_of view ≡ total_length_of view
 same_length (Ipv4 packet) = refl

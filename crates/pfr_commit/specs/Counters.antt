@@ -42,6 +42,7 @@ abbrev pub counts_for_rules : Reason → Bool
 counts_for_rules reason.Rule = true
 counts_for_rules reason.State = true
 counts_for_rules reason.StateError = true
+counts_for_rules reason.NatPass = true
 counts_for_rules _ = false
 
 -- the total length in a packet's IP header (RFC 791)

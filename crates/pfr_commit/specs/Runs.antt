@@ -83,7 +83,9 @@ is_rule rule (Some named) = named.0 == rule
 
 -- the reasons that count for a rule, by their words in the line
 abbrev pub reason_counts : Reason → Bool
-reason_counts reason = bytes_eq (reason_text reason) (codes "rule") || bytes_eq (reason_text reason) (codes "state") || bytes_eq (reason_text reason) (codes "state-error")
+reason_counts reason =
+    bytes_eq (reason_text reason) (codes "rule") || bytes_eq (reason_text reason) (codes "state")
+    || bytes_eq (reason_text reason) (codes "state-error") || bytes_eq (reason_text reason) (codes "nat-pass")
 
 -- its line names the filter rule, and for a reason that counts
 abbrev pub counts_for : ℕ → Taken → Bool

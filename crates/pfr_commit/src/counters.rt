@@ -129,7 +129,10 @@ impl Totals {
 fn counts_for_rules(reason: Reason) -> bool
     ensures { result ≡ spec.counts_for_rules reason }
 {
-    matches!(reason, Reason::Rule | Reason::State | Reason::StateError)
+    matches!(
+        reason,
+        Reason::Rule | Reason::State | Reason::StateError | Reason::NatPass
+    )
 }
 
 /// The total length in a packet's IP header.

@@ -1,5 +1,5 @@
 -- Where what is written into a packet comes from, along the plan of the packet.
-use Rattle.std.proofs.Common.{◌≡◌, ℕ, Bool, true, false, not, ◌&&◌, Option, Some, None, cond, refl, sym, ap, ◌∙◌}
+use Rattle.std.proofs.Common.{◌≡◌, ℕ, Bool, true, false, not, ◌&&◌, Option, Some, None, cond, refl, sym, ap, ◌∙◌, subst}
 use Rattle.pfr_net.specs.declared.direction.Direction.{Direction}
 use Rattle.pfr_ruleset.specs.declared.ruleset.Ruleset.{Ruleset}
 use Rattle.pfr_headers.specs.declared.change.Change.{Change}
@@ -22,20 +22,22 @@ use Rattle.pfr_states.specs.declared.change.TableChange.TheVariants.{Touched}
 use Rattle.pfr_states.specs.States.{StateTable, is_same_end}
 use Rattle.pfr_packet.specs.declared.keys.Subject.{Subject}
 use Rattle.pfr_packet.specs.declared.keys.Subject.TheVariants.{Alone, Embedded, Connection}
-use Rattle.pfr_packet.specs.declared.making.Passage.{Passage}
+use Rattle.pfr_packet.specs.declared.passage.Passage.{Passage}
 use Rattle.pfr_packet.specs.declared.outcome.Outcome.{Outcome}
 use Rattle.pfr_packet.specs.declared.verdict.Reason.{Reason}
 use Rattle.pfr_packet.specs.declared.verdict.Reason.TheVariants as reason
-use Rattle.pfr_packet.specs.Filtering.{conduct_of, decided, filtered, kept}
+use Rattle.pfr_packet.specs.Filtering.{conduct_of, decided, filtered}
 use Rattle.pfr_packet.specs.Found.{passed, tracked}
 use Rattle.pfr_packet.specs.Job.{RunJob, is_skipped, timeouts_of}
 use Rattle.pfr_packet.specs.Keys.{side_of, subject_of, written_by}
-use Rattle.pfr_packet.specs.Making.{making, untranslated, with_keys, with_room}
+use Rattle.pfr_packet.specs.Making.{making, with_keys, with_room}
 use Rattle.pfr_packet.specs.Outcomes.{blocked, without_leave}
+use Rattle.pfr_packet.specs.Passages.{judged, judged_kept}
 use Rattle.pfr_packet.specs.Plan.{Plan, done, found_in, has_room_in, outcome_of, purged_at}
-use Rattle.pfr_packet.specs.Steps.{by_connection, by_embedded, opened, packet_plan, passed_over, plan, step_of, subject_plan}
+use Rattle.pfr_packet.specs.Steps.{by_connection, by_embedded, opened, opening, packet_plan, passed_over, plan, step_of, subject_plan}
 use Rattle.pfr_packet.specs.Verdicts.{lets_pass}
 use Rattle.pfr_packet.proofs.ChangeLemmas.{passing}
+use Rattle.pfr_packet.proofs.OpeningLemmas.{judged_writes_nothing, opening_way}
 
 -- what is written is of this packet
 abbrev IsOf : Packet → Option Change → Type 0
@@ -94,15 +96,23 @@ opened_writes job number clock table packet direction passage outcome h None = h
 opened_writes job number clock table packet direction passage outcome h (Some rules) =
     passing_writes table packet (made (record { 0 = number }) packet direction passage.wire passage.stack rules clock (timeouts_of job)) outcome h (lets_pass outcome.verdict)
 
+unwritten_writes : (packet : Packet) (outcome : Outcome) → outcome.bytes ≡ None → Writes packet outcome
+unwritten_writes packet outcome is = subst (IsOf packet) (sym is) tt
+
+opening_writes : (job : RunJob) (number : ℕ) (clock : Clock) (table : StateTable) (packet : Packet) (direction : Direction) (key : Key) → Writes packet (outcome_of table (opening job number clock packet direction key))
+opening_writes job number clock table packet direction key = opening_way job number clock table packet direction (Writes packet) (record {
+  goes = λ visits passage. opened_writes job number clock table packet direction passage (judged job.rules direction packet passage visits)
+      (unwritten_writes packet (judged job.rules direction packet passage visits) (judged_writes_nothing job.rules direction packet passage visits)) (judged_kept job.rules direction packet passage);
+  has_no_port = λ rule visits. tt;
+}) key
+
 by_embedded_writes : (job : RunJob) (table : StateTable) (packet : Packet) (direction : Direction) (found : Option State) → Writes packet (outcome_of table (by_embedded job packet direction found))
 by_embedded_writes job table packet direction None = filtered_writes job.rules packet direction
 by_embedded_writes job table packet direction (Some state) = passed_writes direction packet state reason.StateError None
 
 by_connection_writes : (job : RunJob) (number : ℕ) (clock : Clock) (table : StateTable) (packet : Packet) (direction : Direction) (key : Key) (found : Option State)
     → Writes packet (outcome_of table (by_connection job number clock packet direction key found))
-by_connection_writes job number clock table packet direction key None =
-    opened_writes job number clock table packet direction (untranslated key) (filtered job.rules packet direction)
-    (filtered_writes job.rules packet direction) (kept job.rules packet direction)
+by_connection_writes job number clock table packet direction key None = opening_writes job number clock table packet direction key
 by_connection_writes job number clock table packet direction key (Some state) = tracked_writes direction packet state (touched state packet direction clock (timeouts_of job))
 
 subject_writes : (job : RunJob) (number : ℕ) (clock : Clock) (table : StateTable) (packet : Packet) (direction : Direction) (subject : Subject)

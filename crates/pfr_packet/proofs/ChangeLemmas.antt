@@ -25,24 +25,26 @@ use Rattle.pfr_states.specs.declared.change.TableChange.TheVariants.{Made, Touch
 use Rattle.pfr_states.specs.States.{StateTable, is_same_key, key_on, lives, purged, refusal}
 use Rattle.pfr_packet.specs.declared.keys.Subject.{Subject}
 use Rattle.pfr_packet.specs.declared.keys.Subject.TheVariants.{Alone, Embedded, Connection}
-use Rattle.pfr_packet.specs.declared.making.Passage.{Passage}
+use Rattle.pfr_packet.specs.declared.passage.Passage.{Passage}
 use Rattle.pfr_packet.specs.declared.outcome.Outcome.{Outcome}
 use Rattle.pfr_packet.specs.declared.verdict.Reason.{Reason}
 use Rattle.pfr_packet.specs.declared.verdict.Reason.TheVariants as reason
 use Rattle.pfr_packet.specs.declared.verdict.Verdict.{Verdict}
 use Rattle.pfr_packet.specs.declared.verdict.Verdict.TheVariants as verdict
-use Rattle.pfr_packet.specs.Filtering.{conduct_of, decided, filtered, kept}
+use Rattle.pfr_packet.specs.Filtering.{conduct_of, decided, filtered}
 use Rattle.pfr_packet.specs.Found.{passed, embedded, tracked}
 use Rattle.pfr_packet.specs.Job.{RunJob, is_skipped, timeouts_of}
 use Rattle.pfr_packet.specs.Keys.{side_of, subject_of, written_by}
 use Rattle.pfr_packet.specs.Laws.{IsOwnChange, only_removes}
-use Rattle.pfr_packet.specs.Making.{making, untranslated, with_keys, with_room}
+use Rattle.pfr_packet.specs.Making.{making, with_keys, with_room}
 use Rattle.pfr_packet.specs.Outcomes.{blocked, by_state, without_leave}
+use Rattle.pfr_packet.specs.Passages.{judged, judged_kept}
 use Rattle.pfr_packet.specs.Plan.{Plan, done, found_in, has_room_in, outcome_of, purged_at}
-use Rattle.pfr_packet.specs.Steps.{by_connection, by_embedded, opened, packet_plan, passed_over, plan, step_of, subject_plan}
+use Rattle.pfr_packet.specs.Steps.{by_connection, by_embedded, opened, opening, packet_plan, passed_over, plan, step_of, subject_plan}
 use Rattle.pfr_packet.specs.Verdicts.{lets_pass}
 use Rattle.pfr_packet.proofs.FreeLemmas.{AreApart, made_free, removed_free, touched_free}
 use Rattle.pfr_packet.proofs.Members.{found_there, from_filter}
+use Rattle.pfr_packet.proofs.OpeningLemmas.{judged_changes_nothing, opening_way}
 
 -- both keys of a state are free, and there is room for it
 pub record IsFree (table : StateTable) (state : State) : Type 0 where
@@ -165,11 +167,22 @@ passing_stands job number clock table packet direction passage outcome rules h t
     (record { number_is = refl; made_is = refl; passes = passes_by outcome.verdict is })
 passing_stands job number clock table packet direction passage outcome rules h false is = h
 
+-- what changes nothing so far
+unchanged_stands : (number : ℕ) (clock : Clock) (table : StateTable) (outcome : Outcome) → outcome.change ≡ None → Stands number clock table outcome
+unchanged_stands number clock table outcome is = subst (λ (change : Option TableChange). Comes number clock table outcome change) (sym is) tt
+
 opened_stands : (job : RunJob) (number : ℕ) (clock : Clock) (table : StateTable) (packet : Packet) (direction : Direction) (passage : Passage) (outcome : Outcome)
     → Stands number clock table outcome → (kept : Option StateRules) → Stands number clock table (outcome_of table (opened job number clock packet direction passage outcome kept))
 opened_stands job number clock table packet direction passage outcome h None = h
 opened_stands job number clock table packet direction passage outcome h (Some rules) =
     passing_stands job number clock table packet direction passage outcome rules h (lets_pass outcome.verdict) refl
+
+opening_stands : (job : RunJob) (number : ℕ) (clock : Clock) (table : StateTable) (packet : Packet) (direction : Direction) (key : Key) → Stands number clock table (outcome_of table (opening job number clock packet direction key))
+opening_stands job number clock table packet direction key = opening_way job number clock table packet direction (Stands number clock table) (record {
+  goes = λ visits passage. opened_stands job number clock table packet direction passage (judged job.rules direction packet passage visits)
+      (unchanged_stands number clock table (judged job.rules direction packet passage visits) (judged_changes_nothing job.rules direction packet passage visits)) (judged_kept job.rules direction packet passage);
+  has_no_port = λ rule visits. tt;
+}) key
 
 -- ---- a packet
 
@@ -179,9 +192,7 @@ by_embedded_stands job number clock table packet direction (Some state) = embedd
 
 by_connection_stands : Leaves → (job : RunJob) (number : ℕ) (clock : Clock) (table : StateTable) (packet : Packet) (direction : Direction) (key : Key)
     → (found : Option State) → found_in table (side_of direction) key ≡ found → Stands number clock table (outcome_of table (by_connection job number clock packet direction key found))
-by_connection_stands leaves job number clock table packet direction key None is =
-    opened_stands job number clock table packet direction (untranslated key) (filtered job.rules packet direction)
-    (filtered_stands number clock table job.rules packet direction) (kept job.rules packet direction)
+by_connection_stands leaves job number clock table packet direction key None is = opening_stands job number clock table packet direction key
 by_connection_stands leaves job number clock table packet direction key (Some state) is =
     tracked_stands leaves number clock table packet direction (timeouts_of job) state (found_in_states table (side_of direction) key state is)
     (touched state packet direction clock (timeouts_of job)) refl

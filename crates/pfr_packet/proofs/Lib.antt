@@ -1,7 +1,11 @@
 pub mod BytesLemmas
 pub mod ChangeLemmas
 pub mod FreeLemmas
+pub mod GoingLemmas
 pub mod Local
 pub mod Members
+pub mod OpeningLemmas
+pub mod PickLemmas
 pub mod SameLemmas
+pub mod TryLemmas
 pub mod WayLemmas

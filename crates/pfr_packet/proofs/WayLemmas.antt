@@ -16,7 +16,7 @@ use Rattle.pfr_headers.specs.declared.transport.Transport.TheVariants as transpo
 use Rattle.pfr_headers.specs.Ways.{direction_of}
 use Rattle.pfr_headers.specs.View.{has_options}
 use Rattle.pfr_rules.specs.declared.decision.Decision.{Decision}
-use Rattle.pfr_rules.specs.Filter.{decision_of, visited}
+use Rattle.pfr_rules.specs.Filter.{decision_of}
 use Rattle.pfr_track.specs.declared.key.Key.{Key}
 use Rattle.pfr_track.specs.declared.outcome.Touch.{Touch}
 use Rattle.pfr_track.specs.declared.outcome.Touch.TheVariants as touch
@@ -30,58 +30,74 @@ use Rattle.pfr_states.specs.declared.change.TableChange.TheVariants.{Touched}
 use Rattle.pfr_states.specs.States.{StateTable}
 use Rattle.pfr_packet.specs.declared.keys.Subject.{Subject}
 use Rattle.pfr_packet.specs.declared.keys.Subject.TheVariants.{Alone, Embedded, Connection}
-use Rattle.pfr_packet.specs.declared.making.Passage.{Passage}
+use Rattle.pfr_packet.specs.declared.passage.Passage.{Passage}
 use Rattle.pfr_packet.specs.declared.outcome.Outcome.{Outcome}
 use Rattle.pfr_packet.specs.declared.verdict.Reason.{Reason}
 use Rattle.pfr_packet.specs.declared.verdict.Reason.TheVariants as reason
-use Rattle.pfr_packet.specs.Filtering.{conduct_at, conduct_of, decided, filtered, kept, reason_of}
+use Rattle.pfr_packet.specs.Filtering.{conduct_at, conduct_of, filtered, reason_of}
 use Rattle.pfr_packet.specs.Found.{embedded, tracked}
 use Rattle.pfr_packet.specs.Job.{RunJob, is_skipped, timeouts_of}
 use Rattle.pfr_packet.specs.Keys.{message_subject, side_of, subject_by, subject_of}
 use Rattle.pfr_packet.specs.Laws.{HasLeave, IsUntouched, message_opens, opens_connection}
-use Rattle.pfr_packet.specs.Making.{making, untranslated, with_keys, with_made, with_room}
+use Rattle.pfr_packet.specs.Making.{making, with_keys, with_made, with_room}
 use Rattle.pfr_packet.specs.Outcomes.{blocked, none_visited, without_leave}
+use Rattle.pfr_packet.specs.Passages.{behind, exhausted, judged, judged_kept}
 use Rattle.pfr_packet.specs.Plan.{Plan, done, found_in, has_room_in, outcome_of, purged_at}
 use Rattle.pfr_packet.specs.Steps.{asked_of, by_connection, by_embedded, opened, packet_plan, passed_over, plan, step_of, subject_plan}
 use Rattle.pfr_packet.specs.Verdicts.{lets_pass}
 use Rattle.pfr_packet.proofs.ChangeLemmas.{found_in_states, passing}
+use Rattle.pfr_packet.proofs.OpeningLemmas.{behind_options, either_blocked, filtered_way, judged_way, judged_writes_nothing, opening_way}
 
 -- no state is found for the packet
 abbrev pub NoneFound : StateTable → Packet → Direction → Type 0
 NoneFound table packet direction = (key : Key) → ((subject_of direction packet ≡ Embedded key) ⊎ (subject_of direction packet ≡ Connection key)) → found_in table (side_of direction) key ≡ None
+
+-- what becomes of the first packet of a connection behind a passage
+abbrev pub judged_in : RunJob → Packet → Direction → Passage → List ℕ → Outcome
+judged_in job packet direction passage visits = judged job.rules direction packet passage visits
+
+-- it is the first packet of its connection
+pub record IsFirst (table : StateTable) (packet : Packet) (direction : Direction) : Type 0 where
+  pub key : Key
+  pub subject_is : subject_of direction packet ≡ Connection key
+  pub none_found : NoneFound table packet direction
 
 -- what holds of the outcome, whichever way the packet goes
 pub record Ways (job : RunJob) (table : StateTable) (packet : Packet) (direction : Direction) (P : Outcome → Type 0) : Type 0 where
   pub by_rules : NoneFound table packet direction → P (filtered job.rules packet direction)
   pub by_error : (key : Key) (state : State) → subject_of direction packet ≡ Embedded key → found_in table (side_of direction) key ≡ Some state → P (embedded direction packet state)
   pub by_state : (key : Key) (state : State) (t : Touch) → subject_of direction packet ≡ Connection key → found_in table (side_of direction) key ≡ Some state → P (tracked direction packet state t)
-  pub makes : (key : Key) (state : State) → subject_of direction packet ≡ Connection key → NoneFound table packet direction → lets_pass (filtered job.rules packet direction).verdict ≡ true
-      → P (with_made packet state (filtered job.rules packet direction))
-  pub has_no_place : NoneFound table packet direction → P (blocked reason.StateInsert (filtered job.rules packet direction))
-  pub has_no_room : NoneFound table packet direction → has_room_in table ≡ false → P (blocked reason.StateLimit (filtered job.rules packet direction))
+  pub goes : (passage : Passage) (visits : List ℕ) → IsFirst table packet direction → P (judged_in job packet direction passage visits)
+  pub makes : (passage : Passage) (visits : List ℕ) (state : State) → IsFirst table packet direction → lets_pass (judged_in job packet direction passage visits).verdict ≡ true
+      → P (with_made packet state (judged_in job packet direction passage visits))
+  pub has_no_place : (passage : Passage) (visits : List ℕ) → IsFirst table packet direction → P (blocked reason.StateInsert (judged_in job packet direction passage visits))
+  pub has_no_room : (passage : Passage) (visits : List ℕ) → IsFirst table packet direction → has_room_in table ≡ false → P (blocked reason.StateLimit (judged_in job packet direction passage visits))
+  pub has_no_port : (rule : RuleNumber) (visits : List ℕ) → IsFirst table packet direction → P (exhausted direction rule visits)
 
-room_way : (job : RunJob) (table : StateTable) (packet : Packet) (direction : Direction) (P : Outcome → Type 0) → Ways job table packet direction P → (key : Key) (state : State) → subject_of direction packet ≡ Connection key
-    → NoneFound table packet direction → lets_pass (filtered job.rules packet direction).verdict ≡ true → (room : Bool) → has_room_in table ≡ room → P (outcome_of table (with_room packet state (filtered job.rules packet direction) room))
-room_way job table packet direction P w key state is none passes true room = w.makes key state is none passes
-room_way job table packet direction P w key state is none passes false room = w.has_no_room none room
+room_way : (job : RunJob) (table : StateTable) (packet : Packet) (direction : Direction) (P : Outcome → Type 0) → Ways job table packet direction P → (passage : Passage) (visits : List ℕ) (state : State)
+    → IsFirst table packet direction → lets_pass (judged_in job packet direction passage visits).verdict ≡ true → (room : Bool) → has_room_in table ≡ room
+    → P (outcome_of table (with_room packet state (judged_in job packet direction passage visits) room))
+room_way job table packet direction P w passage visits state first passes true room = w.makes passage visits state first passes
+room_way job table packet direction P w passage visits state first passes false room = w.has_no_room passage visits first room
 
-keys_way : (job : RunJob) (table : StateTable) (packet : Packet) (direction : Direction) (P : Outcome → Type 0) → Ways job table packet direction P → (key : Key) (state : State) → subject_of direction packet ≡ Connection key
-    → NoneFound table packet direction → lets_pass (filtered job.rules packet direction).verdict ≡ true → (wire stack : Option State) → P (outcome_of table (with_keys packet state (filtered job.rules packet direction) wire stack))
-keys_way job table packet direction P w key state is none passes None None = room_way job table packet direction P w key state is none passes (has_room_in table) refl
-keys_way job table packet direction P w key state is none passes None (Some other) = w.has_no_place none
-keys_way job table packet direction P w key state is none passes (Some other) _ = w.has_no_place none
+keys_way : (job : RunJob) (table : StateTable) (packet : Packet) (direction : Direction) (P : Outcome → Type 0) → Ways job table packet direction P → (passage : Passage) (visits : List ℕ) (state : State)
+    → IsFirst table packet direction → lets_pass (judged_in job packet direction passage visits).verdict ≡ true → (wire stack : Option State)
+    → P (outcome_of table (with_keys packet state (judged_in job packet direction passage visits) wire stack))
+keys_way job table packet direction P w passage visits state first passes None None = room_way job table packet direction P w passage visits state first passes (has_room_in table) refl
+keys_way job table packet direction P w passage visits state first passes None (Some other) = w.has_no_place passage visits first
+keys_way job table packet direction P w passage visits state first passes (Some other) _ = w.has_no_place passage visits first
 
-passing_way : (job : RunJob) (table : StateTable) (packet : Packet) (direction : Direction) (P : Outcome → Type 0) → Ways job table packet direction P → (key : Key) (state : State) → subject_of direction packet ≡ Connection key
-    → NoneFound table packet direction → (test : Bool) → lets_pass (filtered job.rules packet direction).verdict ≡ test
-    → P (outcome_of table (cond test (making packet state (filtered job.rules packet direction)) (done (filtered job.rules packet direction))))
-passing_way job table packet direction P w key state is none true passes = keys_way job table packet direction P w key state is none passes (found_in table Wire state.wire) (found_in table Stack state.stack)
-passing_way job table packet direction P w key state is none false passes = w.by_rules none
+passing_way : (job : RunJob) (table : StateTable) (packet : Packet) (direction : Direction) (P : Outcome → Type 0) → Ways job table packet direction P → (passage : Passage) (visits : List ℕ) (state : State)
+    → IsFirst table packet direction → (test : Bool) → lets_pass (judged_in job packet direction passage visits).verdict ≡ test
+    → P (outcome_of table (cond test (making packet state (judged_in job packet direction passage visits)) (done (judged_in job packet direction passage visits))))
+passing_way job table packet direction P w passage visits state first true passes = keys_way job table packet direction P w passage visits state first passes (found_in table Wire state.wire) (found_in table Stack state.stack)
+passing_way job table packet direction P w passage visits state first false passes = w.goes passage visits first
 
-opened_way : (job : RunJob) (number : ℕ) (clock : Clock) (table : StateTable) (packet : Packet) (direction : Direction) (passage : Passage) (P : Outcome → Type 0) → Ways job table packet direction P → (key : Key) → subject_of direction packet ≡ Connection key
-    → NoneFound table packet direction → (kept : Option StateRules) → P (outcome_of table (opened job number clock packet direction passage (filtered job.rules packet direction) kept))
-opened_way job number clock table packet direction passage P w key is none None = w.by_rules none
-opened_way job number clock table packet direction passage P w key is none (Some rules) =
-    passing_way job table packet direction P w key (made (record { 0 = number }) packet direction passage.wire passage.stack rules clock (timeouts_of job)) is none (lets_pass (filtered job.rules packet direction).verdict) refl
+opened_way : (job : RunJob) (number : ℕ) (clock : Clock) (table : StateTable) (packet : Packet) (direction : Direction) (passage : Passage) (visits : List ℕ) (P : Outcome → Type 0) → Ways job table packet direction P
+    → IsFirst table packet direction → (kept : Option StateRules) → P (outcome_of table (opened job number clock packet direction passage (judged_in job packet direction passage visits) kept))
+opened_way job number clock table packet direction passage visits P w first None = w.goes passage visits first
+opened_way job number clock table packet direction passage visits P w first (Some rules) =
+    passing_way job table packet direction P w passage visits (made (record { 0 = number }) packet direction passage.wire passage.stack rules clock (timeouts_of job)) first (lets_pass (judged_in job packet direction passage visits).verdict) refl
 
 -- the subject of a packet is one
 none_at : (table : StateTable) (packet : Packet) (direction : Direction) (subject : Subject) (key : Key) → subject_of direction packet ≡ subject → (subject ≡ Embedded key) ⊎ (subject ≡ Connection key)
@@ -102,7 +118,11 @@ embedded_way job table packet direction P w key is (Some state) found = w.by_err
 connection_way : (job : RunJob) (number : ℕ) (clock : Clock) (table : StateTable) (packet : Packet) (direction : Direction) (P : Outcome → Type 0) → Ways job table packet direction P → (key : Key) → subject_of direction packet ≡ Connection key
     → (found : Option State) → found_in table (side_of direction) key ≡ found → P (outcome_of table (by_connection job number clock packet direction key found))
 connection_way job number clock table packet direction P w key is None none =
-    opened_way job number clock table packet direction (untranslated key) P w key is (none_at table packet direction (Connection key) key is (inr refl) none) (kept job.rules packet direction)
+    let first : IsFirst table packet direction = record { key = key; subject_is = is; none_found = none_at table packet direction (Connection key) key is (inr refl) none } in
+    opening_way job number clock table packet direction P (record {
+      goes = λ visits passage. opened_way job number clock table packet direction passage visits P w first (judged_kept job.rules direction packet passage);
+      has_no_port = λ rule visits. w.has_no_port rule visits first;
+    }) key
 connection_way job number clock table packet direction P w key is (Some state) found = w.by_state key state (touched state packet direction clock (timeouts_of job)) is found
 
 subject_way : (job : RunJob) (number : ℕ) (clock : Clock) (table : StateTable) (packet : Packet) (direction : Direction) (P : Outcome → Type 0) → Ways job table packet direction P → (subject : Subject) → subject_of direction packet ≡ subject
@@ -131,28 +151,6 @@ step_way job number clock table packet P over w =
     skipped_way (purged_at clock table) P (is_skipped job) (packet_plan job number clock packet (direction_of job.inside packet)) over
     (packet_way job number clock (purged_at clock table) packet (direction_of job.inside packet) P w)
 
--- ---- what the filter makes of a packet
-
--- of an outcome, or of it blocked
-either_blocked : (P : Outcome → Type 0) (test : Bool) (why : Reason) (outcome : Outcome) → (test ≡ false → P outcome) → P (blocked why outcome) → P (cond test (blocked why outcome) outcome)
-either_blocked P true why outcome one other = other
-either_blocked P false why outcome one other = one refl
-
--- the decision before IP options are looked at
-abbrev pub decision_in : RunJob → Packet → Direction → Outcome
-decision_in job packet direction = decided direction (decision_of job.rules packet direction) (visited job.rules packet direction)
-
--- the deciding rule allows IP options
-abbrev pub allowed_in : RunJob → Packet → Direction → Bool
-allowed_in job packet direction = (conduct_of job.rules.filter.rules (decision_of job.rules packet direction).rule).allows_options
-
-pub filtered_way : (job : RunJob) (packet : Packet) (direction : Direction) (P : Outcome → Type 0)
-    → ((lets_pass (decision_in job packet direction).verdict && (has_options packet && not (allowed_in job packet direction))) ≡ false → P (decision_in job packet direction))
-    → P (blocked reason.IpOption (decision_in job packet direction)) → P (filtered job.rules packet direction)
-unfolding filtered
-filtered_way job packet direction P one other =
-    either_blocked P (lets_pass (decision_in job packet direction).verdict && (has_options packet && not (allowed_in job packet direction))) reason.IpOption (decision_in job packet direction) one other
-
 -- ---- what holds of every outcome
 
 -- a packet that opens no connection has no key of its own
@@ -171,14 +169,16 @@ subject_opens direction packet transport.Other key opens is = cc opens
 pub no_state_of : (job : RunJob) (number : ℕ) (clock : Clock) (packet : Packet) (table : StateTable) → opens_connection packet.transport ≡ false → (step_of job number clock (Ipv4 packet) table).change ≡ None
 no_state_of job number clock packet table opens =
     let direction = direction_of job.inside packet in
-    let by_rules : (filtered job.rules packet direction).change ≡ None = filtered_way job packet direction (λ o. o.change ≡ None) (λ free. refl) refl in
+    let by_rules : (filtered job.rules packet direction).change ≡ None = filtered_way job.rules packet direction (λ o. o.change ≡ None) (λ free. refl) refl in
     step_way job number clock table packet (λ o. o.change ≡ None) refl (record {
       by_rules = λ none. by_rules;
       by_error = λ key state is found. either_blocked (λ o. o.change ≡ None) _ reason.IpOption (passing direction packet state reason.StateError None) (λ free. refl) refl;
       by_state = λ key state t is found. absurd (subject_opens direction packet packet.transport key opens is);
-      makes = λ key state is none passes. absurd (subject_opens direction packet packet.transport key opens is);
-      has_no_place = λ none. refl;
-      has_no_room = λ none full. refl;
+      goes = λ passage visits first. absurd (subject_opens direction packet packet.transport first.key opens first.subject_is);
+      makes = λ passage visits state first passes. absurd (subject_opens direction packet packet.transport first.key opens first.subject_is);
+      has_no_place = λ passage visits first. refl;
+      has_no_room = λ passage visits first full. refl;
+      has_no_port = λ rule visits first. refl;
     })
 
 -- where a state is found no rule is visited
@@ -193,9 +193,11 @@ none_visited_of job number clock packet table key state subject found =
       by_rules = λ none. absurd (contradicts none);
       by_error = λ key state is found. either_blocked P _ reason.IpOption (passing direction packet state reason.StateError None) (λ free. refl) refl;
       by_state = λ key state t is found. tracked_visits direction packet state t;
-      makes = λ key state is none passes. absurd (contradicts none);
-      has_no_place = λ none. absurd (contradicts none);
-      has_no_room = λ none full. absurd (contradicts none);
+      goes = λ passage visits first. absurd (contradicts first.none_found);
+      makes = λ passage visits state first passes. absurd (contradicts first.none_found);
+      has_no_place = λ passage visits first. absurd (contradicts first.none_found);
+      has_no_room = λ passage visits first full. absurd (contradicts first.none_found);
+      has_no_port = λ rule visits first. absurd (contradicts first.none_found);
     })
   where
     tracked_visits : (direction : Direction) (packet : Packet) (state : State) (t : Touch) → (tracked direction packet state t).visited ≡ none_visited
@@ -215,7 +217,15 @@ reason_by decision is = by_rule decision.rule is
     by_rule (Some number) is = cc is
 
 filtered_lacks : (job : RunJob) (table : StateTable) (packet : Packet) (direction : Direction) → LacksRoom table (filtered job.rules packet direction)
-filtered_lacks job table packet direction = filtered_way job packet direction (LacksRoom table) (λ free is. absurd (reason_by (decision_of job.rules packet direction) is)) (λ is. absurd (cc is))
+filtered_lacks job table packet direction = filtered_way job.rules packet direction (LacksRoom table) (λ free is. absurd (reason_by (decision_of job.rules packet direction) is)) (λ is. absurd (cc is))
+
+judged_lacks : (job : RunJob) (table : StateTable) (packet : Packet) (direction : Direction) (passage : Passage) (visits : List ℕ) → LacksRoom table (judged_in job packet direction passage visits)
+judged_lacks job table packet direction passage visits = judged_way job.rules direction packet passage visits (LacksRoom table) (record {
+  passed = λ free is. absurd (cc is);
+  passed_blocked = λ is. absurd (cc is);
+  decides = λ free is. absurd (reason_by (decision_of job.rules (behind direction passage packet) direction) is);
+  decides_blocked = λ is. absurd (cc is);
+})
 
 tracked_lacks : (table : StateTable) (direction : Direction) (packet : Packet) (state : State) (t : Touch) → LacksRoom table (tracked direction packet state t)
 tracked_lacks table direction packet state (touch.Touched next) = either_blocked (LacksRoom table) _ reason.IpOption (passing direction packet state reason.State (Some (Touched next))) (λ free is. absurd (cc is)) (λ is. absurd (cc is))
@@ -230,9 +240,11 @@ limit_of job number clock packet table =
       by_rules = λ none. filtered_lacks job now packet direction;
       by_error = λ key state is found. either_blocked (LacksRoom now) _ reason.IpOption (passing direction packet state reason.StateError None) (λ free is. absurd (cc is)) (λ is. absurd (cc is));
       by_state = λ key state t is found. tracked_lacks now direction packet state t;
-      makes = λ key state is none passes. filtered_lacks job now packet direction;
-      has_no_place = λ none is. absurd (cc is);
-      has_no_room = λ none full is. full;
+      goes = λ passage visits first. judged_lacks job now packet direction passage visits;
+      makes = λ passage visits state first passes. judged_lacks job now packet direction passage visits;
+      has_no_place = λ passage visits first is. absurd (cc is);
+      has_no_room = λ passage visits first full is. full;
+      has_no_port = λ rule visits first is. absurd (cc is);
     })
 
 -- what doesn't pass isn't written
@@ -248,12 +260,14 @@ pub unwritten_of : (job : RunJob) (number : ℕ) (clock : Clock) (packet : Packe
 unwritten_of job number clock packet table =
     let direction = direction_of job.inside packet in
     step_way job number clock table packet Unwritten (λ stops. absurd (cc stops)) (record {
-      by_rules = λ none. filtered_way job packet direction Unwritten (λ free stops. refl) (λ stops. refl);
+      by_rules = λ none. filtered_way job.rules packet direction Unwritten (λ free stops. refl) (λ stops. refl);
       by_error = λ key state is found. either_blocked Unwritten _ reason.IpOption (passing direction packet state reason.StateError None) (λ free stops. absurd (cc stops)) (λ stops. refl);
       by_state = λ key state t is found. tracked_unwritten direction packet state t;
-      makes = λ key state is none passes stops. (let both : true ≡ false = sym passes ∙ stops in absurd (cc both));
-      has_no_place = λ none stops. refl;
-      has_no_room = λ none full stops. refl;
+      goes = λ passage visits first stops. judged_writes_nothing job.rules direction packet passage visits;
+      makes = λ passage visits state first passes stops. (let both : true ≡ false = sym passes ∙ stops in absurd (cc both));
+      has_no_place = λ passage visits first stops. refl;
+      has_no_room = λ passage visits first full stops. refl;
+      has_no_port = λ rule visits first stops. refl;
     })
 
 -- a packet with IP options passes only by leave of a rule or of a state
@@ -277,7 +291,7 @@ rule_with_leave rules (Some number) is = at_place (slice_get rules number.0) ref
     at_place (Some rule) got is = (number, rule, got, refl, is)
 
 filtered_leave : (job : RunJob) (states : List State) (packet : Packet) (direction : Direction) → ByLeave job.rules.filter.rules states packet (filtered job.rules packet direction)
-filtered_leave job states packet direction = filtered_way job packet direction (ByLeave job.rules.filter.rules states packet)
+filtered_leave job states packet direction = filtered_way job.rules packet direction (ByLeave job.rules.filter.rules states packet)
     (λ free options passes why. inl (rule_with_leave job.rules.filter.rules (decision_of job.rules packet direction).rule (third_false _ _ _ free passes options)))
     (λ options passes why. absurd (cc passes))
 
@@ -293,10 +307,22 @@ tracked_leave table rules direction packet state (touch.Touched next) is_there =
 tracked_leave table rules direction packet state touch.Mismatch is_there = λ options passes skipped. absurd (cc passes)
 tracked_leave table rules direction packet state touch.Removed is_there = λ options passes skipped. absurd (cc passes)
 
-filtered_rule : (job : RunJob) (packet : Packet) (direction : Direction) → has_options packet ≡ true → lets_pass (filtered job.rules packet direction).verdict ≡ true → RuleWithLeave job.rules.filter.rules (filtered job.rules packet direction).rule
-filtered_rule job packet direction options lets =
-    filtered_way job packet direction (λ o. has_options packet ≡ true → lets_pass o.verdict ≡ true → RuleWithLeave job.rules.filter.rules o.rule)
-    (λ free options passes. rule_with_leave job.rules.filter.rules (decision_of job.rules packet direction).rule (third_false _ _ _ free passes options)) (λ options passes. absurd (cc passes)) options lets
+-- a packet that isn't filtered has no IP options where it passes
+no_options : (options : Bool) → (options && not false) ≡ false → options ≡ true → ⊥
+no_options true none is = cc none
+no_options false none is = cc is
+
+-- the rule that decides on a packet behind its translation, where its IP options pass
+judged_rule : (job : RunJob) (packet : Packet) (direction : Direction) (passage : Passage) (visits : List ℕ) → has_options packet ≡ true → lets_pass (judged_in job packet direction passage visits).verdict ≡ true
+    → RuleWithLeave job.rules.filter.rules (judged_in job packet direction passage visits).rule
+judged_rule job packet direction passage visits options lets =
+    judged_way job.rules direction packet passage visits (λ o. lets_pass o.verdict ≡ true → RuleWithLeave job.rules.filter.rules o.rule) (record {
+      passed = λ free passes. absurd (no_options (has_options packet) free options);
+      passed_blocked = λ passes. absurd (cc passes);
+      decides = λ free passes. rule_with_leave job.rules.filter.rules (decision_of job.rules (behind direction passage packet) direction).rule
+          (third_false _ _ _ free passes (behind_options direction passage packet ∙ options));
+      decides_blocked = λ passes. absurd (cc passes);
+    }) lets
 
 pub leave_of : (job : RunJob) (number : ℕ) (clock : Clock) (packet : Packet) (table : StateTable) → ByLeave job.rules.filter.rules (purged_at clock table).states packet (step_of job number clock (Ipv4 packet) table)
 leave_of job number clock packet table =
@@ -307,9 +333,11 @@ leave_of job number clock packet table =
       by_rules = λ none. filtered_leave job now.states packet direction;
       by_error = λ key state is found. state_leave now rules direction packet state reason.StateError None (found_in_states now (side_of direction) key state found);
       by_state = λ key state t is found. tracked_leave now rules direction packet state t (found_in_states now (side_of direction) key state found);
-      makes = λ key state is none lets options passes skipped. inl (filtered_rule job packet direction options lets);
-      has_no_place = λ none options passes skipped. absurd (cc passes);
-      has_no_room = λ none full options passes skipped. absurd (cc passes);
+      goes = λ passage visits first options passes skipped. inl (judged_rule job packet direction passage visits options passes);
+      makes = λ passage visits state first lets options passes skipped. inl (judged_rule job packet direction passage visits options lets);
+      has_no_place = λ passage visits first options passes skipped. absurd (cc passes);
+      has_no_room = λ passage visits first full options passes skipped. absurd (cc passes);
+      has_no_port = λ rule visits first options passes skipped. absurd (cc passes);
     })
 
 -- what is passed over

@@ -72,6 +72,10 @@ filtered rules packet direction =
     without_leave packet (conduct_of rules.filter.rules (decision_of rules packet direction).rule).allows_options
     (decided direction (decision_of rules packet direction) (visited rules packet direction))
 
+-- the deciding rule allows IP options
+unfoldable pub allows_options : Ruleset → Packet → Direction → Bool
+allows_options rules packet direction = (conduct_of rules.filter.rules (decision_of rules packet direction).rule).allows_options
+
 -- what the state says of its rules that the deciding rule keeps
 unfoldable pub kept : Ruleset → Packet → Direction → Option StateRules
 kept rules packet direction = (conduct_of rules.filter.rules (decision_of rules packet direction).rule).kept

@@ -1,5 +1,5 @@
 -- Words of the laws: what becomes of the one state that a packet makes, touches or ends.
-use Rattle.std.specs.Prelude.{◌≡◌, ◌⊎◌, ℕ, Bool, true, false, List, [], Option, Some, None}
+use Rattle.std.specs.Prelude.{◌≡◌, ◌⊎◌, ◌↔◌, ◌<◌, ◌≤◌, ◌==◌, ◌+◌, if◌then◌else◌, ℕ, Bool, true, false, List, [], ◌∷◌, ◌++◌, Option, Some, None}
 use Rattle.std.specs.List.{Contains, slice_get, All}
 use Rattle.pfr_net.specs.declared.rule_number.RuleNumber.{RuleNumber}
 use Rattle.pfr_ruleset.specs.declared.flat.FlatRule.{FlatRule}
@@ -13,17 +13,21 @@ use Rattle.pfr_headers.specs.declared.packet.View.TheVariants.{Ipv4, Skip}
 use Rattle.pfr_headers.specs.declared.packet.Packet.{Packet}
 use Rattle.pfr_headers.specs.Ways.{direction_of}
 use Rattle.pfr_headers.specs.View.{has_options}
+use Rattle.pfr_rules.specs.Translating.{up_to_first}
 use Rattle.pfr_track.specs.declared.state.State.{State}
 use Rattle.pfr_track.specs.declared.state.StateNumber.{StateNumber}
 use Rattle.pfr_track.specs.declared.time.Clock.{Clock}
 use Rattle.pfr_track.specs.declared.key.Key.{Key}
+use Rattle.pfr_states.specs.declared.change.Side.TheVariants.{Wire}
 use Rattle.pfr_states.specs.declared.change.TableChange.{TableChange}
 use Rattle.pfr_states.specs.declared.change.TableChange.TheVariants.{Made, Touched, Removed}
 use Rattle.pfr_states.specs.States.{StateTable, IsTable, purged, refusal}
+use Rattle.pfr_packet.specs.declared.answers.Question.TheVariants.{At}
 use Rattle.pfr_packet.specs.declared.outcome.Outcome.{Outcome}
 use Rattle.pfr_packet.specs.declared.verdict.Verdict.TheVariants.{Pass, Block, Skip}
 use Rattle.pfr_packet.specs.Job.{RunJob, is_skipped}
-use Rattle.pfr_packet.specs.Plan.{SameAnswer, purged_at, found_in, has_room_in}
+use Rattle.pfr_packet.specs.Picks.{is_free_in, picked, picking, try_list}
+use Rattle.pfr_packet.specs.Plan.{Plan, SameAnswer, purged_at, found_in, has_room_in, outcome_of, questions_of}
 use Rattle.pfr_packet.specs.Steps.{asked_of, step_of}
 use Rattle.pfr_packet.specs.Verdicts.{lets_pass}
 use Rattle.pfr_packet.specs.declared.keys.Subject.TheVariants.{Connection, Embedded}
@@ -120,6 +124,13 @@ HasLeave rules states outcome =
     ((number : RuleNumber) × (rule : FlatRule) × (slice_get rules number.0 ≡ Some rule) × (outcome.rule ≡ Some number) × (rule.allow_opts ≡ true))
     ⊎ ((state : State) × Contains states state × (outcome.state ≡ Some state.number) × (state.rules.allows_options ≡ true))
 
+-- ---- picks
+
+-- how often a number is in a list
+abbrev pub times : ℕ → List ℕ → ℕ
+times number [] = 0
+times number (x ∷ xs) = (if x == number then 1 else 0) + times number xs
+
 -- ---- what the laws say
 
 -- what a packet comes to rests on nothing but what is asked for it
@@ -203,3 +214,25 @@ OptionsPassByLeave =
     → lets_pass (step_of job number clock (Ipv4 packet) table).verdict ≡ true
     → ((step_of job number clock (Ipv4 packet) table).reason ≡ SkipOn → ⊥)
     → HasLeave job.rules.filter.rules (purged_at clock table).states (step_of job number clock (Ipv4 packet) table)
+
+-- each port of a range is tried once, and no other
+abbrev pub EachPortOnce : Type 0
+EachPortOnce =
+    (low high word port : ℕ)
+    → low ≤ high
+    → (low ≤ port → port ≤ high → times port (try_list low high word) ≡ 1)
+    × ((port < low) ⊎ (high < port) → times port (try_list low high word) ≡ 0)
+
+-- it goes on by the key of the first port that is free, and the keys up to it are asked for
+abbrev pub FirstFreeIsPicked : Type 0
+FirstFreeIsPicked =
+    (table : StateTable) (wire : ℕ → Key) (next : Option Key → Plan) (ports : List ℕ)
+    → (outcome_of table (picking wire next ports) ≡ outcome_of table (next (picked table wire ports)))
+    × (questions_of table (picking wire next ports)
+    ≡ up_to_first (is_free_in table wire) (λ port. At Wire (wire port)) ports ++ questions_of table (next (picked table wire ports)))
+
+-- none is picked just where none is free
+abbrev pub NoneWhereAllAreTaken : Type 0
+NoneWhereAllAreTaken =
+    (table : StateTable) (wire : ℕ → Key) (ports : List ℕ)
+    → (picked table wire ports ≡ None) ↔ All (λ port. is_free_in table wire port ≡ false) ports

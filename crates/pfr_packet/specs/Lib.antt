@@ -5,6 +5,8 @@ pub mod Keys
 pub mod Laws
 pub mod Making
 pub mod Outcomes
+pub mod Passages
+pub mod Picks
 pub mod Plan
 pub mod Steps
 pub mod Verdicts

@@ -1,20 +1,14 @@
 -- Packets that make a state.
 use Rattle.std.specs.Prelude.{Bool, true, false, Option, Some, None}
 use Rattle.pfr_headers.specs.declared.packet.Packet.{Packet}
-use Rattle.pfr_track.specs.declared.key.Key.{Key}
 use Rattle.pfr_track.specs.declared.state.State.{State}
 use Rattle.pfr_states.specs.declared.change.Side.TheVariants.{Wire, Stack}
 use Rattle.pfr_states.specs.declared.change.TableChange.TheVariants.{Made}
-use Rattle.pfr_packet.specs.declared.making.Passage.{Passage}
 use Rattle.pfr_packet.specs.declared.outcome.Outcome.{Outcome}
 use Rattle.pfr_packet.specs.declared.verdict.Reason.TheVariants.{StateInsert, StateLimit}
 use Rattle.pfr_packet.specs.Keys.{written_by}
 use Rattle.pfr_packet.specs.Outcomes.{blocked}
 use Rattle.pfr_packet.specs.Plan.{Plan, done, ask_at, ask_room}
-
--- both keys of a connection that isn't translated are one
-abbrev pub untranslated : Key → Passage
-untranslated key = record { wire = key; stack = key; translation = None }
 
 -- the outcome of a packet that passes, with the state that it makes
 abbrev pub with_made : Packet → State → Outcome → Outcome

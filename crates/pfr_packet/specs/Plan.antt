@@ -1,5 +1,5 @@
 -- What the evaluation of a packet asks of the table of states, and what it comes to by the answers.
-use Rattle.std.specs.Prelude.{◌≡◌, Bool, List, [], ◌∷◌, Option}
+use Rattle.std.specs.Prelude.{◌≡◌, Bool, List, [], ◌∷◌, ◌++◌, Option}
 use Rattle.std.specs.List.{All}
 use Rattle.pfr_track.specs.declared.key.Key.{Key}
 use Rattle.pfr_track.specs.declared.state.State.{State}
@@ -48,6 +48,14 @@ questions_of table (ask_room next) = Room ∷ questions_of table (next (has_room
 pub record Goes (table : StateTable) (steps : Plan) (outcome : Outcome) (asked : Question → Type 0) : Type 0 where
   pub outcome_is : outcome ≡ outcome_of table steps
   pub asked_all : All asked (questions_of table steps)
+
+-- a plan was gone up to a rest of it
+pub record GoesUpTo (table : StateTable) (steps rest : Plan) (asked : Question → Type 0) : Type 0 where
+  -- the questions on the way
+  pub before : List Question
+  pub outcome_is : outcome_of table steps ≡ outcome_of table rest
+  pub questions_are : questions_of table steps ≡ before ++ questions_of table rest
+  pub asked_before : All asked before
 
 -- two tables give one answer to a question
 abbrev pub SameAnswer : StateTable → StateTable → Question → Type 0

@@ -6,15 +6,22 @@
 --   a part of a packet, and an ICMP message of no connection, is filtered, and makes no state
 --   an ICMP error passes by the state of the packet that it embeds; without one it is filtered, and makes no state
 --   a packet of a state's connection is tracked
---   any other is filtered, and where it passes makes the state that the deciding rule keeps, if there is a place for it
+--   any other is translated, where a translation rule says so; it is blocked where no port is free for it
+--   behind its translation it is filtered, unless the rule says `pass`
+--   where it passes it makes the state that the deciding rule keeps, if there is a place for it; translated it makes one anyhow
 --
 -- Packets with IP options are blocked where they would pass and their rule doesn't allow them, before a state is made.
-use Rattle.std.specs.Prelude.{ℕ, if◌then◌else◌, List, Option, Some, None}
+use Rattle.std.specs.Prelude.{ℕ, Bool, if◌then◌else◌, List, Option, Some, None}
 use Rattle.pfr_net.specs.declared.direction.Direction.{Direction}
+use Rattle.pfr_ruleset.specs.declared.flat.NatAddress.{NatAddress}
 use Rattle.pfr_headers.specs.declared.packet.Packet.{Packet}
 use Rattle.pfr_headers.specs.declared.packet.View.{View}
 use Rattle.pfr_headers.specs.declared.packet.View.TheVariants.{Ipv4, Skip, Short}
 use Rattle.pfr_headers.specs.Ways.{direction_of}
+use Rattle.pfr_rules.specs.declared.hit.Hit.{Hit}
+use Rattle.pfr_rules.specs.declared.hit.NewEnd.{NewEnd}
+use Rattle.pfr_rules.specs.declared.hit.NewEnd.TheVariants.{Mapped, Picked}
+use Rattle.pfr_rules.specs.Translating.{hit_of, translations_visited}
 use Rattle.pfr_track.specs.declared.key.Key.{Key}
 use Rattle.pfr_track.specs.declared.state.State.{State}
 use Rattle.pfr_track.specs.declared.state.StateRules.{StateRules}
@@ -25,16 +32,18 @@ use Rattle.pfr_packet.specs.declared.answers.Question.{Question}
 use Rattle.pfr_packet.specs.declared.evaluation.Arrival.{Arrival}
 use Rattle.pfr_packet.specs.declared.keys.Subject.{Subject}
 use Rattle.pfr_packet.specs.declared.keys.Subject.TheVariants.{Alone, Embedded, Connection}
-use Rattle.pfr_packet.specs.declared.making.Passage.{Passage}
+use Rattle.pfr_packet.specs.declared.passage.Passage.{Passage}
 use Rattle.pfr_packet.specs.declared.outcome.Outcome.{Outcome}
 use Rattle.pfr_packet.specs.declared.verdict.Reason.TheVariants as reason
 use Rattle.pfr_packet.specs.declared.verdict.Verdict.TheVariants as verdict
-use Rattle.pfr_packet.specs.Filtering.{filtered, kept}
+use Rattle.pfr_packet.specs.Filtering.{allows_options, filtered, kept}
 use Rattle.pfr_packet.specs.Found.{embedded, tracked}
 use Rattle.pfr_packet.specs.Job.{RunJob, is_skipped, timeouts_of}
 use Rattle.pfr_packet.specs.Keys.{side_of, subject_of}
-use Rattle.pfr_packet.specs.Making.{making, untranslated}
+use Rattle.pfr_packet.specs.Making.{making}
 use Rattle.pfr_packet.specs.Outcomes.{unseen}
+use Rattle.pfr_packet.specs.Passages.{behind, exhausted, judged, judged_kept, mapped_end, mapped_passage, picked_passage, untranslated}
+use Rattle.pfr_packet.specs.Picks.{picking, ports_for, tries, wire_with, word_of}
 use Rattle.pfr_packet.specs.Plan.{Plan, done, ask_at, outcome_of, purged_at, questions_of}
 use Rattle.pfr_packet.specs.Verdicts.{lets_pass}
 
@@ -58,7 +67,7 @@ asking_embedded job packet direction key = ask_at (side_of direction) key (by_em
 abbrev pub following : RunJob → Clock → Packet → Direction → State → Outcome
 following job clock packet direction state = tracked direction packet state (touched state packet direction clock (timeouts_of job))
 
--- the first one makes the state that the deciding rule keeps, where it passes so far
+-- the first one makes a state, where it passes so far and a rule keeps one
 abbrev pub opened : RunJob → ℕ → Clock → Packet → Direction → Passage → Outcome → Option StateRules → Plan
 opened job number clock packet direction passage outcome None = done outcome
 opened job number clock packet direction passage outcome (Some rules) =
@@ -66,12 +75,35 @@ opened job number clock packet direction passage outcome (Some rules) =
     then making packet (made (record { 0 = number }) packet direction passage.wire passage.stack rules clock (timeouts_of job)) outcome
     else done outcome
 
-abbrev pub opening : RunJob → ℕ → Clock → Packet → Direction → Passage → Plan
-opening job number clock packet direction passage =
-    opened job number clock packet direction passage (filtered job.rules packet direction) (kept job.rules packet direction)
+-- it goes through by a passage; these translation rules were visited
+abbrev pub going : RunJob → ℕ → Clock → Packet → Direction → List ℕ → Passage → Plan
+going job number clock packet direction visits passage =
+    opened job number clock packet direction passage (judged job.rules direction packet passage visits) (judged_kept job.rules direction packet passage)
+
+-- with a key on the wire that was picked, if one is free
+abbrev pub by_pick : RunJob → ℕ → Clock → Packet → Direction → List ℕ → Key → Hit → Option Key → Plan
+by_pick job number clock packet direction visits key hit None = done (exhausted direction hit.number visits)
+by_pick job number clock packet direction visits key hit (Some wire) = going job number clock packet direction visits (picked_passage key hit wire)
+
+-- by what the rule says of the end that it translates
+abbrev pub by_end : RunJob → ℕ → Clock → Packet → Direction → List ℕ → Key → Hit → NewEnd → Plan
+by_end job number clock packet direction visits key hit (Mapped address mapping) =
+    going job number clock packet direction visits (mapped_passage direction key hit (mapped_end packet.transport key.inside address mapping))
+by_end job number clock packet direction visits key hit (Picked target) =
+    picking (wire_with packet.transport key target.address) (by_pick job number clock packet direction visits key hit)
+    (tries (ports_for packet.transport target key.inside.port) (word_of job.seed number))
+
+-- by the rule that translates it, if one does
+abbrev pub by_hit : RunJob → ℕ → Clock → Packet → Direction → List ℕ → Key → Option Hit → Plan
+by_hit job number clock packet direction visits key None = going job number clock packet direction visits (untranslated key)
+by_hit job number clock packet direction visits key (Some hit) = by_end job number clock packet direction visits key hit hit.new_end
+
+abbrev pub opening : RunJob → ℕ → Clock → Packet → Direction → Key → Plan
+opening job number clock packet direction key =
+    by_hit job number clock packet direction (translations_visited job.rules packet direction) key (hit_of job.rules packet direction)
 
 abbrev pub by_connection : RunJob → ℕ → Clock → Packet → Direction → Key → Option State → Plan
-by_connection job number clock packet direction key None = opening job number clock packet direction (untranslated key)
+by_connection job number clock packet direction key None = opening job number clock packet direction key
 by_connection job number clock packet direction key (Some state) = done (following job clock packet direction state)
 
 abbrev pub asking_connection : RunJob → ℕ → Clock → Packet → Direction → Key → Plan
@@ -87,13 +119,40 @@ subject_plan job number clock packet direction (Connection key) = asking_connect
 unfoldable pub packet_plan : RunJob → ℕ → Clock → Packet → Direction → Plan
 packet_plan job number clock packet direction = subject_plan job number clock packet direction (subject_of direction packet)
 
--- the plans of a packet that arrives: as an error, as the first packet of a connection, by its connection, and
--- as it comes
+-- the plans of a packet that arrives: as an error, as the first packet of a connection that goes through by a passage, by a
+-- translation rule, and in all, by its connection, and as it comes
 abbrev pub embedded_plan : Arrival → Key → Plan
 embedded_plan arrival key = asking_embedded arrival.job.now arrival.packet.now arrival.direction key
 
-abbrev pub opening_plan : Arrival → Passage → Plan
-opening_plan arrival passage = opening arrival.job.now arrival.number arrival.clock arrival.packet.now arrival.direction passage
+abbrev pub judged_outcome : Arrival → Passage → List ℕ → Outcome
+judged_outcome arrival passage visits = judged arrival.job.now.rules arrival.direction arrival.packet.now passage visits
+
+abbrev pub kept_rules : Arrival → Passage → Option StateRules
+kept_rules arrival passage = judged_kept arrival.job.now.rules arrival.direction arrival.packet.now passage
+
+abbrev pub behind_passage : Arrival → Passage → Packet
+behind_passage arrival passage = behind arrival.direction passage arrival.packet.now
+
+abbrev pub filtered_behind : Arrival → Passage → Outcome
+filtered_behind arrival passage = filtered arrival.job.now.rules (behind_passage arrival passage) arrival.direction
+
+abbrev pub leave_behind : Arrival → Passage → Bool
+leave_behind arrival passage = allows_options arrival.job.now.rules (behind_passage arrival passage) arrival.direction
+
+abbrev pub kept_behind : Arrival → Passage → Option StateRules
+kept_behind arrival passage = kept arrival.job.now.rules (behind_passage arrival passage) arrival.direction
+
+abbrev pub pick_plan : Arrival → List ℕ → Key → Hit → NatAddress → Plan
+pick_plan arrival visits key hit target = by_end arrival.job.now arrival.number arrival.clock arrival.packet.now arrival.direction visits key hit (Picked target)
+
+abbrev pub going_plan : Arrival → List ℕ → Passage → Plan
+going_plan arrival visits passage = going arrival.job.now arrival.number arrival.clock arrival.packet.now arrival.direction visits passage
+
+abbrev pub hit_plan : Arrival → List ℕ → Key → Option Hit → Plan
+hit_plan arrival visits key hit = by_hit arrival.job.now arrival.number arrival.clock arrival.packet.now arrival.direction visits key hit
+
+abbrev pub opening_plan : Arrival → Key → Plan
+opening_plan arrival key = opening arrival.job.now arrival.number arrival.clock arrival.packet.now arrival.direction key
 
 abbrev pub connection_plan : Arrival → Key → Plan
 connection_plan arrival key = asking_connection arrival.job.now arrival.number arrival.clock arrival.packet.now arrival.direction key

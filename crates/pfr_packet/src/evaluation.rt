@@ -2,6 +2,7 @@
 ghost use Rattle.std.specs.Prelude.{◌≡◌, IfOk};
 ghost use Rattle.pfr_packet.specs.declared.answers.Question.{Question};
 ghost use Rattle.pfr_packet.specs.Job.{timeouts_of};
+ghost use Rattle.pfr_packet.specs.Passages.{by_way, kept_by_way};
 ghost use Rattle.pfr_packet.specs.Plan.{Goes};
 ghost use Rattle.pfr_packet.specs.Steps as spec;
 
@@ -10,12 +11,16 @@ use crate::filtering::Filtered;
 use crate::found::{embedded, tracked};
 use crate::job::Job;
 use crate::keys::{Subject, side_of, subject_of};
-use crate::making::{Passage, make_state};
+use crate::making::make_state;
 use crate::outcome::Outcome;
+use crate::passage::{Passage, mapped_end};
+use crate::picks::{Pick, ports_for};
 use crate::verdict::{Reason, Verdict};
 use pfr_headers::{Packet, View, direction_of};
 use pfr_net::Direction;
-use pfr_track::{Clock, Key, State, StateNumber, make, touch};
+use pfr_rules::{Hit, NewEnd, Visits, translate};
+use pfr_ruleset::NatAddress;
+use pfr_track::{Clock, Key, State, StateNumber, StateRules, make, touch};
 use std::alloc::{AllocError, Global};
 
 /// An IPv4 packet that is evaluated.
@@ -27,6 +32,32 @@ struct Arrival<'a> {
     clock: Clock,
     packet: &'a Packet,
     direction: Direction,
+}
+
+/// What becomes of a packet before a state is made for it.
+#[derive(Drop)]
+struct Judged {
+    outcome: Outcome,
+    /// What the state says of its rules, for a packet that passes and may make one.
+    kept: Option<StateRules>,
+}
+
+impl Judged {
+    /// By what the filter makes of a packet behind a passage.
+    fn filtered(passage: &Passage, visits: Visits, filtered: Filtered) -> Judged
+        ensures outcome { result.outcome ≡ by_way passage.now visits filtered.outcome }
+        ensures kept { result.kept ≡ kept_by_way passage.now.translation filtered.outcome.rule filtered.allows_options filtered.kept }
+    {
+        let Filtered {
+            mut outcome,
+            allows_options,
+            kept,
+        } = filtered;
+        outcome.translation = passage.translation;
+        outcome.visited.translation = visits;
+        let kept = passage.kept(outcome.rule, allows_options, kept);
+        Judged { outcome, kept }
+    }
 }
 
 impl Arrival<'_> {
@@ -59,18 +90,52 @@ impl Arrival<'_> {
         tracked(self.alloc, self.direction, self.packet, state, touch)
     }
 
-    /// What it comes to as the first packet of a connection.
-    fn open<A: Answers>(&self, passage: &Passage, answers: &mut A) -> Result<Outcome, AllocError>
+    /// What becomes of it behind a passage, before a state is made for it. These translation rules were visited.
+    fn judged(&self, passage: &Passage, visits: Visits) -> Result<Judged, AllocError>
+        ensures outcome { IfOk result (λ judged. judged.outcome ≡ spec.judged_outcome self.now passage.now visits) }
+        ensures kept { IfOk result (λ judged. judged.kept ≡ spec.kept_rules self.now passage.now) }
+    {
+        if passage.passes {
+            return Ok(Judged {
+                outcome: Outcome::unfiltered(
+                    self.alloc,
+                    self.direction,
+                    self.packet,
+                    passage,
+                    visits,
+                ),
+                kept: passage.kept(None, false, None),
+            });
+        }
+        let filtered = self.filtered_behind(passage)?;
+        Ok(Judged::filtered(passage, visits, filtered))
+    }
+
+    /// What the filter makes of it behind a passage.
+    fn filtered_behind(&self, passage: &Passage) -> Result<Filtered, AllocError>
+        ensures outcome { IfOk result (λ f. f.outcome ≡ spec.filtered_behind self.now passage.now) }
+        ensures leave { IfOk result (λ f. f.allows_options ≡ spec.leave_behind self.now passage.now) }
+        ensures kept { IfOk result (λ f. f.kept ≡ spec.kept_behind self.now passage.now) }
+    {
+        let rules = self.job.rules();
+        match passage.translated(self.direction, self.packet) {
+            None => Filtered::of(self.alloc, rules, self.packet, self.direction),
+            Some(packet) => Filtered::of(self.alloc, rules, &packet, self.direction),
+        }
+    }
+
+    /// What it comes to as the first packet of a connection that goes through by a passage.
+    fn go<A: Answers>(
+        &self,
+        passage: &Passage,
+        visits: Visits,
+        answers: &mut A,
+    ) -> Result<Outcome, AllocError>
         ensures seen { A.seen answers.new ≡ A.seen answers.old }
-        ensures goes { IfOk result (λ outcome. Goes (A.seen answers.old) (spec.opening_plan self.now passage.now) outcome (A.asked answers.new)) }
+        ensures goes { IfOk result (λ outcome. Goes (A.seen answers.old) (spec.going_plan self.now visits passage.now) outcome (A.asked answers.new)) }
         ensures kept { (question : Question) → A.asked answers.old question → A.asked answers.new question }
     {
-        let Filtered { outcome, kept } = Filtered::of(
-            self.alloc,
-            self.job.rules(),
-            self.packet,
-            self.direction,
-        )?;
+        let Judged { outcome, kept } = self.judged(passage, visits)?;
         match kept {
             Some(rules) if outcome.verdict.lets_pass() => {
                 let state = make(
@@ -89,6 +154,67 @@ impl Arrival<'_> {
         }
     }
 
+    /// What it comes to as the first packet of a connection that gets an address of a `nat` rule, with a port that is free.
+    fn by_pick<A: Answers>(
+        &self,
+        key: &Key,
+        hit: &Hit,
+        target: &NatAddress,
+        visits: Visits,
+        answers: &mut A,
+    ) -> Result<Outcome, AllocError>
+        ensures seen { A.seen answers.new ≡ A.seen answers.old }
+        ensures goes { IfOk result (λ outcome. Goes (A.seen answers.old) (spec.pick_plan self.now visits key.now hit.now target.now) outcome (A.asked answers.new)) }
+        ensures kept { (question : Question) → A.asked answers.old question → A.asked answers.new question }
+    {
+        let transport = &self.packet.transport;
+        let pick = Pick {
+            transport,
+            stack: key,
+            address: target.address,
+        };
+        let ports = ports_for(transport, target, key.inside.port);
+        match pick.picked(ports, self.job.seed(), self.number, answers)? {
+            None => Ok(Outcome::exhausted(self.alloc, self.direction, hit.number, visits)),
+            Some(wire) => self.go(&Passage::picked(key, hit, wire), visits, answers),
+        }
+    }
+
+    /// What it comes to as the first packet of a connection, by the translation rule that translates it, if one does.
+    fn by_hit<A: Answers>(
+        &self,
+        key: &Key,
+        hit: Option<Hit>,
+        visits: Visits,
+        answers: &mut A,
+    ) -> Result<Outcome, AllocError>
+        ensures seen { A.seen answers.new ≡ A.seen answers.old }
+        ensures goes { IfOk result (λ outcome. Goes (A.seen answers.old) (spec.hit_plan self.now visits key.now hit) outcome (A.asked answers.new)) }
+        ensures kept { (question : Question) → A.asked answers.old question → A.asked answers.new question }
+    {
+        let Some(hit) = hit else {
+            return self.go(&Passage::untranslated(key), visits, answers);
+        };
+        match hit.new_end {
+            NewEnd::Mapped(address, mapping) => {
+                let inside = mapped_end(&self.packet.transport, key.inside, address, mapping);
+                let passage = Passage::mapped(self.direction, key, &hit, inside);
+                self.go(&passage, visits, answers)
+            }
+            NewEnd::Picked(target) => self.by_pick(key, &hit, &target, visits, answers),
+        }
+    }
+
+    /// What it comes to as the first packet of a connection.
+    fn open<A: Answers>(&self, key: &Key, answers: &mut A) -> Result<Outcome, AllocError>
+        ensures seen { A.seen answers.new ≡ A.seen answers.old }
+        ensures goes { IfOk result (λ outcome. Goes (A.seen answers.old) (spec.opening_plan self.now key.now) outcome (A.asked answers.new)) }
+        ensures kept { (question : Question) → A.asked answers.old question → A.asked answers.new question }
+    {
+        let (hit, visits) = translate(self.alloc, self.job.rules(), self.packet, self.direction)?;
+        self.by_hit(key, hit, visits, answers)
+    }
+
     /// What it comes to by its connection.
     fn by_connection<A: Answers>(&self, key: &Key, answers: &mut A) -> Result<Outcome, AllocError>
         ensures seen { A.seen answers.new ≡ A.seen answers.old }
@@ -97,7 +223,7 @@ impl Arrival<'_> {
     {
         match answers.at(side_of(self.direction), key)? {
             Some(state) => Ok(self.by_state(&state)),
-            None => self.open(&Passage::untranslated(*key), answers),
+            None => self.open(key, answers),
         }
     }
 

@@ -100,13 +100,15 @@ fn decided(alloc: Global, direction: Direction, decision: Decision, visits: Visi
 #[derive(Drop)]
 pub(crate) struct Filtered {
     pub(crate) outcome: Outcome,
+    /// The deciding rule allows IP options.
+    pub(crate) allows_options: bool,
     /// What the state says of its rules that the deciding rule keeps, for a packet that passes and may make one.
     pub(crate) kept: Option<StateRules>,
 }
 
 impl Filtered {
     /// What the filter makes of a packet by itself. One with IP options that are not allowed doesn't pass.
-    #[tactic(auto, unfolding(crate::specs::Filtering::filtered, crate::specs::Filtering::kept))]
+    #[tactic(auto, unfolding(crate::specs::Filtering::filtered, crate::specs::Filtering::allows_options, crate::specs::Filtering::kept))]
     pub(crate) fn of(
         alloc: Global,
         rules: &Ruleset,
@@ -114,6 +116,7 @@ impl Filtered {
         direction: Direction,
     ) -> Result<Filtered, AllocError>
         ensures outcome { IfOk result (λ f. f.outcome ≡ spec.filtered rules.now packet.now direction) }
+        ensures leave { IfOk result (λ f. f.allows_options ≡ spec.allows_options rules.now packet.now direction) }
         ensures kept { IfOk result (λ f. f.kept ≡ spec.kept rules.now packet.now direction) }
     {
         let (decision, visits) = filter(alloc, rules, packet, direction)?;
@@ -122,6 +125,7 @@ impl Filtered {
         outcome.ask_leave(packet, conduct.allows_options);
         Ok(Filtered {
             outcome,
+            allows_options: conduct.allows_options,
             kept: conduct.kept,
         })
     }

@@ -113,6 +113,14 @@ impl Job {
         self.inside.as_slice()
     }
 
+    /// The seed of the ports that are picked.
+    #[inline]
+    pub(crate) fn seed(&self) -> &[u8; 32]
+        ensures { result.now ≡ self.now.seed }
+    {
+        &self.seed
+    }
+
     /// Whether packets of the interface aren't filtered (pf.conf(5), "set skip on").
     pub(crate) fn is_skipped(&self) -> bool
         ensures { result ≡ spec.is_skipped self.now }

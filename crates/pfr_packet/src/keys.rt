@@ -60,7 +60,7 @@ fn opposite(direction: Direction) -> Direction
 }
 
 #[inline]
-fn endpoint(address: Ipv4Address, port: Port) -> Endpoint
+pub(crate) fn endpoint(address: Ipv4Address, port: Port) -> Endpoint
     ensures { result ≡ spec.endpoint address port }
 {
     Endpoint { address, port }
@@ -133,7 +133,7 @@ pub fn subject_of(direction: Direction, packet: &Packet) -> Subject
 
 /// The end that a packet of a direction has translated.
 #[inline]
-fn end_of(direction: Direction) -> End
+pub(crate) fn end_of(direction: Direction) -> End
     ensures { result ≡ spec.end_of direction }
 {
     match direction {
@@ -144,7 +144,7 @@ fn end_of(direction: Direction) -> End
 
 /// What stands at that end behind the translation.
 #[inline]
-fn translated_end(direction: Direction, wire: &Key, stack: &Key) -> Endpoint
+pub(crate) fn translated_end(direction: Direction, wire: &Key, stack: &Key) -> Endpoint
     ensures { result ≡ spec.translated_end direction wire.now stack.now }
 {
     match direction {

@@ -1,5 +1,5 @@
 //! Laws of the definitions, each the contract of a function that does nothing.
-ghost use Rattle.pfr_packet.specs.Laws.{BlockedIsNotWritten, BlockedOnlyRemoves, ChangesAreOfTheNamed, LimitBlocksWhereReached, NoChangeIsRefused, NoRuleBehindAState, OpensNoConnection, OptionsPassByLeave, PassedOverChangesNothing, SameAnswersGiveTheSame, WrittenIsOfThePacket};
+ghost use Rattle.pfr_packet.specs.Laws.{BlockedIsNotWritten, BlockedOnlyRemoves, ChangesAreOfTheNamed, EachPortOnce, FirstFreeIsPicked, LimitBlocksWhereReached, NoChangeIsRefused, NoRuleBehindAState, NoneWhereAllAreTaken, OpensNoConnection, OptionsPassByLeave, PassedOverChangesNothing, SameAnswersGiveTheSame, WrittenIsOfThePacket};
 ghost use Rattle.pfr_packet.specs.Steps.{asked_of, step_of};
 
 use pfr_states::laws::one_state_answers_a_key;
@@ -74,4 +74,16 @@ pub fn what_is_blocked_is_not_written()
 /// A packet with IP options passes the filter only where the rule that it names allows them, or the state that it names.
 pub fn options_pass_only_by_leave()
     ensures { OptionsPassByLeave }
+{}
+
+/// The ports of a range are tried in an order in which each of them comes once, and no other.
+pub fn each_port_is_tried_once()
+    ensures { EachPortOnce }
+{}
+
+/// Of the ports that are tried the first is picked whose key on the wire no state has, and none just where all are taken. What
+/// is asked for it are the keys up to that port.
+pub fn the_first_free_port_is_picked()
+    ensures first { FirstFreeIsPicked }
+    ensures none { NoneWhereAllAreTaken }
 {}

@@ -14,6 +14,8 @@ pub mod keys;
 pub mod laws;
 pub mod making;
 pub mod outcome;
+pub mod passage;
+pub mod picks;
 pub mod verdict;
 
 pub use answers::{Answers, Direct, Question};

@@ -9,32 +9,9 @@ use crate::keys::written_by;
 use crate::outcome::Outcome;
 use crate::verdict::Reason;
 use pfr_headers::Packet;
-use pfr_net::RuleNumber;
 use pfr_states::{Side, TableChange};
-use pfr_track::{Key, State};
+use pfr_track::State;
 use std::alloc::AllocError;
-
-/// Both keys of a packet that begins a connection, and the translation rule that holds for it.
-#[derive(Clone, Copy)]
-pub struct Passage {
-    pub wire: Key,
-    pub stack: Key,
-    /// None where nothing is translated.
-    pub translation: Option<RuleNumber>,
-}
-
-impl Passage {
-    /// A passage without translation.
-    pub(crate) fn untranslated(key: Key) -> Passage
-        ensures { result ≡ spec.untranslated key }
-    {
-        Passage {
-            wire: key,
-            stack: key,
-            translation: None,
-        }
-    }
-}
 
 /// The outcome of a packet that passes, with the state that it makes.
 fn with_made(packet: &Packet, state: State, mut outcome: Outcome) -> Outcome

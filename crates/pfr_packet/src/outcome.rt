@@ -1,7 +1,9 @@
 //! What a packet comes to.
-ghost use Rattle.std.specs.Prelude.{◌≡◌};
+ghost use Rattle.std.specs.Prelude.{◌≡◌, []};
 ghost use Rattle.pfr_packet.specs.Outcomes as spec;
+ghost use Rattle.pfr_packet.specs.Passages.{exhausted, unfiltered};
 
+use crate::passage::Passage;
 use crate::verdict::{Reason, Verdict};
 use pfr_headers::{Change, Packet};
 use pfr_net::{Direction, RuleNumber};
@@ -46,6 +48,17 @@ impl VisitedRules {
             filter: Visits::new(alloc),
         }
     }
+
+    /// These translation rules, and no filter rule.
+    fn of_translation(alloc: Global, visits: Visits) -> VisitedRules
+        ensures translation { result.translation ≡ visits }
+        ensures filter { result.filter ≡ [] }
+    {
+        VisitedRules {
+            translation: visits,
+            filter: Visits::new(alloc),
+        }
+    }
 }
 
 impl Outcome {
@@ -84,6 +97,54 @@ impl Outcome {
             translation: state.rules.translation,
             state: Some(state.number),
             visited: VisitedRules::none(alloc),
+            bytes: None,
+            change: None,
+        }
+    }
+
+    /// What a packet comes to that a translation rule with `pass` translates: it isn't filtered, and passes unless it has IP
+    /// options. These translation rules were visited.
+    pub(crate) fn unfiltered(
+        alloc: Global,
+        direction: Direction,
+        packet: &Packet,
+        passage: &Passage,
+        visits: Visits,
+    ) -> Outcome
+        ensures { result ≡ unfiltered direction packet.now passage.now visits }
+    {
+        let mut outcome = Outcome {
+            direction: Some(direction),
+            verdict: Verdict::Pass,
+            reason: Reason::NatPass,
+            rule: None,
+            translation: passage.translation,
+            state: None,
+            visited: VisitedRules::of_translation(alloc, visits),
+            bytes: None,
+            change: None,
+        };
+        outcome.ask_leave(packet, false);
+        outcome
+    }
+
+    /// What a packet comes to for which a translation rule has no port that is free.
+    pub(crate) fn exhausted(
+        alloc: Global,
+        direction: Direction,
+        rule: RuleNumber,
+        visits: Visits,
+    ) -> Outcome
+        ensures { result ≡ exhausted direction rule visits }
+    {
+        Outcome {
+            direction: Some(direction),
+            verdict: Verdict::Block,
+            reason: Reason::NatExhausted,
+            rule: None,
+            translation: Some(rule),
+            state: None,
+            visited: VisitedRules::of_translation(alloc, visits),
             bytes: None,
             change: None,
         }

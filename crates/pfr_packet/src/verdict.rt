@@ -63,6 +63,10 @@ pub enum Reason {
     StateInsert,
     /// It would make a state, and there are as many as there may be.
     StateLimit,
+    /// No port of the translation rule is free for it.
+    NatExhausted,
+    /// A translation rule with `pass` translates it, and it isn't filtered.
+    NatPass,
 }
 
 impl fmt::Display for Verdict {
@@ -94,6 +98,8 @@ impl fmt::Display for Reason {
             Reason::StateMismatch => write!(f, "state-mismatch"),
             Reason::StateInsert => write!(f, "state-insert"),
             Reason::StateLimit => write!(f, "state-limit"),
+            Reason::NatExhausted => write!(f, "nat-exhausted"),
+            Reason::NatPass => write!(f, "nat-pass"),
         }
     }
 }

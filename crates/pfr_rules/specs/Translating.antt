@@ -107,10 +107,10 @@ hit_of_first hit (Some rule) = hit rule
 abbrev pub hit_in : {R : Type 0} → Kind R → Ruleset → Packet → Direction → List R → Option Hit
 hit_in kind flat packet direction rules = hit_of_first (kind.hit packet direction) (find (kind.holds flat packet direction) rules)
 
--- the rules up to the first for which a test holds, all where it holds for none
-abbrev pub up_to_first : {R : Type 0} → (R → Bool) → (R → ℕ) → List R → List ℕ
-up_to_first test number [] = []
-up_to_first test number (rule ∷ rules) = number rule ∷ (if test rule then [] else up_to_first test number rules)
+-- of each thing up to the first for which a test holds, or of all where it holds for none
+abbrev pub up_to_first : {A B : Type 0} → (A → Bool) → (A → B) → List A → List B
+up_to_first test of [] = []
+up_to_first test of (x ∷ xs) = of x ∷ (if test x then [] else up_to_first test of xs)
 
 -- the numbers of the rules that are asked for a packet
 abbrev pub asked_in : {R : Type 0} → Kind R → Ruleset → Packet → Direction → List R → List ℕ

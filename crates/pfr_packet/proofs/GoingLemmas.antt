@@ -1,0 +1,49 @@
+-- Plans that are gone part by part.
+use Rattle.std.proofs.Common.{◌≡◌, Option, List, [], ◌∷◌, ◌++◌, refl, sym, ap, ◌∙◌}
+use Rattle.std.specs.List.{All}
+use Rattle.std.proofs.lemmas.List.{append_assoc}
+use Rattle.std.proofs.lemmas.List.Elements.{All-append, All-cons, All-nil, All-weaker}
+use Rattle.pfr_track.specs.declared.key.Key.{Key}
+use Rattle.pfr_track.specs.declared.state.State.{State}
+use Rattle.pfr_states.specs.declared.change.Side.{Side}
+use Rattle.pfr_states.specs.States.{StateTable}
+use Rattle.pfr_packet.specs.declared.answers.Question.{Question}
+use Rattle.pfr_packet.specs.declared.answers.Question.TheVariants.{At}
+use Rattle.pfr_packet.specs.declared.outcome.Outcome.{Outcome}
+use Rattle.pfr_packet.specs.Plan.{Goes, GoesUpTo, Plan, ask_at, found_in, outcome_of, questions_of}
+
+-- what was asked stays asked
+abbrev pub Keeps : (Question → Type 0) → (Question → Type 0) → Type 0
+Keeps before after = (question : Question) → before question → after question
+
+-- nothing is gone yet
+pub none_gone : (table : StateTable) (steps : Plan) (asked : Question → Type 0) → GoesUpTo table steps steps asked
+none_gone table steps asked = record { before = []; outcome_is = refl; questions_are = refl; asked_before = All-nil asked }
+
+-- one more question is asked
+pub one_further : (table : StateTable) (steps : Plan) (side : Side) (key : Key) (next : Option State → Plan) (asked after : Question → Type 0) (found : Option State)
+    → GoesUpTo table steps (ask_at side key next) asked → Keeps asked after → after (At side key) → found ≡ found_in table side key → GoesUpTo table steps (next found) after
+one_further table steps side key next asked after found gone kept now is = rw is (record {
+  before = gone.before ++ At side key ∷ [];
+  outcome_is = gone.outcome_is;
+  questions_are = gone.questions_are ∙ sym (append_assoc gone.before (At side key ∷ []) (questions_of table (next (found_in table side key))));
+  asked_before = All-append after gone.before (At side key ∷ []) (All-weaker asked after kept gone.before gone.asked_before) (All-cons after (At side key) [] now (All-nil after));
+})
+
+-- a part of the rest is gone
+pub further : (table : StateTable) (steps rest last : Plan) (asked after : Question → Type 0)
+    → GoesUpTo table steps rest asked → Keeps asked after → GoesUpTo table rest last after → GoesUpTo table steps last after
+further table steps rest last asked after gone kept more = record {
+  before = gone.before ++ more.before;
+  outcome_is = gone.outcome_is ∙ more.outcome_is;
+  questions_are = gone.questions_are ∙ ap (λ questions. gone.before ++ questions) more.questions_are ∙ sym (append_assoc gone.before more.before (questions_of table last));
+  asked_before = All-append after gone.before more.before (All-weaker asked after kept gone.before gone.asked_before) more.asked_before;
+}
+
+-- all of the rest is gone
+pub to_the_end : (table : StateTable) (steps rest : Plan) (outcome : Outcome) (asked after : Question → Type 0)
+    → GoesUpTo table steps rest asked → Keeps asked after → Goes table rest outcome after → Goes table steps outcome after
+to_the_end table steps rest outcome asked after gone kept goes = record {
+  outcome_is = goes.outcome_is ∙ sym gone.outcome_is;
+  asked_all = rw gone.questions_are (All-append after gone.before (questions_of table rest) (All-weaker asked after kept gone.before gone.asked_before) goes.asked_all);
+}

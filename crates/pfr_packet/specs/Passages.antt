@@ -1,0 +1,127 @@
+-- How a packet that begins a connection gets through the firewall: the connection's key on the wire and the one behind it, and
+-- the translation rule that makes one of the other (pf.conf(5), "Translation").
+use Rattle.std.specs.Prelude.{ℕ, Bool, true, false, if◌then◌else◌, List, [], Option, Some, None}
+use Rattle.pfr_net.specs.declared.address.Ipv4Address.{Ipv4Address}
+use Rattle.pfr_net.specs.declared.direction.Direction.{Direction}
+use Rattle.pfr_net.specs.declared.direction.Direction.TheVariants.{In, Out}
+use Rattle.pfr_net.specs.declared.endpoint.Endpoint.{Endpoint}
+use Rattle.pfr_net.specs.declared.rule_number.RuleNumber.{RuleNumber}
+use Rattle.pfr_ruleset.specs.declared.ruleset.Ruleset.{Ruleset}
+use Rattle.pfr_headers.specs.declared.packet.Packet.{Packet}
+use Rattle.pfr_headers.specs.declared.transport.Transport.{Transport}
+use Rattle.pfr_headers.specs.declared.transport.Transport.TheVariants as transport
+use Rattle.pfr_headers.specs.Translated.{translated}
+use Rattle.pfr_rules.specs.declared.hit.Hit.{Hit}
+use Rattle.pfr_rules.specs.declared.hit.PortMapping.{PortMapping}
+use Rattle.pfr_rules.specs.Translating.{mapped}
+use Rattle.pfr_track.specs.declared.key.Key.{Key}
+use Rattle.pfr_track.specs.declared.state.StateRules.{StateRules}
+use Rattle.pfr_packet.specs.declared.outcome.Outcome.{Outcome}
+use Rattle.pfr_packet.specs.declared.passage.Passage.{Passage}
+use Rattle.pfr_packet.specs.declared.verdict.Reason.TheVariants.{NatExhausted, NatPass}
+use Rattle.pfr_packet.specs.declared.verdict.Verdict.TheVariants.{Pass, Block}
+use Rattle.pfr_packet.specs.Filtering.{allows_options, filtered, kept}
+use Rattle.pfr_packet.specs.Keys.{end_of, endpoint, translated_end}
+use Rattle.pfr_packet.specs.Outcomes.{without_leave}
+
+-- ---- keys
+
+-- both keys of a connection that isn't translated are one
+abbrev pub untranslated : Key → Passage
+untranslated key = record { wire = key; stack = key; translation = None; passes = false }
+
+abbrev pub has_ports : Transport → Bool
+has_ports (transport.Tcp header) = true
+has_ports (transport.Udp header) = true
+has_ports _ = false
+
+-- another address at an end, and the port by the one that stands there; an identifier stays
+abbrev pub mapped_end : Transport → Endpoint → Ipv4Address → PortMapping → Endpoint
+mapped_end packet own address mapping = endpoint address (if has_ports packet then mapped mapping own.port else own.port)
+
+abbrev pub with_inside : Key → Endpoint → Key
+with_inside key inside = record { protocol = key.protocol; outside = key.outside; inside = inside }
+
+-- the end inside is translated: behind the firewall for a packet that comes in, on the wire for one that goes out
+abbrev pub mapped_passage : Direction → Key → Hit → Endpoint → Passage
+mapped_passage In key hit inside = record { wire = key; stack = with_inside key inside; translation = Some hit.number; passes = hit.passes }
+mapped_passage Out key hit inside = record { wire = with_inside key inside; stack = key; translation = Some hit.number; passes = hit.passes }
+
+-- a packet that goes out by a key on the wire that was picked
+abbrev pub picked_passage : Key → Hit → Key → Passage
+picked_passage key hit wire = record { wire = wire; stack = key; translation = Some hit.number; passes = hit.passes }
+
+-- ---- the packet that is filtered
+
+-- the packet behind its translation, as it is written where it passes
+abbrev pub translated_by : Direction → Passage → Packet → Option RuleNumber → Option Packet
+translated_by direction passage packet None = None
+translated_by direction passage packet (Some number) = Some (translated (end_of direction) (translated_end direction passage.wire passage.stack) packet)
+
+abbrev pub or_packet : Packet → Option Packet → Packet
+or_packet packet None = packet
+or_packet packet (Some other) = other
+
+abbrev pub behind : Direction → Passage → Packet → Packet
+behind direction passage packet = or_packet packet (translated_by direction passage packet passage.translation)
+
+-- ---- what becomes of it
+
+-- what the filter makes of it, which names the rule that translates; these translation rules were visited
+abbrev pub by_way : Passage → List ℕ → Outcome → Outcome
+by_way passage visits outcome = record outcome { translation = passage.translation; visited = record { translation = visits; filter = outcome.visited.filter } }
+
+-- a packet that isn't filtered passes
+abbrev pub nat_passed : Direction → Passage → List ℕ → Outcome
+nat_passed direction passage visits = record {
+  direction = Some direction;
+  verdict = Pass;
+  reason = NatPass;
+  rule = None;
+  translation = passage.translation;
+  state = None;
+  visited = record { translation = visits; filter = [] };
+  bytes = None;
+  change = None;
+}
+
+-- but its IP options aren't allowed
+abbrev pub unfiltered : Direction → Packet → Passage → List ℕ → Outcome
+unfiltered direction packet passage visits = without_leave packet false (nat_passed direction passage visits)
+
+abbrev pub judged : Ruleset → Direction → Packet → Passage → List ℕ → Outcome
+judged rules direction packet passage visits =
+    if passage.passes then unfiltered direction packet passage visits
+    else by_way passage visits (filtered rules (behind direction passage packet) direction)
+
+-- no port is free for it
+abbrev pub exhausted : Direction → RuleNumber → List ℕ → Outcome
+exhausted direction number visits = record {
+  direction = Some direction;
+  verdict = Block;
+  reason = NatExhausted;
+  rule = None;
+  translation = Some number;
+  state = None;
+  visited = record { translation = visits; filter = [] };
+  bytes = None;
+  change = None;
+}
+
+-- ---- the state that it makes
+
+-- What the state says of its rules. A translated packet makes one whatever the deciding rule says, which a standby is told of
+-- unless a rule with `no-sync` keeps it.
+abbrev pub kept_by_way : Option RuleNumber → Option RuleNumber → Bool → Option StateRules → Option StateRules
+kept_by_way None rule allowed rules = rules
+kept_by_way (Some number) rule allowed None = Some (record { filter = rule; translation = Some number; is_synchronised = true; allows_options = allowed })
+kept_by_way (Some number) rule allowed (Some rules) = Some (record rules { translation = Some number })
+
+abbrev pub kept_behind : Ruleset → Direction → Passage → Packet → Option StateRules
+kept_behind rules direction passage packet =
+    kept_by_way passage.translation (filtered rules packet direction).rule (allows_options rules packet direction) (kept rules packet direction)
+
+abbrev pub judged_kept : Ruleset → Direction → Packet → Passage → Option StateRules
+judged_kept rules direction packet passage =
+    if passage.passes then kept_by_way passage.translation None false None
+    else kept_behind rules direction passage (behind direction passage packet)

@@ -1,0 +1,134 @@
+//! How a packet that begins a connection gets through the firewall.
+ghost use Rattle.std.specs.Prelude.{◌≡◌};
+ghost use Rattle.pfr_packet.specs.Passages as spec;
+
+use crate::keys::{end_of, endpoint, translated_end};
+use pfr_headers::{Packet, Transport};
+use pfr_net::{Direction, Endpoint, Ipv4Address, RuleNumber};
+use pfr_rules::{Hit, PortMapping};
+use pfr_track::{Key, StateRules};
+
+/// Both keys of a packet that begins a connection, and the translation rule that makes one of the other.
+#[derive(Clone, Copy)]
+pub struct Passage {
+    pub wire: Key,
+    pub stack: Key,
+    /// None where nothing is translated.
+    pub translation: Option<RuleNumber>,
+    /// That rule says `pass`, so the packet isn't filtered.
+    pub passes: bool,
+}
+
+fn has_ports(transport: &Transport) -> bool
+    ensures { result ≡ spec.has_ports transport.now }
+{
+    match transport {
+        Transport::Tcp(_) => true,
+        Transport::Udp(_) => true,
+        _ => false,
+    }
+}
+
+/// Another address at an end, and the port by the one that stands there. An identifier stays.
+pub(crate) fn mapped_end(
+    transport: &Transport,
+    own: Endpoint,
+    address: Ipv4Address,
+    mapping: PortMapping,
+) -> Endpoint
+    ensures { result ≡ spec.mapped_end transport.now own address mapping }
+{
+    if has_ports(transport) {
+        endpoint(address, mapping.mapped(own.port))
+    } else {
+        endpoint(address, own.port)
+    }
+}
+
+#[inline]
+fn with_inside(key: &Key, inside: Endpoint) -> Key
+    ensures { result ≡ spec.with_inside key.now inside }
+{
+    Key {
+        protocol: key.protocol,
+        outside: key.outside,
+        inside,
+    }
+}
+
+impl Passage {
+    /// A passage without translation.
+    pub(crate) fn untranslated(key: &Key) -> Passage
+        ensures { result ≡ spec.untranslated key.now }
+    {
+        Passage {
+            wire: *key,
+            stack: *key,
+            translation: None,
+            passes: false,
+        }
+    }
+
+    /// The passage of a packet with this key of which the end inside is translated: behind the firewall for one that comes in,
+    /// on the wire for one that goes out.
+    pub(crate) fn mapped(direction: Direction, key: &Key, hit: &Hit, inside: Endpoint) -> Passage
+        ensures { result ≡ spec.mapped_passage direction key.now hit.now inside }
+    {
+        let other = with_inside(key, inside);
+        let (wire, stack) = match direction {
+            Direction::In => (*key, other),
+            Direction::Out => (other, *key),
+        };
+        Passage {
+            wire,
+            stack,
+            translation: Some(hit.number),
+            passes: hit.passes,
+        }
+    }
+
+    /// The passage of a packet that goes out by a key on the wire that was picked.
+    pub(crate) fn picked(key: &Key, hit: &Hit, wire: Key) -> Passage
+        ensures { result ≡ spec.picked_passage key.now hit.now wire }
+    {
+        Passage {
+            wire,
+            stack: *key,
+            translation: Some(hit.number),
+            passes: hit.passes,
+        }
+    }
+
+    /// The packet behind its translation, if it has one.
+    pub(crate) fn translated(&self, direction: Direction, packet: &Packet) -> Option<Packet>
+        ensures { result ≡ spec.translated_by direction self.now packet.now self.now.translation }
+    {
+        self.translation?;
+        let to = translated_end(direction, &self.wire, &self.stack);
+        Some(packet.translated(end_of(direction), to))
+    }
+
+    /// What the state says of its rules, by what the deciding rule says. A translated packet makes one whatever that is.
+    pub(crate) fn kept(
+        &self,
+        rule: Option<RuleNumber>,
+        allows_options: bool,
+        kept: Option<StateRules>,
+    ) -> Option<StateRules>
+        ensures { result ≡ spec.kept_by_way self.now.translation rule allows_options kept }
+    {
+        match (self.translation, kept) {
+            (None, kept) => kept,
+            (Some(number), None) => Some(StateRules {
+                filter: rule,
+                translation: Some(number),
+                is_synchronised: true,
+                allows_options,
+            }),
+            (Some(number), Some(rules)) => Some(StateRules {
+                translation: Some(number),
+                ..rules
+            }),
+        }
+    }
+}
