@@ -5,18 +5,16 @@
 //! with its length before it in four bytes.
 mod options;
 mod rules;
-mod statements;
 mod terms;
 mod translations;
 
 use crate::expansions::options::put_options;
 use crate::expansions::rules::put_rules;
-use crate::expansions::statements::statements_of;
 use crate::expansions::terms::{put_network, put_table_name, table_names};
 use crate::expansions::translations::put_translations;
 use crate::given::Given;
 use crate::printing::{put_fault, word_if};
-use pfr_conf::Statements;
+use pfr_conf::{Statements, read};
 use pfr_expand::expand;
 use pfr_ruleset::{AddressTable, Interface, Ruleset};
 use std::alloc::{AllocError, Global};
@@ -96,7 +94,7 @@ fn put_text(
     interface: &Interface,
     text: &[u8],
 ) -> Result<(), AllocError> {
-    match statements_of(alloc, text) {
+    match read(alloc, text) {
         Ok(statements) => put_meaning(alloc, out, counts_alone, interface, &statements),
         Err(fault) => put_fault(out, &fault),
     }

@@ -6,16 +6,19 @@ use Rattle.pfr_words.specs.declared.word.Word.{Word}
 use Rattle.pfr_words.specs.Names.{is_name}
 use Rattle.pfr_terms.specs.declared.error.ConfErrorKind.{ConfErrorKind}
 use Rattle.pfr_terms.specs.declared.error.ConfErrorKind.TheVariants.{OutOfOrder, TooDeep}
-use Rattle.pfr_terms.specs.Input.{Input, Parser, and_then, ◌>>=◌, pure, is_line_end, line_ahead, plain_ahead, sees_word, is_word, token_refusal, refusal, refuse, fault, faulty, left_out, named, next, eat_word}
+use Rattle.pfr_terms.specs.Input.{Input, Parser, and_then, ◌>>=◌, pure, is_line_end, line_ahead, plain_ahead, sees_word, is_word, token_refusal, refusal, refuse, fault, faulty, named, next, eat_word}
+use Rattle.pfr_terms.specs.Ports.{eaten}
 use Rattle.pfr_conf.specs.declared.filter.Action as A
 use Rattle.pfr_conf.specs.declared.filter.Action.TheVariants.{Pass, Block}
 use Rattle.pfr_conf.specs.declared.anchor.FilterStatement.{FilterStatement}
+use Rattle.pfr_conf.specs.declared.translation.TranslationKind.{TranslationKind}
 use Rattle.pfr_conf.specs.declared.statement.Statement.{Statement}
 use Rattle.pfr_conf.specs.Filters.{action}
 use Rattle.pfr_conf.specs.Policies.{block_policy}
 use Rattle.pfr_conf.specs.Anchors.{anchor_of, rule_or, rule_or_anchor, statement}
+use Rattle.pfr_conf.specs.Translations.{kind, kind_in, anchor_kind, anchor_kind_in, rule_without_target, rule_by, rule_on, translation_rule, anchor_or_rule, translation_statement}
 use Rattle.pfr_conf.specs.Macros.{macro_name, macro_definition, name_by}
-use Rattle.pfr_conf.specs.Statements.{Lines, begins_filter, begins_translation, may_set, any_statement, set_statement, rule_or_definition, filter_statement, definition, translation_or_macro, translation_line, macro_statement, table_statement, word_left_out, word_left_out_by}
+use Rattle.pfr_conf.specs.Statements.{Lines, begins_filter, begins_translation, may_set, may_translate, any_statement, set_statement, rule_or_definition, filter_statement, definition, translation_or_macro, translation_line, rule_to_translate, macro_statement, table_statement}
 
 -- this word is the next, and what was read before ended on this line
 abbrev pub front : ℕ → Word → List Word → Input
@@ -50,10 +53,6 @@ refusal_alike l m v vs inner = token_alike l m v.line v.token inner
 fault_alike : (kind : ConfErrorKind) (l m : ℕ) (v : Word) (vs : List Word) → is_line_end v.token ≡ false → fault kind (front l v vs) ≡ fault kind (front m v vs)
 unfolding fault
 fault_alike kind l m v vs inner = rw (line_alike l m v vs inner) refl
-
-left_out_alike : (name : List ℕ) (l m : ℕ) (v : Word) (vs : List Word) → is_line_end v.token ≡ false → left_out name (front l v vs) ≡ left_out name (front m v vs)
-unfolding left_out
-left_out_alike name l m v vs inner = rw (line_alike l m v vs inner) refl
 
 -- ---- single words
 
@@ -101,6 +100,39 @@ filter_alike : (found : List Statement) (l m : ℕ) (v : Word) (vs : List Word) 
 unfolding filter_statement
 filter_alike found l m v vs inner = rw (statement_alike 16 l m v vs inner) refl
 
+-- ---- translation rules
+
+eaten_alike : {X A : Type 0} (found : Option X) (f : Option X → Parser A) (l m : ℕ) (v : Word) (vs : List Word) → f None (front l v vs) ≡ f None (front m v vs) → and_then (eaten found (front l v vs)) f ≡ and_then (eaten found (front m v vs)) f
+eaten_alike None f l m v vs same = same
+eaten_alike (Some found) f l m v vs same = rw (next_alike l m v vs) refl
+
+kind_alike : {A : Type 0} (f : Option TranslationKind → Parser A) (l m : ℕ) (v : Word) (vs : List Word) → f None (front l v vs) ≡ f None (front m v vs) → (kind >>= f) (front l v vs) ≡ (kind >>= f) (front m v vs)
+unfolding kind
+kind_alike f l m v vs same = rw (plain_alike l m v vs) (eaten_alike (kind_in (plain_ahead (front m v vs))) f l m v vs same)
+
+rule_on_alike : (line l m : ℕ) (v : Word) (vs : List Word) → is_line_end v.token ≡ false → rule_on line (front l v vs) ≡ rule_on line (front m v vs)
+rule_on_alike line l m v vs inner = eat_alike (codes "no") (λ is_no. if is_no then rule_without_target line else (kind >>= rule_by line)) l m v vs (kind_alike (rule_by line) l m v vs (ap Err (refusal_alike l m v vs inner)))
+
+-- the rule's line is that of its first word
+translation_rule_alike : (l m : ℕ) (v : Word) (vs : List Word) → is_line_end v.token ≡ false → translation_rule (front l v vs) ≡ translation_rule (front m v vs)
+unfolding translation_rule
+translation_rule_alike l m v vs inner = rw (line_alike l m v vs inner) (rule_on_alike (line_ahead (front m v vs)) l m v vs inner)
+
+no_anchor_alike : (l m : ℕ) (v : Word) (vs : List Word) → is_line_end v.token ≡ false → anchor_or_rule None (front l v vs) ≡ anchor_or_rule None (front m v vs)
+no_anchor_alike l m v vs inner = rw (translation_rule_alike l m v vs inner) refl
+
+translation_statement_alike : (l m : ℕ) (v : Word) (vs : List Word) → is_line_end v.token ≡ false → translation_statement (front l v vs) ≡ translation_statement (front m v vs)
+unfolding translation_statement anchor_kind
+translation_statement_alike l m v vs inner = rw (plain_alike l m v vs) (eaten_alike (anchor_kind_in (plain_ahead (front m v vs))) anchor_or_rule l m v vs (no_anchor_alike l m v vs inner))
+
+rule_to_translate_alike : (found : List Statement) (l m : ℕ) (v : Word) (vs : List Word) → is_line_end v.token ≡ false → rule_to_translate found (front l v vs) ≡ rule_to_translate found (front m v vs)
+unfolding rule_to_translate
+rule_to_translate_alike found l m v vs inner = rw (translation_statement_alike l m v vs inner) refl
+
+translation_alike : (so_far : Lines) (l m : ℕ) (v : Word) (vs : List Word) → is_line_end v.token ≡ false → translation_line so_far (front l v vs) ≡ translation_line so_far (front m v vs)
+unfolding translation_line
+translation_alike so_far l m v vs inner = seen_alike (may_translate so_far.0) _ _ _ _ (rule_to_translate_alike so_far.1 l m v vs inner) (ap Err (fault_alike OutOfOrder l m v vs inner))
+
 -- ---- definitions
 
 name_if : (is : Bool) (word : List ℕ) (l m : ℕ) (v : Word) (vs : List Word) → is_line_end v.token ≡ false → (if is then named word else refuse) (front l v vs) ≡ (if is then named word else refuse) (front m v vs)
@@ -114,14 +146,6 @@ name_alike (Some word) l m v vs inner = name_if (is_name word) word l m v vs inn
 macro_alike : (so_far : Lines) (l m : ℕ) (v : Word) (vs : List Word) → is_line_end v.token ≡ false → macro_statement so_far (front l v vs) ≡ macro_statement so_far (front m v vs)
 unfolding macro_statement macro_definition macro_name
 macro_alike so_far l m v vs inner = rw (plain_alike l m v vs, name_alike (plain_ahead (front m v vs)) l m v vs inner) refl
-
-left_out_by_alike : (found : Option (List ℕ)) (l m : ℕ) (v : Word) (vs : List Word) → is_line_end v.token ≡ false → word_left_out_by found (front l v vs) ≡ word_left_out_by found (front m v vs)
-left_out_by_alike (Some word) l m v vs inner = left_out_alike word l m v vs inner
-left_out_by_alike None l m v vs inner = refusal_alike l m v vs inner
-
-translation_alike : (so_far : Lines) (l m : ℕ) (v : Word) (vs : List Word) → is_line_end v.token ≡ false → translation_line so_far (front l v vs) ≡ translation_line so_far (front m v vs)
-unfolding translation_line word_left_out
-translation_alike so_far l m v vs inner = rw (plain_alike l m v vs, left_out_by_alike (plain_ahead (front m v vs)) l m v vs inner) refl
 
 no_table_alike : (so_far : Lines) (l m : ℕ) (v : Word) (vs : List Word) → is_line_end v.token ≡ false → translation_or_macro so_far (front l v vs) ≡ translation_or_macro so_far (front m v vs)
 no_table_alike so_far l m v vs inner = rw (plain_alike l m v vs) (seen_alike (begins_translation (plain_ahead (front m v vs))) _ _ _ _ (translation_alike so_far l m v vs inner) (macro_alike so_far l m v vs inner))

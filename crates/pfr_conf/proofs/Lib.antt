@@ -8,5 +8,6 @@ pub mod StatementStays
 pub mod TextGoesOn
 pub mod TextStays
 pub mod TranslationLines
+pub mod TranslationStays
 pub mod TwoTexts
 pub mod WordLines

@@ -4,10 +4,11 @@ use Rattle.pfr_words.specs.declared.sign.Sign.TheVariants as s
 use Rattle.pfr_words.specs.Names.{is_name}
 use Rattle.pfr_words.specs.Words.{newlines, words}
 use Rattle.pfr_terms.specs.declared.error.ConfError.{ConfError}
+use Rattle.pfr_terms.specs.declared.error.ConfErrorKind.TheVariants.{OutOfOrder}
 use Rattle.pfr_terms.specs.declared.name.Name.{Name}
 use Rattle.pfr_terms.specs.declared.name.MacroUse.{MacroUse}
 use Rattle.pfr_terms.specs.Input.{Input, Outcome, Parser, and_then, ◌>>=◌, pure, refuse, start, plain_ahead, quoted_ahead, macro_ahead, line_ahead, eat_sign, named, unknown_word}
-use Rattle.pfr_terms.proofs.Lines.{IsLine, Within, Good, Keeps, either, skipped_within, next_within, line_ahead_is, refusal_is, left_out_is, keeps_then, keeps_pure, keeps_if, keeps_test, keeps_by, keeps_fault, keeps_loop, keeps_eat_sign, reading}
+use Rattle.pfr_terms.proofs.Lines.{IsLine, Within, Good, Keeps, either, skipped_within, next_within, line_ahead_is, refusal_is, keeps_then, keeps_pure, keeps_if, keeps_test, keeps_by, keeps_fault, keeps_faulty, keeps_loop, keeps_eat_sign, reading}
 use Rattle.pfr_terms.proofs.TermLines.{keeps_members, keeps_table_name, keeps_table_entry, keeps_criteria}
 use Rattle.pfr_conf.specs.declared.filter.Action as A
 use Rattle.pfr_conf.specs.declared.anchor.FilterStatement.{FilterStatement}
@@ -19,6 +20,7 @@ use Rattle.pfr_conf.specs.Macros as macros
 use Rattle.pfr_conf.specs.Tables as tables
 use Rattle.pfr_conf.specs.Statements as statements
 use Rattle.pfr_conf.proofs.RuleLines.{keeps_name_ahead, keeps_direction, keeps_end_of_line, keeps_set_option, keeps_action, keeps_filter_rule}
+use Rattle.pfr_conf.proofs.TranslationLines.{keeps_translation_statement}
 use Rattle.pfr_conf.proofs.WordLines.{begins_within}
 
 -- ---- anchors
@@ -130,13 +132,13 @@ table_definition_keeps line = search (reading, keeps_table_name, flags_keeps, en
 
 -- ---- statements
 
-word_left_out_by_is : (n : ℕ) (found : Option (List ℕ)) (i : Input) → Within n i → IsLine n (statements.word_left_out_by found i).line
-word_left_out_by_is n (Some word) i within = left_out_is n word i within
-word_left_out_by_is n None i within = refusal_is n i within
+rule_to_translate_keeps : {n : ℕ} (found : List Statement) → Keeps n (statements.rule_to_translate found)
+unfolding statements.rule_to_translate
+rule_to_translate_keeps found = keeps_then keeps_translation_statement (λ rule. keeps_pure _)
 
 translation_line_keeps : {n : ℕ} (so_far : statements.Lines) → Keeps n (statements.translation_line so_far)
-unfolding statements.translation_line statements.word_left_out
-translation_line_keeps {n = n} so_far = record { from = λ i within. word_left_out_by_is n _ i within }
+unfolding statements.translation_line
+translation_line_keeps so_far = keeps_test (λ i. statements.may_translate so_far.0) (rule_to_translate_keeps so_far.1) (keeps_faulty OutOfOrder)
 
 macro_statement_keeps : {n : ℕ} (so_far : statements.Lines) → Keeps n (statements.macro_statement so_far)
 unfolding statements.macro_statement

@@ -12,7 +12,7 @@ use Rattle.pfr_terms.specs.Input.{Input, Outcome, Parser, and_then, ◌>>=◌, p
 use Rattle.pfr_terms.specs.declared.error.ConfErrorKind.TheVariants.{OutOfOrder}
 use Rattle.pfr_terms.specs.Lists.{members}
 use Rattle.pfr_terms.specs.Addresses.{table_entry}
-use Rattle.pfr_terms.proofs.Stays.{longer, mode, Closed, Fine, Sees, Sight, IsTest, Follows, Stays, skip_longer, skip_closers, skip_closed, skip_length, stays_pure, stays_then, stays_first, stays_turn, stays_by_test, stays_found, stays_if, stays_any, stays_by, stays_at, stays_test, either_follows, stays_fault, stays_loop, stays_eat_word, stays_eat_word_so, stays_eat_sign, stays_expect_sign, stays_named, stays_taken, stays_refuse, stays_faulty, stays_open_list, stays_close_list, stays_open_body, stays_close_body, plain_sight, plain_shows, quoted_sight, quoted_shows, macro_sight, macro_shows, line_sight, refusal_sight, left_out_sight, end_sight, word_sight, word_test, named_sight}
+use Rattle.pfr_terms.proofs.Stays.{longer, mode, Closed, Fine, Sees, Sight, IsTest, Follows, Stays, skip_longer, skip_closers, skip_closed, skip_length, stays_pure, stays_then, stays_first, stays_turn, stays_by_test, stays_found, stays_if, stays_any, stays_by, stays_at, stays_test, either_follows, stays_fault, stays_loop, stays_eat_word, stays_eat_word_so, stays_eat_sign, stays_expect_sign, stays_named, stays_taken, stays_refuse, stays_faulty, stays_open_list, stays_close_list, stays_open_body, stays_close_body, plain_sight, plain_shows, quoted_sight, quoted_shows, macro_sight, macro_shows, line_sight, refusal_sight, end_sight, word_sight, word_test, named_sight}
 use Rattle.pfr_terms.proofs.TermStays.{stays_members, stays_table_name, stays_table_entry, stays_criteria}
 use Rattle.pfr_conf.specs.declared.filter.Action as A
 use Rattle.pfr_conf.specs.declared.anchor.AnchorRule.{AnchorRule}
@@ -31,6 +31,7 @@ use Rattle.pfr_conf.specs.Macros as macros
 use Rattle.pfr_conf.specs.Tables as tables
 use Rattle.pfr_conf.specs.Statements as statements
 use Rattle.pfr_conf.proofs.RuleStays.{is_there, stays_name_ahead, stays_direction, stays_set_option, stays_action, stays_filter_rule}
+use Rattle.pfr_conf.proofs.TranslationStays.{stays_translation_statement}
 
 -- ---- what is left, counted from elsewhere
 
@@ -236,13 +237,13 @@ table_definition_stays line = stays_then (stays_expect_sign s.Less tt) (λ less.
 
 -- ---- statements
 
-word_left_out_by_sight : (found : Option (List ℕ)) → Sight (statements.word_left_out_by found)
-word_left_out_by_sight (Some word) = left_out_sight word
-word_left_out_by_sight None = refusal_sight
+rule_to_translate_stays : {sees : Bool} {count : ℕ} (found : List Statement) → Stays false false 0 sees (λ (a : statements.Lines). false) count (statements.rule_to_translate found) (statements.rule_to_translate found)
+unfolding statements.rule_to_translate
+rule_to_translate_stays found = stays_then stays_translation_statement (λ rule. stays_pure _)
 
 translation_line_stays : {sees : Bool} {count : ℕ} (so_far : statements.Lines) → Stays false false 0 sees (λ (a : statements.Lines). false) count (statements.translation_line so_far) (statements.translation_line so_far)
-unfolding statements.translation_line statements.word_left_out
-translation_line_stays so_far = stays_at plain_ahead (λ found i. Err (statements.word_left_out_by found i)) plain_sight (λ found. stays_fault (statements.word_left_out_by found) (word_left_out_by_sight found))
+unfolding statements.translation_line
+translation_line_stays so_far = stays_test (λ i. statements.may_translate so_far.0) (record { alike = λ line ys i. refl }) (rule_to_translate_stays so_far.1) (stays_faulty OutOfOrder)
 
 macro_statement_stays : {sees : Bool} {count : ℕ} (so_far : statements.Lines) → Stays false false 0 sees (λ (a : statements.Lines). false) count (statements.macro_statement so_far) (statements.macro_statement so_far)
 unfolding statements.macro_statement

@@ -142,7 +142,7 @@ both_in_words : (line : ℕ) (ys us ws : List Word) (a b : S.Statements) → Fin
 unfolding statements_in
 both_in_words line ys us ws a b fine fewer behind is other may =
     let second = whole_is _ b other in
-    joined a b _ _ (go_on (Joins b.statements) InOrder keeps_order (λ none. refl) line ys ws
+    joined a b _ _ (go_on (Joins b.statements) InOrder keeps_order (λ none. refl, λ none. refl) line ys ws
     (λ n found i order plain some same follow. second_rest (turns (start us)) n (omega (arith, some, fewer)) found b.statements us i second.0 (same ∙ behind) plain (fits_behind found b.statements order follow) second.1) fine) may is
 
 pub statements_of_both : (first second : List ℕ) (a b : S.Statements) → slice_index first (length first - 1) ≢ 92 → words first ≡ words_on 1 (pieces first)

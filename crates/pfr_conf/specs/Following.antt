@@ -3,22 +3,31 @@ use Rattle.std.specs.Prelude.{◌≡◌, ◌||◌, ◌⊎◌, Bool, true, false,
 use Rattle.pfr_conf.specs.declared.statement.Statement.{Statement}
 use Rattle.pfr_conf.specs.declared.statement.Statement.TheVariants as s
 
-abbrev pub is_rule : Statement → Bool
-is_rule (s.Filter rule) = true
-is_rule other = false
-
 abbrev pub is_option : Statement → Bool
 is_option (s.Option option) = true
 is_option other = false
 
-abbrev pub has_rule : List Statement → Bool
-has_rule [] = false
-has_rule (x ∷ xs) = is_rule x || has_rule xs
+abbrev pub is_translation : Statement → Bool
+is_translation (s.Translation rule) = true
+is_translation other = false
+
+abbrev pub is_filter : Statement → Bool
+is_filter (s.Filter rule) = true
+is_filter other = false
 
 abbrev pub has_option : List Statement → Bool
 has_option [] = false
 has_option (x ∷ xs) = is_option x || has_option xs
 
--- options stand before all rules
-abbrev pub MayFollow : List Statement → List Statement → Type 0
-MayFollow first second = (has_rule first ≡ false) ⊎ (has_option second ≡ false)
+abbrev pub has_translation : List Statement → Bool
+has_translation [] = false
+has_translation (x ∷ xs) = is_translation x || has_translation xs
+
+abbrev pub has_filter : List Statement → Bool
+has_filter [] = false
+has_filter (x ∷ xs) = is_filter x || has_filter xs
+
+-- options stand before all rules, and translation rules before filter rules
+pub record MayFollow (first second : List Statement) : Type 0 where
+  pub options : ((has_translation first || has_filter first) ≡ false) ⊎ (has_option second ≡ false)
+  pub translations : (has_filter first ≡ false) ⊎ (has_translation second ≡ false)

@@ -1,5 +1,5 @@
 -- Texts one below the other: words of the laws.
-use Rattle.std.specs.Prelude.{◌≡◌, ℕ, ◌+◌, List, ◌++◌, Result, Ok, Err}
+use Rattle.std.specs.Prelude.{◌≡◌, ℕ, ◌+◌, List, ◌++◌, Ok, Err}
 use Rattle.std.specs.List.{All}
 use Rattle.pfr_words.specs.declared.word.Word.{Word}
 use Rattle.pfr_words.specs.declared.word.Token.TheVariants.{LineEnd}
@@ -30,7 +30,7 @@ SaysBoth text a b = Says text (record { statements = a.statements ++ b.statement
 abbrev pub IsBeginning : Statements → Statements → Type 0
 IsBeginning a b = (more : List Statement) × (b.statements ≡ a.statements ++ more)
 
--- two texts are read, the second so many lines further down, and no option of the second stands behind a rule of the first
+-- two texts are read, the second so many lines further down, and its statements may stand behind those of the first
 pub record AreReadApart (lines : ℕ) (first second : List ℕ) (a b : Statements) : Type 0 where
   pub whole : IsWhole first
   pub says : Says first a

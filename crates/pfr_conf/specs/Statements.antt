@@ -5,7 +5,7 @@ use Rattle.pfr_words.specs.Words.{words}
 use Rattle.pfr_words.specs.Names.{is_among}
 use Rattle.pfr_terms.specs.declared.error.ConfError.{ConfError}
 use Rattle.pfr_terms.specs.declared.error.ConfErrorKind.TheVariants.{OutOfOrder, Memory}
-use Rattle.pfr_terms.specs.Input.{Input, Outcome, Parser, ◌>>=◌, pure, refusal, left_out, faulty, loop, start, taken, is_done, line_ahead, plain_ahead, sees_word, eat_word}
+use Rattle.pfr_terms.specs.Input.{Input, Outcome, Parser, ◌>>=◌, pure, faulty, loop, start, taken, is_done, line_ahead, plain_ahead, sees_word, eat_word}
 use Rattle.pfr_conf.specs.declared.statement.TheConstants.{FILTER_WORDS, TRANSLATION_WORDS}
 use Rattle.pfr_conf.specs.declared.statement.Section.{Section}
 use Rattle.pfr_conf.specs.declared.statement.Section.TheVariants as section
@@ -17,11 +17,19 @@ use Rattle.pfr_conf.specs.Macros.{macro_definition}
 use Rattle.pfr_conf.specs.Tables.{table_definition}
 use Rattle.pfr_conf.specs.Options.{set_option}
 use Rattle.pfr_conf.specs.Anchors.{statement, blank_lines}
+use Rattle.pfr_conf.specs.Translations.{translation_statement}
 
 -- options stand before all rules
 abbrev pub may_set : Section → Bool
 may_set section.Options = true
+may_set section.Translation = false
 may_set section.Filter = false
+
+-- translation rules stand before filter rules
+abbrev pub may_translate : Section → Bool
+may_translate section.Options = true
+may_translate section.Translation = true
+may_translate section.Filter = false
 
 unfoldable pub begins_filter : Option (List ℕ) → Bool
 begins_filter None = false
@@ -30,13 +38,6 @@ begins_filter (Some word) = is_among (map (λ w. w.now) FILTER_WORDS) word
 unfoldable pub begins_translation : Option (List ℕ) → Bool
 begins_translation None = false
 begins_translation (Some word) = is_among (map (λ w. w.now) TRANSLATION_WORDS) word
-
-abbrev pub word_left_out_by : Option (List ℕ) → Input → ConfError
-word_left_out_by (Some word) i = left_out word i
-word_left_out_by None i = refusal i
-
-unfoldable pub word_left_out : Input → ConfError
-word_left_out i = word_left_out_by (plain_ahead i) i
 
 -- how far the ruleset has come, and its statements up to there
 abbrev pub Lines : Type 0
@@ -62,9 +63,13 @@ macro_statement so_far = do
   definition ← macro_definition
   pure (so_far.0, so_far.1 ++ s.Macro definition ∷ [])
 
--- nothing translates by translation rules yet: until it does, they are left out here
+unfoldable pub rule_to_translate : List Statement → Parser Lines
+rule_to_translate found = do
+  rule ← translation_statement
+  pure (section.Translation, found ++ s.Translation rule ∷ [])
+
 unfoldable pub translation_line : Lines → Parser Lines
-translation_line so_far = λ i. Err (word_left_out i)
+translation_line so_far = λ i. if may_translate so_far.0 then rule_to_translate so_far.1 i else faulty OutOfOrder i
 
 abbrev pub translation_or_macro : Lines → Parser Lines
 translation_or_macro so_far = λ i. if begins_translation (plain_ahead i) then translation_line so_far i else macro_statement so_far i

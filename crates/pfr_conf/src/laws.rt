@@ -34,8 +34,8 @@ pub fn blank_lines_and_comments_behind_say_nothing()
 {}
 
 /// The statements of two texts, one behind the other, are those of the first and those of the second, where both are
-/// read and no option of the second stands behind a rule of the first. The second text is read on the lines where it
-/// then stands. The first text doesn't end in a backslash and closes each brace that it opens.
+/// read, no option of the second stands behind a rule of the first, and no translation rule behind a filter rule. The second
+/// text is read on the lines where it then stands. The first text doesn't end in a backslash and closes each brace that it opens.
 pub fn two_texts_say_what_both_say()
     ensures { (first second : List ℕ) (a b : Statements) → AreReadInTurn first second a b → SaysBoth (joined first second) a b }
 {}

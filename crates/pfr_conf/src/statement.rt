@@ -1,6 +1,5 @@
 //! Statements, and the order in which they may come.
 ghost use Rattle.std.specs.Prelude.{◌≡◌, codes};
-ghost use Rattle.pfr_terms.specs.Input.{Refuses};
 ghost use Rattle.pfr_conf.specs.Statements as spec;
 ghost use Rattle.pfr_conf.specs.Statements.{ReadsOnto};
 
@@ -8,7 +7,7 @@ use crate::anchor::{DEEPEST_ANCHOR, FilterStatement, statement};
 use crate::macros::{MacroDefinition, definition as macro_definition};
 use crate::options::{SetOption, option_behind_set};
 use crate::table::{TableDefinition, definition as table_definition};
-use crate::translation::TranslationStatement;
+use crate::translation::{TranslationStatement, translation};
 use pfr_items::Items;
 use pfr_terms::{ConfError, ConfErrorKind, Reader};
 use pfr_words::Bytes;
@@ -35,6 +34,7 @@ pub struct Statements<'a> {
 #[derive(Clone, Copy)]
 pub enum Section {
     Options,
+    Translation,
     Filter,
 }
 
@@ -44,6 +44,18 @@ fn may_set(reached: Section) -> bool
 {
     match reached {
         Section::Options => true,
+        Section::Translation => false,
+        Section::Filter => false,
+    }
+}
+
+/// Whether a translation rule may still come.
+fn may_translate(reached: Section) -> bool
+    ensures { result ≡ spec.may_translate reached }
+{
+    match reached {
+        Section::Options => true,
+        Section::Translation => true,
         Section::Filter => false,
     }
 }
@@ -84,19 +96,21 @@ fn begins_translation(word: Option<Bytes<'_>>) -> bool
     }
 }
 
-/// The next word is left out.
-#[tactic(auto, unfolding(crate::specs::Statements::word_left_out))]
-fn word_left_out(alloc: Global, reader: &Reader<'_, '_>) -> ConfError
-    ensures { Refuses (spec.word_left_out reader.now) result }
+/// Adds a translation rule, or an anchor of such.
+#[tactic(auto, unfolding(crate::specs::Statements::rule_to_translate))]
+fn rule_to_translate<'a>(
+    alloc: Global,
+    reader: &mut Reader<'_, 'a>,
+    found: &mut Items<Statement<'a>>,
+) -> Result<Section, ConfError>
+    ensures { ReadsOnto (spec.rule_to_translate found.old reader.old) result found.new reader.new }
 {
-    match reader.plain_ahead() {
-        Some(word) => reader.left_out(alloc, word.as_slice()),
-        None => reader.refuse(alloc),
-    }
+    let rule = translation(alloc, reader)?;
+    found.push(Statement::Translation(rule))?;
+    Ok(Section::Translation)
 }
 
-/// Adds a translation rule. `crate::translation` reads them, but nothing translates by them yet: until it does, they
-/// are left out here and nowhere else.
+/// Adds a translation rule, or an anchor of such, if one may still come.
 #[tactic(auto, unfolding(crate::specs::Statements::translation_line))]
 fn translation_line<'a>(
     alloc: Global,
@@ -106,7 +120,10 @@ fn translation_line<'a>(
 ) -> Result<Section, ConfError>
     ensures { ReadsOnto (spec.translation_line (reached, found.old) reader.old) result found.new reader.new }
 {
-    Err(word_left_out(alloc, reader))
+    if !may_translate(reached) {
+        return Err(reader.fault(ConfErrorKind::OutOfOrder));
+    }
+    rule_to_translate(alloc, reader, found)
 }
 
 /// Adds a filter rule, or an anchor.
