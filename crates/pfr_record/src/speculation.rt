@@ -61,6 +61,14 @@ impl Speculation {
         self.number
     }
 
+    /// How many questions its record has. A pick among many taken ports asks one for each of them, so a record may grow large,
+    /// and who makes many may let go of such a one.
+    pub fn questions(&self) -> usize
+        ensures { result ≡ length self.now.answers.entries }
+    {
+        self.answers.len()
+    }
+
     /// Whether a table gives at a clock the answer that stands at a place of the record.
     #[tactic(auto, using(crate::proofs::RecordLemmas::answered_at, crate::proofs::RecordLemmas::answered_of_all))]
     fn is_answered_at(&self, index: usize, table: &Table, clock: Clock) -> bool
