@@ -16,6 +16,7 @@ sys.dont_write_bytecode = True
 from captures.packets import (ACK, ETHER_ARP, ETHER_IPV4, FIN, LINKTYPE_ETHERNET, PSH, RST, SYN, UNREACHABLE,
                               capture_header, echo, ethernet, fragments, group_report, icmp_error, ipv4, record, tcp,
                               udp)
+from steps.picks import IDENTIFIERS, PORTS, ZERO_SEED, cut_of, word
 
 OPENING = 1767261600  # 2026-01-01 10:00:00 UTC
 
@@ -34,6 +35,10 @@ VISITOR, ATTACKER, REFORMED, UPDATES = "203.0.113.7", "203.0.113.66", "203.0.113
 # the company
 COMPANY_WEB, COMPANY_MAIL, COMPANY_NAMES = "203.0.113.20", "203.0.113.25", "203.0.113.53"
 OTHER_MAIL, PARTNER, NO_PARTNER = "192.0.2.99", "192.0.2.130", "192.0.2.200"
+
+# the home behind one address
+PHONE, OTHER_PHONE, CONSOLE, CAMERA, HOME_DISKS = "10.0.0.11", "10.0.0.12", "10.0.0.20", "10.0.0.40", "10.0.0.30"
+DISKS_OUTSIDE, OFFICE, GAME, FRIEND = "192.0.2.9", "172.16.1.5", "203.0.113.30", "203.0.113.80"
 
 URG = 0x20
 GRE = 47
@@ -86,17 +91,19 @@ class Story:
 
 
 class Connection:
-    """A TCP connection, each packet of which goes on where the two ends are."""
+    """A TCP connection, each packet of which goes on where the two ends are. Where it is translated on its way, each end sees
+    the other one at another place."""
 
-    def __init__(self, story, client, server, first=1000, second=5000):
+    def __init__(self, story, client, server, first=1000, second=5000, seen=None):
         self.story = story
         self.ends = [client, server]
+        self.seen = seen or self.ends
         self.next = [first, second]
 
     def send(self, second, end, flags, size=0, **named):
         """One packet of an end with so many bytes."""
         named = {"window": 502, **named}
-        packet = self.story.add(second, tcp, *self.ends[end], *self.ends[1 - end], flags, self.next[end],
+        packet = self.story.add(second, tcp, *self.ends[end], *self.seen[1 - end], flags, self.next[end],
                                 self.next[1 - end] if flags & ACK else 0, payload=b"x" * size, **named)
         self.next[end] += size + bool(flags & SYN) + bool(flags & FIN)
         return packet
@@ -307,13 +314,62 @@ def router():
     return story.capture()
 
 
+def drawn(story, low, high):
+    """Which of these a `nat` rule tries first for the next packet of a story, with a seed of zeros."""
+    return cut_of(low, high, word(ZERO_SEED, len(story.frames) + 1))
+
+
+def two_phones(story):
+    """Both ask the same resolver from the same port, and then the same site by pings with the same identifier."""
+    phones = (PHONE, OTHER_PHONE)
+    ports = []
+    for phone in phones:
+        ports.append(drawn(story, *PORTS))
+        story.add(1, udp, phone, 40000, NAMES, 53, dns_query(7, "www.example.com"))
+    for port in ports:
+        story.add(1, udp, NAMES, 53, FIREWALL, port, dns_reply(7, "www.example.com", SITE))
+    identifiers = []
+    for phone in phones:
+        identifiers.append(drawn(story, *IDENTIFIERS))
+        story.add(2, echo, phone, SITE, True, 7, 1, b"abcdefgh")
+    for identifier in identifiers:
+        story.add(2, echo, SITE, FIREWALL, False, identifier, 1, b"abcdefgh")
+
+
+def page_behind_one_address(story):
+    """A page, on the way to which a router says of a packet that it is too large: it embeds the packet as it was written."""
+    port = drawn(story, *PORTS)
+    page = Connection(story, (PHONE, 49152), (SITE, 443), seen=[(FIREWALL, port), (SITE, 443)])
+    page.open(3)
+    page.fetch(4)
+    asked = tcp(FIREWALL, port, SITE, 443, PSH | ACK, 1001, 5001, payload=b"x" * 200)
+    story.add(5, icmp_error, UPLINK, UNREACHABLE, 4, asked)
+
+
+def home():
+    """Half a minute of a home behind one address, as its gateway sees the packets before they are translated."""
+    story = Story(("10.0.0.0", 24))
+    look_for_firewall(story, 0)
+    two_phones(story)
+    page_behind_one_address(story)
+    story.add(6, udp, CONSOLE, 3074, GAME, 3074, bytes(20))
+    story.add(6, udp, GAME, 3074, FIREWALL, 3074, bytes(20))
+    Connection(story, (SITE, 50500), (CAMERA, 80), seen=[(SITE, 50500), (FIREWALL, 8080)]).whole(7, 2)
+    Connection(story, (HOME_DISKS, 50022), (CLOCK, 443), seen=[(DISKS_OUTSIDE, 50022), (CLOCK, 443)]).open(10)
+    Connection(story, (FRIEND, 51001), (HOME_DISKS, 22), seen=[(FRIEND, 51001), (DISKS_OUTSIDE, 22)]).open(11)
+    Connection(story, (PHONE, 49153), (OFFICE, 443)).open(12)
+    for port in (21, 22, 23, 443, 8080):
+        knock(story, 20, SCANNER, (FIREWALL, port), SYN)
+    return story.capture()
+
+
 def first():
     """Three datagrams without payload at second 0, without frames."""
     packets = [udp("198.51.100.7", 9, FIREWALL, 9), udp("203.0.113.9", 9, FIREWALL, 9), udp("10.0.0.5", 9, "198.51.100.7", 9)]
     return capture_header() + b"".join(record(0, 0, packet) for packet in packets)
 
 
-CAPTURES = {"first.pcap": first, "gateway.pcap": gateway, "router.pcap": router, "server.pcap": server}
+CAPTURES = {"first.pcap": first, "gateway.pcap": gateway, "home.pcap": home, "router.pcap": router, "server.pcap": server}
 
 
 def main():

@@ -16,7 +16,7 @@ OTHER_DOCUMENTS = ("docs/PROOF.md", "tests/README.md")
 FOLDERS = ("crates", "docs", "examples", "tests")
 INDENT, PROMPT, REST = "    ", "    $ ", "    .."
 # first words of commands that are run; others, as `./test` and `tests/compare.py`, are for the reader alone
-RUN = ("./pfreplay", "cat", "sed", "head", "tail", "grep", "wc", "cut")
+RUN = ("./pfreplay", "cat", "sed", "head", "tail", "grep", "wc", "cut", "od")
 # seconds; other comparisons may run at the same time
 TIME_LIMIT = 30
 

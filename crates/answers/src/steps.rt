@@ -7,8 +7,8 @@
 //! is a `-`. A change that the table refuses has ` refused` behind it.
 //!
 //! A run holds the interface, the inside networks (one byte that counts them, and of each four bytes and the bits in one), the
-//! text of the ruleset with its length before it in four bytes, how many records there are (4), and these. A record holds the
-//! link type (2), the seconds (4), and the captured bytes with their length before them (4).
+//! text of the ruleset with its length before it in four bytes, a byte, which is each of the seed's, how many records there are
+//! (4), and these. A record holds the link type (2), the seconds (4), and the captured bytes with their length before them (4).
 use crate::given::Given;
 use crate::printing::{put_address, put_fault};
 use pfr_commit::{StateLine, VerdictLine};
@@ -208,7 +208,8 @@ fn job(alloc: Global, given: &mut Given<'_>) -> Result<Result<Job, ConfError>, A
     let interface = given.interface();
     let inside = networks(alloc, given)?;
     let text = given.text();
-    Ok(Job::new(alloc, text, interface, inside.as_slice(), [0; 32]))
+    let seed = [given.byte(); 32];
+    Ok(Job::new(alloc, text, interface, inside.as_slice(), seed))
 }
 
 /// The answer to a run, but for its end.
