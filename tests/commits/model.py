@@ -12,9 +12,10 @@ It says which results the book tries and which it drops, and so how many packets
 
 from typing import NamedTuple
 
-from captures.frames import Packet, datagram_of, view
+from captures.frames import datagram_of, view
 from steps.model import step
-from steps.replay import PASSED, Refused, Step, counters, job_of
+from steps.replay import Refused, counters, job_of, step_of
+from steps.run import seed_of
 from table.states import StateTable
 
 
@@ -113,13 +114,13 @@ class Book:
         self.link, self.records, self.jobs = run.link, records, jobs
         self.told, self.kept, self.steps = [], [], []
         self.own = self.clock = self.tried = 0
-        self.meanings = [self.job_of(run, text) for _, text in jobs]
+        self.meanings = [self.job_of(run, *job) for job in jobs]
         self.table = StateTable(self.meanings[0].ruleset.options.values["states"]) if self.meanings[0] else None
 
-    def job_of(self, run, text):
-        """The job of a text; a ruleset that is refused is told."""
+    def job_of(self, run, byte, text):
+        """The job of a text and a byte of the seed; a ruleset that is refused is told."""
         try:
-            return job_of(text.encode(), run.interface, run.inside)
+            return job_of(text.encode(), run.interface, run.inside, seed_of(byte))
         except Refused as why:
             self.told.append(str(why))
             return None
@@ -128,18 +129,15 @@ class Book:
         frame = self.records[number - 1].frame
         return view(self.link, frame), datagram_of(self.link, frame)
 
-    def step(self, job, number, clock, seen, table):
-        return step(self.meanings[job], number, clock, *seen, table)
-
     # What it is told to do
 
     def speculate(self, call):
         if not self.meanings[call.job]:
             self.kept.append(None)
             return
-        asked = Asked(purged(self.table, call.clock))
-        self.step(call.job, call.number, call.clock, self.seen(call.seen_as), asked)
-        self.kept.append(Found(self.jobs[call.job], call.number, call.clock, self.seen(call.seen_as), asked.answers))
+        asked, seen = Asked(purged(self.table, call.clock)), self.seen(call.seen_as)
+        step(self.meanings[call.job], call.number, call.clock, *seen, asked)
+        self.kept.append(Found(self.jobs[call.job], call.number, call.clock, seen, asked.answers))
 
     def taken(self, kept):
         found = None if kept is None else self.kept[kept]
@@ -159,12 +157,9 @@ class Book:
         found = next((each for each in results if each.number == number), None)
         self.tried += found is not None
         self.own += not (found and self.fits(found, number))
-        gone = self.table.purge(self.clock)
-        seen, datagram = self.seen(number)
-        outcome = self.step(0, number, self.clock, (seen, datagram), self.table)
-        length = int.from_bytes(datagram[2:4], "big") if isinstance(seen, Packet) else None
-        self.table.apply(outcome.change)
-        self.steps.append(Step(number, self.clock, gone, outcome, length, record))
+        done = step_of(self.meanings[0], number, self.clock, self.link, record, self.table)
+        self.table.apply(done.outcome.change)
+        self.steps.append(done)
 
     def commit(self, count, kept):
         start = len(self.steps)
@@ -172,7 +167,7 @@ class Book:
         for _ in self.records[start:start + count]:
             self.take(results)
         added = self.steps[start:]
-        packets = b"".join(each.record.header + each.record.frame for each in added if each.outcome.verdict in PASSED)
+        packets = b"".join(each.text() for each in added)
         self.told += [*(each.verdict_line() for each in added), f"packets {hex_of(packets)}",
                       f"own {self.own}, committed {len(self.steps)}"]
 

@@ -4,6 +4,7 @@ import random
 from typing import NamedTuple
 
 import steps.random_runs
+import steps.translation_runs
 from captures.packets import SYN, record, tcp, udp
 from commits.model import Batch, Book, Clear, Commit, Holds, Speculate, hex_of
 from steps.replay import Record
@@ -79,7 +80,7 @@ def rows():
 def in_batches(run, size):
     """A run that is committed in batches of one size, and without results."""
     count = -(-len(run.records) // size)
-    return Script(run, [(0, run.rules)], [Batch(size)] * count)
+    return Script(run, [(run.seed[0], run.rules)], [Batch(size)] * count)
 
 
 # Random
@@ -175,12 +176,23 @@ class Told:
 
 def some_jobs(draw, run):
     """The jobs of a run: the book's, one by the same inputs, one by another seed, and one by another text."""
-    return [(0, run.rules), (0, run.rules), (OTHER_SEED, run.rules), (0, some_text(draw))]
+    seed = run.seed[0]
+    return [(seed, run.rules), (seed, run.rules), (seed ^ OTHER_SEED, run.rules), (seed, some_text(draw))]
+
+
+def scripts_of(runs):
+    """Random scripts for some runs, the same at every time."""
+    draw = random.Random(SEED)
+    for run in runs:
+        jobs = some_jobs(draw, run)
+        yield Script(run, jobs, Told(draw, run, jobs).all_calls() if run.records else [])
 
 
 def some_scripts(packets):
-    """Random scripts with so many packets in all, the same at every time."""
-    draw = random.Random(SEED)
-    for run in steps.random_runs.runs(packets):
-        jobs = some_jobs(draw, run)
-        yield Script(run, jobs, Told(draw, run, jobs).all_calls() if run.records else [])
+    """Random scripts with so many packets in all."""
+    return scripts_of(steps.random_runs.runs(packets))
+
+
+def some_translated(packets):
+    """The same of runs with translation."""
+    return scripts_of(steps.translation_runs.runs(packets))

@@ -11,7 +11,7 @@ for the first fault. Behind each answer stands a line `end`.
 
 Answers are written to the texts of the folder and to the rows, and the model has to give them too. They are written to
 hostile texts as well. What is made of the texts, macros of every word in every place and random rulesets are answered by
-the model. Rules of translation are among all of these, so the program has to read them.
+the model.
 """
 
 import random
@@ -35,7 +35,7 @@ RANDOM_TEXTS = 18000
 MOST_DUMPED = 4096
 # texts that the program gets at once
 CHUNK = 500
-# longer texts of the folders aren't changed at random
+# longer texts of the folder aren't changed at random
 LONG_TEXT = 1200
 # texts for which each allocation is refused, with their interfaces: what they hold covers the expansion, and the last
 # has a fault
@@ -44,7 +44,7 @@ SHORT_OF_MEMORY = (
     ("tables_entries_of_macros_laid_flat", "em0", "192.0.2.1/24"),
     ("options_skip_adds_up", "em0", "192.0.2.1/24"),
     ("anchors_nested_lists", "em0", "192.0.2.1/24"),
-    ("translation/example_gateway", "em0", "192.0.2.1/24"),
+    ("example_gateway", "em0", "192.0.2.1/24"),
     ("tables_clash_with_a_value", "em0", "192.0.2.1/24"),
 )
 
@@ -99,8 +99,8 @@ def with_answers():
 
 
 def changed(texts):
-    """Texts that come from those of the folder by random changes, and those of the reader's folders as they are."""
-    read = rulesets.cases.written(rulesets.cases.TEXTS) + rulesets.cases.written(rulesets.cases.TRANSLATION)
+    """Texts that come from those of the folder by random changes, and those of the reader's folder as they are."""
+    read = rulesets.cases.written()
     given = {text.name: (text.interface, text.network) for text in texts}
     draw = random.Random(SEED)
     for ruleset in read:

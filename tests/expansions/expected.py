@@ -1,7 +1,7 @@
 """The written answers of the expansion: those of the folder `texts`, and the rows of rows.py.
 
-Texts with rules of translation are in a folder of their own within it. In a file `expected` each answer begins with the
-text's name and a colon. An interface and its address may stand before the colon, else they are em0 and 192.0.2.1/24.
+In the file `expected` each answer begins with the text's name and a colon. An interface and its address may stand
+before the colon, else they are em0 and 192.0.2.1/24.
 Behind it stand `line L: KIND` or `F filter, T translation`, or the lines of the dump follow, indented. Lines of options
 that are as under `every ruleset` aren't repeated.
 """
@@ -13,7 +13,6 @@ from typing import NamedTuple
 from expansions import rows
 
 TEXTS = Path(__file__).resolve().parent / "texts"
-FOLDERS = (TEXTS, TEXTS / "translation")
 EVERY = "every ruleset"
 
 
@@ -34,10 +33,10 @@ def option_of(line):
     return words[0] if words[0] in ("block-policy", "state-policy", "hostid", "skip") else None
 
 
-def cases_of(folder):
-    """The cases of a folder, in the first folder behind what holds for every ruleset."""
+def cases_of_texts():
+    """The cases of the folder, behind what holds for every ruleset."""
     cases = []
-    for line in (folder / "expected").read_text().splitlines():
+    for line in (TEXTS / "expected").read_text().splitlines():
         if line.startswith(" "):
             cases[-1].lines.append(line.strip())
         elif line.startswith(EVERY):
@@ -57,24 +56,18 @@ def whole(lines, defaults):
 
 
 def written():
-    """The cases of all folders, each with the bytes of its text and its answer, a line or the lines of the dump."""
-    defaults = []
-    for folder in FOLDERS:
-        cases = cases_of(folder)
-        found = {path.name for path in folder.glob("*.conf")}
-        named = {case.name for case in cases} - {EVERY}
-        if found != named:
-            sys.exit(f"files without an answer, or answers without a file: {sorted(found ^ named)}")
-        for case in cases:
-            if case.name == EVERY:
-                defaults = case.lines
-            else:
-                yield case, (folder / case.name).read_bytes(), case.answer or whole(case.lines, defaults)
+    """The cases, each with the bytes of its text and its answer, a line or the lines of the dump."""
+    every, *cases = cases_of_texts()
+    found, named = {path.name for path in TEXTS.glob("*.conf")}, {case.name for case in cases}
+    if found != named:
+        sys.exit(f"files without an answer, or answers without a file: {sorted(found ^ named)}")
+    for case in cases:
+        yield case, (TEXTS / case.name).read_bytes(), case.answer or whole(case.lines, every.lines)
 
 
 def short():
     """The rows of rows.py, each as the cases of the folder are."""
-    defaults = cases_of(TEXTS)[0].lines
+    defaults = cases_of_texts()[0].lines
     for number, row in enumerate(rows.rows()):
         is_line = isinstance(row.answer, str)
         case = Case(f"row {number}", row.interface, "192.0.2.1/24", row.answer if is_line else None, [])

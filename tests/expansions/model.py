@@ -73,13 +73,12 @@ class Ruleset:
         return len(self.rules.filter), self.rules.translation_count
 
 
-def expand(text, interface, address, bits, translation=True):
-    """The Ruleset of the bytes of a text, or ('fault', its line, its kind). The address is a.b.c.d. Rules of translation
-    are read, unless it is told to leave them out as the reader of rulesets still may."""
+def expand(text, interface, address, bits):
+    """The Ruleset of the bytes of a text, or ('fault', its line, its kind). The address is a.b.c.d."""
     number = int.from_bytes(bytes(int(octet) for octet in address.split(".")), "big")
     ruleset = Ruleset(Run(interface, number, bits))
     try:
-        for statement in tree_of(text, translation):
+        for statement in tree_of(text):
             ruleset.take(statement)
     except Fault as fault:
         return "fault", fault.line, fault.kind

@@ -62,12 +62,34 @@ class Answers:
         return Part(is_refused, verdicts, line.removeprefix("packets "), int(own), int(committed))
 
 
+def is_verdict(line):
+    return " t=" in line and "," not in line
+
+
+def written_packets(lengths, lines):
+    """The bytes in hex of each packet that is written, by its number. They stand behind the lines of each batch, one
+    behind the other, and each is as long as its record."""
+    written, numbers = {}, []
+    for line in lines:
+        if is_verdict(line):
+            number, _, _, verdict, *_ = line.split(" ")
+            numbers += [int(number)] if verdict in PASSED else []
+        elif line.startswith("packets "):
+            octets = line.removeprefix("packets ")
+            for number in numbers:
+                length = lengths[number - 1]
+                written[number], octets = octets[:length], octets[length:]
+            numbers = []
+    return written
+
+
 class Judged:
     """A run that is told again, with the lines that it is answered with and those without a fault."""
 
     def __init__(self, told, whole, seen):
         self.told = [line.split(" ") for line in told]
         self.records = [words[3] + words[4].replace("-", "") for words in self.told if words[0] == "packet"]
+        self.written = written_packets(list(map(len, self.records)), whole)
         self.whole, self.seen = Answers(whole), Answers(seen)
         self.own = self.committed = 0
         # what was refused, in the words of ENDINGS
@@ -82,8 +104,7 @@ class Judged:
 
     def packets_of(self, verdicts):
         """The bytes in hex of those of some lines' packets that are written."""
-        written = (line.split(" ") for line in verdicts)
-        return "".join(self.records[int(words[0]) - 1] for words in written if words[3] in PASSED) or "-"
+        return "".join(self.written.get(int(line.split(" ")[0]), "") for line in verdicts) or "-"
 
     def judge_part(self, verdicts, most):
         """Judges one batch, for which the book may take so many packets; these are the lines of all packets."""
@@ -148,7 +169,7 @@ class Judged:
         self.judge_jobs()
         if self.is_without_book():
             return self.refusals
-        verdicts = [line for line in self.whole.lines if " t=" in line and "," not in line]
+        verdicts = list(filter(is_verdict, self.whole.lines))
         for words in self.told:
             self.judge_call(words, verdicts)
         self.judge_end()

@@ -16,7 +16,7 @@ from runs.model import OUTPUTS
 
 INTERFACE = ("--interface", "em0", "--address", "192.0.2.1/24")
 # captures and rulesets of the examples: one capture makes more than a batch of packets, one ruleset has a fault
-RUNS = (("gateway", "gateway"), ("server", "server"), ("router", "router"), ("gateway", "broken"))
+RUNS = (("gateway", "gateway"), ("home", "home"), ("server", "server"), ("router", "router"), ("gateway", "broken"))
 CHECKS = ("gateway", "broken")
 CUT_LENGTH, TOO_LONG = 2000, 262145
 

@@ -1,6 +1,6 @@
 """Rulesets for the comparison of their reader with its model: those of the folder `texts`, and what is made of them.
 
-The file `expected` of a folder has the answer to each of its texts, a line each.
+The file `expected` of the folder has the answer to each of its texts, a line each.
 """
 
 import random
@@ -9,10 +9,9 @@ import sys
 from pathlib import Path
 from typing import NamedTuple
 
-from rulesets import model, words
+from rulesets import words
 
 TEXTS = Path(__file__).resolve().parent / "texts"
-TRANSLATION = TEXTS / "translation"
 # for the same texts on every run
 SEED = 1961
 LARGE = 1 << 20
@@ -65,27 +64,26 @@ class Ruleset(NamedTuple):
     answer: str | None = None
 
 
-def written(folder):
-    """The texts of a folder with the answers written for them, which the model has to give too."""
+def written():
+    """The texts of the folder with the answers written for them, which the model has to give too."""
     table = {}
-    for line in (folder / "expected").read_text().splitlines():
+    for line in (TEXTS / "expected").read_text().splitlines():
         name, _, answer = line.partition(": ")
         table[name] = answer
-    found = {path.name for path in folder.glob("*.conf")}
+    found = {path.name for path in TEXTS.glob("*.conf")}
     if found != table.keys():
         sys.exit(f"files without an answer, or answers without a file: {sorted(found ^ table.keys())}")
-    return [Ruleset(name, (folder / name).read_bytes(), answer) for name, answer in sorted(table.items())]
+    return [Ruleset(name, (TEXTS / name).read_bytes(), answer) for name, answer in sorted(table.items())]
 
 
 def short():
     """Short texts with the line of the first fault, and some whose faults only the expansion finds."""
-    nat = "1 statements" if model.READS_TRANSLATION else "line 1: left out: nat"
     rows = (
         ("pass all\nset skip on lo0", "line 2: out of order"),
         ("scrub in all", "line 1: left out: scrub"),
         ('\nset fingerprints "x"', "line 2: left out: set fingerprints"),
         ("pass log (all)", "line 1: left out: log"),
-        ("nat on em0 from any to any -> em0", nat),
+        ("nat on em0 from any to any -> em0", "1 statements"),
         ("pass in from $x to any", "1 statements"),
         ("table <t> { 10.0.0.1, !10.0.0.1 }", "1 statements"),
         ("pass from gateway to <nowhere>", "1 statements"),

@@ -3,8 +3,8 @@
 The program takes texts on standard input, each with its length before it in four bytes, the greatest first. It answers
 each with a line: `N statements`, or `line L: KIND` for the first fault.
 
-The answers to the texts of the folders are written beside them, and the model has to give them too. What is made of
-these is answered by the model. As long as rules of translation aren't read, they are handed to the model alone.
+The answers to the texts of the folder are written beside them, and the model has to give them too. What is made of
+these is answered by the model.
 """
 
 import subprocess
@@ -13,8 +13,7 @@ import sys
 import building
 from faults.command import ends_lawfully
 from rulesets import model
-from rulesets.cases import (TEXTS, TRANSLATION, Ruleset, beginnings, changed, each_byte, each_word, large, short,
-                            written)
+from rulesets.cases import TEXTS, Ruleset, beginnings, changed, each_byte, each_word, large, short, written
 
 TIME_LIMIT = 120
 MOST_SHOWN = 10
@@ -41,18 +40,13 @@ def answers_of(command, rulesets):
     return answers + ["no answer"] * (len(rulesets) - len(answers))
 
 
-def model_answer(text, translation=model.READS_TRANSLATION):
-    return model.worded(model.read(text, translation))
-
-
-def stored():
-    """The texts of the folders that the program reads."""
-    return written(TEXTS) + (written(TRANSLATION) if model.READS_TRANSLATION else [])
+def model_answer(text):
+    return model.worded(model.read(text))
 
 
 def with_answers():
     """The texts whose answers are written."""
-    return [*stored(), *short(), *large()]
+    return [*written(), *short(), *large()]
 
 
 def made_of(files):
@@ -61,10 +55,10 @@ def made_of(files):
     return [Ruleset(name, text, model_answer(text)) for name, text, _ in without]
 
 
-def model_faults(rulesets, translation=model.READS_TRANSLATION):
+def model_faults(rulesets):
     """Where the model says something else than what is written."""
     return [(f"model: {name}", text, answer, seen) for name, text, answer in rulesets
-            if (seen := model_answer(text, translation)) != answer]
+            if (seen := model_answer(text)) != answer]
 
 
 def show(wrong):
@@ -76,16 +70,16 @@ def show(wrong):
 
 def compare_model():
     """How many written answers the model doesn't give."""
-    translation, rulesets = written(TRANSLATION), with_answers()
-    wrong = model_faults(translation, True) + model_faults(rulesets)
+    rulesets = with_answers()
+    wrong = model_faults(rulesets)
     show(wrong)
-    print(f"{len(translation) + len(rulesets)} written answers: {len(wrong)} differ from the model")
+    print(f"{len(rulesets)} written answers: {len(wrong)} differ from the model")
     return len(wrong)
 
 
 def compare(command):
     """How many texts the program answers otherwise."""
-    rulesets = with_answers() + made_of(stored())
+    rulesets = with_answers() + made_of(written())
     wrong = [(*ruleset, seen) for ruleset, seen in zip(rulesets, answers_of(command, rulesets))
              if seen != ruleset.answer]
     show(wrong)

@@ -11,9 +11,6 @@ from rulesets.tree import ANY, Anchor, FilterRule, IcmpType, Macro, Option, Tabl
 from rulesets.words import (ADAPTIVE, BAD_NUMBER, FLAG_LETTERS, ICMP_TYPES, LINE_END, OUT_OF_ORDER, PLAIN, QUOTED, SIGN,
                             TEXT_END, TIMEOUTS, TOO_DEEP, UNKNOWN, Fault, is_name, left_out, text_cursor)
 
-# Whether rules of translation are read; while they aren't, their first words are left out by name. The answers
-# written for texts that begin a line with such a word change with this.
-READS_TRANSLATION = False
 DEEPEST = 16
 MOST_STATES, MOST_SECONDS, MOST_NUMBER = 1000000, 2147483647, 4294967295
 MOST_ICMP = 255
@@ -203,9 +200,8 @@ def read_filter_rule(cursor):
 class Reader:
     """Reads the statements of a text and counts them. Those in the bodies of anchors count too, and stand there."""
 
-    def __init__(self, text, translation):
+    def __init__(self, text):
         self.cursor = text_cursor(text)
-        self.translation = translation
         self.reached = OPTIONS
         self.count = 0
         self.statements = []
@@ -273,10 +269,7 @@ class Reader:
         self.statements.append(Table(line, *name, entries))
 
     def read_translation(self):
-        """Rules and anchors of translation, which are left out as long as the flag says so."""
-        if not self.translation:
-            word = self.cursor.peek()
-            raise Fault(word.line, left_out(word.text))
+        """A rule of translation, or an anchor, which makes none."""
         self.keep_order(TRANSLATION)
         rule = rulesets.translation.read_translation(self.cursor)
         self.cursor.end_statement()
@@ -317,16 +310,16 @@ class Reader:
         return body
 
 
-def tree_of(text, translation=READS_TRANSLATION):
+def tree_of(text):
     """The statements of the bytes of a text; a Fault is raised where it has one."""
-    reader = Reader(text.decode("latin-1"), translation)
+    reader = Reader(text.decode("latin-1"))
     reader.read_text()
     return reader.statements
 
 
-def read(text, translation=READS_TRANSLATION):
+def read(text):
     """('statements', their number) or ('fault', its line, its kind) of the bytes of a text."""
-    reader = Reader(text.decode("latin-1"), translation)
+    reader = Reader(text.decode("latin-1"))
     try:
         reader.read_text()
     except Fault as fault:

@@ -7,11 +7,13 @@ from captures.packets import MICROSECONDS, NANOSECONDS, capture_header, record, 
 
 EXAMPLES = building.ROOT / "examples"
 # the inside networks of the examples that don't have those of most cases
-EXAMPLE_INSIDES = {"gateway": "198.51.100.64/27,192.0.2.1", "server": "192.0.2.1",
+EXAMPLE_INSIDES = {"gateway": "198.51.100.64/27,192.0.2.1", "home": "10.0.0.0/24", "server": "192.0.2.1",
                    "router": "198.51.100.0/24,203.0.113.0/26"}
 FIRST_RULES = (b"block in all\npass in quick from 198.51.100.0/24 to any no state\n"
                b"block in from 198.51.100.7 to any\n")
 INSIDE = "10.0.0.0/8"
+# the seed of a run where none is told
+NO_SEED = "0" * 64
 PACKETS = [udp("198.51.100.7", 9, "192.0.2.1", 9), udp("203.0.113.9", 9, "192.0.2.1", 9),
            udp("10.0.0.5", 9, "198.51.100.7", 9)]
 # every byte order with every magic
@@ -26,6 +28,7 @@ class Case(NamedTuple):
     capture: bytes
     interface: str = "em0"
     address: str = "192.0.2.1/24"
+    seed: str = NO_SEED
 
 
 class Line(NamedTuple):

@@ -5,8 +5,8 @@ import random
 import struct
 
 import captures.cases
-from captures.packets import capture_header, ipv4, record
-from runs.case import EXAMPLE_INSIDES, EXAMPLES, FIRST_RULES, FORMS, INSIDE, PACKETS, Case, capture_of
+from captures.packets import capture_header, ipv4, record, udp
+from runs.case import EXAMPLE_INSIDES, EXAMPLES, FIRST_RULES, FORMS, INSIDE, NO_SEED, PACKETS, Case, capture_of
 
 
 def examples():
@@ -149,7 +149,17 @@ def random_cases(count):
         yield Case(f"random {number}", some_rules(chance), ",".join(nets), some_capture(chance))
 
 
+def ranges():
+    """More connections than there are ports for, over more than a batch of packets."""
+    flows = capture_of(udp("10.0.0.5", 1000 + number, "198.51.100.7", 53) for number in range(310))
+    for seed in (NO_SEED, "0123456789abcdef" * 4):
+        for first, last in ((50001, 50300), (0, 255), (65280, 65535)):
+            yield Case(f"ports from {first} to {last}, seed {seed}",
+                       f"nat on em0 from any to any -> em0 port {first}:{last}\npass out".encode(), INSIDE, flows,
+                       seed=seed)
+
+
 def all_cases():
-    for make in (examples, captures.cases.all_cases, edges, lines):
+    for make in (examples, captures.cases.all_cases, edges, lines, ranges):
         yield from make()
     yield from random_cases(300)

@@ -5,6 +5,7 @@ from typing import NamedTuple
 from expansions.cases import RUNS
 from runs.case import EXAMPLES, Line
 from runs.filter_cases import MANY_RULES, stored
+from runs.translation_faults import TRANSLATION_FAULTS
 
 MOST_TEXT = 1048576
 # of the stored texts each such one, and all those about how many rules there may be
@@ -27,9 +28,11 @@ class Check(NamedTuple):
     network: str = "192.0.2.1/24"
 
 
-def counted(name, text, count, checksum, interface="em0", network="192.0.2.1/24"):
-    """A row of a text that is accepted, of so many filter rules. Its checksum was told by another program."""
-    return (Check(name, text, interface, network), f"{count} filter, 0 translation, {checksum}\n".encode(), b"", 0)
+def counted(name, text, count, checksum, interface="em0", network="192.0.2.1/24", translations=0):
+    """A row of a text that is accepted, of so many filter and translation rules. Its checksum was told by another
+    program."""
+    line = f"{count} filter, {translations} translation, {checksum}\n"
+    return (Check(name, text, interface, network), line.encode(), b"", 0)
 
 
 def refused(text, fault, interface="em0", network="192.0.2.1/24"):
@@ -53,12 +56,26 @@ def rows():
     yield counted("a text of 1 MiB", b"#".ljust(MOST_TEXT, b"x"), 0, "6652934a6515a0c9e37ea806a54c402c")
     yield counted("65536 rules", b"pass\n" * 65536, 65536, "864a1c22cbe2d0712e23a154b01b13ae")
     yield refused(b"scrub in all", "line 1: left out: scrub")
-    yield refused(b"pass\nbinat on em0 from 10.0.0.1 to any -> em0\n", "line 2: left out: binat")
     yield refused(b"pass\npass from em0\n", "line 2: left out: host name", "em1", "10.0.0.1/8")
     yield refused(b"#".ljust(MOST_TEXT + 1, b"x"), "line 1: too many")
     yield refused(b"\n" * (2 * MOST_TEXT), "line 1: too many")
     yield refused(b"\x01" * (MOST_TEXT + 1), "line 1: too many")
     yield refused(b"\n".ljust(MOST_TEXT, b"\x01"), "line 2: bad byte")
+    yield from translation_rows()
+
+
+def translation_rows():
+    """Those of rulesets with translation."""
+    yield counted("rules of a list", b"nat on em0 from { 10.0.0.0/8, 172.16.0.0/12 } to any -> em0\npass out\n",
+                  1, "2ec9169a9de60ea87c6d33ed0819f346", translations=2)
+    yield counted("anchors of translation",
+                  b'nat-anchor "ftp-proxy/*"\nrdr-anchor "ftp-proxy/*"\nbinat-anchor a\npass\n', 1,
+                  "d634aad84a38c6d7ca9f04e09b4d0fe5")
+    yield counted("each kind of translation", b"no nat on em0 all\nbinat from 10.0.0.5 to any -> 192.0.2.9\n"
+                  b"rdr pass proto tcp to em0 port { 80, 2000:2999 } -> 10.0.0.1 port 4000:*\n"
+                  b"no rdr all\nno binat all\n", 0, "502b02bf7b0acd6050266d9219156470", translations=6)
+    for text, line, kind in TRANSLATION_FAULTS:
+        yield refused(text.encode(), f"line {line}: {kind}")
 
 
 def all_cases():

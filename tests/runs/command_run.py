@@ -25,6 +25,7 @@ def modelled_cases():
     yield from (row.case for row in filter_rows.rows())
     yield from (rows.case_of(expected.run) for expected in steps.cases.cases())
     yield from random_cases.cases()
+    yield from random_cases.translated_cases()
 
 
 # The model beside what is written out
@@ -71,11 +72,11 @@ def named(comparison, words):
 
 
 def good_lines(comparison):
-    """Flags in any order and spelling, seeds and networks."""
-    case = Case("words", b"block in\npass out", INSIDE, capture_of(PACKETS))
-    for words, inside in lines.good():
+    """Flags in any order and spelling, seeds and networks. The seed fixes a port."""
+    case = Case("words", b"nat on em0 from any to any -> em0\nblock in\npass out", INSIDE, capture_of(PACKETS))
+    for words, inside, seed in lines.good():
         comparison.prepare(case)
-        comparison.expect(f"words {words}", model.run(case._replace(inside=inside)),
+        comparison.expect(f"words {words}", model.run(case._replace(inside=inside, seed=seed)),
                           comparison.execute(["run", *named(comparison, words)]))
     comparison.prepare()
     for words in (["--help"], ["run", "--help"]):

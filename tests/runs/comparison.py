@@ -3,6 +3,7 @@
 import subprocess
 import zlib
 
+from runs.case import NO_SEED
 from runs.model import OUTPUTS, Files, Outcome
 
 # seconds; other comparisons may run at the same time
@@ -65,9 +66,10 @@ class Comparison:
 
 
 def flags_of(case, files):
-    """The flags of the command `run`, each with its value."""
+    """The flags of the command `run`, each with its value; a seed of zeros is left out."""
     named = zip(OUTPUTS, files)
-    return ["--interface", case.interface, "--address", case.address, "--inside", case.inside,
+    seed = [] if case.seed == NO_SEED else ["--seed", case.seed]
+    return ["--interface", case.interface, "--address", case.address, "--inside", case.inside, *seed,
             *(word for name, file in named for word in (f"--{name}", file))]
 
 

@@ -13,8 +13,8 @@ GRE = 47
 RANDOM_RULESETS = 400
 # of the stored texts each such one
 STORED_STEP = {"rulesets": 17, "expansions": 6}
-# names of texts that make more rules than a model of so few packets should go over
-MANY_RULES = "too_many"
+# how names of texts begin that make more rules than a model of so few packets should go over
+MANY_RULES = ("too_many", "many_of")
 NO_OPERATIONS = bytes([1, 1, 1, 1])
 TCP_FLAGS = (SYN, SYN, SYN, SYN | ACK, ACK, ACK, PSH | ACK, FIN | ACK, FIN, RST, RST | ACK, 0, 0xFF, SYN | 0xC0,
              SYN | FIN, 0x28)

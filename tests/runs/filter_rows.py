@@ -8,6 +8,7 @@ from typing import NamedTuple
 
 from captures.packets import ACK, FIN, MORE_FRAGMENTS, PSH, RST, SYN, TCP, UDP, echo, ipv4, summed_message, tcp, udp
 from runs.case import INSIDE, Case, capture_of, refused
+from runs.translation_faults import TRANSLATION_FAULTS
 
 OUTSIDE, HERE = "198.51.100.7", "192.0.2.1"
 ICMP, GRE = 1, 47
@@ -294,8 +295,6 @@ FAULTS = (
     ("pass all\npass all \x01", 2, "bad byte"),
     ("pass all\n\npass label \"a", 3, "unterminated"),
     ("pass surplus", 1, "unknown word"),
-    ("pass all\nnat on em0 from any to any -> em0", 2, "left out: nat"),
-    ("no rdr on em0 all", 1, "left out: no"),
     ("pass to port gopher", 1, "left out: service"),
     ("pass\npass to port 65536", 2, "bad number"),
     ("pass from { 10.0.0.1\n10.0.0.256 }", 2, "bad address"),
@@ -319,7 +318,7 @@ def length_rows():
 def faults():
     """Rulesets with a fault, as the rows of `cases`."""
     capture = capture_of([UDP_NINE])
-    for text, line, kind in FAULTS:
+    for text, line, kind in FAULTS + TRANSLATION_FAULTS:
         yield refused(Case(f"{kind} on line {line} of {text[:30]!r}", text.encode("latin-1"), INSIDE, capture),
                       f"rules line {line}: {kind}".encode())
 

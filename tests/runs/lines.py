@@ -1,7 +1,7 @@
 """Command lines of the command `run` that fit and that don't."""
 
 from runs import check_cases
-from runs.case import Line
+from runs.case import NO_SEED, Line
 from runs.check_cases import BAD_ADDRESSES, BAD_INTERFACES
 from runs.model import OUTPUTS
 
@@ -88,15 +88,16 @@ def bad():
 
 
 def good():
-    """Lines that fit and mean one run, but for the inside networks: the words of each, and its inside networks."""
+    """Lines that fit and mean one run, but for the inside networks and the seed: the words of each, and both of
+    these."""
     flags, inside = spelled(FLAGS), FLAGS["--inside"]
-    yield (*flags, CAPTURE, RULES), inside
-    yield (CAPTURE, *flags, RULES), inside
-    yield (CAPTURE, RULES, *spelled(dict(reversed(FLAGS.items())))), inside
-    yield (CAPTURE, RULES, *(f"{flag}={value}" for flag, value in FLAGS.items())), inside
-    yield (*flags[:4], CAPTURE, *flags[4:10], RULES, *flags[10:]), inside
+    for words in ((*flags, CAPTURE, RULES), (CAPTURE, *flags, RULES),
+                  (CAPTURE, RULES, *spelled(dict(reversed(FLAGS.items())))),
+                  (CAPTURE, RULES, *(f"{flag}={value}" for flag, value in FLAGS.items())),
+                  (*flags[:4], CAPTURE, *flags[4:10], RULES, *flags[10:])):
+        yield words, inside, NO_SEED
     for seed in GOOD_SEEDS:
-        yield (CAPTURE, RULES, *flags, "--seed", seed), inside
-        yield (f"--seed={seed}", CAPTURE, RULES, *flags), inside
+        yield (CAPTURE, RULES, *flags, "--seed", seed), inside, seed
+        yield (f"--seed={seed}", CAPTURE, RULES, *flags), inside, seed
     for networks in GOOD_INSIDES:
-        yield (CAPTURE, RULES, *spelled({**FLAGS, "--inside": networks})), networks
+        yield (CAPTURE, RULES, *spelled({**FLAGS, "--inside": networks})), networks, NO_SEED

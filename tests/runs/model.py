@@ -74,7 +74,7 @@ def run(case):
     """What the command `run` leaves for a Case."""
     networks = tuple(map(network_of, case.inside.split(",")))
     try:
-        job = job_of(case.rules, interface_of(case.interface, case.address), networks)
+        job = job_of(case.rules, interface_of(case.interface, case.address), networks, bytes.fromhex(case.seed))
     except Refused as why:
         return refused(f"rules {why}")
     try:

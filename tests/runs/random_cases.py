@@ -1,4 +1,5 @@
-"""Random runs of the program: the packets of steps.random_runs in captures of every form and length.
+"""Random runs of the program: the packets of steps.random_runs in captures of every form and length, and those of
+steps.translation_runs by seeds of any bytes.
 
 A few captures end inside a record, or with one that is too long.
 """
@@ -6,12 +7,13 @@ A few captures end inside a record, or with one that is too long.
 import random
 
 import steps.random_runs
+import steps.translation_runs
 from captures.packets import capture_header, record
 from runs.case import FORMS
 from runs.rows import case_of
 
 SEED = 20261124
-RUNS = 400
+RUNS, TRANSLATED_RUNS = 400, 200
 # packets are committed 256 at a time
 LENGTHS = (1, 2, 255, 256, 257, 511, 512, 513, 700)
 SHORT, LONG = (1, 120), (200, 700)
@@ -43,4 +45,13 @@ def cases():
     for number in range(RUNS):
         count = some_count(draw)
         run = steps.random_runs.some_run(draw, number, count, (count, count))
+        yield case_of(run)._replace(capture=some_capture(draw, run))
+
+
+def translated_cases():
+    """Those with translation."""
+    draw = random.Random(SEED)
+    for number in range(TRANSLATED_RUNS):
+        count, seed = some_count(draw), draw.randbytes(32)
+        run = steps.translation_runs.some_run(draw, number, count, seed)
         yield case_of(run)._replace(capture=some_capture(draw, run))

@@ -18,7 +18,7 @@ def case_of(run):
     """A run of the steps as a case of the program."""
     inside = ",".join(f"{dotted(network.address)}/{network.bits}" for network in run.inside) or NOBODY
     name, address, bits = run.interface
-    return Case(run.name, run.rules.encode(), inside, run.capture(), name, f"{address}/{bits}")
+    return Case(run.name, run.rules.encode(), inside, run.capture(), name, f"{address}/{bits}", run.seed.hex())
 
 
 def step_row(expected):
@@ -30,8 +30,9 @@ def step_row(expected):
         if text is not None:
             parts[name] = text.encode()
     if expected.passed is not None:
-        passed = [records[number - 1] for number in expected.passed]
-        parts["packets"] = case.capture[:24] + b"".join(record(second, 0, frame) for second, frame in passed)
+        frames = {number: frame for number, (_, frame) in enumerate(records, 1)} | (expected.written or {})
+        parts["packets"] = case.capture[:24] + b"".join(record(records[number - 1][0], 0, frames[number])
+                                                        for number in expected.passed)
     return Written(case, parts)
 
 

@@ -1,23 +1,33 @@
 """Compares the program that goes through runs packet by packet with the model, and refuses it each allocation in turn.
 
 Compared are runs that are written out, cases of what one packet comes to, whose outcomes are written out too, and random
-runs.
+runs. What written_packets.py tells holds of each packet that is written out or translated at random. In the runs with
+translation each verdict, each reason and each kind of packet that translation_kinds.py names has to come up.
+
+    python3 -Bc "from steps import compare; compare.translated(1000000)"
+
+in the folder `tests` compares so many packets of random runs with translation.
 """
 
 import sys
 from collections import Counter
+from itertools import islice
 
 import building
-from answering import answers_of, differing, place_of_difference, show_lines
+from answering import SHOWN, answers_of, differing, place_of_difference, show_lines
 from captures.model import Refused
 from faults.command import ends_lawfully
-from steps import random_runs
+from steps import random_runs, translation_kinds, translation_runs
 from steps.cases import cases
+from steps.followed import followed
+from steps.lines import step_line
 from steps.replay import replay
 from steps.rows import ends, rows
 from steps.run import INSIDE, INTERFACE, words_of
 
-RANDOM_PACKETS = 20000
+RANDOM_PACKETS, TRANSLATED_PACKETS = 20000, 80000
+# how often what is counted of packets with translation has to come up at least, and how many runs are compared at once
+LEAST, CHUNK = 100, 200
 # of the cases each such one is run with each allocation refused
 REFUSED_STEP = 9
 
@@ -37,26 +47,14 @@ def run_bytes(run):
     networks = b"".join(network.address.to_bytes(4) + bytes([network.bits]) for network in run.inside)
     records = b"".join(run.link.to_bytes(2) + second.to_bytes(4) + with_length(frame) for second, frame in run.records)
     return (bytes([len(name)]) + name.encode() + address_bytes(address) + bytes([bits, len(run.inside)]) + networks
-            + with_length(run.rules.encode()) + len(run.records).to_bytes(4) + records)
+            # the first byte of the seed, which is each of it
+            + with_length(run.rules.encode()) + run.seed[:1] + len(run.records).to_bytes(4) + records)
 
 
 # Runs as the model tells them
 
-def change_words(change):
-    if change is None:
-        return "-"
-    kind, changed = change
-    return f"{kind} {changed if kind == 'removed' else changed.text()}"
-
-
-def step_line(step):
-    """The line of a packet as the program prints it; no rule of translation is visited, and no byte changes."""
-    visited = ",".join(map(str, step.outcome.visited)) or "-"
-    return f"{step.verdict_line()}; {visited} -; {change_words(step.outcome.change)}; -"
-
-
 def replay_of(run):
-    return replay(run.rules.encode(), run.interface, run.inside, run.capture())
+    return replay(run.rules.encode(), run.interface, run.inside, run.capture(), run.seed)
 
 
 def lines_of(done):
@@ -90,11 +88,11 @@ def answers(command, runs):
 def texts_of(expected, done):
     """The texts that are written out, and beside them the model's."""
     passed = [step.number for step in done.steps if step.outcome.verdict in ("pass", "skip")]
-    records = done.texts.packets[24:]
+    frames = {step.number: step.frame for step in done.steps if step.frame != step.record.frame}
     written = [(expected.verdicts, done.texts.verdicts), (expected.counters, done.texts.counters),
-               (expected.states, done.texts.states), (expected.passed, passed)]
-    if records != b"".join(done.steps[number - 1].record.header + done.steps[number - 1].record.frame
-                           for number in passed):
+               (expected.states, done.texts.states), (expected.passed, passed), (expected.written, frames)]
+    if done.texts.packets[24:] != b"".join(done.steps[number - 1].record.header + done.steps[number - 1].frame
+                                           for number in passed):
         raise SystemExit(f"{expected.run.name}: the model writes other packets than those that pass")
     return [(wanted, told) for wanted, told in written if wanted is not None]
 
@@ -106,10 +104,11 @@ def compare_with_model(title, written):
                           for each, done in zip(written, replays)), show)
     by_texts = differing(((each.run, [wanted], [told]) for each, done in zip(written, replays)
                           for wanted, told in texts_of(each, done)), show)
+    faults = [fault for each in written for fault in followed(each.run).faults]
     count = sum(len(each.words) for each in written)
     print(f"{title}: {len(written)} runs with {count} packets; {by_lines} and in their texts {by_texts} differ from the "
-          "model")
-    return by_lines + by_texts
+          f"model, {len(faults)} packets are written wrongly", *faults[:SHOWN], sep="\n  ")
+    return by_lines + by_texts + len(faults)
 
 
 def compare_written(title, command, written):
@@ -141,6 +140,34 @@ def compare_random(command):
     return count
 
 
+def compare_translated(command, packets):
+    """How many random runs with translation differ, and what else is wrong with them."""
+    runs, counts, faults, differ = translation_runs.runs(packets), Counter(), [], 0
+    while chunk := list(islice(runs, CHUNK)):
+        expected = [followed(run) for run in chunk]
+        differ += differing(zip(chunk, (each.lines for each in expected), answers(command, chunk)), show)
+        for each in expected:
+            counts += each.counts
+            faults += each.faults
+    print(f"{packets} packets in random runs with translation: {differ} runs differ, {len(faults)} packets are written "
+          "wrongly", *faults[:SHOWN], sep="\n  ")
+    return differ + len(faults) + compare_counts(counts)
+
+
+def compare_counts(counts):
+    """How many of the verdicts, reasons and kinds come up too seldom."""
+    for title, names in translation_kinds.COUNTED.items():
+        print(f"  {title}: " + ", ".join(f"{counts[name]} {name}" for name in names))
+    seldom = [name for names in translation_kinds.COUNTED.values() for name in names if counts[name] < LEAST]
+    print(f"  {len(seldom)} of them come up fewer than {LEAST} times", *seldom, sep="\n    ")
+    return len(seldom)
+
+
+def translated(packets):
+    """Compares so many packets of random runs with translation; for use by hand."""
+    sys.exit(bool(compare_translated(building.answers("steps"), packets)))
+
+
 def compare_model():
     """How many runs and captures that are written out differ from the model."""
     return compare_with_model("whole runs", list(rows())) + compare_with_model("cases", list(cases())) + compare_ends()
@@ -154,6 +181,7 @@ def main():
     command, each_case = building.answers("steps"), list(cases())
     wrong = compare_model() + compare_written("whole runs", command, list(rows()))
     wrong += compare_written("cases", command, each_case) + compare_random(command)
+    wrong += compare_translated(command, TRANSLATED_PACKETS)
     refused = b"".join(run_bytes(each.run) for each in each_case[::REFUSED_STEP])
     # its answers are cut like those of the expansion
     sys.exit(not ends_lawfully("expansions", command, refused) or bool(wrong))

@@ -1,4 +1,4 @@
-"""What one packet comes to in a model of the run with states, but without translation.
+"""What one packet comes to in a model of the run with states and translation.
 
 A packet goes through these steps, in this order, until one of them says what becomes of it:
 
@@ -9,11 +9,17 @@ A packet goes through these steps, in this order, until one of them says what be
    connection of a state passes (`state-error`), and leaves the state as it is.
 5. One of the connection of a state does to the state what tracking says: where it is accepted it passes (`state`), else it
    is blocked (`state-mismatch`), and maybe the state is removed.
-6. Any other is filtered. Where a rule decides that keeps state, and the packet passes, a state is made, unless there are
-   as many as there may be (`state-limit`).
+6. Any other may be translated. Where a rule picks from ports and none is free, it is blocked (`nat-exhausted`).
+7. It passes where the rule that translates it says so (`nat-pass`). Else it is filtered, with the end that it has
+   behind its translation, and by the direction in which it came.
+8. Where it passes, a state is made if it was translated, or if a rule decides that keeps state. It is blocked where a
+   state has one of both keys on the same side (`state-insert`), or else there are as many as there may be
+   (`state-limit`).
 
-A packet with IP options that would pass by 4, 5 or 6 may be blocked (`ip-option`), and then changes nothing. It is where
-the rule that decides, or by which the state was made, doesn't allow them. It is as well where no rule decides.
+A packet with IP options that would pass by 4, 5 or 7 may be blocked (`ip-option`), and then changes nothing. It is
+where the rule that decides, or by which the state was made, doesn't allow them. It is as well where no rule decides.
+
+Into a packet that passes by a state, or makes one, the inside end is written that it has on the state's other side.
 """
 
 from typing import NamedTuple
@@ -21,7 +27,9 @@ from typing import NamedTuple
 import tracking.model
 from captures.frames import Packet
 from expansions.model import Ruleset
+from steps import translation
 from steps.filter import deciding_place, network_holds, visited_places
+from steps.translation import Passage
 from table.states import Entry
 from tracking.connections import connection, told_connection, tracked_packet
 
@@ -30,9 +38,10 @@ VERDICTS = {"pass": "pass", "drop": "block", "return": "return"}
 
 
 class Job(NamedTuple):
-    """What all packets of a run are evaluated by: the ruleset, and the networks of the inside."""
+    """What all packets of a run are evaluated by: the ruleset, the networks of the inside, and the seed, 32 bytes."""
     ruleset: Ruleset
     inside: list
+    seed: bytes
 
     def is_skipped(self):
         return self.ruleset.hosts.run.interface in self.ruleset.options.skipped
@@ -46,15 +55,24 @@ class Job(NamedTuple):
 
 
 class Outcome(NamedTuple):
-    """What a packet comes to: the words of its line, the places of the filter rules that are visited, and what it changes
-    in the table: None, or a pair of `made` or `touched` and a state, or of `removed` and a number."""
+    """What a packet comes to: the words of its line, the numbers of the rules of the filter and of translation that are
+    visited, and what it changes in the table: None, or a pair of `made` or `touched` and a state, or of `removed` and a
+    number. Where the passage is there, an end is written into the packet by it."""
     direction: str
     verdict: str
     reason: str
     rule: int | None = None
+    translation: int | None = None
     state: int | None = None
     visited: tuple = ()
+    visited_translation: tuple = ()
     change: tuple | None = None
+    passage: Passage | None = None
+
+
+def written(outcome, passage):
+    """The outcome of a packet that passes on this passage."""
+    return outcome._replace(passage=passage if passage.writes() else None)
 
 
 class Arrival(NamedTuple):
@@ -71,7 +89,7 @@ class Arrival(NamedTuple):
 
     def blocked(self, outcome, reason):
         """The outcome of a packet that would pass, but is blocked."""
-        return outcome._replace(verdict="block", reason=reason, change=None)
+        return outcome._replace(verdict="block", reason=reason, change=None, passage=None)
 
     def unless_options(self, outcome, allowed):
         """The outcome, but that a packet with IP options passes only where they are allowed."""
@@ -94,7 +112,11 @@ class Arrival(NamedTuple):
         return self.unless_options(outcome, rule is not None and rule.allow_opts)
 
     def by_state(self, entry, verdict, reason, change=None):
-        return Outcome(self.direction, verdict, reason, entry.rule, entry.number, change=change)
+        return Outcome(self.direction, verdict, reason, entry.rule, entry.translation, entry.number, change=change)
+
+    def passed_by_state(self, entry, reason, change=None):
+        outcome = written(self.by_state(entry, "pass", reason, change), Passage(entry.wire, entry.stack))
+        return self.unless_options(outcome, entry.allows_options)
 
     def followed(self, entry):
         """By the state of its connection."""
@@ -103,28 +125,44 @@ class Arrival(NamedTuple):
             return self.by_state(entry, "block", "state-mismatch")
         if state == tracking.model.REMOVED:
             return self.by_state(entry, "block", "state-mismatch", ("removed", entry.number))
-        outcome = self.by_state(entry, "pass", "state", ("touched", entry._replace(state=state)))
-        return self.unless_options(outcome, entry.allows_options)
+        return self.passed_by_state(entry, "state", ("touched", entry._replace(state=state)))
 
     def opened(self, key, table):
-        """As the first packet of its connection. Both keys of the state that it makes are the one that no state has on the
-        side where it was looked up. Without translation none has it on the other side then, so none is in the way."""
-        outcome = self.filtered()
-        place, rule = self.deciding_rule()
-        if outcome.verdict != "pass" or rule is None or rule.binding is None:
+        """As the first packet of its connection."""
+        found = translation.find(self.job.ruleset, self.packet, self.direction)
+        passage = translation.passage(found, key, self.direction, self.job.seed, self.number, table)
+        if passage is None:
+            outcome = Outcome(self.direction, "block", "nat-exhausted")
+        else:
+            packet = translation.translated(self.packet, self.direction, passage.beyond(self.direction))
+            outcome = self._replace(packet=packet).judged(found.rule, passage, table)
+        return outcome._replace(translation=found.rule and found.rule.number, visited_translation=found.visited)
+
+    def judged(self, translating, passage, table):
+        """As the first packet of its connection, behind its translation by a rule, if one translates it."""
+        if translating and translating.passes:
+            outcome = self.unless_options(Outcome(self.direction, "pass", "nat-pass"), False)
+        else:
+            outcome = self.filtered()
+        rule = None if outcome.rule is None else self.job.ruleset.rules.filter[outcome.rule]
+        if outcome.verdict != "pass" or not translating and (rule is None or rule.binding is None):
             return outcome
+        # both keys are asked for, whatever the first answer is
+        if any([table.at("in", passage.wire), table.at("out", passage.stack)]):
+            return self.blocked(outcome, "state-insert")
         if table.is_full():
             return self.blocked(outcome, "state-limit")
         state = tracking.model.first(self.tracked(), self.job.seconds())
-        entry = Entry(self.number, key, key, place, rule.allow_opts, state)
-        return outcome._replace(state=self.number, change=("made", entry))
+        entry = Entry(self.number, *passage, outcome.rule, translating and translating.number,
+                      rule is not None and rule.allow_opts, state)
+        return written(outcome._replace(state=self.number, change=("made", entry)), passage)
 
     def outcome(self, table):
         told = told_connection(self.packet, self.datagram, self.direction)
         if told:
             entry = table.at(self.direction, told)
             if entry:
-                return self.unless_options(self.by_state(entry, "pass", "state-error"), entry.allows_options)
+                return self.passed_by_state(entry, "state-error")
         key = connection(self.packet, self.datagram, self.direction)
         if key is None:
             return self.filtered()

@@ -95,8 +95,19 @@ def datagram_of(draw, protocol, source, destination, packet):
     return ipv4(source[0], destination[0], protocol, bytes(draw.choice((0, 12))))
 
 
+def ends_of(key):
+    """The end outside and the end inside of a key, as packets are built with them."""
+    return tuple((dotted(address), port) for address, port in (key.outside, key.inside))
+
+
 class Packets:
     """The packets of a run: each is drawn by the table as it is then."""
+    # how often a packet belongs to a connection, begins one, tells of one, or is another message of ICMP
+    SHARES = (12, 4, 4, 1)
+    # seconds until the next, and how often it comes about when a state goes
+    WAITS, AT_DEADLINES = (0,) * 8 + (1, 1, 3, 10), 0.15
+    # how often an error doesn't quote just the header and 8 bytes of a packet; half as often it quotes others
+    QUOTED_BADLY = 0.3
 
     def __init__(self, draw, link, table):
         self.draw = draw
@@ -133,7 +144,8 @@ class Packets:
             return self.first()
         entry = draw.choice(entries)
         direction = draw.choice(("in", "out"))
-        outside, inside = ((dotted(address), port) for address, port in (entry.wire.outside, entry.wire.inside))
+        # a packet is looked up on the side from which it comes
+        outside, inside = ends_of(entry.wire if direction == "in" else entry.stack)
         source, destination = (outside, inside) if direction == "in" else (inside, outside)
         packet = tracking.model.Packet(direction, self.clock, 40, entry.state.kind)
         if entry.state.kind == "tcp" and draw.random() < 0.4:
@@ -144,15 +156,19 @@ class Packets:
         return datagram_of(draw, entry.wire.protocol, source, destination, packet)
 
     def quoted(self):
-        """What an ICMP error quotes of a packet, mostly of one of a connection: the header and 8 bytes, or more or less."""
+        """What an ICMP error quotes of a packet, mostly of one of a connection."""
         draw = self.draw
-        quoted = draw.choice(self.earlier) if self.earlier and draw.random() < 0.3 else self.following()
+        return self.beginning(draw.choice(self.earlier) if self.earlier and draw.random() < 0.3 else self.following())
+
+    def beginning(self, quoted):
+        """What is quoted of a packet: its header and 8 bytes, or more or less."""
+        draw = self.draw
         if draw.random() < 0.1:
             quoted = with_options(draw, quoted)
-        if draw.random() < 0.15:
+        if draw.random() < self.QUOTED_BADLY / 2:
             place, octets = draw.choice(QUOTED_CHANGES)
             quoted = quoted[:place] + octets + quoted[place + len(octets):]
-        if draw.random() < 0.3:
+        if draw.random() < self.QUOTED_BADLY:
             return quoted[:draw.randint(0, 40)]
         return quoted[:4 * (quoted[0] & 15) + 8]
 
@@ -168,7 +184,8 @@ class Packets:
                     summed_message(draw.choice(ERROR_TYPES), draw.choice((0, 1, 3)), bytes(4) + quoted))
 
     def datagram(self):
-        make = self.draw.choice((self.following,) * 12 + (self.first,) * 4 + (self.error,) * 4 + (self.message,))
+        makes = (self.following, self.first, self.error, self.message)
+        make = self.draw.choice([make for make, share in zip(makes, self.SHARES) for _ in range(share)])
         datagram = make()
         self.earlier = [*self.earlier[-5:], datagram]
         return datagram
@@ -208,10 +225,10 @@ class Packets:
         draw = self.draw
         deadlines = [entry.state.deadline for entry in self.table.by_number()
                      if self.clock < entry.state.deadline < self.clock + 200]
-        if deadlines and draw.random() < 0.15:
+        if deadlines and draw.random() < self.AT_DEADLINES:
             self.clock = max(self.clock, draw.choice(deadlines) + draw.choice((-1, 0, 1)))
         else:
-            self.clock += draw.choice((0,) * 8 + (1, 1, 3, 10))
+            self.clock += draw.choice(self.WAITS)
         self.clock = min(self.clock, LAST_SECOND)
         return self.clock if draw.random() < 0.95 else max(self.clock - draw.randint(1, 50), 0)
 
@@ -221,20 +238,24 @@ class Packets:
             yield Record(b"", second, self.frame())
 
 
+def with_packets(draw, run, packets, count):
+    """A run with so many packets, which are drawn by such ones; or with none where its ruleset has a fault."""
+    try:
+        job = job_of(run.rules.encode(), run.interface, run.inside, run.seed)
+    except Refused:
+        return run
+    table = StateTable(job.ruleset.options.values["states"])
+    steps = steps_of(job, run.link, packets(draw, run.link, table).records(count), table)
+    return run._replace(records=[(step.record.seconds, step.record.frame) for step in steps])
+
+
 def some_run(draw, number, most, counts=COUNTS):
     """A run of some number of packets and at most so many, or of none where the ruleset has a fault."""
     rules, link = some_text(draw), draw.choice(LINKS)
     count = min(draw.randint(*counts), most)
     interface = INTERFACE if draw.random() < 0.9 else draw.choice(OTHER_INTERFACES)
     inside = INSIDE if draw.random() < 0.8 else draw.choice(OTHER_INSIDES)
-    try:
-        job = job_of(rules.encode(), interface, inside)
-        table = StateTable(job.ruleset.options.values["states"])
-        records = [step.record for step in steps_of(job, link, Packets(draw, link, table).records(count), table)]
-    except Refused:
-        records = []
-    timed = [(record.seconds, record.frame) for record in records]
-    return Run(f"random run {number}", rules, timed, link, interface, inside)
+    return with_packets(draw, Run(f"random run {number}", rules, [], link, interface, inside), Packets, count)
 
 
 def runs(packets):

@@ -1,5 +1,5 @@
-"""A model of the serial run with states, without translation and without messages to other firewalls: a ruleset's text, an
-interface, inside networks and a capture to what each packet comes to and to the texts that the run leaves.
+"""A model of the serial run with states and translation, without messages to other firewalls: a ruleset's text, an
+interface, inside networks, a seed and a capture to what each packet comes to and to the texts that the run leaves.
 
 It is written from the description of the formats alone. What one packet comes to is in model.py; here is what goes
 round it:
@@ -7,10 +7,12 @@ round it:
 - Packets are numbered from 1, and each record is one. The clock is the greatest seconds value so far. Before a packet the
   states go whose deadline is at most the clock; behind the last packet none goes.
 - The verdicts hold a line for each packet, `N CLOCK DIR VERDICT REASON r=R t=T s=S`.
-- The packets are the capture's header and the records, as read, of the packets that pass or are skipped.
-- The counters hold a line for each filter rule, `filter N EVALUATIONS PACKETS BYTES`, and `total RECORDS PASS BLOCK RETURN
-  SKIP`. A rule is evaluated by each packet whose filtering visits it, whatever becomes of the packet then. Packets and
-  bytes (IP total lengths) count for the rule on the packet's line where the reason is `rule`, `state` or `state-error`.
+- The packets are the capture's header and the records of the packets that pass or are skipped. They are as read, but
+  for what a translation writes into a packet.
+- The counters hold a line for each filter rule, `filter N EVALUATIONS PACKETS BYTES`, then one for each rule of
+  translation, `translation N EVALUATIONS PACKETS BYTES`, and `total RECORDS PASS BLOCK RETURN SKIP`. A rule is
+  evaluated by each packet that visits it, whatever becomes of the packet then. Packets and bytes (IP total lengths)
+  count for the rules on the packet's line where the reason is `rule`, `nat-pass`, `state` or `state-error`.
 - The states hold a line for each that is left, by number.
 
 Counters and states are written only where the run comes to the capture's end, cut or not.
@@ -23,11 +25,13 @@ from captures.frames import Packet, datagram_of, view
 from captures.model import Record, Refused, read_header, records_of
 from expansions.model import Ruleset, expand
 from expansions.values import TOO_MANY
-from rulesets.model import READS_TRANSLATION, worded
+from rulesets.model import worded
 from steps.model import Job, Outcome, step
+from steps.picks import ZERO_SEED
+from steps.rewriting import rewritten
 from table.states import StateTable
 
-COUNTED = ("rule", "state", "state-error")
+COUNTED = ("rule", "nat-pass", "state", "state-error")
 # verdicts of packets that are written
 PASSED = ("pass", "skip")
 # bytes of a ruleset's text
@@ -42,18 +46,24 @@ class Interface(NamedTuple):
 
 class Step(NamedTuple):
     """A packet of a run: its number, the clock, the numbers of the states that went before it, what it comes to, its IP
-    total length, None where it has none, and its record."""
+    total length, None where it has none, its record, and the bytes of its frame as they are written."""
     number: int
     clock: int
     purged: list
     outcome: Outcome
     length: int | None
     record: Record
+    frame: bytes
 
     def verdict_line(self):
         """Without the newline."""
-        direction, verdict, reason, rule, state, *_ = self.outcome
-        return (f"{self.number} {self.clock} {direction} {verdict} {reason} r={dashed(rule)} t=- s={dashed(state)}")
+        direction, verdict, reason, rule, translation, state, *_ = self.outcome
+        return (f"{self.number} {self.clock} {direction} {verdict} {reason} r={dashed(rule)} t={dashed(translation)} "
+                f"s={dashed(state)}")
+
+    def text(self):
+        """What it adds to the packets."""
+        return self.record.header + self.frame if self.outcome.verdict in PASSED else b""
 
 
 class Texts(NamedTuple):
@@ -80,7 +90,7 @@ def meaning(text, interface):
     """The Ruleset of a text for an interface, or its first fault in words."""
     if len(text) > MOST_TEXT:
         return f"line 1: {TOO_MANY}"
-    answer = expand(text, *interface, READS_TRANSLATION)
+    answer = expand(text, *interface)
     return answer if isinstance(answer, Ruleset) else worded(answer)
 
 
@@ -92,9 +102,20 @@ def ruleset_of(text, interface):
     return answer
 
 
-def job_of(text, interface, inside):
+def job_of(text, interface, inside, seed=ZERO_SEED):
     """The job of a run; a fault of the ruleset refuses it."""
-    return Job(ruleset_of(text, interface), inside)
+    return Job(ruleset_of(text, interface), inside, seed)
+
+
+def step_of(job, number, clock, link, record, table):
+    """A packet of a run; of the table the states go whose time has come, and nothing else is changed."""
+    purged = table.purge(clock)
+    seen, datagram, frame = view(link, record.frame), datagram_of(link, record.frame), record.frame
+    outcome = step(job, number, clock, seen, datagram, table)
+    if outcome.passage:
+        frame = rewritten(link, frame, outcome.direction, outcome.passage, outcome.reason == "state-error")
+    length = int.from_bytes(datagram[2:4], "big") if isinstance(seen, Packet) else None
+    return Step(number, clock, purged, outcome, length, record, frame)
 
 
 def steps_of(job, link, records, table):
@@ -102,28 +123,41 @@ def steps_of(job, link, records, table):
     clock = 0
     for number, record in enumerate(records, 1):
         clock = max(clock, record.seconds)
-        purged = table.purge(clock)
-        seen, datagram = view(link, record.frame), datagram_of(link, record.frame)
-        outcome = step(job, number, clock, seen, datagram, table)
-        length = int.from_bytes(datagram[2:4], "big") if isinstance(seen, Packet) else None
-        yield Step(number, clock, purged, outcome, length, record)
-        table.apply(outcome.change)
+        done = step_of(job, number, clock, link, record, table)
+        yield done
+        table.apply(done.outcome.change)
+
+
+class Counts:
+    """What is counted of some rules: how many packets visited each, and how many packets and bytes count for it."""
+
+    def __init__(self, count):
+        self.rows = [[0, 0, 0] for _ in range(count)]
+
+    def add(self, visited, rule, length):
+        """Adds a packet that counts for a rule, unless that is None."""
+        for number in visited:
+            self.rows[number][0] += 1
+        if rule is not None:
+            self.rows[rule][1] += 1
+            self.rows[rule][2] += length
+
+    def text(self, word):
+        return "".join(f"{word} {number} {evaluations} {packets} {octets}\n"
+                       for number, (evaluations, packets, octets) in enumerate(self.rows))
 
 
 def counters(ruleset, steps):
     """The text of the counters."""
-    rows = [[0, 0, 0] for _ in ruleset.rules.filter]
+    rules, translations = map(Counts, ruleset.counts())
     totals = {"pass": 0, "block": 0, "return": 0, "skip": 0}
-    for _, _, _, outcome, length, _ in steps:
+    for each in steps:
+        outcome, is_counted = each.outcome, each.outcome.reason in COUNTED
         totals[outcome.verdict] += 1
-        for place in outcome.visited:
-            rows[place][0] += 1
-        if outcome.reason in COUNTED and outcome.rule is not None:
-            rows[outcome.rule][1] += 1
-            rows[outcome.rule][2] += length
-    lines = [f"filter {place} {evaluations} {packets} {octets}\n"
-             for place, (evaluations, packets, octets) in enumerate(rows)]
-    return "".join(lines) + f"total {len(steps)} {' '.join(map(str, totals.values()))}\n"
+        rules.add(outcome.visited, outcome.rule if is_counted else None, each.length)
+        translations.add(outcome.visited_translation, outcome.translation if is_counted else None, each.length)
+    return (rules.text("filter") + translations.text("translation")
+            + f"total {len(steps)} {' '.join(map(str, totals.values()))}\n")
 
 
 def replay_of(job, capture):
@@ -132,14 +166,15 @@ def replay_of(job, capture):
     records, tail = records_of(capture, header.order)
     table = StateTable(job.ruleset.options.values["states"])
     steps = list(steps_of(job, header.link, records, table))
-    passed = [each.record.header + each.record.frame for each in steps if each.outcome.verdict in PASSED]
-    texts = Texts("".join(each.verdict_line() + "\n" for each in steps), capture[:24] + b"".join(passed), None, None)
+    packets = capture[:24] + b"".join(each.text() for each in steps)
+    texts = Texts("".join(each.verdict_line() + "\n" for each in steps), packets, None, None)
     if tail in ("clean", "cut"):
         texts = texts._replace(counters=counters(job.ruleset, steps),
                                states="".join(entry.text() + "\n" for entry in table.by_number()))
     return Replay(steps, texts, tail)
 
 
-def replay(text, interface, inside, capture):
-    """The whole run: the ruleset's text as bytes, an Interface, the inside networks, the capture as bytes."""
-    return replay_of(job_of(text, interface, inside), capture)
+def replay(text, interface, inside, capture, seed=ZERO_SEED):
+    """The whole run: the ruleset's text as bytes, an Interface, the inside networks, the capture as bytes, and the
+    seed."""
+    return replay_of(job_of(text, interface, inside, seed), capture)

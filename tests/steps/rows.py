@@ -5,6 +5,7 @@ said otherwise.
 """
 
 from captures.packets import ACK, MORE_FRAGMENTS, NANOSECONDS, SYN, TCP, UDP, capture_header, ipv4, record, tcp, udp
+from steps import translation_rows
 from steps.replay import Texts
 from steps.run import Expected, Run
 
@@ -155,3 +156,4 @@ def rows():
     yield from window_rows()
     yield from time_rows()
     yield from filter_rows()
+    yield from translation_rows.rows()

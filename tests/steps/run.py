@@ -4,20 +4,28 @@ from typing import NamedTuple
 
 from captures.packets import LINKTYPE_RAW, capture_header, record
 from rulesets.tree import Network
+from steps.picks import ZERO_SEED
 from steps.replay import Interface
 
 INTERFACE = Interface("em0", "192.0.2.1", 24)
 INSIDE = (Network(0x0A000000, 8),)
 
 
+def seed_of(byte):
+    """The seed of which each byte is this one."""
+    return bytes([byte]) * len(ZERO_SEED)
+
+
 class Run(NamedTuple):
-    """A ruleset, and records: the second and the captured bytes of each."""
+    """A ruleset, and records: the second and the captured bytes of each. Only pfreplay takes a seed whose bytes
+    differ."""
     name: str
     rules: str
     records: list
     link: int = LINKTYPE_RAW
     interface: Interface = INTERFACE
     inside: tuple = INSIDE
+    seed: bytes = ZERO_SEED
 
     def capture(self):
         """The capture as bytes."""
@@ -25,19 +33,26 @@ class Run(NamedTuple):
 
 
 class Expected(NamedTuple):
-    """A run and what is written out of it: words for each packet as `words_of` gives them; and where they are written, the
-    texts of the states, the counters and the verdicts, and the numbers of the packets that are written."""
+    """A run and what is written out of it: words for each packet as `words_of` gives them; and where they are written,
+    the texts of the states, the counters and the verdicts, the numbers of the packets that are written, and by their
+    numbers the frames of those that a translation writes into."""
     run: Run
     words: list
     states: str | None = None
     counters: str | None = None
     verdicts: str | None = None
     passed: list | None = None
+    written: dict | None = None
 
 
 def words_of(line):
-    """The words of a packet's line for which outcomes are written out: `DIR VERDICT REASON r=R s=S; VISITED; CHANGE`. Of a
-    change these are what it is and the number of the state, since the rest stands in the text of the states."""
-    verdict, visited, change, _ = line.split("; ")
-    _, _, direction, said, reason, rule, _, state = verdict.split(" ")
-    return f"{direction} {said} {reason} {rule} {state}; {visited.split(' ')[0]}; {' '.join(change.split(' ')[:2])}"
+    """The words of a packet's line for which outcomes are written out: `DIR VERDICT REASON r=R s=S; VISITED; CHANGE`.
+    Of a change these are what it is and the number of the state, since the rest stands in the text of the states. Where
+    translation has to do with the packet, they are `DIR VERDICT REASON r=R t=T s=S; VISITED VISITED; CHANGE; WRITTEN`:
+    visited are rules of the filter and of translation."""
+    verdict, visited, change, written = line.split("; ")
+    _, _, direction, said, reason, rule, translation, state = verdict.split(" ")
+    changed, (rules, translations) = " ".join(change.split(" ")[:2]), visited.split(" ")
+    if (translation, translations, written) == ("t=-", "-", "-"):
+        return f"{direction} {said} {reason} {rule} {state}; {rules}; {changed}"
+    return f"{direction} {said} {reason} {rule} {translation} {state}; {visited}; {changed}; {written}"

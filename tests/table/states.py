@@ -7,19 +7,21 @@ from tracking.connections import Key
 
 
 class Entry(NamedTuple):
-    """A state in the table, by the number of the packet that made it: its keys on the wire and on the stack, the filter rule
-    that it was made by, whether this allows IP options, and what tracking knows of it."""
+    """A state in the table, by the number of the packet that made it: its keys on the wire and on the stack, the rules
+    of the filter and of translation that it was made by, whether the first allows IP options, and what tracking knows
+    of it."""
     number: int
     wire: Key
     stack: Key
-    rule: int
+    rule: int | None
+    translation: int | None
     allows_options: bool
     state: tracking.model.State
 
     def text(self):
         """Its line, without the newline."""
         shared = tracking.model.Conversation(self.number, self.wire.protocol, self.wire.text(), self.stack.text(), self.rule,
-                                          None, (), [])
+                                             self.translation, (), [])
         return self.state.line(shared)
 
 

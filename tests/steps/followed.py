@@ -1,0 +1,32 @@
+"""Runs that the model follows packet by packet: what it says, what comes up, and what is wrong with what is written."""
+
+from collections import Counter
+from typing import NamedTuple
+
+from steps.lines import step_line
+from steps.replay import Record, job_of, steps_of
+from steps.translation_kinds import Kinds
+from steps.written_packets import faults_of
+from table.states import StateTable
+
+
+class Followed(NamedTuple):
+    """The lines of a run, how often each verdict, reason and kind of packet came up, and what is wrong with packets."""
+    lines: list
+    counts: Counter
+    faults: list
+
+
+def followed(run):
+    """A run whose ruleset has no fault."""
+    job = job_of(run.rules.encode(), run.interface, run.inside, run.seed)
+    table = StateTable(job.ruleset.options.values["states"])
+    kinds = Kinds(job, run.link, table)
+    records = [Record(b"", second, frame) for second, frame in run.records]
+    lines, counts, faults = [], Counter(), []
+    for step in steps_of(job, run.link, records, table):
+        lines.append(step_line(step))
+        counts.update((step.outcome.verdict, step.outcome.reason, *kinds.of(step)))
+        faults += [f"{run.name}, packet {step.number}: {fault}"
+                   for fault in faults_of(kinds.rules, run.link, step, table)]
+    return Followed(lines + [entry.text() for entry in table.by_number()], counts, faults)
