@@ -23,11 +23,17 @@ def is_right(octets):
     return checksum(octets) == 0
 
 
+def carries_embedded(segment):
+    """Whether an ICMP error holds all that is written into the packet that it embeds: the header, and 8 bytes. One whose
+    total length ends before has its checksum mended for more than it is over."""
+    return segment[0] not in ERRORS or len(segment) < 9 or len(segment) >= 8 + header_length(segment[8:]) + 8
+
+
 def transport_sums(datagram, segment, prefix):
     """Which checksums of a whole segment are right, and of what it embeds."""
     protocol, place = datagram[9], SUMS.get(datagram[9], len(segment))
     if protocol == ICMP and len(segment) >= 8:
-        if is_right(segment):
+        if is_right(segment) and carries_embedded(segment):
             yield f"{prefix}ICMP"
         if segment[0] in ERRORS and not prefix:
             yield from right_sums(segment[8:], "embedded ")
