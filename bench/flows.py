@@ -2,8 +2,11 @@
 """Measures the program with stateful rules beside tcpdump and tcprewrite and prints two tables.
 
     flows.py [PROGRAM] [--packets N ..] [--states K ..]
+    flows.py [PROGRAM] [--packets N ..] --nat
 
-The first is of captures of many flows at once, the second of the memory of runs that have K states at their end.
+The first is of captures of many flows at once, the second of the memory of runs that have K states at their end. With
+--nat it prints a third one instead, of captures of many flows that the ruleset translates. There it measures the
+program beside itself without translation, on captures of as many packets, and beside tcprewrite.
 """
 
 import argparse
@@ -11,13 +14,14 @@ import os
 import shutil
 import sys
 import tempfile
+from collections import Counter
 from pathlib import Path
 
 sys.dont_write_bytecode = True
 
-from make_flows import write_flows
-from run import (MEGABYTE, PROGRAM, best_seconds, count_records, peak_memory, print_row, replay_command, seconds,
-                 tcpdump_command)
+from make_flows import REDIRECTED, write_flows, write_translated_flows
+from run import (MEGABYTE, OUTPUTS, PROGRAM, best_seconds, count_records, peak_memory, print_row, replay_command,
+                 seconds, tcpdump_command)
 
 # ten rules that make states; the filter passes the packets that they and their states pass
 RULES = """\
@@ -33,6 +37,13 @@ pass in proto tcp from any to 10.1.0.0/16 port 25 keep state
 pass in proto tcp from any to 10.1.0.0/16 port 443 keep state
 pass in inet proto icmp from any to 10.1.0.0/16 icmp-type echoreq keep state
 """
+# the same behind a translation: the filter sees the firewall's address as the source of what goes out, and the servers'
+# as the destinations of what comes in
+TRANSLATED_RULES = "".join((
+    "nat on em0 from 10.0.0.0/8 to any -> em0\n",
+    *(f"rdr on em0 proto tcp from any to em0 port {port} -> {server} port {service}\n"
+      for port, (server, service) in REDIRECTED.items()),
+    RULES.replace("from 10.0.0.0/8", "from em0")))
 # where nothing is in brackets, tcpdump's words bind from left to right
 FILTER = " ".join("""
 (tcp and ((src net 10.0.0.0/8 and dst port (80 or 443 or 22 or 993))
@@ -44,10 +55,14 @@ or (icmp and (icmp[icmptype] = icmp-echo or icmp[icmptype] = icmp-echoreply))
 """.split())
 # each inside address becomes another one, so each packet has its checksums mended
 REWRITE = ["--fixcsum", "--pnat=10.0.0.0/8:172.16.0.0/12"]
+# and what comes in has no inside address, but the firewall's
+REWRITE_TRANSLATED = ["--fixcsum", "--pnat=10.0.0.0/8:172.16.0.0/12,192.0.2.1/32:172.32.0.1/32"]
 PACKETS = [10**4, 10**5, 10**6]
 STATES = [1000, 10000, 30000]
 # the two lengths of capture whose memory stands side by side
 SHORT, LONG = 10**5, 10**6
+# on the long one, of the packets a second without translation and of those of tcprewrite
+GOALS = 0.85, 1.25
 
 
 class Contest:
@@ -56,7 +71,7 @@ class Contest:
     def __init__(self, folder, program, count, stay=None):
         self.count = count
         self.capture = folder / "capture.pcap"
-        self.files = {name: folder / name for name in ("verdicts", "packets", "counters", "states")}
+        self.files = {name: folder / name for name in OUTPUTS}
         self.passed, self.rewritten = folder / "passed.pcap", folder / "rewritten.pcap"
         rules = folder / "rules"
         rules.write_text(RULES)
@@ -66,11 +81,11 @@ class Contest:
         # the same run without what it writes
         self.silent = replay_command(program, self.capture, rules)
         self.tcpdump = tcpdump_command(self.capture, self.passed, FILTER)
-        self.tcprewrite = ["tcprewrite", f"--infile={self.capture}", f"--outfile={self.rewritten}", *REWRITE]
+        self.tcprewrite = tcprewrite_command(self.capture, self.rewritten, REWRITE)
 
     def states(self):
         """How many states there are at the end of the program's run."""
-        return self.files["states"].read_bytes().count(b"\n")
+        return count_lines(self.files["states"])
 
     def check(self):
         """The program and tcpdump have passed the same number of packets, and the other two have all of them."""
@@ -79,6 +94,54 @@ class Contest:
         kept, rewritten = (count_records(path.read_bytes()) for path in (self.passed, self.rewritten))
         if verdicts.count(b"\n") != self.count or rewritten != self.count or passed != kept:
             sys.exit(f"of {self.count} packets the program passes {passed}, tcpdump {kept}; tcprewrite has {rewritten}")
+
+
+class TranslatedContest:
+    """One capture of flows that are translated and the commands that are measured on it, and the program on one of as
+    many packets of flows that aren't."""
+
+    def __init__(self, folder, program, count):
+        self.count = count
+        self.capture, self.rewritten = folder / "translated.pcap", folder / "rewritten.pcap"
+        self.files = {name: folder / f"translated {name}" for name in OUTPUTS}
+        rules = folder / "translated rules"
+        rules.write_text(TRANSLATED_RULES)
+        with open(self.capture, "wb") as file:
+            self.expected = Counter(write_translated_flows(count, file))
+        self.untranslated = Contest(folder, program, count)
+        self.program = replay_command(program, self.capture, rules, **self.files)
+        # the same run without what it writes
+        self.silent = replay_command(program, self.capture, rules)
+        self.tcprewrite = tcprewrite_command(self.capture, self.rewritten, REWRITE_TRANSLATED)
+
+    def states(self):
+        """How many states there are at the end of the program's run."""
+        return count_lines(self.files["states"])
+
+    def check(self):
+        """Each packet has come to what it should, and the other two have all of them."""
+        found = outcomes(self.files["verdicts"])
+        if found != self.expected:
+            sys.exit(f"of {self.count} packets came {found}, not {self.expected}")
+        plain = count_lines(self.untranslated.files["verdicts"])
+        rewritten = count_records(self.rewritten.read_bytes())
+        if plain != self.count or rewritten != self.count:
+            sys.exit(f"of {self.count} packets the program has {plain} without translation, tcprewrite {rewritten}")
+
+
+def tcprewrite_command(capture, rewritten, rewrite):
+    """The words that rewrite a capture."""
+    return ["tcprewrite", f"--infile={capture}", f"--outfile={rewritten}", *rewrite]
+
+
+def count_lines(file):
+    return file.read_bytes().count(b"\n")
+
+
+def outcomes(verdicts):
+    """How many of the packets have come to each verdict and reason."""
+    with open(verdicts, encoding="ascii") as lines:
+        return Counter(" ".join(line.split()[3:5]) for line in lines)
 
 
 def speed_row(folder, program, count):
@@ -95,6 +158,19 @@ def speed_row(folder, program, count):
             f"{theirs / ours:.2f}", f"{rewriting / ours:.2f}", f"{rewriting / silent:.2f}"]
 
 
+def translated_row(folder, program, count):
+    """The measures of one capture of flows that are translated, as words, and its ratios to the other two."""
+    contest = TranslatedContest(folder, program, count)
+    commands = contest.program, contest.untranslated.program, contest.tcprewrite, contest.silent
+    ours, untranslated, rewriting, silent = best_seconds(*commands)
+    contest.check()
+    words = [f"{count}", f"{contest.capture.stat().st_size / MEGABYTE:.1f}", f"{contest.states()}"]
+    for command, time in zip(commands, (ours, untranslated, rewriting)):
+        words += [f"{count / time:.0f}", peak_memory(command)]
+    ratios = untranslated / ours, rewriting / ours
+    return [*words, *(f"{ratio:.2f}" for ratio in (*ratios, rewriting / silent))], ratios
+
+
 def memory_row(folder, program, states):
     """The memory of two runs that end with so many states, as words."""
     words = [f"{states}"]
@@ -107,32 +183,61 @@ def memory_row(folder, program, states):
     return words
 
 
+def print_speeds(folder, program, counts):
+    print_row(["packets", "MB", "states at the end", "pfreplay packets/s", "peak MB", "tcpdump packets/s", "peak MB",
+               "tcprewrite packets/s", "peak MB", "pfreplay / tcpdump", "/ tcprewrite", "to /dev/null / tcprewrite"])
+    print_row(["---:"] * 12)
+    for count in counts:
+        print_row(speed_row(folder, program, count))
+
+
+def print_memory(folder, program, numbers):
+    print()
+    print_row(["states", f"peak MB, {SHORT} packets", f"peak MB, {LONG} packets"])
+    print_row(["---:"] * 3)
+    for states in numbers:
+        print_row(memory_row(folder, program, states))
+
+
+def print_translated(folder, program, counts):
+    print_row(["packets", "MB", "states at the end", "pfreplay packets/s", "peak MB", "untranslated packets/s",
+               "peak MB", "tcprewrite packets/s", "peak MB", "pfreplay / untranslated", "/ tcprewrite",
+               "to /dev/null / tcprewrite"])
+    print_row(["---:"] * 12)
+    for count in counts:
+        words, ratios = translated_row(folder, program, count)
+        print_row(words)
+        if count == LONG:
+            print_goals(ratios)
+
+
+def print_goals(ratios):
+    for other, goal, ratio in zip(("the untranslated packets a second", "tcprewrite's"), GOALS, ratios):
+        print(f"{ratio:.3f} of {other}, the goal of {goal:.2f} is {'met' if ratio >= goal else 'missed'}")
+
+
 def main():
     parser = argparse.ArgumentParser(description="Measures the program with stateful rules.")
     parser.add_argument("--packets", type=int, nargs="*", default=PACKETS)
     parser.add_argument("--states", type=int, nargs="*", default=STATES)
+    parser.add_argument("--nat", action="store_true", help="prints the table of flows that are translated, alone")
     parser.add_argument("program", nargs="?", type=Path, default=PROGRAM)
     words = parser.parse_args()
     if not words.program.is_file():
         sys.exit(f"{words.program} isn't there: build the program first")
-    for needed in ("tcpdump", "tcprewrite"):
+    for needed in ("tcprewrite",) if words.nat else ("tcpdump", "tcprewrite"):
         if shutil.which(needed) is None:
             sys.exit(f"{needed} isn't there: apt-get update && apt-get install -y tcpdump tcpreplay time")
     program = words.program.resolve()
     print(f"load {os.getloadavg()[0]:.1f}")
-    with tempfile.TemporaryDirectory() as folder:
-        if words.packets:
-            print_row(["packets", "MB", "states at the end", "pfreplay packets/s", "peak MB", "tcpdump packets/s", "peak MB",
-                       "tcprewrite packets/s", "peak MB", "pfreplay / tcpdump", "/ tcprewrite", "to /dev/null / tcprewrite"])
-            print_row(["---:"] * 12)
-        for count in words.packets:
-            print_row(speed_row(Path(folder), program, count))
-        if words.states:
-            print()
-            print_row(["states", f"peak MB, {SHORT} packets", f"peak MB, {LONG} packets"])
-            print_row(["---:"] * 3)
-        for states in words.states:
-            print_row(memory_row(Path(folder), program, states))
+    with tempfile.TemporaryDirectory() as name:
+        folder = Path(name)
+        if words.nat:
+            print_translated(folder, program, words.packets)
+        if words.packets and not words.nat:
+            print_speeds(folder, program, words.packets)
+        if words.states and not words.nat:
+            print_memory(folder, program, words.states)
     print(f"load {os.getloadavg()[0]:.1f}")
 
 
