@@ -12,8 +12,8 @@ use Rattle.pfr_track.specs.declared.state.StateNumber.{StateNumber}
 use Rattle.pfr_track.specs.declared.time.Deadline.{Deadline}
 use Rattle.pfr_states.specs.declared.change.Side.{Side}
 use Rattle.pfr_states.specs.declared.change.Side.TheVariants.{Wire, Stack}
-use Rattle.pfr_states.specs.Indexed.{AreIndexed, IsIndexed, due_at, is_same_due, number_at, number_cmp, numbered, state_of}
-use Rattle.pfr_states.specs.States.{have_own_keys, is_number, is_same_end, is_same_key, key_on, rise, shares_key, with_state, with_touched}
+use Rattle.pfr_states.specs.Indexed.{AreIndexed, IsIndexed, due_at, is_same_due, number_at, number_cmp, numbered}
+use Rattle.pfr_states.specs.States.{have_own_keys, is_number, is_same_end, is_same_key, key_on, rise, shares_key, state_of, with_state, with_touched}
 use Rattle.pfr_states.proofs.FilterLemmas.{own_filter, rise_filter}
 use Rattle.pfr_states.proofs.FindLemmas.{IsOne, find_with, find_without, found_there, none_any, none_without, one_number, some_any, touched_without, with_present, without}
 use Rattle.pfr_states.proofs.IndexLemmas.{insert_numbered, lookup_numbered, number_is, put_out, remove_numbered, values_numbered}

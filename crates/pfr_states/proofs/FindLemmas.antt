@@ -55,7 +55,7 @@ some_any p xs a h it_is = elim (cases_Bool (list_any p xs)) [ inl some ↦ some 
 
 -- ---- numbers
 
-above_all : (n : StateNumber) (x a : State) (xs : List State) → list_all (λ (other : State). nat_lt n.0 other.number.0) xs ≡ true → Contains xs a → nat_lt n.0 a.number.0 ≡ true
+pub above_all : (n : StateNumber) (x a : State) (xs : List State) → list_all (λ (other : State). nat_lt n.0 other.number.0) xs ≡ true → Contains xs a → nat_lt n.0 a.number.0 ≡ true
 above_all n x a [] all h = absurd (in_none a h)
 above_all n x a (y ∷ ys) all h =
     let parts = and_parts (nat_lt n.0 y.number.0) (list_all (λ (other : State). nat_lt n.0 other.number.0) ys) all in

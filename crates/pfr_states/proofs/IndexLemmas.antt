@@ -8,8 +8,8 @@ use Rattle.std.specs.declared.cmp.Ordering.TheVariants.{Less, Equal, Greater}
 use Rattle.std.proofs.lemmas.Bool.{and_parts, both_ways, cases_Bool, cases_order, eq-eqb, eqb-true, le-ltb, lt-ltb, ne_eqb, or_parts}
 use Rattle.pfr_track.specs.declared.state.State.{State}
 use Rattle.pfr_track.specs.declared.state.StateNumber.{StateNumber}
-use Rattle.pfr_states.specs.Indexed.{number_cmp, numbered, state_of}
-use Rattle.pfr_states.specs.States.{are_above, is_number, rise, with_state}
+use Rattle.pfr_states.specs.Indexed.{number_cmp, numbered}
+use Rattle.pfr_states.specs.States.{are_above, is_number, rise, state_of, with_state}
 use Rattle.pfr_states.proofs.FindLemmas.{all_without, none_above, without}
 use Rattle.pfr_states.proofs.PutLemmas.{with_before, with_behind, with_over}
 

@@ -1,5 +1,6 @@
 pub mod ChangeLemmas
 pub mod DueLemmas
+pub mod DueOrderLemmas
 pub mod FilterLemmas
 pub mod FindLemmas
 pub mod IndexLemmas

@@ -28,7 +28,7 @@ kept_again p q (x ∷ xs) keeps =
       | inr not_it ↦ elim (cases_Bool (p x)) [ inl kept ↦ rw (kept, not_it) rest | inr gone ↦ rw (gone, not_it) rest ]
     ]
 
-first_of_due : (clock : Clock) (xs : List State) (a : State) → due clock xs ≡ Some a → IsFirstDue clock xs a
+pub first_of_due : (clock : Clock) (xs : List State) (a : State) → due clock xs ≡ Some a → IsFirstDue clock xs a
 first_of_due clock xs a is = subst (λ (r : Option State). AnswersDue clock xs r) is (due_first xs clock)
 
 pub purged_on : (clock : Clock) (xs : List State) (a : State) → rise xs ≡ true → due clock xs ≡ Some a → purged clock (without a.number xs) ≡ purged clock xs

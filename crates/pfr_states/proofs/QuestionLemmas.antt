@@ -13,9 +13,9 @@ use Rattle.pfr_track.specs.declared.state.StateNumber.{StateNumber}
 use Rattle.pfr_track.specs.declared.time.Clock.{Clock}
 use Rattle.pfr_track.specs.declared.time.Deadline.{Deadline}
 use Rattle.pfr_states.specs.declared.change.Side.{Side}
-use Rattle.pfr_states.specs.Indexed.{due_at, due_cmp, number_at, number_cmp, numbered, state_of}
+use Rattle.pfr_states.specs.Indexed.{due_at, due_cmp, number_at, number_cmp, numbered}
 use Rattle.pfr_states.specs.Laws.{AnswersDue, IsFirstDue}
-use Rattle.pfr_states.specs.States.{after, at, due, first, have_own_keys, is_number, is_same_key, key_on, lives, rise}
+use Rattle.pfr_states.specs.States.{after, at, due, first, have_own_keys, is_number, is_same_key, key_on, lives, rise, state_of}
 use Rattle.pfr_states.proofs.ChangeLemmas.{Awaits, Due, has_key, is_due, one_due, one_key}
 use Rattle.pfr_states.proofs.DueLemmas.{Before, due_first, no_before, not_before}
 use Rattle.pfr_states.proofs.FindLemmas.{Answer, answer, found, found_there, one_number, one_of_number}

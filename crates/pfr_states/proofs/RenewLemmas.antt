@@ -1,18 +1,18 @@
 -- A state that is written over the one of its number, whose keys it has.
 use Rattle.std.proofs.Common.{◌≡◌, ◌∙◌, ◌&&◌, ◌||◌, Bool, true, false, cond, not, List, [], ◌∷◌, Option, Some, None, sym, refl, ap, subst, inl, inr}
-use Rattle.std.specs.List.{Contains, list_any}
+use Rattle.std.specs.List.{list_any}
 use Rattle.std.specs.Map.{lookup, set_value, values_of}
 use Rattle.std.specs.BTreeMap.{is_at}
 use Rattle.std.specs.Option.{unwrap_or}
-use Rattle.std.proofs.lemmas.Bool.{and_left, and_parts, and_right, both_ways, cases_Bool, cond-true, cond-false, eq-eqb, eqb-true}
+use Rattle.std.proofs.lemmas.Bool.{and_left, and_parts, and_right, cases_Bool, cond-true, cond-false, eqb-true}
 use Rattle.pfr_track.specs.declared.key.Key.{Key}
 use Rattle.pfr_track.specs.declared.state.State.{State}
 use Rattle.pfr_track.specs.declared.state.StateNumber.{StateNumber}
 use Rattle.pfr_states.specs.declared.change.Side.{Side}
 use Rattle.pfr_states.specs.declared.change.Side.TheVariants.{Wire, Stack}
-use Rattle.pfr_states.specs.Indexed.{IsIndexed, is_same_due, number_cmp, numbered, state_of}
-use Rattle.pfr_states.specs.States.{are_above, have_own_keys, is_number, is_same_key, key_on, rise, shares_key, with_touched}
-use Rattle.pfr_states.proofs.ChangeLemmas.{AnswersFor, Due, Entries, Numbers, has_key, is_due, key_is, keys_touched, number_there, refolded, values_are, waits_touched}
+use Rattle.pfr_states.specs.Indexed.{IsIndexed, is_same_due, number_cmp, numbered}
+use Rattle.pfr_states.specs.States.{are_above, is_number, is_same_key, key_on, rise, shares_key, state_of, with_touched}
+use Rattle.pfr_states.proofs.ChangeLemmas.{AnswersFor, Due, Entries, Numbers, has_key, is_due, key_is, keys_touched, refolded, values_are, waits_touched}
 use Rattle.pfr_states.proofs.FindLemmas.{found_there, none_any}
 use Rattle.pfr_states.proofs.IndexLemmas.{is_eq_turned, number_is}
 use Rattle.pfr_states.proofs.LawLemmas.{one_of}

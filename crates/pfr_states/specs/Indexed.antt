@@ -13,7 +13,7 @@ use Rattle.pfr_track.specs.declared.state.StateNumber.{StateNumber}
 use Rattle.pfr_track.specs.declared.time.Deadline.{Deadline}
 use Rattle.pfr_states.specs.declared.change.Side.{Side}
 use Rattle.pfr_states.specs.declared.change.Side.TheVariants.{Wire, Stack}
-use Rattle.pfr_states.specs.States.{at, have_own_keys, is_number, is_same_key, rise}
+use Rattle.pfr_states.specs.States.{at, have_own_keys, is_same_key, rise}
 
 -- ---- numbers
 
@@ -23,9 +23,6 @@ number_cmp a b = nat_cmp a.0 b.0
 -- each state under its number
 abbrev pub numbered : List State → List (StateNumber × State)
 numbered states = map (λ state. (state.number, state)) states
-
-abbrev pub state_of : StateNumber → List State → Option State
-state_of number states = find (is_number number) states
 
 -- ---- keys
 

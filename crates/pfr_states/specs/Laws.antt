@@ -1,9 +1,11 @@
--- Words of the laws: the answer to which state is due first.
-use Rattle.std.specs.Prelude.{◌≡◌, List, Option, Some, None, true, false}
+-- Words of the laws: the answer to which state is due first, and what is left where that one is taken out.
+use Rattle.std.specs.Prelude.{◌≡◌, suc, List, ◌∷◌, length, Option, Some, None, true, false}
 use Rattle.std.specs.List.{Contains}
 use Rattle.pfr_track.specs.declared.state.State.{State}
+use Rattle.pfr_track.specs.declared.state.StateNumber.{StateNumber}
 use Rattle.pfr_track.specs.declared.time.Clock.{Clock}
-use Rattle.pfr_states.specs.States.{goes_before, lives}
+use Rattle.pfr_states.specs.declared.change.TableChange.TheVariants.{Removed}
+use Rattle.pfr_states.specs.States.{IsTable, StateTable, all_due, due, goes_before, lives, purged, rise, with_change}
 
 -- a state that is due, and no other one before it
 pub record IsFirstDue (clock : Clock) (states : List State) (first : State) : Type 0 where
@@ -18,3 +20,36 @@ pub record IsFirstDue (clock : Clock) (states : List State) (first : State) : Ty
 abbrev pub AnswersDue : Clock → List State → Option State → Type 0
 AnswersDue clock states None = (state : State) → Contains states state → lives clock state ≡ true
 AnswersDue clock states (Some first) = IsFirstDue clock states first
+
+-- ---- one state after the other
+
+-- what is due first is the first of all that are due, and the others are those that are due without it
+abbrev pub DueGoesFirst : Type 0
+DueGoesFirst =
+    (states : List State) (clock : Clock) (state : State)
+    → rise states ≡ true
+    → due clock states ≡ Some state
+    → all_due clock states ≡ state ∷ all_due clock (with_change (Removed state.number) states)
+
+-- a purge leaves the same, whether it was taken out before or not
+abbrev pub PurgeLeavesTheSame : Type 0
+PurgeLeavesTheSame =
+    (states : List State) (clock : Clock) (state : State)
+    → rise states ≡ true
+    → due clock states ≡ Some state
+    → purged clock (with_change (Removed state.number) states) ≡ purged clock states
+
+-- without it there is one state less
+abbrev pub OneStateLess : Type 0
+OneStateLess =
+    (states : List State) (clock : Clock) (state : State)
+    → rise states ≡ true
+    → due clock states ≡ Some state
+    → suc (length (with_change (Removed state.number) states)) ≡ length states
+
+-- a table from which a state is taken out is a table
+abbrev pub RemovalLeavesATable : Type 0
+RemovalLeavesATable =
+    (table : StateTable) (number : StateNumber)
+    → IsTable table
+    → IsTable (record { states = with_change (Removed number) table.states; limit = table.limit })

@@ -77,6 +77,10 @@ purged clock states = filter (lives clock) states
 abbrev pub at : Side → Key → List State → Option State
 at side key states = find (λ state. is_same_key (key_on side state) key) states
 
+-- the state of this number
+abbrev pub state_of : StateNumber → List State → Option State
+state_of number states = find (is_number number) states
+
 abbrev pub has_room : ℕ → List State → Bool
 has_room limit states = nat_lt (length states) limit
 
@@ -94,6 +98,20 @@ first_of states = fold earlier None states
 -- of the states whose deadline has come the first
 abbrev pub due : Clock → List State → Option State
 due clock states = first_of (filter (λ state. not (lives clock state)) states)
+
+-- a state among others in the order in which they are due
+abbrev pub with_due : State → List State → List State
+with_due state [] = state ∷ []
+with_due state (other ∷ states) = if goes_before state other then state ∷ other ∷ states else other ∷ with_due state states
+
+-- states by deadline, and of one deadline by number
+abbrev pub in_due_order : List State → List State
+in_due_order [] = []
+in_due_order (state ∷ states) = with_due state (in_due_order states)
+
+-- the states whose deadline has come, in the order in which they are due
+abbrev pub all_due : Clock → List State → List State
+all_due clock states = in_due_order (filter (λ state. not (lives clock state)) states)
 
 -- the state of the least number
 abbrev pub first : List State → Option State

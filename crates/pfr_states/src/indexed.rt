@@ -60,7 +60,7 @@ impl IndexedStates {
 
     /// The state of a number.
     pub(crate) fn get(&self, number: StateNumber) -> Option<&State>
-        ensures state { option_copied result ≡ index.state_of number self.now }
+        ensures state { option_copied result ≡ spec.state_of number self.now }
         ensures in_order { spec.rise self.now ≡ true }
     {
         self.states.get(&number)
@@ -171,7 +171,7 @@ impl IndexedStates {
 
     /// Puts a state in the place of the one of its number. Where memory is refused nothing changes.
     fn replace(&mut self, old: &State, state: State) -> Result<(), AllocError>
-        requires number { index.state_of state.number self.old ≡ Some old.now }
+        requires number { spec.state_of state.number self.old ≡ Some old.now }
         requires keys { spec.another_shares state self.old ≡ false }
         ensures done { OnOk result (self.new ≡ spec.with_touched state self.old) }
         ensures kept { OnErr result (self.new ≡ self.old) }

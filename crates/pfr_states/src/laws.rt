@@ -1,10 +1,10 @@
 //! Laws of the definitions, each the contract of a function that does nothing.
-ghost use Rattle.std.specs.Prelude.{◌≡◌, ◌≤◌, List, true};
+ghost use Rattle.std.specs.Prelude.{◌≡◌, ◌≤◌, List, [], None, true};
 ghost use Rattle.std.specs.List.{Contains};
 ghost use Rattle.pfr_track.specs.declared.state.State.{State};
 ghost use Rattle.pfr_track.specs.declared.time.Clock.{Clock};
-ghost use Rattle.pfr_states.specs.Laws.{AnswersDue};
-ghost use Rattle.pfr_states.specs.States.{IsTable, StateTable, due, purged, shares_key};
+ghost use Rattle.pfr_states.specs.Laws.{AnswersDue, DueGoesFirst, OneStateLess, PurgeLeavesTheSame, RemovalLeavesATable};
+ghost use Rattle.pfr_states.specs.States.{IsTable, StateTable, all_due, due, purged, shares_key};
 
 /// States that were taken out at a clock are taken out at a later one as well: to purge at both is to purge at the later.
 pub fn purge_twice_is_purge_at_the_later()
@@ -20,4 +20,18 @@ pub fn one_state_answers_a_key()
 /// deadline has come.
 pub fn due_is_the_first()
     ensures { (states : List State) (clock : Clock) → AnswersDue clock states (due clock states) }
+{}
+
+/// To take out what is due, one state after the other until nothing is, is to purge; the states go in the order in which
+/// they are due.
+pub fn a_purge_goes_state_by_state()
+    // what is due first is the first of them, and the others are those of the table without it
+    ensures next { DueGoesFirst }
+    // a purge of that table leaves what a purge leaves
+    ensures kept { PurgeLeavesTheSame }
+    // that table is a table and has one state less
+    ensures table { RemovalLeavesATable }
+    ensures fewer { OneStateLess }
+    // where nothing is due, nothing is left to take out
+    ensures over { (states : List State) (clock : Clock) → due clock states ≡ None → (all_due clock states ≡ []) × (purged clock states ≡ states) }
 {}

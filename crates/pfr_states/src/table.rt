@@ -93,6 +93,13 @@ impl Table {
         self.states.after(number)
     }
 
+    /// The state of a number.
+    pub fn get(&self, number: StateNumber) -> Option<State>
+        ensures { result ≡ spec.state_of number self.now.states }
+    {
+        self.states.get(number).copied()
+    }
+
     /// Takes out the states whose deadline has come.
     pub fn purge(&mut self, clock: Clock)
         ensures states { self.new.states ≡ spec.purged clock self.old.states }

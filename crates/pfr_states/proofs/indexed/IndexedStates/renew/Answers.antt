@@ -2,7 +2,8 @@ use Rattle.std.proofs.Common.{◌≡◌, ◌∙◌, ap, Some, sym, refl}
 use Rattle.std.specs.Map.{lookup, values_of}
 use Rattle.std.specs.BTreeMap.{is_at}
 use Rattle.std.specs.Option.{option_copied_mut}
-use Rattle.pfr_states.specs.Indexed.{number_cmp, state_of}
+use Rattle.pfr_states.specs.Indexed.{number_cmp}
+use Rattle.pfr_states.specs.States.{state_of}
 use Rattle.pfr_states.proofs.ChangeLemmas.{Entries, indexed_same, state_there}
 use Rattle.pfr_states.proofs.QuestionLemmas.{given_deadline}
 use Rattle.pfr_states.proofs.RefusalLemmas.{on_err}

@@ -3,7 +3,7 @@ use Rattle.std.specs.List.{list_any}
 use Rattle.std.specs.Map.{values_of}
 use Rattle.std.proofs.lemmas.Bool.{false≢true}
 use Rattle.pfr_track.specs.declared.state.State.{State}
-use Rattle.pfr_states.specs.Indexed.{state_of}
+use Rattle.pfr_states.specs.States.{state_of}
 use Rattle.pfr_states.specs.declared.change.Side.TheVariants.{Wire, Stack}
 use Rattle.pfr_states.proofs.ChangeLemmas.{indexed_touched, state_there, values_touched}
 use Rattle.pfr_states.proofs.QuestionLemmas.{given_deadline, given_key}
