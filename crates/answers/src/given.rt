@@ -1,6 +1,6 @@
 //! What is given on standard input: records of bytes, or lines of words.
-use pfr_net::Ipv4Address;
-use pfr_ruleset::{IfName, Interface};
+use pfr_net::{IfName, Ipv4Address};
+use pfr_ruleset::Interface;
 use std::str::{FromStr, SplitWhitespace};
 
 /// Bytes that weren't read yet. Numbers have their greatest byte first, and behind the last byte all is zero.

@@ -4,9 +4,9 @@ ghost use Rattle.std.specs.Char.{digit_value};
 ghost use Rattle.pfr_cli.specs.Seeds.{byte_at};
 
 use crate::failure::Failure;
-use pfr_net::Net;
-use pfr_ruleset::interface::LONGEST_NAME;
-use pfr_ruleset::{IfName, Interface};
+use pfr_net::interface::LONGEST_NAME;
+use pfr_net::{IfName, Net};
+use pfr_ruleset::Interface;
 use std::alloc::{AllocError, Global};
 
 /// The form of the value behind `--interface`.

@@ -5,7 +5,7 @@ use Rattle.pfr_net.specs.declared.direction.Direction.{Direction}
 use Rattle.pfr_net.specs.declared.direction.Direction.TheVariants as d
 use Rattle.pfr_net.specs.declared.protocol.Protocol.{Protocol}
 use Rattle.pfr_ruleset.specs.declared.table.Entry.{Entry}
-use Rattle.pfr_ruleset.specs.declared.interface.IfName.{IfName}
+use Rattle.pfr_net.specs.declared.interface.IfName.{IfName}
 use Rattle.pfr_ruleset.specs.declared.interface.InterfaceCriterion.{InterfaceCriterion}
 use Rattle.pfr_ruleset.specs.declared.flat.PacketMatch.{PacketMatch}
 use Rattle.pfr_ruleset.specs.declared.flat.FlatRule.{FlatRule}

@@ -4,7 +4,7 @@ use Rattle.pfr_net.specs.declared.address.Ipv4Address.{Ipv4Address}
 use Rattle.pfr_net.specs.declared.direction.Direction.{Direction}
 use Rattle.pfr_net.specs.declared.direction.Direction.TheVariants.{In, Out}
 use Rattle.pfr_ruleset.specs.declared.table.Entry.{Entry}
-use Rattle.pfr_ruleset.specs.declared.interface.IfName.{IfName}
+use Rattle.pfr_net.specs.declared.interface.IfName.{IfName}
 use Rattle.pfr_ruleset.specs.declared.hosts.HostCriterion.{HostCriterion}
 use Rattle.pfr_ruleset.specs.declared.hosts.HostSet.TheVariants as set
 use Rattle.pfr_ruleset.specs.declared.flat.PacketMatch.{PacketMatch}

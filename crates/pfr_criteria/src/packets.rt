@@ -5,8 +5,8 @@ ghost use Rattle.pfr_criteria.specs.Packets as spec;
 use crate::hosts::host_holds;
 use crate::transports::{destination_port_holds, flags_hold, icmp_holds, source_port_holds};
 use pfr_headers::Packet;
-use pfr_net::{Direction, Protocol};
-use pfr_ruleset::{AddressTable, FlatAnchor, FlatRule, IfName, InterfaceCriterion, PacketMatch};
+use pfr_net::{Direction, IfName, Protocol};
+use pfr_ruleset::{AddressTable, FlatAnchor, FlatRule, InterfaceCriterion, PacketMatch};
 
 fn direction_holds(written: Option<Direction>, direction: Direction) -> bool
     ensures { result ≡ spec.direction_holds written direction }

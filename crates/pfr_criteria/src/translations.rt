@@ -7,8 +7,8 @@ use crate::hosts::host_holds;
 use crate::packets::{interface_holds, match_holds, protocol_holds};
 use crate::transports::{destination_port_holds, icmp_holds, source_port_holds};
 use pfr_headers::Packet;
-use pfr_net::{Direction, Ipv4Address, Net};
-use pfr_ruleset::{AddressTable, FlatTranslation, HostCriterion, HostSet, IfName, PacketMatch};
+use pfr_net::{Direction, IfName, Ipv4Address, Net};
+use pfr_ruleset::{AddressTable, FlatTranslation, HostCriterion, HostSet, PacketMatch};
 
 /// Whether a `nat` or `rdr` rule holds for a packet: whether it is all that the rule writes, behind `no` too.
 pub fn translation_holds<T>(

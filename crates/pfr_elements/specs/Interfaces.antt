@@ -4,7 +4,7 @@ use Rattle.std.specs.Str.{bytes_eq}
 use Rattle.pfr_net.specs.declared.address.Ipv4Address.{Ipv4Address}
 use Rattle.pfr_net.specs.declared.network.Net.{Net}
 use Rattle.pfr_net.specs.Networks.{prefix}
-use Rattle.pfr_ruleset.specs.Interfaces.{if_name}
+use Rattle.pfr_net.specs.Interfaces.{if_name}
 use Rattle.pfr_ruleset.specs.declared.interface.Interface.{Interface}
 
 -- one address

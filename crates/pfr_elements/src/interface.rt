@@ -2,10 +2,10 @@
 ghost use Rattle.std.specs.Prelude.{◌≡◌, ◌<◌, ◌≤◌, length, codes};
 ghost use Rattle.pfr_elements.specs.Interfaces as spec;
 
+use pfr_net::interface::LONGEST_NAME;
 use pfr_net::network::prefix;
-use pfr_net::{Ipv4Address, Net};
-use pfr_ruleset::interface::LONGEST_NAME;
-use pfr_ruleset::{IfName, Interface};
+use pfr_net::{IfName, Ipv4Address, Net};
+use pfr_ruleset::Interface;
 
 /// A network of one address.
 pub fn whole(address: Ipv4Address) -> Net

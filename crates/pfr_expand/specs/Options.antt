@@ -1,7 +1,7 @@
 -- Options, as pf.conf(5) has them. Of one that is set twice the last counts; interfaces that are skipped add up.
 use Rattle.std.specs.Prelude.{ℕ, ◌+◌, ◌||◌, true, nat_lt, if◌then◌else◌, List, [], ◌∷◌, ◌++◌, length, fold, Option, Some, None, Result, Ok, Err}
 use Rattle.pfr_net.specs.Timeouts.{with_timeout}
-use Rattle.pfr_ruleset.specs.declared.interface.IfName.{IfName}
+use Rattle.pfr_net.specs.declared.interface.IfName.{IfName}
 use Rattle.pfr_ruleset.specs.declared.options.Options as O
 use Rattle.pfr_terms.specs.declared.error.ConfError.{ConfError}
 use Rattle.pfr_terms.specs.declared.interface.InterfaceName.{InterfaceName}

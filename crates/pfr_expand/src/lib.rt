@@ -14,10 +14,10 @@ pub mod text;
 pub mod translation;
 
 pub use expansion::expand;
-pub use pfr_net::Timeouts;
+pub use pfr_net::{IfName, Timeouts};
 pub use pfr_ruleset::{
     AddressTable, Entry, FilterAction, FlagsCriterion, FlatAnchor, FlatRule, FlatTranslation,
-    HostCriterion, HostSet, IfName, Interface, InterfaceCriterion, NatAddress, Options,
-    PacketMatch, PortChange, PortRange, RdrAddress, Ruleset, StateRule, Translations,
+    HostCriterion, HostSet, Interface, InterfaceCriterion, NatAddress, Options, PacketMatch,
+    PortChange, PortRange, RdrAddress, Ruleset, StateRule, Translations,
 };
 pub use text::{LONGEST_TEXT, RulesetError, ruleset_of};

@@ -1,3 +1,4 @@
+pub mod Interfaces
 pub mod Networks
 pub mod Notation
 pub mod Timeouts

@@ -1,4 +1,3 @@
-pub mod Interfaces
 pub mod Keys
 pub mod Membership
 pub mod Options

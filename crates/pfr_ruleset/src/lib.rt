@@ -29,7 +29,7 @@ pub use flat::{
 };
 pub use hosts::{HostCriterion, HostSet};
 pub use icmp::IcmpMatch;
-pub use interface::{IfName, Interface, InterfaceCriterion};
+pub use interface::{Interface, InterfaceCriterion};
 pub use options::Options;
 pub use policy::{Binding, BlockPolicy};
 pub use port::{Comparison, PortMatch, RangeOperator};

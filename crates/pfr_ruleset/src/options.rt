@@ -2,10 +2,9 @@
 ghost use Rattle.std.specs.Prelude.{◌≡◌};
 ghost use Rattle.pfr_ruleset.specs.Options as spec;
 
-use crate::interface::IfName;
 use crate::policy::{Binding, BlockPolicy};
 use pfr_items::Items;
-use pfr_net::Timeouts;
+use pfr_net::{IfName, Timeouts};
 use std::alloc::Global;
 
 /// What the options of a ruleset say.

@@ -5,11 +5,11 @@ use pfr_criteria::transports::{
     destination_port_holds, flags_hold, icmp_holds, port_holds, source_port_holds,
 };
 use pfr_headers::{IcmpHeader, IcmpMessage, IcmpType, Packet, TcpFlags, TcpHeader, Transport};
-use pfr_net::{Direction, Ipv4Address, Net, Port, Protocol};
+use pfr_net::{Direction, IfName, Ipv4Address, Net, Port, Protocol};
 use pfr_ruleset::{
     AddressTable, Comparison, Entry, FilterAction, FlagsCriterion, FlatAnchor, FlatRule,
-    HostCriterion, HostSet, IcmpMatch, IfName, InterfaceCriterion, NO_MATCH, PacketMatch,
-    PortMatch, RangeOperator,
+    HostCriterion, HostSet, IcmpMatch, InterfaceCriterion, NO_MATCH, PacketMatch, PortMatch,
+    RangeOperator,
 };
 use std::alloc::{AllocError, Global};
 use std::test::Fail;

@@ -1,5 +1,5 @@
 //! Names of interfaces.
-use pfr_ruleset::IfName;
+use pfr_net::IfName;
 
 #[test]
 fn names_have_at_most_fifteen_bytes(rt: HostRuntime) {

@@ -2,9 +2,9 @@
 ghost use Rattle.std.specs.Prelude.{◌≤◌};
 
 use pfr_capture::{Mem, Tail};
-use pfr_net::{Ipv4Address, Net};
+use pfr_net::{IfName, Ipv4Address, Net};
 use pfr_out::{Output, Report, Settings, Sinks, Stop, replay};
-use pfr_ruleset::{IfName, Interface};
+use pfr_ruleset::Interface;
 use std::alloc::{AllocError, Global};
 use std::test::Fail;
 

@@ -1,7 +1,7 @@
--- Interfaces, as pf.conf(5) has them.
+-- Names of interfaces.
 use Rattle.std.specs.Prelude.{ℕ, ◌-◌, min, List, ◌++◌, length, take}
 use lib.ListN.{replicate}
-use Rattle.pfr_ruleset.specs.declared.interface.IfName.{IfName}
+use Rattle.pfr_net.specs.declared.interface.IfName.{IfName}
 
 -- a name of at most 15 bytes, with zeros behind it
 unfoldable pub if_name : List ℕ → IfName
