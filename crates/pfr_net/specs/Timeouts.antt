@@ -1,5 +1,5 @@
 -- Timeouts and their codes (pf.conf(5), "timeout").
-use Rattle.std.specs.Prelude.{ℕ, List, [], ◌∷◌, slice_index}
+use Rattle.std.specs.Prelude.{ℕ, List, [], ◌∷◌, Option, slice_get, slice_index}
 use lib.ListN.{set}
 use Rattle.pfr_net.specs.declared.timeout.Timeout.{Timeout}
 use Rattle.pfr_net.specs.declared.timeout.Timeout.TheVariants.{TcpFirst, TcpOpening, TcpEstablished, TcpClosing, TcpFinWait, TcpClosed, UdpFirst, UdpSingle, UdpMultiple, IcmpFirst, IcmpError, OtherFirst, OtherSingle, OtherMultiple}
@@ -20,6 +20,16 @@ code_of IcmpError = 10
 code_of OtherFirst = 11
 code_of OtherSingle = 12
 code_of OtherMultiple = 13
+
+-- all of them, each at its code
+abbrev pub timeouts_by_code : List Timeout
+timeouts_by_code =
+    TcpFirst ∷ TcpOpening ∷ TcpEstablished ∷ TcpClosing ∷ TcpFinWait ∷ TcpClosed ∷ UdpFirst ∷ UdpSingle ∷ UdpMultiple
+    ∷ IcmpFirst ∷ IcmpError ∷ OtherFirst ∷ OtherSingle ∷ OtherMultiple ∷ []
+
+-- the timeout of a code
+abbrev pub timeout_of : ℕ → Option Timeout
+timeout_of code = slice_get timeouts_by_code code
 
 abbrev pub seconds_of : Timeouts → Timeout → ℕ
 seconds_of timeouts timeout = slice_index timeouts.seconds (code_of timeout)

@@ -1,5 +1,5 @@
 //! Timeouts.
-ghost use Rattle.std.specs.Prelude.{◌≡◌, ◌<◌};
+ghost use Rattle.std.specs.Prelude.{◌≡◌, ◌<◌, IfSome};
 ghost use Rattle.pfr_net.specs.Timeouts as spec;
 
 /// How long a state waits for the next packet, by what has been seen of its connection (pf.conf(5), "timeout").
@@ -59,7 +59,33 @@ impl Timeout {
             Timeout::OtherMultiple => 13,
         }
     }
+
+    /// The timeout of a code; none of one above 13.
+    pub fn of_code(code: u8) -> Option<Timeout>
+        ensures timeout { result ≡ spec.timeout_of code }
+        ensures code { IfSome result (λ timeout. spec.code_of timeout ≡ code) }
+    {
+        TIMEOUTS.get(usize::from(code)).copied()
+    }
 }
+
+/// All timeouts, each at its code.
+const TIMEOUTS: [Timeout; 14] = [
+    Timeout::TcpFirst,
+    Timeout::TcpOpening,
+    Timeout::TcpEstablished,
+    Timeout::TcpClosing,
+    Timeout::TcpFinWait,
+    Timeout::TcpClosed,
+    Timeout::UdpFirst,
+    Timeout::UdpSingle,
+    Timeout::UdpMultiple,
+    Timeout::IcmpFirst,
+    Timeout::IcmpError,
+    Timeout::OtherFirst,
+    Timeout::OtherSingle,
+    Timeout::OtherMultiple,
+];
 
 /// The seconds of each timeout where nothing is set, by its code: those of TCP, UDP, ICMP and other protocols in the
 /// order of pf.conf(5).
