@@ -97,6 +97,22 @@ impl Job {
             && is_same_bytes(self.text.as_slice(), other.text.as_slice())
     }
 
+    /// The ruleset's text.
+    #[inline]
+    pub fn text(&self) -> &[u8]
+        ensures { result.now ≡ self.now.text }
+    {
+        self.text.as_slice()
+    }
+
+    /// The interface on which the packets were captured.
+    #[inline]
+    pub fn interface(&self) -> &Interface
+        ensures { result.now ≡ self.now.interface }
+    {
+        &self.interface
+    }
+
     /// The ruleset that the text means.
     #[inline]
     pub fn rules(&self) -> &Ruleset
