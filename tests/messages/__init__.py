@@ -1,0 +1,1 @@
+"""Messages: what a standby is told of a run's states."""

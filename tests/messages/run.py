@@ -1,0 +1,46 @@
+"""A whole run with its messages."""
+
+import hashlib
+from typing import NamedTuple
+
+from captures.model import Record
+from messages import cut, queue
+from messages.cut import Origin
+from messages.events import Followed, packet_of
+from steps.replay import job_of, steps_of
+from table.states import StateTable
+
+
+class Told(NamedTuple):
+    """A run: what its messages share, its steps, what each packet does to states, its events, and the states that are
+    left."""
+    origin: Origin
+    steps: list
+    happenings: list
+    packets: list
+    left: list
+
+    def whole(self):
+        """The messages of the run, by cutting the finished list of events."""
+        return cut.whole(self.origin, self.packets)
+
+    def online(self, count):
+        """Those that are out behind so many packets, while the run goes on."""
+        return cut.online(self.origin, self.packets[:count])
+
+    def closed(self):
+        """By the queue: those that close at each packet, and behind these the ones at the end."""
+        return queue.by_packet(self.origin, self.packets)
+
+
+def told(run):
+    """A Run whose ruleset has no fault."""
+    text = run.rules.encode()
+    job = job_of(text, run.interface, run.inside, run.seed)
+    values = job.ruleset.options.values
+    records = [Record(b"", second, frame) for second, frame in run.records]
+    steps = list(steps_of(job, run.link, records, StateTable(values["states"])))
+    followed = Followed(job.ruleset)
+    happenings = list(map(followed.happening, steps))
+    origin = Origin(run.interface.name.encode(), hashlib.md5(text).digest(), values["hostid"])
+    return Told(origin, steps, happenings, list(map(packet_of, happenings)), list(followed.states.values()))
