@@ -23,12 +23,13 @@ sys.dont_write_bytecode = True
 
 from answering import SHOWN
 from captures.packets import checksum
-from messages import cut, happenings, queue, random_events, random_messages, random_runs, rows, texts
+from messages import answers, cut, happenings, queue, random_events, random_messages, random_runs, rows, texts
 from messages.cut import Origin
-from messages.events import packet_of
-from messages.message import DIRECTIONS, IP_HEADER
+from messages.events import REMOVED, packet_of
+from messages.message import DIRECTIONS, INS, IP_HEADER
 from messages.reading import Refusal, read, read_in_file
 from messages.run import told
+from messages.samples import VECTOR, five_messages
 from messages.spelling import bare, in_file, ip_header
 
 SEED = 20261129
@@ -154,13 +155,22 @@ def check_lists():
     return wrong + shown(f"  what has to come up {LEAST} times", seldom(counts, happenings.COUNTED))
 
 
+def timeout_faults(done):
+    """Events of a run whose state doesn't wait for the seconds of the timeout that is told."""
+    for packet in done.packets:
+        for kind, number, state, clock in packet.events:
+            if kind != REMOVED and state.deadline - clock != done.seconds[state.timeout]:
+                yield f"state {number} has timeout {state.timeout} at {clock} and goes at {state.deadline}"
+
+
 def check_runs():
     draw, faults, counts, packets = random.Random(SEED), [], Counter(), 0
     for run in random_runs.runs():
         done = told(run)
         closed = done.closed()
         packets += len(done.steps)
-        faults += [f"{run.name}: {fault}" for fault in list_faults(draw, done.origin, done.packets, closed, done.left)]
+        faults += [f"{run.name}: {fault}" for fault in chain(
+            list_faults(draw, done.origin, done.packets, closed, done.left), timeout_faults(done))]
         counts += happenings.of_list(done.origin, done.happenings, done.packets, closed)
     wrong = shown(f"{random_runs.RUNS} random runs of {packets} packets", faults)
     titles = {title: happenings.COUNTED[title] for title in OF_RUNS}
@@ -204,13 +214,41 @@ def check_rows():
 
 def check_answers():
     """Texts that are written out, of a peer and of a file; the first of each is what is spelled."""
-    by_texts = [(text, wanted, texts.answer(text)) for text, wanted in rows.answers()]
-    by_files = [(text, wanted, texts.answer(text, read_in_file)) for text, wanted in rows.file_answers()]
-    faults = [f"{text.hex()}: {wanted} and not {seen}" for text, wanted, seen in by_texts + by_files if wanted != seen]
-    message, _ = read(rows.VECTOR)
-    if bare(message) != by_texts[0][0] or ip_header(len(rows.VECTOR), HERE) + rows.VECTOR != by_files[0][0]:
+    insert = bare(five_messages()[0])
+    by_peer, by_file = list(answers.answers()), list(answers.file_answers())
+    more = [*answers.interface_answers(insert), *answers.first_answers(insert)]
+    found = [(text, wanted, texts.answer(text)) for text, wanted in by_peer]
+    found += [(text, wanted, texts.answer(text, read_in_file)) for text, wanted in by_file]
+    # of these the content isn't written out
+    found += [(text, wanted, texts.name_of(read(text)) if wanted == "ok" else texts.answer(text))
+              for text, wanted in more]
+    faults = [f"{text.hex()}: {wanted} and not {seen}" for text, wanted, seen in found if wanted != seen]
+    if bare(read(VECTOR)[0]) != by_peer[0][0] or ip_header(len(VECTOR), HERE) + VECTOR != by_file[0][0]:
         faults.append("the first text is spelled otherwise")
-    return shown(f"{len(by_texts)} texts and {len(by_files)} of files that are written out", faults)
+    return shown(f"{len(found)} texts that are written out", faults)
+
+
+def value_faults(kind, runs, text):
+    """What is wrong with the values that each byte of a message of one record may have. A byte of the record that may
+    not have a value is told itself; but where a name ends early, the byte behind it is."""
+    allowed = [count for width, count in runs for _ in range(width)]
+    if len(allowed) != len(text):
+        yield f"{kind} has {len(text)} bytes, of which {len(allowed)} are written out"
+    for place, wanted in enumerate(allowed):
+        seen = list(map(read, texts.with_each_byte(text, [place])))
+        refusals = [answer for answer in seen if isinstance(answer, Refusal)]
+        if len(seen) - len(refusals) != wanted:
+            yield f"byte {place} of {kind} may have {len(seen) - len(refusals)} values and not {wanted}"
+        told_at = place + (kind == INS and place in answers.NAME_BEFORE_LAST)
+        if place in range(24, len(text) - 4) and not set(refusals) <= {Refusal("fixed", told_at)}:
+            yield f"byte {place} of {kind} is refused by {refusals[0].text()}"
+
+
+def check_values():
+    spelled = list(map(bare, five_messages()))
+    faults = [fault for (kind, runs), text in zip(answers.VALUES.items(), spelled)
+              for fault in value_faults(kind, runs, text)]
+    return shown(f"{len(answers.VALUES)} messages, and the values that each of their bytes may have", faults)
 
 
 # Messages and texts
@@ -235,7 +273,7 @@ def judged(some):
 
 def judged_bytes(place, start, end):
     """For one of the five messages, of which the bytes from start to end are set to each value."""
-    text = bare(texts.five_messages()[place])
+    text = bare(five_messages()[place])
     return judged(texts.with_each_byte(text, range(start, min(end, len(text)))))
 
 
@@ -245,7 +283,7 @@ def judged_texts(kind):
 
 def check_texts():
     """The texts of texts.py, by several processes."""
-    messages = list(map(bare, texts.five_messages()))
+    messages = list(map(bare, five_messages()))
     pieces = [(place, start, start + 40) for place, text in enumerate(messages) for start in range(0, len(text), 40)]
     with ProcessPoolExecutor(os.cpu_count()) as pool:
         others = {kind: pool.submit(judged_texts, kind) for kind in texts.KINDS_OF_TEXTS if kind != texts.CHANGED}
@@ -261,7 +299,7 @@ def check_texts():
     return shown(f"{total.total()} texts", faults + seldom(total, {"all": TEXT_KINDS}))
 
 
-CHECKS = (check_rows, check_answers, check_lists, check_runs, check_messages, check_texts)
+CHECKS = (check_rows, check_answers, check_values, check_lists, check_runs, check_messages, check_texts)
 
 
 def printed(check):

@@ -1,5 +1,4 @@
-"""Messages that are written out: runs with the sizes of their messages and with bytes of them, and texts with what a
-reader makes of them.
+"""Runs whose messages are written out: their sizes, and bytes of them.
 
 Unless it is said otherwise the packets are UDP datagrams of 28 bytes that go out at second 0, from H port 1000 and on
 to P port 53, or answers to them.
@@ -12,7 +11,6 @@ from steps.rows import FIRST_SYN, OTHER, H, P, h_to_p
 from steps.run import Run
 
 HERE = "192.0.2.1"
-NOTHING = b""
 
 
 class Row(NamedTuple):
@@ -156,80 +154,3 @@ def rule_rows():
 def rows():
     for make in (syn_rows, time_rows, size_rows, rule_rows):
         yield from make()
-
-
-# What a reader makes of texts
-
-EMPTY_SUM = "d41d8cd98f00b204e9800998ecf8427e"
-# DEL_C of state 1 by creator 1 under the empty ruleset
-VECTOR = bytes.fromhex(f"05000028 {EMPTY_SUM} 07000001 0000000000000001 00000001 0c000001")
-SECOND_RECORD, LAST_SUBHEADER = bytes.fromhex("0000000000000002 00000001"), VECTOR[36:]
-
-
-def changed(*changes):
-    """The vector with other bytes at some places."""
-    text = bytearray(VECTOR)
-    for place, octets in changes:
-        text[place:place + len(octets)] = octets
-    return bytes(text)
-
-
-def answers():
-    """Texts with the answers to them, as `texts.answer` words them."""
-    message = f"ok 40 checksum={EMPTY_SUM}; DEL_C number=1 creator=1"
-    yield VECTOR, message
-    yield VECTOR + b"\5", message
-    yield VECTOR[:19], "short"
-    yield VECTOR[:39], "short"
-    yield changed((0, b"\6")), "version"
-    yield changed((1, b"\1")), "fixed 1"
-    yield changed((2, b"\0\x27")), "length"
-    yield changed((2, b"\x05\xc9")), "length"
-    yield changed((20, b"\3")), "action 3"
-    yield changed((20, b"\x0c")), "action 12"
-    yield changed((21, b"\1")), "fixed 21"
-    yield changed((22, b"\0\0")), "count"
-    yield changed((22, b"\0\2")), "count"
-    yield changed((36, b"\7")), "action 7"
-    yield changed((2, b"\0\x2c")) + bytes(4), "trailing"
-    two = changed((2, b"\0\x30"), (22, b"\0\2"))[:36]
-    yield two + SECOND_RECORD, "no end"
-    yield changed((2, b"\0\x34"), (22, b"\0\2"))[:36] + VECTOR[24:36] + LAST_SUBHEADER, "fixed 36"
-    # what comes first is told
-    yield changed((0, b"\6"))[:19], "short"
-    yield changed((0, b"\6"), (1, b"\1"), (2, b"\0\0")), "version"
-    yield changed((1, b"\1"), (2, b"\0\0")), "fixed 1"
-    yield changed((2, b"\x05\xc8")), "short"
-    yield changed((20, b"\0")), "action 0"
-    yield changed((20, b"\3"), (21, b"\1"), (22, b"\0\0")), "action 3"
-    yield changed((21, b"\1"), (22, b"\0\0")), "fixed 21"
-    yield changed((37, b"\1")), "fixed 37"
-    yield changed((38, b"\0\0")), "count"
-    yield changed((38, b"\0\2")), "count"
-    yield changed((2, b"\0\x2b"), (36, b"\0\0\0\0")) + bytes(3), "action 0"
-    yield changed((2, b"\0\x2b")) + bytes(3), "trailing"
-    # three bytes are left behind the records
-    yield changed((2, b"\0\x2f"), (22, b"\0\2"))[:36] + SECOND_RECORD, "count"
-    yield changed((2, b"\0\x33"), (22, b"\0\2"))[:36] + SECOND_RECORD + LAST_SUBHEADER[:3], "no end"
-    yield NOTHING, "short"
-
-
-def file_answers():
-    """The same for texts of a file: the vector behind an IP header from 192.0.2.1, and changes of it."""
-    header = bytes.fromhex("4510003c 00004000 fff0d7cf c0000201 e00000f0")
-    whole = header + VECTOR
-    yield whole, f"ok 60 checksum={EMPTY_SUM}; DEL_C number=1 creator=1"
-    # what isn't asked
-    yield whole[:1] + b"\0" + whole[2:4] + bytes(5) + whole[9:10] + bytes(10) + VECTOR, \
-        f"ok 60 checksum={EMPTY_SUM}; DEL_C number=1 creator=1"
-    yield whole[:23], "short"
-    yield b"\x46" + whole[1:], "version"
-    yield whole[:9] + b"\xef" + whole[10:], "version"
-    yield whole[:3] + b"\x3d" + whole[4:], "length"
-    yield whole[:23] + b"\x29" + whole[24:], "length"
-    # an IP header that fits goes before the message's own tests
-    yield b"\x46" + whole[1:20] + b"\6" + whole[21:], "version"
-    yield whole[:20] + b"\6" + whole[21:], "version"
-    yield whole[:20] + b"\6" + whole[21:39], "short"
-    yield whole[:41] + b"\1" + whole[42:], "fixed 21"
-    yield whole[:59], "short"

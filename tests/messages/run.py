@@ -12,9 +12,10 @@ from table.states import StateTable
 
 
 class Told(NamedTuple):
-    """A run: what its messages share, its steps, what each packet does to states, its events, and the states that are
-    left."""
+    """A run: what its messages share, the seconds of the timeouts by their codes, its steps, what each packet does to
+    states, its events, and the states that are left."""
     origin: Origin
+    seconds: tuple
     steps: list
     happenings: list
     packets: list
@@ -43,4 +44,5 @@ def told(run):
     followed = Followed(job.ruleset)
     happenings = list(map(followed.happening, steps))
     origin = Origin(run.interface.name.encode(), hashlib.md5(text).digest(), values["hostid"])
-    return Told(origin, steps, happenings, list(map(packet_of, happenings)), list(followed.states.values()))
+    packets, left = list(map(packet_of, happenings)), list(followed.states.values())
+    return Told(origin, job.seconds(), steps, happenings, packets, left)

@@ -15,12 +15,10 @@ from itertools import chain, permutations
 
 sys.dont_write_bytecode = True
 
-from messages.message import INS, UPD_C, Delete, Insert, Message, Update
 from messages.random_messages import fits, some_counts, some_message
 from messages.reading import Refusal, read
-from messages.rows import VECTOR
+from messages.samples import VECTOR, five_messages
 from messages.spelling import ACTIONS, END, SPELLED, bare, number, subheader
-from tracking.model import Peer
 
 SEED = 20261127
 RANDOM_TEXTS = 100000
@@ -41,34 +39,6 @@ def answer(text, by=read):
 def name_of(found):
     """The kind of an answer."""
     return found.name if isinstance(found, Refusal) else "ok"
-
-
-# Five messages: one of each kind, one of all of them, and the longest that there can be
-
-SUM = bytes(range(0xA0, 0xB0))
-SYN_SENT, ESTABLISHED = Peer(2, 0x01020304, 0x05060708, 0x1112, 14), Peer(4, 0x21222324, 0x25262728, 0x3132)
-WIRE, STACK = ((0xC6336407, 443), (0xC0000201, 50001)), ((0xC6336407, 443), (0x0A000005, 1000))
-
-
-def insert(place):
-    return Insert(place, b"em0", WIRE, STACK, SYN_SENT, ESTABLISHED, 7, None, 3, 86400, (5, 4), (1500, 260), 0x0A0B0C0D,
-                  6, 2, 2)
-
-
-def update(place):
-    return Update(place, ESTABLISHED, SYN_SENT, 0x0A0B0C0D, 900, 3)
-
-
-def message(inserts, updates, deletes):
-    """A message with so many records of each kind."""
-    numbers = iter(range(1, 1 + inserts + updates + deletes))
-    return Message(SUM, tuple(insert(next(numbers)) for _ in range(inserts)),
-                   tuple(update(next(numbers)) for _ in range(updates)),
-                   tuple(Delete(next(numbers), 0x0A0B0C0D) for _ in range(deletes)))
-
-
-def five_messages():
-    return [message(1, 0, 0), message(0, 1, 0), message(0, 0, 1), message(1, 2, 3), message(2, 5, 45)]
 
 
 # Changed, cut and joined
