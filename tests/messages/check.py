@@ -26,7 +26,7 @@ from captures.packets import checksum
 from messages import answers, cut, happenings, queue, random_events, random_messages, random_runs, rows, texts
 from messages.cut import Origin
 from messages.events import REMOVED, packet_of
-from messages.message import DIRECTIONS, INS, IP_HEADER
+from messages.message import DIRECTIONS, INS, IP_HEADER, size
 from messages.reading import Refusal, read, read_in_file
 from messages.run import told
 from messages.samples import VECTOR, five_messages
@@ -212,6 +212,18 @@ def check_rows():
                  [f"{row.run.name}: {fault}" for row in written for fault in row_faults(row)])
 
 
+def check_day():
+    """The sizes of the open message behind each packet of one run."""
+    day = next(row for row in rows.rows() if row.run.records == [record for record, _ in rows.DAY])
+    done, faults = told(day.run), []
+    open_message = queue.Queue(done.origin)
+    for packet, (_, wanted) in zip(done.packets, rows.DAY):
+        open_message.step(packet)
+        seen = size(open_message.counts()) if open_message.entries else None
+        faults += [] if seen == wanted else [f"{seen} bytes and not {wanted} at clock {packet.clock}"]
+    return shown(f"{len(rows.DAY)} sizes of an open message", faults)
+
+
 def check_answers():
     """Texts that are written out, of a peer and of a file; the first of each is what is spelled."""
     insert = bare(five_messages()[0])
@@ -299,7 +311,7 @@ def check_texts():
     return shown(f"{total.total()} texts", faults + seldom(total, {"all": TEXT_KINDS}))
 
 
-CHECKS = (check_rows, check_answers, check_values, check_lists, check_runs, check_messages, check_texts)
+CHECKS = (check_rows, check_day, check_answers, check_values, check_lists, check_runs, check_messages, check_texts)
 
 
 def printed(check):

@@ -54,6 +54,8 @@ def row(name, rules, records, sizes, **expected):
 
 
 NOT_IPV4 = bytes([0x60]) + bytes(39)
+# P's answer to the first SYN
+REJECTION = tcp(P, 80, H, 1000, RST | ACK, 5000, 1001)
 SYN_HEADER = "4510012200004000fff0d6e9c0000201e00000f0"
 # one flow and its reply at 1: the records of both messages, where the text has a newline
 TEXT_SUM = "6d740d4d05e102855e6b05c1aaced9ad"
@@ -84,7 +86,7 @@ def syn_rows():
     # remaining 30 and timeout code 1
     yield row("a SYN sent twice", "pass out", [FIRST_SYN] * 2, [290], last=({"INS": [1]},),
               bytes=((0, 236, "0000001e"), (0, 283, "01")))
-    rejected = [FIRST_SYN, tcp(P, 80, H, 1000, RST | ACK, 5000, 1001), FIRST_SYN]
+    rejected = [FIRST_SYN, REJECTION, FIRST_SYN]
     mismatch = {3: "3 0 out block state-mismatch r=0 t=- s=1"}
     yield row("a SYN that removes its state at once", "pass out", rejected, [], lines=mismatch, states=[])
     yield row("a SYN that removes its state with the update", "pass out", [rejected[0], *at(1, rejected[1:])],
@@ -104,6 +106,8 @@ def time_rows():
     yield row("a state for no time", "set timeout udp.first 0\npass out\nblock in",
               [flow(0), udp(OTHER, 9, HERE, 9)], [],
               lines={2: "2 0 in block rule r=1 t=- s=-"}, states=[])
+    yield row("a state for no time, and no IPv4 packet", "set timeout udp.first 0\npass out", [flow(0), NOT_IPV4], [],
+              states=[])
     yield row("a state for no time, made by the last packet", "set timeout udp.first 0\npass out", [flow(0)], [290],
               bytes=((0, 232, "00000000 00000000"),), states=[1])
     yield row("one flow, while the run goes on", "pass out", [flow(0), (1, NOT_IPV4)], [290],
@@ -129,6 +133,20 @@ def size_rows():
               [774, 1430, 132], last=({"INS": [4, 5, 6, 7, 8], "UPD_C": [1, 2]}, {"UPD_C": [3]}))
 
 
+# the run that the document of the formats follows: each packet with the size of the message that is open behind it
+DAY = (((0, FIRST_SYN), 290), ((0, flow(0)), 532), ((1, REJECTION), 132), ((1, FIRST_SYN), 60), ((1, flow(1)), 306),
+       ((1, reply(0)), 394), ((2, NOT_IPV4), None), ((61, FIRST_SYN), 318), ((61, REJECTION), 318),
+       ((61, FIRST_SYN), 72))
+
+
+def day_row():
+    yield row("a day of the open message", "pass out", [record for record, _ in DAY], [532, 394, 72],
+              last=({"INS": [1, 2]}, {"INS": [5], "UPD_C": [2], "DEL_C": [1]}, {"DEL_C": [2, 5]}),
+              online={2: [], 3: [532], 6: [532], 7: [532, 394], 10: [532, 394]}, states=[],
+              lines={4: "4 1 out block state-mismatch r=0 t=- s=1", 8: "8 61 out pass rule r=0 t=- s=8",
+                     10: "10 61 out block state-mismatch r=0 t=- s=8"})
+
+
 def rule_rows():
     both = [flow(0), FIRST_SYN]
     udp_rule = "pass out proto udp keep state (no-sync)"
@@ -152,5 +170,5 @@ def rule_rows():
 
 
 def rows():
-    for make in (syn_rows, time_rows, size_rows, rule_rows):
+    for make in (syn_rows, time_rows, size_rows, day_row, rule_rows):
         yield from make()
