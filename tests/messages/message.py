@@ -53,7 +53,6 @@ class Delete(NamedTuple):
     creator: int
 
 
-TYPES = {INS: Insert, UPD_C: Update, DEL_C: Delete}
 
 
 class Message(NamedTuple):

@@ -34,15 +34,19 @@ class Told(NamedTuple):
         return queue.by_packet(self.origin, self.packets)
 
 
+def told_of(text, interface, job, steps):
+    """Steps of a run of a job, whose ruleset's text has these bytes."""
+    followed = Followed(job.ruleset)
+    happenings = list(map(followed.happening, steps))
+    origin = Origin(interface.name.encode(), hashlib.md5(text).digest(), job.ruleset.options.values["hostid"])
+    packets, left = list(map(packet_of, happenings)), list(followed.states.values())
+    return Told(origin, job.seconds(), steps, happenings, packets, left)
+
+
 def told(run):
     """A Run whose ruleset has no fault."""
     text = run.rules.encode()
     job = job_of(text, run.interface, run.inside, run.seed)
-    values = job.ruleset.options.values
     records = [Record(b"", second, frame) for second, frame in run.records]
-    steps = list(steps_of(job, run.link, records, StateTable(values["states"])))
-    followed = Followed(job.ruleset)
-    happenings = list(map(followed.happening, steps))
-    origin = Origin(run.interface.name.encode(), hashlib.md5(text).digest(), values["hostid"])
-    packets, left = list(map(packet_of, happenings)), list(followed.states.values())
-    return Told(origin, job.seconds(), steps, happenings, packets, left)
+    table = StateTable(job.ruleset.options.values["states"])
+    return told_of(text, run.interface, job, list(steps_of(job, run.link, records, table)))
