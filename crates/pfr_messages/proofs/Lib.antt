@@ -1,0 +1,16 @@
+pub mod Actions
+pub mod Chains
+pub mod ExactMessages
+pub mod ExactRecords
+pub mod ExactSections
+pub mod Exactness
+pub mod FieldLoops
+pub mod Fitting
+pub mod Formats
+pub mod Lengths
+pub mod MessageParts
+pub mod Names
+pub mod Puts
+pub mod SectionLoops
+pub mod SectionsAgain
+pub mod Whole

@@ -1,0 +1,3 @@
+pub mod Fields
+pub mod Messages
+pub mod Records
