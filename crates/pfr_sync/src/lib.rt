@@ -1,9 +1,26 @@
-//! What a standby is told: so far the checksum of the rules.
+//! What a standby is told: the checksum of the rules, and messages of what becomes of states.
 //!
 //! [`checksum`] is the MD5 of a ruleset's text. Its contract says so of every text, of whatever length. No contract
 //! says that texts with one checksum are the same: MD5 is broken as a cryptographic hash.
+//!
+//! A [`Queue`] takes [`Event`]s, in the order in which states are made, touched and removed. It holds what the open message
+//! tells, an entry a state, and answers the messages that close. Its contracts say so for every list of events: the messages
+//! are those of the list's parts, as the definition cuts it. [`encode`] spells a [`Message`], and [`decode`] reads one.
 #![tactic(auto)]
 
 mod digest;
+mod edit;
+pub mod event;
+pub mod laws;
+mod names;
+pub mod origin;
+pub mod queue;
+mod records;
+mod sizes;
+mod telling;
 
 pub use digest::checksum;
+pub use event::{Change, Event};
+pub use origin::Origin;
+pub use pfr_messages::{Message, SyncError, decode, encode, encode_onto};
+pub use queue::Queue;

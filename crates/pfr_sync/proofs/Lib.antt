@@ -1,0 +1,12 @@
+pub mod EditLemmas
+pub mod EntryLemmas
+pub mod GatherLemmas
+pub mod LawLemmas
+pub mod MessageLemmas
+pub mod NameLemmas
+pub mod NumberLemmas
+pub mod PartLemmas
+pub mod QueueLemmas
+pub mod RiseLemmas
+pub mod SizeLemmas
+pub mod ToldLemmas

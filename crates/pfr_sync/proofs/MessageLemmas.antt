@@ -1,0 +1,71 @@
+-- The message of entries.
+use Rattle.std.proofs.Common.{◌≡◌, true, false, List, [], ◌∷◌, length, map, nat_eq, refl, subst, arith}
+use Rattle.std.specs.List.{filter, list_all}
+use Rattle.std.proofs.lemmas.Bool.{leb-true}
+use Rattle.pfr_track.specs.declared.time.Clock.{Clock}
+use Rattle.pfr_messages.specs.declared.records.Insertion.{Insertion}
+use Rattle.pfr_messages.specs.declared.records.Update.{Update}
+use Rattle.pfr_messages.specs.declared.records.Deletion.{Deletion}
+use Rattle.pfr_messages.specs.Records.{insertion, update, deletion}
+use Rattle.pfr_messages.specs.Messages.{Content, Fits, inserts, updating, deletes}
+use Rattle.pfr_sync.specs.declared.origin.Origin.{Origin}
+use Rattle.pfr_sync.specs.declared.queue.Entry.{Entry}
+use Rattle.pfr_sync.specs.Events.{insertion_of, update_of, deletion_of}
+use Rattle.pfr_sync.specs.Messages.{content_of, is_insert, is_update, is_delete, messages_by}
+use Rattle.pfr_sync.specs.Queues.{IsQueue}
+use Rattle.pfr_sync.proofs.RiseLemmas.{rise_records, some_kind}
+use Rattle.pfr_sync.proofs.SizeLemmas.{length_message, length_sections}
+
+-- the records of a message fit
+pub record Fit (c : Content) : Type 0 where
+  pub insertions : list_all insertion.fits c.insertions ≡ true
+  pub updates : list_all update.fits c.updates ≡ true
+  pub deletions : list_all deletion.fits c.deletions ≡ true
+
+pub content_fits : (origin : Origin) (clock : Clock) (entry : Entry) (entries : List Entry)
+    → IsQueue (record { origin = origin; entries = entry ∷ entries })
+    → Fit (content_of origin clock (entry ∷ entries))
+    → Fits (content_of origin clock (entry ∷ entries))
+content_fits origin clock entry entries queue fit =
+    let all : List Entry = entry ∷ entries in
+    let few = leb-true _ 1480 (queue.short clock) in
+    let whole = length_message origin clock all queue.interface queue.checksum in
+    let part = length_sections origin clock all queue.interface in
+    record {
+      checksum = queue.checksum;
+      insertions = fit.insertions;
+      updates = fit.updates;
+      deletions = fit.deletions;
+      insertions_rise = rise_records inserts (λ (e : Entry). insertion_of origin clock e.state) is_insert (λ _. refl) all queue.in_order;
+      updates_rise = rise_records updating (λ (e : Entry). update_of origin clock e.state) is_update (λ _. refl) all queue.in_order;
+      deletions_rise = rise_records deletes (λ (e : Entry). deletion_of origin e.state) is_delete (λ _. refl) all queue.in_order;
+      some = some_kind (λ (e : Entry). insertion_of origin clock e.state) (λ (e : Entry). update_of origin clock e.state) (λ (e : Entry). deletion_of origin e.state) entry.told entry.state entries;
+      short = omega arith;
+    }
+
+-- the message of entries from its records
+pub record Told (origin : Origin) (clock : Clock) (entries : List Entry) (content : Content) : Type 0 where
+  pub fits : Fits content
+  pub is : content ∷ [] ≡ messages_by origin clock entries
+
+pub told_from : (origin : Origin) (clock : Clock) (entries : List Entry) (insertions : List Insertion) (updates : List Update) (deletions : List Deletion)
+    → IsQueue (record { origin = origin; entries = entries })
+    → nat_eq (length entries) 0 ≡ false
+    → insertions ≡ map (λ e. insertion_of origin clock e.state) (filter is_insert entries)
+    → updates ≡ map (λ e. update_of origin clock e.state) (filter is_update entries)
+    → deletions ≡ map (λ e. deletion_of origin e.state) (filter is_delete entries)
+    → list_all insertion.fits insertions ≡ true
+    → list_all update.fits updates ≡ true
+    → list_all deletion.fits deletions ≡ true
+    → Told origin clock entries (record { checksum = origin.checksum; insertions = insertions; updates = updates; deletions = deletions })
+told_from origin clock [] is us ds queue some insertions updates deletions i_fit u_fit d_fit = absurd cc
+told_from origin clock (e ∷ entries) is us ds queue some insertions updates deletions i_fit u_fit d_fit =
+    let fit : Fit (content_of origin clock (e ∷ entries)) = record {
+      insertions = subst (λ (records : List Insertion). list_all insertion.fits records ≡ true) insertions i_fit;
+      updates = subst (λ (records : List Update). list_all update.fits records ≡ true) updates u_fit;
+      deletions = subst (λ (records : List Deletion). list_all deletion.fits records ≡ true) deletions d_fit;
+    } in
+    rw (insertions, updates, deletions) (record {
+      fits = content_fits origin clock e entries queue fit;
+      is = refl;
+    })

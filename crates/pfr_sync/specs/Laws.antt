@@ -1,0 +1,16 @@
+-- Words of the laws.
+use Rattle.std.specs.Prelude.{◌≡◌, List, ◌++◌}
+use Rattle.std.specs.List.{flat_map}
+use Rattle.pfr_messages.specs.Messages.{Content}
+use Rattle.pfr_sync.specs.declared.event.Event.{Event}
+use Rattle.pfr_sync.specs.declared.origin.Origin.{Origin}
+use Rattle.pfr_sync.specs.Messages.{message_of, parts_of}
+
+-- the messages of the parts of events that are closed
+abbrev pub closed_of : Origin → List Event → List Content
+closed_of origin events = flat_map (message_of origin) (parts_of origin events).closed
+
+-- they are a beginning of those of the events with more
+abbrev pub ClosedMessagesStay : Type 0
+ClosedMessagesStay =
+    (origin : Origin) (events more : List Event) → (rest : List Content) × (closed_of origin (events ++ more) ≡ closed_of origin events ++ rest)

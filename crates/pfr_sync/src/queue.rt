@@ -1,0 +1,119 @@
+//! The open message.
+ghost use Rattle.std.specs.Prelude.{◌≡◌, ◌≤◌, ◌<◌, ◌++◌, ◌∷◌, [], List, IfOk, OnOk, OnErr};
+ghost use Rattle.std.specs.List.{All};
+ghost use Rattle.pfr_track.specs.declared.time.Clock.{Clock as C};
+ghost use Rattle.pfr_sync.specs.declared.event.Event.{Event as E};
+ghost use Rattle.pfr_sync.specs.Events.{MayCome};
+ghost use Rattle.pfr_sync.specs.Messages as messages;
+ghost use Rattle.pfr_sync.specs.Queues as spec;
+
+use crate::edit::{apply, begun, edit_of, start};
+use crate::event::Event;
+use crate::names::plain_name;
+use crate::origin::Origin;
+use crate::sizes::has_room;
+use crate::telling::message_of;
+use pfr_messages::Message;
+use pfr_net::IfName;
+use pfr_track::{Clock, State};
+use std::alloc::{AllocError, Global};
+use std::marker::Model;
+
+/// What a message tells of a state.
+#[derive(Clone, Copy, Debug, PartialEq, Eq)]
+pub enum Told {
+    /// It came to be.
+    Insert,
+    /// It moved on.
+    Update,
+    /// It is gone.
+    Delete,
+}
+
+/// What the open message tells of a state.
+#[derive(Clone, Copy)]
+pub struct Entry {
+    pub told: Told,
+    pub state: State,
+}
+
+/// What the open message tells so far, an entry a state. Contracts see the entries by rising number, and whose they are.
+///
+/// Events come in the order of their clocks. Before one of a later clock the open message is closed at its own.
+#[derive(Drop)]
+pub struct Queue {
+    alloc: Global,
+    origin: Origin,
+    entries: Vec<Entry>,
+}
+
+impl Model for Queue {
+    ghost use Rattle.pfr_sync.specs.Queues.{IsQueue, Queued};
+
+    ghost Value = { Queued };
+
+    ghost view = { λ q. record { origin = q.origin; entries = q.entries.items } };
+
+    ghost invariant = { λ q. IsQueue (record { origin = q.origin; entries = q.entries.items }) };
+}
+
+impl Queue {
+    /// A queue in which nothing is told yet. It takes memory only once something is.
+    pub fn new(alloc: Global, interface: &IfName, checksum: [u8; 16], creator: u32) -> Queue
+        ensures { result ≡ record { origin = record { interface = spec.plain_name interface.now; checksum = checksum; creator = creator }; entries = [] } }
+    {
+        Queue {
+            alloc,
+            origin: Origin {
+                interface: plain_name(interface),
+                checksum,
+                creator,
+            },
+            entries: Vec::new(alloc),
+        }
+    }
+
+    /// Takes an event over, and answers the message that closes before it: where the open one has no room for what the event
+    /// tells. Where memory is refused nothing changes.
+    pub fn add(&mut self, event: &Event) -> Result<Option<Message>, AllocError>
+        // what the message says, and what is told then
+        ensures message { IfOk result (λ message. spec.list_of message ≡ spec.closed_before self.old event.now) }
+        ensures entries { OnOk result (self.new.entries ≡ spec.after self.old event.now) }
+        ensures origin { self.new.origin ≡ self.old.origin }
+        ensures kept { OnErr result (self.new ≡ self.old) }
+        // for every list of events of whose open part the queue has the entries: so it has those of the longer list, and the
+        // message is what the longer list closes
+        ensures events { (events : List E) → spec.Tells self.old event.now.clock events → MayCome events event.now
+            → IfOk result (λ message. spec.Tells self.new event.now.clock (events ++ event.now ∷ [])
+            × (messages.closed_at self.old.origin event.now.clock (events ++ event.now ∷ []) ≡ messages.closed_at self.old.origin event.now.clock events ++ spec.list_of message)) }
+    {
+        let entries = self.entries.as_slice();
+        let edit = edit_of(entries, event);
+        if has_room(&entries[..edit.from], edit.entry, &entries[edit.to..]) {
+            apply(&mut self.entries, &edit)?;
+            return Ok(None);
+        }
+        let message = message_of(self.alloc, &self.origin, event.clock, entries)?;
+        start(&mut self.entries, begun(event));
+        Ok(message)
+    }
+
+    /// Closes the open message at its clock: none where nothing is told. Where memory is refused nothing changes.
+    pub fn close(&mut self, clock: Clock) -> Result<Option<Message>, AllocError>
+        ensures message { IfOk result (λ message. spec.list_of message ≡ messages.messages_by self.old.origin clock self.old.entries) }
+        ensures entries { OnOk result (self.new.entries ≡ []) }
+        ensures origin { self.new.origin ≡ self.old.origin }
+        ensures kept { OnErr result (self.new ≡ self.old) }
+        // for every list of events of whose open part the queue has the entries: the message is what a later clock closes, and it is
+        // the last one of the list
+        ensures later { (events : List E) (later : C) → spec.Tells self.old clock events → All (λ event. event.clock.0 ≤ clock.0) events → clock.0 < later.0
+            → IfOk result (λ message. spec.Tells self.new later events
+            × (messages.closed_at self.old.origin later events ≡ messages.closed_at self.old.origin clock events ++ spec.list_of message)) }
+        ensures last { (events : List E) → spec.Tells self.old clock events
+            → IfOk result (λ message. messages.messages_of self.old.origin events ≡ messages.closed_at self.old.origin clock events ++ spec.list_of message) }
+    {
+        let message = message_of(self.alloc, &self.origin, clock, &self.entries)?;
+        self.entries.clear();
+        Ok(message)
+    }
+}

@@ -1,0 +1,88 @@
+//! The message that tells entries.
+ghost use Rattle.std.specs.Prelude.{◌≡◌, true, map, IfOk};
+ghost use Rattle.std.specs.List.{filter, list_all};
+ghost use Rattle.pfr_messages.specs.Fields.{name};
+ghost use Rattle.pfr_messages.specs.Records as records;
+ghost use Rattle.pfr_sync.specs.Events as events;
+ghost use Rattle.pfr_sync.specs.Messages as messages;
+ghost use Rattle.pfr_sync.specs.Queues.{IsQueue, list_of};
+
+use crate::origin::Origin;
+use crate::queue::{Entry, Told};
+use crate::records::{deletion_of, insertion_of, update_of};
+use pfr_messages::{Deletion, Insertion, Message, Update};
+use pfr_track::Clock;
+use std::alloc::{AllocError, Global};
+
+fn insertions_of(
+    alloc: Global,
+    origin: &Origin,
+    clock: Clock,
+    entries: &[Entry],
+) -> Result<Vec<Insertion>, AllocError>
+    requires { name.fits origin.now.interface ≡ true }
+    ensures records { IfOk result (λ v. v.items ≡ map (λ entry. events.insertion_of origin.now clock entry.state) (filter messages.is_insert entries.now)) }
+    ensures fits { IfOk result (λ v. list_all records.insertion.fits v.items ≡ true) }
+{
+    let mut found = Vec::new(alloc);
+    for entry in entries {
+        if let Told::Insert = entry.told {
+            found.push(insertion_of(*origin, clock, entry.state))?;
+        }
+    }
+    Ok(found)
+}
+
+fn updates_of(
+    alloc: Global,
+    origin: &Origin,
+    clock: Clock,
+    entries: &[Entry],
+) -> Result<Vec<Update>, AllocError>
+    ensures records { IfOk result (λ v. v.items ≡ map (λ entry. events.update_of origin.now clock entry.state) (filter messages.is_update entries.now)) }
+    ensures fits { IfOk result (λ v. list_all records.update.fits v.items ≡ true) }
+{
+    let mut found = Vec::new(alloc);
+    for entry in entries {
+        if let Told::Update = entry.told {
+            found.push(update_of(*origin, clock, entry.state))?;
+        }
+    }
+    Ok(found)
+}
+
+fn deletions_of(
+    alloc: Global,
+    origin: &Origin,
+    entries: &[Entry],
+) -> Result<Vec<Deletion>, AllocError>
+    ensures records { IfOk result (λ v. v.items ≡ map (λ entry. events.deletion_of origin.now entry.state) (filter messages.is_delete entries.now)) }
+    ensures fits { IfOk result (λ v. list_all records.deletion.fits v.items ≡ true) }
+{
+    let mut found = Vec::new(alloc);
+    for entry in entries {
+        if let Told::Delete = entry.told {
+            found.push(deletion_of(*origin, entry.state))?;
+        }
+    }
+    Ok(found)
+}
+
+/// The message that tells entries at a clock; none where there are none.
+pub fn message_of(
+    alloc: Global,
+    origin: &Origin,
+    clock: Clock,
+    entries: &[Entry],
+) -> Result<Option<Message>, AllocError>
+    requires { IsQueue (record { origin = origin.now; entries = entries.now }) }
+    ensures { IfOk result (λ message. list_of message ≡ messages.messages_by origin.now clock entries.now) }
+{
+    if entries.is_empty() {
+        return Ok(None);
+    }
+    let insertions = insertions_of(alloc, origin, clock, entries)?;
+    let updates = updates_of(alloc, origin, clock, entries)?;
+    let deletions = deletions_of(alloc, origin, entries)?;
+    Ok(Some(Message::new(origin.checksum, insertions, updates, deletions)))
+}
