@@ -1,4 +1,4 @@
-"""The programs that are compared: pfreplay, and `answers`, which prints what the proved crates answer."""
+"""The programs that are compared: pfreplay, and those that print what the proved crates answer."""
 
 import subprocess
 from pathlib import Path
@@ -7,8 +7,7 @@ ROOT = Path(__file__).resolve().parent.parent
 CRATES = ROOT / "crates"
 # what a crate is made of
 PARTS = ("src", "specs", "proofs")
-ANSWERS = CRATES / "answers"
-# with nothing on standard input it answers nothing by this word
+# with nothing on standard input `answers` answers nothing by this word
 IDLE_WORD = "rulesets"
 
 
@@ -36,17 +35,22 @@ def ran(words, folder):
         raise SystemExit(done.stdout)
 
 
-def build_answers():
-    """The program `answers`, which is built where it isn't or where a source is newer."""
-    program = ANSWERS / "out" / "answers"
+def built(name, *words):
+    """The program of a crate, which is built where it isn't or where a source is newer; by the words it answers nothing."""
+    program = CRATES / name / "out" / name
     if is_stale(program):
-        ran(["rt", "run", "--", IDLE_WORD], ANSWERS)
+        ran(["rt", "run", "--", *words], CRATES / name)
     return program
 
 
 def answers(word):
-    """The command that answers by one of the program's words."""
-    return [str(build_answers()), word]
+    """The command by which `answers` answers one of its words."""
+    return [str(built("answers", IDLE_WORD)), word]
+
+
+def message_answers(word):
+    """The command by which `message_answers` answers one of its words."""
+    return [str(built("message_answers", word)), word]
 
 
 def pfreplay():

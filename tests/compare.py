@@ -25,11 +25,12 @@ import building
 
 TESTS = Path(__file__).resolve().parent
 # each is a package with a module `compare`
-WORDS = ("runs", "rulesets", "expansions", "tracking", "table", "steps", "commits", "faults")
+WORDS = ("runs", "rulesets", "expansions", "tracking", "table", "steps", "commits", "messages", "faults")
 # those of which nothing is written out
 WITHOUT_MODEL_ALONE = ("table",)
-# those of the program pfreplay; all others are of the program `answers`
+# those of the program pfreplay, and of message_answers; all others are of the program `answers`
 OF_PFREPLAY = ("runs", "faults")
+OF_MESSAGES = ("messages",)
 
 
 class Outcome(NamedTuple):
@@ -51,8 +52,10 @@ def build(words):
     """Builds what these comparisons need, so that none of them has to while the others run."""
     if set(words) & set(OF_PFREPLAY):
         building.pfreplay()
-    if set(words) - set(OF_PFREPLAY):
-        building.build_answers()
+    if set(words) & set(OF_MESSAGES):
+        building.message_answers("texts")
+    if set(words) - {*OF_PFREPLAY, *OF_MESSAGES}:
+        building.built("answers", building.IDLE_WORD)
 
 
 def compare(words, function):
