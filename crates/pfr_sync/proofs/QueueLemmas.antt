@@ -147,8 +147,8 @@ section_least size n least = elim (cases_Bool (n == 0)) [
   | inr not_it ↦ rw not_it (let more = mul-le-mul_right n least in omega arith)
 ]
 
-pub few_entries : (queue : Queued) → IsQueue queue → length queue.entries ≤ 1000
-few_entries queue keeps =
+pub few : (queue : Queued) → IsQueue queue → length queue.entries ≤ 121
+few queue keeps =
     let clock : Clock = record { 0 = 0 } in
     let room : has_room queue.entries ≡ true = sym (short_is queue.origin clock queue.entries keeps.interface keeps.checksum) ∙ keeps.short clock in
     let size = leb-true (size_of (counts_of queue.entries)) 1480 room in
@@ -157,6 +157,9 @@ few_entries queue keeps =
     let u = section_least 84 (length (filter is_update queue.entries)) (omega arith) in
     let d = section_least 12 (length (filter is_delete queue.entries)) (omega arith) in
     omega arith
+
+pub few_entries : (queue : Queued) → IsQueue queue → length queue.entries ≤ 1000
+few_entries queue keeps = omega (arith, few queue keeps)
 
 -- ---- an event
 

@@ -1,5 +1,5 @@
 //! The open message.
-ghost use Rattle.std.specs.Prelude.{◌≡◌, ◌≤◌, ◌<◌, ◌++◌, ◌∷◌, [], List, IfOk, OnOk, OnErr};
+ghost use Rattle.std.specs.Prelude.{◌≡◌, ◌≤◌, ◌<◌, ◌++◌, ◌∷◌, [], List, length, IfOk, OnOk, OnErr};
 ghost use Rattle.std.specs.List.{All};
 ghost use Rattle.pfr_track.specs.declared.time.Clock.{Clock as C};
 ghost use Rattle.pfr_sync.specs.declared.event.Event.{Event as E};
@@ -71,6 +71,14 @@ impl Queue {
             },
             entries: Vec::new(alloc),
         }
+    }
+
+    /// How many states the open message tells of.
+    pub fn len(&self) -> usize
+        ensures count { result ≡ length self.now.entries }
+        ensures few { result ≤ 121 }
+    {
+        self.entries.len()
     }
 
     /// Takes an event over, and answers the message that closes before it: where the open one has no room for what the event
