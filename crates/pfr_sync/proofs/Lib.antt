@@ -1,5 +1,6 @@
 pub mod EditLemmas
 pub mod EntryLemmas
+pub mod FileLemmas
 pub mod GatherLemmas
 pub mod LawLemmas
 pub mod MessageLemmas

@@ -1,9 +1,12 @@
 -- Words of the laws.
-use Rattle.std.specs.Prelude.{◌≡◌, List, ◌++◌}
+use Rattle.std.specs.Prelude.{◌≡◌, ◌≤◌, ◌<◌, ℕ, ◌^◌, List, ◌++◌}
 use Rattle.std.specs.List.{flat_map}
+use Rattle.pfr_net.specs.declared.address.Ipv4Address.{Ipv4Address}
+use Rattle.pfr_headers.specs.Checksum.{Verifies, sum_of_words}
 use Rattle.pfr_messages.specs.Messages.{Content}
 use Rattle.pfr_sync.specs.declared.event.Event.{Event}
 use Rattle.pfr_sync.specs.declared.origin.Origin.{Origin}
+use Rattle.pfr_sync.specs.Files.{ip_header}
 use Rattle.pfr_sync.specs.Messages.{message_of, parts_of}
 
 -- the messages of the parts of events that are closed
@@ -14,3 +17,7 @@ closed_of origin events = flat_map (message_of origin) (parts_of origin events).
 abbrev pub ClosedMessagesStay : Type 0
 ClosedMessagesStay =
     (origin : Origin) (events more : List Event) → (rest : List Content) × (closed_of origin (events ++ more) ≡ closed_of origin events ++ rest)
+
+-- the checksum of the header before a message in a file verifies
+abbrev pub FileHeaderVerifies : Type 0
+FileHeaderVerifies = (source : Ipv4Address) (len : ℕ) → source.0 < 2 ^ 32 → len ≤ 1480 → Verifies (sum_of_words 10 (ip_header source len))

@@ -1,4 +1,5 @@
 pub mod Events
+pub mod Files
 pub mod Laws
 pub mod Messages
 pub mod Queues

@@ -1,9 +1,19 @@
 //! Laws of the definitions, each the contract of a function that does nothing.
-ghost use Rattle.pfr_sync.specs.Laws.{ClosedMessagesStay};
+ghost use Rattle.std.specs.Prelude.{◌≡◌, length, ℕ};
+ghost use Rattle.pfr_net.specs.declared.address.Ipv4Address.{Ipv4Address};
+ghost use Rattle.pfr_sync.specs.Files.{ip_header};
+ghost use Rattle.pfr_sync.specs.Laws.{ClosedMessagesStay, FileHeaderVerifies};
 
 pub use pfr_messages::laws::{one_spelling, readable};
 
 /// The messages of all parts of events but the last stay as they are, whatever events come after.
 pub fn closed_messages_stay()
     ensures { ClosedMessagesStay }
+{}
+
+/// The IP header before a message in a file has 20 bytes, and its checksum verifies, from every address and for every length that
+/// a message has.
+pub fn file_header_verifies()
+    ensures length { (source : Ipv4Address) (len : ℕ) → length (ip_header source len) ≡ 20 }
+    ensures checksum { FileHeaderVerifies }
 {}

@@ -6,11 +6,14 @@
 //! A [`Queue`] takes [`Event`]s, in the order in which states are made, touched and removed. It holds what the open message
 //! tells, an entry a state, and answers the messages that close. Its contracts say so for every list of events: the messages
 //! are those of the list's parts, as the definition cuts it. [`encode`] spells a [`Message`], and [`decode`] reads one.
+//!
+//! In a file each message stands behind an IP header, [`ip_header`]. Its checksum verifies (`laws::file_header_verifies`).
 #![tactic(auto)]
 
 mod digest;
 mod edit;
 pub mod event;
+mod file;
 pub mod laws;
 mod names;
 pub mod origin;
@@ -21,6 +24,7 @@ mod telling;
 
 pub use digest::checksum;
 pub use event::{Change, Event};
+pub use file::ip_header;
 pub use origin::Origin;
 pub use pfr_messages::{Message, SyncError, decode, encode, encode_onto};
 pub use queue::Queue;
