@@ -1,5 +1,6 @@
-//! The test suite of RFC 1321, A.5.
-use pfr_sync::checksum;
+//! Checksums: the test suite of RFC 1321, A.5, for a ruleset, and the IP header of a message in a file.
+use pfr_net::Ipv4Address;
+use pfr_sync::{checksum, ip_header};
 
 #[test]
 fn texts_of_the_standard(rt: HostRuntime) {
@@ -23,4 +24,13 @@ fn texts_of_the_standard(rt: HostRuntime) {
     ] {
         assert_eq!(rt; checksum(text.as_bytes()), expected.to_be_bytes());
     }
+}
+
+#[test]
+fn the_header_of_a_message_in_a_file_has_the_right_checksum(rt: HostRuntime) {
+    let expected: [u8; 20] = [
+        0x45, 0x10, 0x01, 0x22, 0, 0, 0x40, 0, 0xff, 0xf0, 0xd6, 0xe9, 0xc0, 0, 2, 1, 0xe0, 0, 0,
+        0xf0,
+    ];
+    assert!(rt; ip_header(Ipv4Address(0xc000_0201), 270) == expected);
 }
