@@ -36,7 +36,7 @@ def ran(words, folder):
 
 
 def built(name, *words):
-    """The program of a crate, which is built where it isn't or where a source is newer; by the words it answers nothing."""
+    """The program of a crate, built where it isn't or where a source is newer. By the words it answers nothing."""
     program = CRATES / name / "out" / name
     if is_stale(program):
         ran(["rt", "run", "--", *words], CRATES / name)

@@ -1,11 +1,11 @@
 """Compares what messages the proved crates make of events, and what they read and spell, with the models.
 
-Of events random lists are compared, and those of random runs: a queue's messages with those of the list that is cut when
-it is finished.
+Of events random lists are compared, and those of random runs: a queue's messages with those of the list that is cut
+when it is finished.
 
 Of texts those are compared whose answers are written out, each byte of five messages set to each of 256 values, every
-beginning of these messages, messages joined, and random texts, most of which are messages but for a mistake or two. What
-the program reads it spells again, and says so where that gives other bytes.
+beginning of these messages, messages joined, and random texts, most of which are messages but for a mistake or two.
+What the program reads it spells again, and says so where that gives other bytes.
 
 The models alone are asked what `check.py` asks them.
 """
@@ -69,9 +69,9 @@ def peers_kind(state):
 def state_bytes(state):
     counts = [state.counts[place].to_bytes(8) for place in (0, 1, 2, 3)]
     return (state.number.to_bytes(8) + bytes([state.protocol, state.direction == "out"]) + key_bytes(state.wire)
-            + key_bytes(state.stack) + rule_bytes(state.rule) + rule_bytes(state.translation) + bytes([peers_kind(state)])
-            + peer_bytes(state.maker) + peer_bytes(state.other) + state.made.to_bytes(4) + state.deadline.to_bytes(8)
-            + bytes([state.timeout]) + b"".join(counts))
+            + key_bytes(state.stack) + rule_bytes(state.rule) + rule_bytes(state.translation)
+            + bytes([peers_kind(state)]) + peer_bytes(state.maker) + peer_bytes(state.other) + state.made.to_bytes(4)
+            + state.deadline.to_bytes(8) + bytes([state.timeout]) + b"".join(counts))
 
 
 def event_bytes(event):
@@ -88,7 +88,8 @@ def list_bytes(origin, packets):
 def random_lists():
     draw = random.Random(check.SEED)
     for each in random_events.lists():
-        origin = Origin(draw.choice((b"", b"em0", b"a2345678901234.")), draw.randbytes(16), draw.choice((0, 1, 2**32 - 1)))
+        name = draw.choice((b"", b"em0", b"a2345678901234."))
+        origin = Origin(name, draw.randbytes(16), draw.choice((0, 1, 2**32 - 1)))
         yield origin, list(map(packet_of, each.happenings))
 
 
@@ -126,7 +127,8 @@ def record(text):
 
 def seen_lines(command, asked):
     """The program's line for each text."""
-    done = subprocess.run(command, input=b"".join(map(record, asked)), stdout=subprocess.PIPE, timeout=TIME_LIMIT, check=True)
+    done = subprocess.run(command, input=b"".join(map(record, asked)), stdout=subprocess.PIPE, timeout=TIME_LIMIT,
+                          check=True)
     lines = done.stdout.decode().splitlines()
     if len(lines) != len(asked):
         raise SystemExit(f"{len(lines)} answers to {len(asked)} texts")
@@ -156,9 +158,11 @@ def compare_kind(command, kind):
 
 def compare_texts(command):
     """How many of all texts are answered otherwise."""
-    pieces = [(place, start) for place, message in enumerate(five_messages()) for start in range(0, len(bare(message)), PLACES)]
+    pieces = [(place, start) for place, message in enumerate(five_messages())
+              for start in range(0, len(bare(message)), PLACES)]
     with ProcessPoolExecutor(os.cpu_count()) as pool:
-        others = {kind: [pool.submit(compare_kind, command, kind)] for kind in texts.KINDS_OF_TEXTS if kind != texts.CHANGED}
+        others = {kind: [pool.submit(compare_kind, command, kind)]
+                  for kind in texts.KINDS_OF_TEXTS if kind != texts.CHANGED}
         found = {texts.CHANGED: [pool.submit(compare_bytes, command, *piece) for piece in pieces], **others}
         results = {kind: [each.result() for each in several] for kind, several in found.items()}
     for kind, several in results.items():
@@ -175,7 +179,8 @@ def compare_written(command):
     written = [*answers.answers(), *answers.interface_answers(insert), *answers.first_answers(insert)]
     asked = [text for text, _ in written]
     # where the content isn't written out, none is compared
-    seen = (line.split()[0] if wanted == "ok" else line for line, (_, wanted) in zip(seen_lines(command, asked), written))
+    seen = (line.split()[0] if wanted == "ok" else line
+            for line, (_, wanted) in zip(seen_lines(command, asked), written))
     count = differing(zip(asked, (wanted for _, wanted in written), seen), show)
     print(f"{len(written)} texts written out: {count} differ from the program")
     return count

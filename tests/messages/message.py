@@ -53,8 +53,6 @@ class Delete(NamedTuple):
     creator: int
 
 
-
-
 class Message(NamedTuple):
     """The MD5 of the ruleset's text, and the records of each kind by rising number."""
     checksum: bytes

@@ -1,7 +1,7 @@
 -- What every queue keeps.
 use Rattle.std.proofs.Common.{◌≡◌, ℕ, ◌+◌, ◌*◌, ◌-◌, ◌≤◌, ◌<◌, ◌==◌, Bool, true, false, nat_lt, take, drop, List, [], ◌∷◌, ◌++◌, length, Option, sym, refl, ap, ◌∙◌, subst, inl, inr, arith}
-use Rattle.std.specs.List.{filter}
-use Rattle.std.proofs.lemmas.Bool.{and_parts, and_from, cases_Bool, cases_order, lt-ltb, le-ltb, ltb-true, eqb-true, true≢false, eq-eqb, ne_eqb, leb-true}
+use Rattle.std.specs.List.{cons_option, filter}
+use Rattle.std.proofs.lemmas.Bool.{and_parts, and_from, cases_Bool, cases_order, lt-ltb, le-ltb, ltb-true, eqb-true, eq-eqb, ne_eqb, leb-true}
 use Rattle.std.proofs.Math.Nat.{mul-le-mul_right}
 use Rattle.std.proofs.lemmas.List.{take_rest}
 use Rattle.pfr_track.specs.declared.state.State.{State}
@@ -16,7 +16,7 @@ use Rattle.pfr_sync.specs.declared.queue.Entry.{Entry}
 use Rattle.pfr_sync.specs.declared.queue.Told.{Told}
 use Rattle.pfr_sync.specs.declared.queue.Told.TheVariants.{Insert, Update, Delete}
 use Rattle.pfr_sync.specs.Messages.{is_short, is_insert, is_update, is_delete, messages_by}
-use Rattle.pfr_sync.specs.Queues.{IsQueue, Queued, begun, followed, number_of, put_before, rise, with_entry, after, closed_before}
+use Rattle.pfr_sync.specs.Queues.{IsQueue, Queued, begun, followed, number_of, rise, with_entry, after, closed_before}
 use Rattle.pfr_sync.specs.Sizes.{counts_of, has_room, section_size, size_of}
 use Rattle.pfr_sync.proofs.RiseLemmas.{are_above}
 use Rattle.pfr_sync.proofs.SizeLemmas.{short_is}
@@ -26,7 +26,7 @@ use Rattle.pfr_sync.proofs.SizeLemmas.{short_is}
 pub with_before : (event : Event) (x : Entry) (xs : List Entry) → event.state.number.0 < number_of x → with_entry event (x ∷ xs) ≡ begun event ∷ x ∷ xs
 with_before event x xs before = rw (lt-ltb event.state.number.0 (number_of x) before) refl
 
-pub with_over : (event : Event) (x : Entry) (xs : List Entry) → event.state.number.0 ≡ number_of x → with_entry event (x ∷ xs) ≡ put_before (followed x.told event) xs
+pub with_over : (event : Event) (x : Entry) (xs : List Entry) → event.state.number.0 ≡ number_of x → with_entry event (x ∷ xs) ≡ cons_option (followed x.told event) xs
 with_over event x xs is = rw (le-ltb event.state.number.0 (number_of x) (omega arith), eq-eqb event.state.number.0 (number_of x) is) refl
 
 pub with_behind : (event : Event) (x : Entry) (xs : List Entry) → number_of x < event.state.number.0 → with_entry event (x ∷ xs) ≡ x ∷ with_entry event xs
@@ -48,7 +48,7 @@ above_begun n event it = ap (nat_lt n) (number_begun event) ∙ it
 
 -- it begins with the state's entry, or is without
 above_over_by : (n : ℕ) (told : Told) (change : Change) (state : State) (clock : Clock) (xs : List Entry) → nat_lt n state.number.0 ≡ true → are_above n xs ≡ true
-    → are_above n (put_before (followed told (record { change = change; state = state; clock = clock })) xs) ≡ true
+    → are_above n (cons_option (followed told (record { change = change; state = state; clock = clock })) xs) ≡ true
 above_over_by n Insert Made state clock xs it above = rw it above
 above_over_by n Insert Touched state clock xs it above = rw it above
 above_over_by n Insert Removed state clock xs it above = above
@@ -59,7 +59,7 @@ above_over_by n Delete Made state clock xs it above = rw it above
 above_over_by n Delete Touched state clock xs it above = rw it above
 above_over_by n Delete Removed state clock xs it above = rw it above
 
-above_over : (n : ℕ) (told : Told) (event : Event) (xs : List Entry) → nat_lt n event.state.number.0 ≡ true → are_above n xs ≡ true → are_above n (put_before (followed told event) xs) ≡ true
+above_over : (n : ℕ) (told : Told) (event : Event) (xs : List Entry) → nat_lt n event.state.number.0 ≡ true → are_above n xs ≡ true → are_above n (cons_option (followed told event) xs) ≡ true
 above_over n told event xs it above = above_over_by n told event.change event.state event.clock xs it above
 
 above_with : (n : ℕ) (event : Event) (xs : List Entry) → nat_lt n event.state.number.0 ≡ true → are_above n xs ≡ true → are_above n (with_entry event xs) ≡ true
@@ -80,7 +80,7 @@ above_lower m n (x ∷ xs) low above =
     rw (lt-ltb m (number_of x) (omega arith)) (above_lower m n xs low parts.1)
 
 rise_over_by : (told : Told) (change : Change) (state : State) (clock : Clock) (xs : List Entry) → are_above state.number.0 xs ≡ true → rise xs ≡ true
-    → rise (put_before (followed told (record { change = change; state = state; clock = clock })) xs) ≡ true
+    → rise (cons_option (followed told (record { change = change; state = state; clock = clock })) xs) ≡ true
 rise_over_by Insert Made state clock xs above in_order = rw above in_order
 rise_over_by Insert Touched state clock xs above in_order = rw above in_order
 rise_over_by Insert Removed state clock xs above in_order = in_order
@@ -174,17 +174,17 @@ pub record Adds (origin : Origin) (entries : List Entry) (event : Event) (new : 
 
 -- the answer whether there is room
 abbrev pub room_at : List Entry → ℕ → ℕ → Option Entry → Bool
-room_at entries from to edited = has_room (take from entries ++ put_before edited (take (length entries - to) (drop to entries)))
+room_at entries from to edited = has_room (take from entries ++ cons_option edited (take (length entries - to) (drop to entries)))
 
-room_is : (entries : List Entry) (event : Event) (from to : ℕ) (edited : Option Entry) → with_entry event entries ≡ take from entries ++ put_before edited (drop to entries)
+room_is : (entries : List Entry) (event : Event) (from to : ℕ) (edited : Option Entry) → with_entry event entries ≡ take from entries ++ cons_option edited (drop to entries)
     → room_at entries from to edited ≡ has_room (with_entry event entries)
 room_is entries event from to edited is = rw (take_rest entries to) (ap has_room (sym is))
 
 pub adds_room : (origin : Origin) (entries : List Entry) (event : Event) (from to : ℕ) (edited : Option Entry) (new : List Entry)
     → IsQueue (queued origin entries)
-    → with_entry event entries ≡ take from entries ++ put_before edited (drop to entries)
+    → with_entry event entries ≡ take from entries ++ cons_option edited (drop to entries)
     → room_at entries from to edited ≡ true
-    → new ≡ take from entries ++ put_before edited (drop to entries)
+    → new ≡ take from entries ++ cons_option edited (drop to entries)
     → Adds origin entries event new []
 adds_room origin entries event from to edited new queue is room made =
     let enough : has_room (with_entry event entries) ≡ true = sym (room_is entries event from to edited is) ∙ room in
@@ -198,7 +198,7 @@ adds_room origin entries event from to edited new queue is room made =
 
 pub adds_full : (origin : Origin) (entries : List Entry) (event : Event) (from to : ℕ) (edited : Option Entry) (new : List Entry) (closed : List Content)
     → IsQueue (queued origin entries)
-    → with_entry event entries ≡ take from entries ++ put_before edited (drop to entries)
+    → with_entry event entries ≡ take from entries ++ cons_option edited (drop to entries)
     → room_at entries from to edited ≡ false
     → closed ≡ messages_by origin event.clock entries
     → new ≡ begun event ∷ []
@@ -211,11 +211,3 @@ adds_full origin entries event from to edited new closed queue is room message m
       closes = rw long message;
       leaves = rw long made;
     }
-
--- where there is no room some entry is there
-pub some_there : (entries : List Entry) (event : Event) (from to : ℕ) (edited : Option Entry) → with_entry event entries ≡ take from entries ++ put_before edited (drop to entries)
-    → room_at entries from to edited ≡ false → 0 < length entries
-some_there [] event from to edited is room =
-    let full : has_room (with_entry event []) ≡ false = sym (room_is [] event from to edited is) ∙ room in
-    absurd (true≢false (sym (one_short (begun event)) ∙ full))
-some_there (x ∷ xs) event from to edited is room = omega arith

@@ -1,6 +1,6 @@
 -- The queue: what the open part tells so far, an entry a state.
 use Rattle.std.specs.Prelude.{◌≡◌, ℕ, ◌==◌, ◌&&◌, Bool, true, nat_lt, if◌then◌else◌, List, [], ◌∷◌, length, Option, Some, None}
-use Rattle.std.specs.List.{list_all}
+use Rattle.std.specs.List.{cons_option, list_all}
 use Rattle.pfr_net.specs.Interfaces.{if_name}
 use Rattle.pfr_net.specs.declared.interface.IfName.{IfName}
 use Rattle.pfr_track.specs.declared.time.Clock.{Clock}
@@ -43,16 +43,12 @@ followed told event = elim event.change [
   | Removed ↦ Some (record { told = Delete; state = event.state })
 ]
 
-abbrev pub put_before : Option Entry → List Entry → List Entry
-put_before None entries = entries
-put_before (Some entry) entries = entry ∷ entries
-
 -- what is told with one event more
 abbrev pub with_entry : Event → List Entry → List Entry
 with_entry event [] = begun event ∷ []
 with_entry event (entry ∷ entries) =
     if nat_lt event.state.number.0 (number_of entry) then begun event ∷ entry ∷ entries else
-    if event.state.number.0 == number_of entry then put_before (followed entry.told event) entries else
+    if event.state.number.0 == number_of entry then cons_option (followed entry.told event) entries else
     entry ∷ with_entry event entries
 
 -- the message that closes before an event: none where the open one has room for it
@@ -64,11 +60,6 @@ abbrev pub after : Queued → Event → List Entry
 after queue event =
     if is_short queue.origin event.clock (with_entry event queue.entries)
     then with_entry event queue.entries else with_entry event []
-
--- the messages of an answer
-abbrev pub list_of : {A : Type 0} → Option A → List A
-list_of None = []
-list_of (Some x) = x ∷ []
 
 -- ---- names
 

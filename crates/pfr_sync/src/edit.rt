@@ -1,5 +1,6 @@
 //! What an event does to the entries of the open message.
 ghost use Rattle.std.specs.Prelude.{◌≡◌, ◌+◌, ◌≤◌, ◌<◌, ◌++◌, take, drop, length, slice_index_or, vec_len, [], ◌∷◌, OnOk, OnErr, IfNone};
+ghost use Rattle.std.specs.List.{cons_option};
 ghost use Rattle.pfr_sync.specs.Queues as spec;
 
 use crate::event::{Change, Event};
@@ -60,7 +61,7 @@ fn place_of(entries: &[Entry], event: &Event) -> usize
 
 /// What an event does to the entries.
 pub fn edit_of(entries: &[Entry], event: &Event) -> Edit
-    ensures entries { spec.with_entry event.now entries.now ≡ take result.from entries.now ++ spec.put_before result.entry (drop result.to entries.now) }
+    ensures entries { spec.with_entry event.now entries.now ≡ take result.from entries.now ++ cons_option result.entry (drop result.to entries.now) }
     ensures order { result.from ≤ result.to }
     ensures one { result.to ≤ result.from + 1 }
     ensures within { result.to ≤ length entries.now }
@@ -88,7 +89,7 @@ pub fn apply(entries: &mut Vec<Entry>, edit: &Edit) -> Result<(), AllocError>
     requires one { edit.now.to ≤ edit.now.from + 1 }
     requires within { edit.now.to ≤ length entries.old.items }
     requires gone { IfNone edit.now.entry (edit.now.from < edit.now.to) }
-    ensures entries { OnOk result (entries.new.items ≡ take edit.now.from entries.old.items ++ spec.put_before edit.now.entry (drop edit.now.to entries.old.items)) }
+    ensures entries { OnOk result (entries.new.items ≡ take edit.now.from entries.old.items ++ cons_option edit.now.entry (drop edit.now.to entries.old.items)) }
     ensures kept { OnErr result (entries.new.items ≡ entries.old.items) }
 {
     match edit.entry {

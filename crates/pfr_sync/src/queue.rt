@@ -1,5 +1,6 @@
 //! The open message.
 ghost use Rattle.std.specs.Prelude.{◌≡◌, ◌≤◌, ◌<◌, ◌++◌, ◌∷◌, [], List, length, IfOk, OnOk, OnErr};
+ghost use Rattle.std.specs.Option.{option_to_list};
 ghost use Rattle.std.specs.List.{All};
 ghost use Rattle.pfr_track.specs.declared.time.Clock.{Clock as C};
 ghost use Rattle.pfr_sync.specs.declared.event.Event.{Event as E};
@@ -85,7 +86,7 @@ impl Queue {
     /// tells. Where memory is refused nothing changes.
     pub fn add(&mut self, event: &Event) -> Result<Option<Message>, AllocError>
         // what the message says, and what is told then
-        ensures message { IfOk result (λ message. spec.list_of message ≡ spec.closed_before self.old event.now) }
+        ensures message { IfOk result (λ message. option_to_list message ≡ spec.closed_before self.old event.now) }
         ensures entries { OnOk result (self.new.entries ≡ spec.after self.old event.now) }
         ensures origin { self.new.origin ≡ self.old.origin }
         ensures kept { OnErr result (self.new ≡ self.old) }
@@ -93,7 +94,7 @@ impl Queue {
         // message is what the longer list closes
         ensures events { (events : List E) → spec.Tells self.old event.now.clock events → MayCome events event.now
             → IfOk result (λ message. spec.Tells self.new event.now.clock (events ++ event.now ∷ [])
-            × (messages.closed_at self.old.origin event.now.clock (events ++ event.now ∷ []) ≡ messages.closed_at self.old.origin event.now.clock events ++ spec.list_of message)) }
+            × (messages.closed_at self.old.origin event.now.clock (events ++ event.now ∷ []) ≡ messages.closed_at self.old.origin event.now.clock events ++ option_to_list message)) }
     {
         let entries = self.entries.as_slice();
         let edit = edit_of(entries, event);
@@ -108,7 +109,7 @@ impl Queue {
 
     /// Closes the open message at its clock: none where nothing is told. Where memory is refused nothing changes.
     pub fn close(&mut self, clock: Clock) -> Result<Option<Message>, AllocError>
-        ensures message { IfOk result (λ message. spec.list_of message ≡ messages.messages_by self.old.origin clock self.old.entries) }
+        ensures message { IfOk result (λ message. option_to_list message ≡ messages.messages_by self.old.origin clock self.old.entries) }
         ensures entries { OnOk result (self.new.entries ≡ []) }
         ensures origin { self.new.origin ≡ self.old.origin }
         ensures kept { OnErr result (self.new ≡ self.old) }
@@ -116,9 +117,9 @@ impl Queue {
         // the last one of the list
         ensures later { (events : List E) (later : C) → spec.Tells self.old clock events → All (λ event. event.clock.0 ≤ clock.0) events → clock.0 < later.0
             → IfOk result (λ message. spec.Tells self.new later events
-            × (messages.closed_at self.old.origin later events ≡ messages.closed_at self.old.origin clock events ++ spec.list_of message)) }
+            × (messages.closed_at self.old.origin later events ≡ messages.closed_at self.old.origin clock events ++ option_to_list message)) }
         ensures last { (events : List E) → spec.Tells self.old clock events
-            → IfOk result (λ message. messages.messages_of self.old.origin events ≡ messages.closed_at self.old.origin clock events ++ spec.list_of message) }
+            → IfOk result (λ message. messages.messages_of self.old.origin events ≡ messages.closed_at self.old.origin clock events ++ option_to_list message) }
     {
         let message = message_of(self.alloc, &self.origin, clock, &self.entries)?;
         self.entries.clear();

@@ -1,6 +1,6 @@
 //! How many bytes a message has.
 ghost use Rattle.std.specs.Prelude.{◌≡◌, ◌+◌, ◌≤◌, ◌++◌, length, nat_le};
-ghost use Rattle.pfr_sync.specs.Queues.{put_before};
+ghost use Rattle.std.specs.List.{cons_option};
 ghost use Rattle.pfr_sync.specs.Sizes as spec;
 
 use crate::queue::{Entry, Told};
@@ -66,7 +66,7 @@ fn size_of(counts: Counts) -> usize
 pub fn has_room(before: &[Entry], entry: Option<Entry>, behind: &[Entry]) -> bool
     requires few { length before.now ≤ 1000 }
     requires few_more { length behind.now ≤ 1000 }
-    ensures { result ≡ spec.has_room (before.now ++ put_before entry behind.now) }
+    ensures { result ≡ spec.has_room (before.now ++ cons_option entry behind.now) }
 {
     let others = both(counts_of(before), counts_of(behind));
     let counts = match entry {

@@ -1,11 +1,12 @@
 //! The message that tells entries.
 ghost use Rattle.std.specs.Prelude.{◌≡◌, true, map, IfOk};
+ghost use Rattle.std.specs.Option.{option_to_list};
 ghost use Rattle.std.specs.List.{filter, list_all};
 ghost use Rattle.pfr_messages.specs.Fields.{name};
 ghost use Rattle.pfr_messages.specs.Records as records;
 ghost use Rattle.pfr_sync.specs.Events as events;
 ghost use Rattle.pfr_sync.specs.Messages as messages;
-ghost use Rattle.pfr_sync.specs.Queues.{IsQueue, list_of};
+ghost use Rattle.pfr_sync.specs.Queues.{IsQueue};
 
 use crate::origin::Origin;
 use crate::queue::{Entry, Told};
@@ -76,7 +77,7 @@ pub fn message_of(
     entries: &[Entry],
 ) -> Result<Option<Message>, AllocError>
     requires { IsQueue (record { origin = origin.now; entries = entries.now }) }
-    ensures { IfOk result (λ message. list_of message ≡ messages.messages_by origin.now clock entries.now) }
+    ensures { IfOk result (λ message. option_to_list message ≡ messages.messages_by origin.now clock entries.now) }
 {
     if entries.is_empty() {
         return Ok(None);
