@@ -8,23 +8,51 @@ use Rattle.pfr_states.specs.States.{StateTable}
 use Rattle.pfr_packet.specs.Job.{RunJob}
 use Rattle.pfr_record.specs.declared.speculation.Speculation.{Speculation}
 use Rattle.pfr_record.specs.Speculations.{Fits}
+use Rattle.pfr_sync.specs.Queues.{Tells}
 use Rattle.pfr_capture.specs.declared.capture.Record.{Record}
 use Rattle.pfr_commit.specs.declared.book.Book.{Book}
 use Rattle.pfr_commit.specs.declared.emitted.Emitted.{Emitted}
 use Rattle.pfr_commit.specs.Emissions.{frame_of, texts_of}
 use Rattle.pfr_commit.specs.Results.{is_of}
-use Rattle.pfr_commit.specs.World.{Frame, Texts, World, after, clock_at, world_after}
-
--- the world that a book stands for, where these are the texts so far
-abbrev pub world_in : Book → Texts → World
-world_in book texts = record { count = book.count; clock = book.clock; table = book.table; counters = book.counters; texts = texts }
+use Rattle.pfr_commit.specs.Telling.{AreTold, origin_of}
+use Rattle.pfr_commit.specs.World.{Frame, Texts, World, after, clock_at, joined, online, world_after}
 
 abbrev pub job_of : Book → RunJob
 job_of book = arc_value book.job
 
--- the same, where what was emitted are the texts so far
+-- what a book holds of a world: nothing of what was written or told
+abbrev pub world_in : Book → World
+world_in book = record { count = book.count; clock = book.clock; table = book.table; counters = book.counters; verdicts = []; packets = []; events = [] }
+
+-- the same, with the lines and packets that were emitted
 abbrev pub world_with : Book → Emitted → World
-world_with book out = world_in book (texts_of out)
+world_with book out = record (world_in book) { verdicts = out.verdicts.items; packets = out.packets.items }
+
+-- a world, and nothing of what was told
+abbrev pub untold : World → World
+untold world = record world { events = [] }
+
+-- a world, and nothing of what was written or told
+abbrev pub bare : World → World
+bare world = record world { verdicts = []; packets = []; events = [] }
+
+-- ---- the worlds of a book
+
+-- A book stands at a world: it holds what packets have left, and of the world's events what is told of the open part.
+pub record StandsAt (book : Book) (world : World) : Type 0 where
+  pub left : world_in book ≡ bare world
+  pub origin_is : book.telling.queue.origin ≡ origin_of (job_of book)
+  pub open : Tells book.telling.queue world.clock world.events
+  pub told : AreTold world.count world.clock world.table.states world.events
+
+-- From whatever world a book stood at it comes to the next one. What was emitted behind any texts is what is written by then, where it
+-- was so before.
+abbrev pub LeadsTo : (old new : Book) → (out out' : Emitted) → (World → World) → Type 0
+LeadsTo old new out out' next =
+    (world : World) (before : Texts) → StandsAt old world → online (job_of old) world ≡ joined before (texts_of out)
+    → StandsAt new (next world) × (online (job_of old) (next world) ≡ joined before (texts_of out'))
+
+-- ---- speculations
 
 -- a speculation was given, it is of this packet of this job, and its record holds in the table
 abbrev pub MayUse : Option Speculation → RunJob → ℕ → Clock → View → StateTable → Type 0
@@ -56,6 +84,19 @@ RisesOver job world results (packet ∷ packets) before last =
 abbrev pub frames_of : List (Record × View) → List Frame
 frames_of packets = map (λ packet. frame_of packet.0) packets
 
--- the texts of a world that has come to a count of packets, of these
-abbrev pub texts_up_to : RunJob → World → ℕ → List Frame → Texts
-texts_up_to job world count frames = (world_after job world (take (count - world.count) frames)).texts
+-- a world that has come to a count of packets, of these
+abbrev pub world_up_to : RunJob → World → ℕ → List Frame → World
+world_up_to job world count frames = world_after job world (take (count - world.count) frames)
+
+-- the lines and packets of a world, and those that were emitted
+abbrev pub written : World → List ℕ × List ℕ
+written world = (world.verdicts, world.packets)
+
+abbrev pub lines_of : Emitted → List ℕ × List ℕ
+lines_of out = (out.verdicts.items, out.packets.items)
+
+-- where memory was refused: what was emitted is what is written by then
+abbrev pub LeavesTexts : (old new : Book) → (out out' : Emitted) → List Frame → Type 0
+LeavesTexts old new out out' frames =
+    (world : World) (before : Texts) → StandsAt old world → online (job_of old) world ≡ joined before (texts_of out)
+    → online (job_of old) (world_up_to (job_of old) world new.count frames) ≡ joined before (texts_of out')

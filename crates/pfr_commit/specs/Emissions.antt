@@ -7,4 +7,4 @@ abbrev pub frame_of : Record → Frame
 frame_of r = record { link = r.link; seconds = r.seconds; header = r.header; bytes = r.bytes.items }
 
 abbrev pub texts_of : Emitted → Texts
-texts_of emitted = record { verdicts = emitted.verdicts.items; packets = emitted.packets.items }
+texts_of emitted = record { verdicts = emitted.verdicts.items; packets = emitted.packets.items; messages = emitted.messages.items }

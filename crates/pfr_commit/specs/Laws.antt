@@ -20,13 +20,13 @@ TwoPartsAreTheWhole =
 abbrev pub EachHasItsLine : Type 0
 EachHasItsLine =
     (job : RunJob) (frames : List Frame)
-    → (world_of job frames).texts.verdicts ≡ flat_map (λ p. verdict_line p.number p.clock p.outcome) (taken_in job frames)
+    → (world_of job frames).verdicts ≡ flat_map (λ p. verdict_line p.number p.clock p.outcome) (taken_in job frames)
 
 -- the packets are the records of those that aren't blocked, in that order
 abbrev pub EachHasItsRecord : Type 0
 EachHasItsRecord =
     (job : RunJob) (frames : List Frame)
-    → (world_of job frames).texts.packets ≡ flat_map (λ p. packet_text p.frame p.outcome) (taken_in job frames)
+    → (world_of job frames).packets ≡ flat_map (λ p. packet_text p.frame p.outcome) (taken_in job frames)
 
 -- the clock is the second of one of the records
 abbrev pub ClockIsOfARecord : Type 0

@@ -6,5 +6,6 @@ pub mod Laws
 pub mod Lines
 pub mod Results
 pub mod Runs
+pub mod Telling
 pub mod Texts
 pub mod World

@@ -12,9 +12,13 @@ use Rattle.pfr_packet.specs.Job.{RunJob}
 use Rattle.pfr_packet.specs.Plan.{purged_at}
 use Rattle.pfr_packet.specs.Steps.{step_of}
 use Rattle.pfr_packet.specs.Verdicts.{is_written}
+use Rattle.pfr_messages.specs.Messages.{Content}
+use Rattle.pfr_sync.specs.declared.event.Event.{Event}
+use Rattle.pfr_sync.specs.Messages.{closed_at, message_of, open_at}
 use Rattle.pfr_commit.specs.declared.counters.Counters.{Counters}
 use Rattle.pfr_commit.specs.Counters.{counted, nothing_counted}
 use Rattle.pfr_commit.specs.Lines.{verdict_line}
+use Rattle.pfr_commit.specs.Telling.{events_of, origin_of}
 
 -- a packet as its capture has it: the link type, the seconds, the 16 bytes of the record's header, the captured bytes
 pub record Frame : Type 0 where
@@ -22,14 +26,6 @@ pub record Frame : Type 0 where
   pub seconds : ℕ
   pub header : List ℕ
   pub bytes : List ℕ
-
--- the verdict lines, and the passed packets behind the capture's header
-pub record Texts : Type 0 where
-  pub verdicts : List ℕ
-  pub packets : List ℕ
-
-abbrev pub no_texts : Texts
-no_texts = record { verdicts = []; packets = [] }
 
 pub record World : Type 0 where
   -- how many packets there were
@@ -39,7 +35,11 @@ pub record World : Type 0 where
   -- the states that they left
   pub table : StateTable
   pub counters : Counters
-  pub texts : Texts
+  -- the verdict lines, and the passed packets behind the capture's header
+  pub verdicts : List ℕ
+  pub packets : List ℕ
+  -- what became of states, as far as a standby is told of it
+  pub events : List Event
 
 -- ---- one packet
 
@@ -59,10 +59,6 @@ with_bytes link (Some change) bytes = rewritten link change bytes
 unfoldable pub packet_text : Frame → Outcome → List ℕ
 packet_text frame outcome = if is_written outcome.verdict then frame.header ++ with_bytes frame.link outcome.bytes frame.bytes else []
 
-unfoldable pub with_texts : ℕ → Clock → Frame → Outcome → Texts → Texts
-with_texts number clock frame outcome texts =
-    record { verdicts = texts.verdicts ++ verdict_line number clock outcome; packets = texts.packets ++ packet_text frame outcome }
-
 -- the next packet came to an outcome at a clock
 unfoldable pub with_outcome : World → Frame → Clock → Outcome → World
 with_outcome world frame clock outcome = record {
@@ -70,7 +66,9 @@ with_outcome world frame clock outcome = record {
   clock = clock;
   table = changed outcome.change (purged_at clock world.table);
   counters = counted (view_of frame.link frame.bytes) outcome world.counters;
-  texts = with_texts (world.count + 1) clock frame outcome world.texts;
+  verdicts = world.verdicts ++ verdict_line (world.count + 1) clock outcome;
+  packets = world.packets ++ packet_text frame outcome;
+  events = world.events ++ events_of clock outcome.change world.table.states;
 }
 
 -- a world, and then one packet
@@ -88,7 +86,9 @@ opening job = record {
   clock = record { 0 = 0 };
   table = empty job.rules.options.state_limit;
   counters = nothing_counted (counts job.rules).0 (counts job.rules).1;
-  texts = no_texts;
+  verdicts = [];
+  packets = [];
+  events = [];
 }
 
 -- after these packets, which follow others
@@ -97,3 +97,32 @@ world_after job world frames = fold (after job) world frames
 
 unfoldable pub world_of : RunJob → List Frame → World
 world_of job frames = world_after job (opening job) frames
+
+-- ---- what is written of it
+
+-- verdict lines, passed packets, and what a standby is told
+pub record Texts : Type 0 where
+  pub verdicts : List ℕ
+  pub packets : List ℕ
+  pub messages : List Content
+
+-- what is written by then: of the events all messages but that of a part that may go on at the clock
+abbrev pub online : RunJob → World → Texts
+online job world = record { verdicts = world.verdicts; packets = world.packets; messages = closed_at (origin_of job) world.clock world.events }
+
+-- the message of that part, if one is told
+abbrev pub last_message : RunJob → World → List Content
+last_message job world = message_of (origin_of job) (open_at (origin_of job) world.clock world.events)
+
+-- ---- texts
+
+abbrev pub no_texts : Texts
+no_texts = record { verdicts = []; packets = []; messages = [] }
+
+-- texts behind others
+abbrev pub joined : Texts → Texts → Texts
+joined texts more = record {
+  verdicts = texts.verdicts ++ more.verdicts;
+  packets = texts.packets ++ more.packets;
+  messages = texts.messages ++ more.messages;
+}

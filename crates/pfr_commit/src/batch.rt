@@ -2,7 +2,6 @@
 ghost use Rattle.std.specs.Prelude.{◌≡◌, ◌≤◌, ◌+◌, ◌^◌, false, true, length, OnOk, OnErr};
 ghost use Rattle.std.specs.List.{All};
 ghost use Rattle.pfr_headers.specs.View.{view_of};
-ghost use Rattle.pfr_commit.specs.Emissions.{texts_of};
 ghost use Rattle.pfr_commit.specs.World as spec;
 
 use crate::book::Book;
@@ -14,7 +13,7 @@ use pfr_record::Speculation;
 use std::alloc::AllocError;
 
 impl Book {
-    ghost use Rattle.pfr_commit.specs.Books.{RisesOver, frames_of, job_of, texts_up_to, world_with};
+    ghost use Rattle.pfr_commit.specs.Books.{LeadsTo, LeavesTexts, RisesOver, frames_of, job_of, lines_of, untold, world_up_to, world_with, written};
 
     /// Takes the next packets, and puts what they add behind what was emitted. Each has its record's view. The results may be
     /// in any order; some may be missing, and some of other packets or other jobs. Of several of one packet the first is
@@ -28,8 +27,10 @@ impl Book {
     ) -> Result<(), AllocError>
         requires views { All (λ packet. packet.1 ≡ view_of packet.0.link packet.0.bytes.items) packets.now }
         requires few { self.old.count + length packets.now ≤ 2 ^ 43 }
-        ensures world { OnOk result (world_with self.new out.new ≡ spec.world_after (job_of self.old) (world_with self.old out.old) (frames_of packets.now)) }
-        ensures part { OnErr result (texts_of out.new ≡ texts_up_to (job_of self.old) (world_with self.old out.old) self.new.count (frames_of packets.now)) }
+        ensures world { OnOk result (world_with self.new out.new ≡ untold (spec.world_after (job_of self.old) (world_with self.old out.old) (frames_of packets.now))) }
+        ensures told { OnOk result (LeadsTo self.old self.new out.old out.new (λ world. spec.world_after (job_of self.old) world (frames_of packets.now))) }
+        ensures part { OnErr result (lines_of out.new ≡ written (world_up_to (job_of self.old) (world_with self.old out.old) self.new.count (frames_of packets.now))) }
+        ensures part_told { OnErr result (LeavesTexts self.old self.new out.old out.new (frames_of packets.now)) }
         ensures counted { OnOk result (self.new.count ≡ self.old.count + length packets.now) }
         ensures own { OnOk result (RisesOver (job_of self.old) (world_with self.old out.old) results.items packets.now self.old.own self.new.own) }
         ensures job { self.new.job ≡ self.old.job }

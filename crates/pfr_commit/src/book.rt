@@ -1,34 +1,41 @@
 //! The committer.
 ghost use Rattle.std.specs.Prelude.{◌≡◌, ◌<◌, ◌≤◌, ◌+◌, ◌^◌, false, true, max, IfOk, IfSome, IsSome, ◌↔◌, OnOk, OnErr, None};
 ghost use Rattle.std.specs.Arc.{arc_value};
+ghost use Rattle.std.specs.Option.{option_to_list};
 ghost use Rattle.std.specs.String.{string_bytes};
 ghost use Rattle.pfr_headers.specs.declared.packet.View.TheVariants.{Ipv4};
 ghost use Rattle.pfr_headers.specs.View.{view_of};
-ghost use Rattle.pfr_states.specs.States.{IsTable, purged, refusal};
-ghost use Rattle.pfr_packet.specs.Plan.{purged_at};
+ghost use Rattle.pfr_states.specs.States.{purged, refusal};
 ghost use Rattle.pfr_packet.specs.Steps.{step_of};
 ghost use Rattle.pfr_commit.specs.Emissions.{frame_of, texts_of};
 ghost use Rattle.pfr_commit.specs.Endings.{counters_text, states_text};
 ghost use Rattle.pfr_commit.specs.Lines.{verdict_line};
+ghost use Rattle.pfr_packet.specs.Laws.{IsOwnChange};
+ghost use Rattle.pfr_commit.specs.World.{World};
 ghost use Rattle.pfr_commit.specs.World as spec;
 
 use crate::counters::Counters;
 use crate::emitted::Emitted;
 use crate::ending::Ending;
+use crate::telling::Telling;
 use crate::verdict_line::VerdictLine;
 use pfr_capture::Record;
 use pfr_headers::View;
-use pfr_packet::laws::{no_change_is_refused, what_is_written_is_of_the_packet};
+use pfr_packet::laws::{
+    every_change_is_of_the_named_state, no_change_is_refused, what_is_written_is_of_the_packet,
+};
 use pfr_packet::{Direct, Job, Outcome, step};
 use pfr_record::Speculation;
-use pfr_states::{Table, TableChange, TableError};
+use pfr_states::Table;
+use pfr_sync::checksum;
 use pfr_track::Clock;
 use std::alloc::{AllocError, Global};
 use std::fmt::Write;
 use std::sync::Arc;
 
 /// Takes the packets of a run in the order of the capture, one after the other, with what was found out about them before
-/// or without. It has the states and counters that the packets so far have left, and not what they have emitted.
+/// or without. It has the states and counters that the packets so far have left, what the open message tells, and not what
+/// they have emitted.
 ///
 /// Once memory was refused it answers so for good, and stays as it is.
 #[derive(Drop)]
@@ -41,6 +48,7 @@ pub struct Book {
     pub(crate) clock: Clock,
     pub(crate) table: Table,
     pub(crate) counters: Counters,
+    pub(crate) telling: Telling,
     /// Whether memory was refused.
     pub(crate) is_over: bool,
     /// The line of the packet that is taken.
@@ -53,28 +61,6 @@ fn later(clock: Clock, seconds: u32) -> Clock
     ensures { result.0 ≡ max clock.0 seconds }
 {
     Clock(clock.0.max(seconds))
-}
-
-/// Takes out the states whose deadline has come, and then takes over what a packet changes.
-#[tactic(auto, unfolding(pfr_packet::specs::Plan::purged_at))]
-fn change_table(
-    table: &mut Table,
-    clock: Clock,
-    change: Option<TableChange>,
-) -> Result<(), AllocError>
-    requires { IfSome change (λ change. refusal change table.old.limit (purged clock table.old.states) ≡ None) }
-    ensures { OnOk result (table.new ≡ spec.changed change (purged_at clock table.old)) }
-{
-    table.purge(clock);
-    let Some(change) = change else {
-        return Ok(());
-    };
-    match table.apply(change) {
-        Ok(()) => Ok(()),
-        Err(TableError::Memory) => Err(AllocError),
-        Err(TableError::KeyTaken) => unreachable!(),
-        Err(TableError::Full) => unreachable!(),
-    }
 }
 
 /// The line of a packet, in a text that is kept.
@@ -96,12 +82,12 @@ fn put_line(
 }
 
 impl Book {
-    ghost use Rattle.pfr_commit.specs.Books.{MayUse, MayUseNext, job_of, world_in, world_with};
+    ghost use Rattle.pfr_commit.specs.Books.{LeadsTo, MayUse, MayUseNext, StandsAt, job_of, untold, world_in, world_with};
 
     /// A book that has taken no packet of a job.
     #[tactic(auto, unfolding(crate::specs::World::opening))]
     pub fn new(alloc: Global, job: Arc<Job>) -> Result<Book, AllocError>
-        ensures world { IfOk result (λ book. world_in book spec.no_texts ≡ spec.opening (arc_value job)) }
+        ensures world { IfOk result (λ book. StandsAt book (spec.opening (arc_value job))) }
         ensures job { IfOk result (λ book. job_of book ≡ arc_value job) }
         ensures own { IfOk result (λ book. book.own ≡ 0) }
         ensures over { IfOk result (λ book. book.is_over ≡ false) }
@@ -109,6 +95,12 @@ impl Book {
         let rules = job.rules();
         let limit = rules.options.state_limit as usize;
         let counters = Counters::new(alloc, rules.counts())?;
+        let telling = Telling::new(
+            alloc,
+            &job.interface().name,
+            checksum(job.text()),
+            rules.options.host_id,
+        );
         Ok(Book {
             alloc,
             job,
@@ -117,6 +109,7 @@ impl Book {
             clock: Clock(0),
             table: Table::new(alloc, limit),
             counters,
+            telling,
             is_over: false,
             line: String::new(alloc),
         })
@@ -212,17 +205,28 @@ impl Book {
     ) -> Result<(), AllocError>
         requires view { view.now ≡ view_of packet.now.link packet.now.bytes.items }
         requires few { self.old.count < 2 ^ 43 }
+        requires later { self.old.clock.0 ≤ clock.0 }
         requires change { IfSome outcome.now.change (λ change. refusal change self.old.table.limit (purged clock self.old.table.states) ≡ None) }
+        requires own { IfSome outcome.now.change (λ change. IsOwnChange (self.old.count + 1) clock (purged clock self.old.table.states) outcome.now change) }
         requires bytes { IfSome outcome.now.bytes (λ change. view_of packet.now.link packet.now.bytes.items ≡ Ipv4 change.packet) }
-        ensures world { OnOk result (world_with self.new out.new ≡ spec.with_outcome (world_with self.old out.old) (frame_of packet.now) clock outcome.now) }
+        ensures world { OnOk result (world_with self.new out.new ≡ untold (spec.with_outcome (world_with self.old out.old) (frame_of packet.now) clock outcome.now)) }
+        ensures told { OnOk result (LeadsTo self.old self.new out.old out.new (λ world. spec.with_outcome world (frame_of packet.now) clock outcome.now)) }
         ensures counted { OnOk result (self.new.count ≡ self.old.count + 1) }
         ensures kept { OnErr result ((self.new.count ≡ self.old.count) × (texts_of out.new ≡ texts_of out.old)) }
         ensures others { (self.new.job ≡ self.old.job) × (self.new.own ≡ self.old.own) × (self.new.is_over ≡ self.old.is_over) }
     {
         let number = self.count + 1;
-        change_table(&mut self.table, clock, outcome.change)?;
+        self.telling.begin(self.clock, clock)?;
+        self.telling.purge(&mut self.table, clock)?;
+        self.telling
+            .change(&mut self.table, clock, outcome.change)?;
         put_line(number, clock, outcome, &mut self.line)?;
-        out.put(self.line.as_str(), packet, outcome)?;
+        out.put(
+            self.line.as_str(),
+            packet,
+            outcome,
+            &mut self.telling.closed,
+        )?;
         self.counters.count(view, outcome);
         self.count = number;
         self.clock = clock;
@@ -240,7 +244,8 @@ impl Book {
         requires view { view.now ≡ view_of packet.now.link packet.now.bytes.items }
         requires few { self.old.count < 2 ^ 43 }
         requires open { self.old.is_over ≡ false }
-        ensures world { OnOk result (world_with self.new out.new ≡ spec.after (job_of self.old) (world_with self.old out.old) (frame_of packet.now)) }
+        ensures world { OnOk result (world_with self.new out.new ≡ untold (spec.after (job_of self.old) (world_with self.old out.old) (frame_of packet.now))) }
+        ensures told { OnOk result (LeadsTo self.old self.new out.old out.new (λ world. spec.after (job_of self.old) world (frame_of packet.now))) }
         ensures job { self.new.job ≡ self.old.job }
         ensures counted { OnOk result (self.new.count ≡ self.old.count + 1) }
         ensures kept { OnErr result ((self.new.count ≡ self.old.count) × (texts_of out.new ≡ texts_of out.old)) }
@@ -255,6 +260,7 @@ impl Book {
         let (outcome, evaluated) = self.outcome_of(number, clock, view, speculation)?;
         // what `take_outcome` asks of an outcome is so of each that an evaluation has
         no_change_is_refused();
+        every_change_is_of_the_named_state();
         what_is_written_is_of_the_packet();
         // whatever the table is asked, its states are those of a table
         let _ = self.table.len();
@@ -275,7 +281,10 @@ impl Book {
     ) -> Result<Emitted, AllocError>
         requires view { view ≡ view_of packet.now.link packet.now.bytes.items }
         requires few { self.old.count < 2 ^ 43 }
-        ensures world { IfOk result (λ emitted. world_with self.new emitted ≡ spec.after (job_of self.old) (world_in self.old spec.no_texts) (frame_of packet.now)) }
+        ensures world { IfOk result (λ emitted. world_with self.new emitted ≡ untold (spec.after (job_of self.old) (world_in self.old) (frame_of packet.now))) }
+        // what is told hangs on what was told before
+        ensures told { IfOk result (λ emitted. (world : World) → StandsAt self.old world → StandsAt self.new (spec.after (job_of self.old) world (frame_of packet.now))
+            × (spec.online (job_of self.old) (spec.after (job_of self.old) world (frame_of packet.now)) ≡ spec.joined (spec.online (job_of self.old) world) (texts_of emitted))) }
         ensures job { self.new.job ≡ self.old.job }
         ensures kept { OnErr result (self.new.count ≡ self.old.count) }
         ensures used { OnOk result (MayUseNext speculation self.old packet.now view → self.new.own ≡ self.old.own) }
@@ -292,8 +301,9 @@ impl Book {
         Ok(out)
     }
 
-    /// The counters and the states at the end of a run. Once memory was refused there are none.
-    pub fn finish(self) -> Result<Ending, AllocError>
+    /// The last message, the counters and the states at the end of a run. Once memory was refused there are none.
+    pub fn finish(mut self) -> Result<Ending, AllocError>
+        ensures message { IfOk result (λ ending. (world : World) → StandsAt self world → option_to_list ending.message ≡ spec.last_message (job_of self) world) }
         ensures counters { IfOk result (λ ending. ending.counters.items ≡ counters_text self.count self.counters) }
         ensures states { IfOk result (λ ending. ending.states.items ≡ states_text self.table.states) }
         ensures ok { OnOk result (self.is_over ≡ false) }
@@ -301,6 +311,13 @@ impl Book {
         if self.is_over {
             return Err(AllocError);
         }
-        Ending::new(self.alloc, self.count, &self.counters, &self.table)
+        let message = self.telling.close(self.clock)?;
+        Ending::new(
+            self.alloc,
+            message,
+            self.count,
+            &self.counters,
+            &self.table,
+        )
     }
 }

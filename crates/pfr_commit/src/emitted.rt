@@ -8,13 +8,16 @@ ghost use Rattle.pfr_commit.specs.World as spec;
 use pfr_capture::Record;
 use pfr_headers::{Change, rewrite};
 use pfr_packet::Outcome;
+use pfr_sync::Message;
 use std::alloc::{AllocError, Global};
 
-/// What packets add to the outputs: their verdict lines, and the records of those that aren't blocked.
+/// What packets add to the outputs: their verdict lines, the records of those that aren't blocked, and the messages to a standby
+/// that they close.
 #[derive(Drop)]
 pub struct Emitted {
     pub verdicts: Vec<u8>,
     pub packets: Vec<u8>,
+    pub messages: Vec<Message>,
 }
 
 /// The length of a record's header.
@@ -73,6 +76,7 @@ impl Emitted {
         Emitted {
             verdicts: Vec::new(alloc),
             packets: Vec::new(alloc),
+            messages: Vec::new(alloc),
         }
     }
 
@@ -82,23 +86,43 @@ impl Emitted {
     {
         self.verdicts.clear();
         self.packets.clear();
+        self.messages.clear();
     }
 
-    /// Puts what a packet adds behind all else: its line, and its record. Where memory is refused nothing changes.
+    /// Puts a line and messages behind all else, and takes the messages. Where memory is refused nothing changes.
+    fn put_texts(&mut self, line: &str, messages: &mut Vec<Message>) -> Result<(), AllocError>
+        ensures verdicts { OnOk result (self.new.verdicts.items ≡ self.old.verdicts.items ++ line.now) }
+        ensures messages { OnOk result (self.new.messages.items ≡ self.old.messages.items ++ messages.old.items) }
+        ensures kept { OnErr result (texts_of self.new ≡ texts_of self.old) }
+        ensures packets { self.new.packets ≡ self.old.packets }
+    {
+        let start = self.verdicts.len();
+        self.verdicts.extend_from_slice(line.as_bytes())?;
+        if let Err(refused) = self.messages.append(messages) {
+            self.verdicts.truncate(start);
+            return Err(refused);
+        }
+        Ok(())
+    }
+
+    /// Puts what a packet adds behind all else: its line, its record and the messages that it closed, which it takes. Where
+    /// memory is refused nothing changes.
     pub(crate) fn put(
         &mut self,
         line: &str,
         packet: &Record,
         outcome: &Outcome,
+        messages: &mut Vec<Message>,
     ) -> Result<(), AllocError>
         requires { IfSome outcome.now.bytes (λ change. view_of packet.now.link packet.now.bytes.items ≡ Ipv4 change.packet) }
         ensures verdicts { OnOk result (self.new.verdicts.items ≡ self.old.verdicts.items ++ line.now) }
         ensures packets { OnOk result (self.new.packets.items ≡ self.old.packets.items ++ spec.packet_text (frame_of packet.now) outcome.now) }
+        ensures messages { OnOk result (self.new.messages.items ≡ self.old.messages.items ++ messages.old.items) }
         ensures kept { OnErr result (texts_of self.new ≡ texts_of self.old) }
     {
         let start = self.packets.len();
         put_packet(&mut self.packets, packet, outcome)?;
-        if let Err(refused) = self.verdicts.extend_from_slice(line.as_bytes()) {
+        if let Err(refused) = self.put_texts(line, messages) {
             self.packets.truncate(start);
             return Err(refused);
         }

@@ -7,13 +7,16 @@ ghost use Rattle.pfr_commit.specs.Lines.{state_line};
 use crate::counters::Counters;
 use crate::state_line::StateLine;
 use pfr_states::Table;
+use pfr_sync::Message;
 use pfr_track::State;
 use std::alloc::{AllocError, Global};
 use std::fmt::Write;
 
-/// The texts at the end of a run.
+/// What is written at the end of a run.
 #[derive(Drop)]
 pub struct Ending {
+    /// The message that was open, if something is told in it.
+    pub message: Option<Message>,
     /// A line for each rule, and the totals.
     pub counters: Vec<u8>,
     /// A line for each state that is left.
@@ -54,17 +57,20 @@ fn states_text(alloc: Global, table: &Table) -> Result<Vec<u8>, AllocError>
 }
 
 impl Ending {
-    /// The texts after so many packets, which left these counters and states.
+    /// The last message, and the texts after so many packets, which left these counters and states.
     pub(crate) fn new(
         alloc: Global,
+        message: Option<Message>,
         records: u64,
         counters: &Counters,
         table: &Table,
     ) -> Result<Ending, AllocError>
+        ensures message { IfOk result (λ ending. ending.message ≡ message) }
         ensures counters { IfOk result (λ ending. ending.counters.items ≡ spec.counters_text records counters.now) }
         ensures states { IfOk result (λ ending. ending.states.items ≡ spec.states_text table.now.states) }
     {
         Ok(Ending {
+            message,
             counters: counters_text(alloc, records, counters)?,
             states: states_text(alloc, table)?,
         })

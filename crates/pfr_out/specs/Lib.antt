@@ -2,4 +2,5 @@ pub mod Laws
 pub mod Outputs
 pub mod Reading
 pub mod Replay
+pub mod Spelling
 pub mod Taking

@@ -6,6 +6,7 @@
 //! device fails, by a beginning of that, which holds at least the packets that the stop reports as committed.
 #![tactic(auto)]
 
+mod channel;
 pub mod laws;
 mod reading;
 pub mod report;
@@ -17,5 +18,5 @@ mod taking;
 pub use pfr_conf::{ConfError, ConfErrorKind};
 pub use report::{Output, Report, Stop};
 pub use run::{replay, replay_job};
-pub use settings::Settings;
+pub use settings::{Form, Settings};
 pub use sinks::Sinks;

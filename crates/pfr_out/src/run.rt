@@ -9,7 +9,8 @@ ghost use Rattle.pfr_out.specs.Taking.{IsLate, ReachesOn, ReplaysOn, StopsOn};
 
 use crate::reading::{read_batch, wants_memory};
 use crate::report::{Report, Stop};
-use crate::settings::Settings;
+use crate::channel::Channel;
+use crate::settings::{Form, Settings};
 use crate::sinks::Sinks;
 use crate::taking::{conclude, stop_for, take_batch};
 use pfr_capture::{Capture, CaptureError, Sink, Source, Tail};
@@ -35,6 +36,7 @@ fn take_packets<R: Source, S: Sink>(
     capture: &mut Capture,
     source: &mut R,
     batch: usize,
+    channel: &mut Channel,
     sinks: &mut Sinks<S>,
 ) -> Result<Result<Tail, CaptureError>, Stop>
     requires reading { capture.old.over ≡ None }
@@ -59,7 +61,14 @@ fn take_packets<R: Source, S: Sink>(
         if wants_memory(&end) {
             return Err(Stop::Memory(book.committed()));
         }
-        match take_batch(alloc, book, packets.as_slice(), &mut out, sinks) {
+        match take_batch(
+            alloc,
+            book,
+            packets.as_slice(),
+            &mut out,
+            channel,
+            sinks,
+        ) {
             Ok(()) => {}
             Err(stop) => return Err(stop),
         }
@@ -76,6 +85,7 @@ fn replay_capture<R: Source, S: Sink>(
     capture: &mut Capture,
     source: &mut R,
     batch: usize,
+    mut channel: Channel,
     sinks: &mut Sinks<S>,
 ) -> Result<Report, Stop>
     requires reading { capture.old.over ≡ None }
@@ -89,8 +99,16 @@ fn replay_capture<R: Source, S: Sink>(
     ensures no_failure { OnOk result ((R.failures source.new ≡ R.failures source.old) × (each_of S.failures sinks.new ≡ each_of S.failures sinks.old)) }
     ensures failure { IfErr result (λ stop. StopFails stop (R.failures source.old) (R.failures source.new) (each_of S.failures sinks.old) (each_of S.failures sinks.new)) }
 {
-    match take_packets(alloc, &mut book, capture, source, batch, sinks) {
-        Ok(end) => conclude(book, end, sinks),
+    match take_packets(
+        alloc,
+        &mut book,
+        capture,
+        source,
+        batch,
+        &mut channel,
+        sinks,
+    ) {
+        Ok(end) => conclude(book, end, &mut channel, sinks),
         Err(stop) => Err(stop),
     }
 }
@@ -102,6 +120,7 @@ pub fn replay_job<H: AllocGlobal, R: Source, S: Sink>(
     source: &mut R,
     job: Job,
     batch: usize,
+    form: Form,
     sinks: &mut Sinks<S>,
 ) -> Result<Report, Stop>
     requires batch { (1 ≤ batch) × (batch ≤ 4096) }
@@ -117,11 +136,12 @@ pub fn replay_job<H: AllocGlobal, R: Source, S: Sink>(
         Ok(capture) => capture,
         Err(refusal) => return Err(stop_for(refusal, 0)),
     };
+    let channel = Channel::new(alloc, form, job.interface().address);
     let book = match book_of(alloc, job) {
         Ok(book) => book,
         Err(_) => return Err(Stop::Memory(0)),
     };
-    replay_capture(alloc, book, &mut capture, source, batch, sinks)
+    replay_capture(alloc, book, &mut capture, source, batch, channel, sinks)
 }
 
 /// Replays a capture through a ruleset, as the firewall's interface would see its packets. One thread takes them in the order
@@ -162,5 +182,5 @@ pub fn replay<H: AllocGlobal, R: Source, S: Sink>(
         Ok(job) => job,
         Err(fault) => return Err(Stop::Ruleset(fault)),
     };
-    replay_job(rt, source, job, settings.batch, sinks)
+    replay_job(rt, source, job, settings.batch, settings.form, sinks)
 }

@@ -2,6 +2,17 @@
 use pfr_net::Net;
 use pfr_ruleset::Interface;
 
+/// The form of the messages to a standby.
+#[derive(Clone, Copy, Debug, PartialEq, Eq)]
+pub enum Form {
+    /// Each behind an IP header, as in a capture of the packets that would carry them.
+    File,
+    /// One after the other, as a stream.
+    Peer,
+    /// None is written.
+    None,
+}
+
 /// How a capture is replayed.
 #[derive(Clone, Copy)]
 pub struct Settings<'a> {
@@ -11,4 +22,6 @@ pub struct Settings<'a> {
     pub inside: &'a [Net],
     /// How many packets are taken and written at a time, 1 to 4096.
     pub batch: usize,
+    /// The form of the messages to a standby.
+    pub form: Form,
 }

@@ -35,26 +35,28 @@ impl<S: Sink> Sinks<S> {
         write_all(&mut self.packets, header).map_err(|_| Output::Packets)
     }
 
-    /// Writes what packets add: their lines, and then those that aren't blocked.
-    pub(crate) fn write_batch(&mut self, batch: &Emitted) -> Result<(), Output>
+    /// Writes what packets add: the messages that they close, their lines, and then those that aren't blocked.
+    pub(crate) fn write_batch(&mut self, batch: &Emitted, messages: &[u8]) -> Result<(), Output>
         ensures told { each_of S.told self.new ≡ each_of S.told self.old }
-        ensures ok { OnOk result (GrewBy S.told S.written self.old self.new (batch_alone (texts_of batch.now))) }
-        ensures fails { IfErr result (λ output. TookPart S.told S.written self.old self.new (batch_alone (texts_of batch.now)) output) }
+        ensures ok { OnOk result (GrewBy S.told S.written self.old self.new (batch_alone batch.now.verdicts.items batch.now.packets.items messages.now)) }
+        ensures fails { IfErr result (λ output. TookPart S.told S.written self.old self.new (batch_alone batch.now.verdicts.items batch.now.packets.items messages.now) output) }
         ensures no_failure { OnOk result (each_of S.failures self.new ≡ each_of S.failures self.old) }
         ensures failure { IfErr result (λ output. RoseAt output (each_of S.failures self.old) (each_of S.failures self.new)) }
     {
+        write_all(&mut self.messages, messages).map_err(|_| Output::Messages)?;
         write_all(&mut self.verdicts, batch.verdicts.as_slice()).map_err(|_| Output::Verdicts)?;
         write_all(&mut self.packets, batch.packets.as_slice()).map_err(|_| Output::Packets)
     }
 
-    /// Writes what stands at the end of a run: the counters, and then the states.
-    pub(crate) fn write_ending(&mut self, ending: &Ending) -> Result<(), Output>
+    /// Writes what stands at the end of a run: the last message, the counters, and then the states.
+    pub(crate) fn write_ending(&mut self, ending: &Ending, message: &[u8]) -> Result<(), Output>
         ensures told { each_of S.told self.new ≡ each_of S.told self.old }
-        ensures ok { OnOk result (GrewBy S.told S.written self.old self.new (ending_alone ending.now.counters.items ending.now.states.items)) }
-        ensures fails { IfErr result (λ output. TookPart S.told S.written self.old self.new (ending_alone ending.now.counters.items ending.now.states.items) output) }
+        ensures ok { OnOk result (GrewBy S.told S.written self.old self.new (ending_alone ending.now.counters.items ending.now.states.items message.now)) }
+        ensures fails { IfErr result (λ output. TookPart S.told S.written self.old self.new (ending_alone ending.now.counters.items ending.now.states.items message.now) output) }
         ensures no_failure { OnOk result (each_of S.failures self.new ≡ each_of S.failures self.old) }
         ensures failure { IfErr result (λ output. RoseAt output (each_of S.failures self.old) (each_of S.failures self.new)) }
     {
+        write_all(&mut self.messages, message).map_err(|_| Output::Messages)?;
         write_all(&mut self.counters, ending.counters.as_slice()).map_err(|_| Output::Counters)?;
         write_all(&mut self.states, ending.states.as_slice()).map_err(|_| Output::States)
     }

@@ -6,6 +6,7 @@ ghost use Rattle.pfr_out.specs.Outputs.{GrewBy, batch_alone, each_of};
 ghost use Rattle.pfr_out.specs.Replay.{stop_for};
 ghost use Rattle.pfr_out.specs.Taking.{BatchStopsIn, ConcludeFails, ConcludesIn, EndStopsIn, HasTaken, SinksFail, closing_of, texts_added};
 
+use crate::channel::Channel;
 use crate::report::{Report, Stop};
 use crate::sinks::Sinks;
 use pfr_capture::{CaptureError, Record, Sink, Tail};
@@ -19,6 +20,7 @@ pub(crate) fn take_batch<S: Sink>(
     book: &mut Book,
     packets: &[(Record, View)],
     out: &mut Emitted,
+    channel: &mut Channel,
     sinks: &mut Sinks<S>,
 ) -> Result<(), Stop>
     requires views { All (λ packet. packet.1 ≡ view_of packet.0.link packet.0.bytes.items) packets.now }
@@ -38,14 +40,23 @@ pub(crate) fn take_batch<S: Sink>(
         Ok(()) => {}
         Err(_) => return Err(Stop::Memory(committed)),
     }
-    match sinks.write_batch(out) {
+    let messages = match channel.spell(out.messages.as_slice()) {
+        Ok(messages) => messages,
+        Err(_) => return Err(Stop::Memory(committed)),
+    };
+    match sinks.write_batch(out, messages) {
         Ok(()) => Ok(()),
         Err(output) => Err(Stop::Write(output, committed)),
     }
 }
 
 /// Writes what stands at the end of a run.
-pub(crate) fn close<S: Sink>(book: Book, tail: Tail, sinks: &mut Sinks<S>) -> Result<Report, Stop>
+pub(crate) fn close<S: Sink>(
+    book: Book,
+    tail: Tail,
+    channel: &mut Channel,
+    sinks: &mut Sinks<S>,
+) -> Result<Report, Stop>
     ensures told { each_of S.told sinks.new ≡ each_of S.told sinks.old }
     ensures closed { IfOk result (λ report. (report.committed ≡ book.count) × (report.tail ≡ tail) × GrewBy S.told S.written sinks.old sinks.new (closing_of book)) }
     ensures stops { IfErr result (λ stop. EndStopsIn S.told S.written book sinks.old sinks.new stop) }
@@ -57,7 +68,11 @@ pub(crate) fn close<S: Sink>(book: Book, tail: Tail, sinks: &mut Sinks<S>) -> Re
         Ok(ending) => ending,
         Err(_) => return Err(Stop::Memory(committed)),
     };
-    match sinks.write_ending(&ending) {
+    let message = match channel.spell(ending.message.as_slice()) {
+        Ok(message) => message,
+        Err(_) => return Err(Stop::Memory(committed)),
+    };
+    match sinks.write_ending(&ending, message) {
         Ok(()) => Ok(Report { committed, tail }),
         Err(output) => Err(Stop::Write(output, committed)),
     }
@@ -78,6 +93,7 @@ pub(crate) fn stop_for(refusal: CaptureError, committed: u64) -> Stop
 pub(crate) fn conclude<S: Sink>(
     book: Book,
     end: Result<Tail, CaptureError>,
+    channel: &mut Channel,
     sinks: &mut Sinks<S>,
 ) -> Result<Report, Stop>
     ensures told { each_of S.told sinks.new ≡ each_of S.told sinks.old }
@@ -87,7 +103,7 @@ pub(crate) fn conclude<S: Sink>(
     ensures failure { IfErr result (λ stop. ConcludeFails end book.count (each_of S.failures sinks.old) (each_of S.failures sinks.new) stop) }
 {
     match end {
-        Ok(tail) => match close(book, tail, sinks) {
+        Ok(tail) => match close(book, tail, channel, sinks) {
             Ok(report) => Ok(report),
             Err(stop) => Err(stop),
         },

@@ -1,0 +1,21 @@
+-- Messages to a standby as they are written.
+use Rattle.std.specs.Prelude.{ℕ, List, [], ◌++◌, length}
+use Rattle.std.specs.List.{flat_map}
+use Rattle.pfr_net.specs.declared.address.Ipv4Address.{Ipv4Address}
+use Rattle.pfr_messages.specs.Messages.{Content, spelling}
+use Rattle.pfr_sync.specs.Files.{ip_header}
+use Rattle.pfr_out.specs.declared.settings.Form.{Form}
+use Rattle.pfr_out.specs.declared.settings.Form.TheVariants as form
+
+-- a message behind an IP header from an interface's address
+abbrev pub packet_of : Ipv4Address → Content → List ℕ
+packet_of source message = ip_header source (length (spelling message)) ++ spelling message
+
+abbrev pub in_form : Form → Ipv4Address → Content → List ℕ
+in_form form.File source message = packet_of source message
+in_form form.Peer source message = spelling message
+in_form form.None source message = []
+
+-- one after the other
+unfoldable pub spelled : Form → Ipv4Address → List Content → List ℕ
+spelled form source messages = flat_map (in_form form source) messages

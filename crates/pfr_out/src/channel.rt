@@ -1,0 +1,73 @@
+//! Messages to a standby as they are written.
+ghost use Rattle.std.specs.Prelude.{◌≡◌, ◌++◌, IfOk, OnOk};
+ghost use Rattle.pfr_out.specs.Spelling as spec;
+
+use crate::settings::Form;
+use pfr_net::Ipv4Address;
+use pfr_sync::{Message, encode_onto, ip_header};
+use std::alloc::{AllocError, Global};
+
+/// The length of the IP header before a message in a file.
+const IP_HEADER: usize = 20;
+
+/// What spells messages in a form, from an interface's address, into a text that is kept.
+#[derive(Drop)]
+pub struct Channel {
+    pub(crate) form: Form,
+    pub(crate) source: Ipv4Address,
+    text: Vec<u8>,
+}
+
+/// Puts a message behind an IP header, and both behind a text.
+fn put_packet(source: Ipv4Address, message: &Message, text: &mut Vec<u8>) -> Result<(), AllocError>
+    ensures { OnOk result (text.new.items ≡ text.old.items ++ spec.packet_of source message.now) }
+{
+    let start = text.len();
+    // the header says how long the message is, which is known once it is spelled
+    text.extend_from_slice(&[0; IP_HEADER])?;
+    encode_onto(message, text)?;
+    let len = text.len() - start - IP_HEADER;
+    let header = ip_header(source, len as u16);
+    text[start..start + IP_HEADER].copy_from_slice(&header);
+    Ok(())
+}
+
+impl Channel {
+    /// What spells messages in a form.
+    pub(crate) fn new(alloc: Global, form: Form, source: Ipv4Address) -> Channel
+        ensures form { result.form ≡ form }
+        ensures source { result.source ≡ source }
+    {
+        Channel {
+            form,
+            source,
+            text: Vec::new(alloc),
+        }
+    }
+
+    /// Puts a message behind the text.
+    fn put(&mut self, message: &Message) -> Result<(), AllocError>
+        ensures text { OnOk result (self.new.text.items ≡ self.old.text.items ++ spec.in_form self.old.form self.old.source message.now) }
+        ensures form { self.new.form ≡ self.old.form }
+        ensures source { self.new.source ≡ self.old.source }
+    {
+        match self.form {
+            Form::File => put_packet(self.source, message, &mut self.text),
+            Form::Peer => encode_onto(message, &mut self.text),
+            Form::None => Ok(()),
+        }
+    }
+
+    /// Spells messages.
+    pub(crate) fn spell(&mut self, messages: &[Message]) -> Result<&[u8], AllocError>
+        ensures text { IfOk result (λ text. text.now ≡ spec.spelled self.old.form self.old.source messages.now) }
+        ensures form { self.new.form ≡ self.old.form }
+        ensures source { self.new.source ≡ self.old.source }
+    {
+        self.text.clear();
+        for message in messages {
+            self.put(message)?;
+        }
+        Ok(self.text.as_slice())
+    }
+}
