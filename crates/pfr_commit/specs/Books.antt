@@ -14,8 +14,8 @@ use Rattle.pfr_commit.specs.declared.book.Book.{Book}
 use Rattle.pfr_commit.specs.declared.emitted.Emitted.{Emitted}
 use Rattle.pfr_commit.specs.Emissions.{frame_of, texts_of}
 use Rattle.pfr_commit.specs.Results.{is_of}
-use Rattle.pfr_commit.specs.Telling.{AreTold, origin_of}
-use Rattle.pfr_commit.specs.World.{Frame, Texts, World, after, clock_at, joined, online, world_after}
+use Rattle.pfr_telling.specs.Telling.{AreTold}
+use Rattle.pfr_commit.specs.World.{Frame, Texts, World, after, clock_at, joined, online, origin_of, world_after}
 
 abbrev pub job_of : Book → RunJob
 job_of book = arc_value book.job
@@ -42,7 +42,7 @@ bare world = record world { verdicts = []; packets = []; events = [] }
 pub record StandsAt (book : Book) (world : World) : Type 0 where
   pub left : world_in book ≡ bare world
   pub origin_is : book.telling.queue.origin ≡ origin_of (job_of book)
-  pub open : Tells book.telling.queue world.clock world.events
+  pub tells : Tells book.telling.queue world.clock world.events
   pub told : AreTold world.count world.clock world.table.states world.events
 
 -- From whatever world a book stood at it comes to the next one. What was emitted behind any texts is what is written by then, where it

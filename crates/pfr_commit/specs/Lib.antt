@@ -6,6 +6,5 @@ pub mod Laws
 pub mod Lines
 pub mod Results
 pub mod Runs
-pub mod Telling
 pub mod Texts
 pub mod World

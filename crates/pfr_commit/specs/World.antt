@@ -12,13 +12,16 @@ use Rattle.pfr_packet.specs.Job.{RunJob}
 use Rattle.pfr_packet.specs.Plan.{purged_at}
 use Rattle.pfr_packet.specs.Steps.{step_of}
 use Rattle.pfr_packet.specs.Verdicts.{is_written}
+use Rattle.md5.specs.Md5.{md5}
 use Rattle.pfr_messages.specs.Messages.{Content}
 use Rattle.pfr_sync.specs.declared.event.Event.{Event}
+use Rattle.pfr_sync.specs.declared.origin.Origin.{Origin}
 use Rattle.pfr_sync.specs.Messages.{closed_at, message_of, open_at}
+use Rattle.pfr_sync.specs.Queues.{plain_name}
+use Rattle.pfr_telling.specs.Telling.{changed, events_of}
 use Rattle.pfr_commit.specs.declared.counters.Counters.{Counters}
 use Rattle.pfr_commit.specs.Counters.{counted, nothing_counted}
 use Rattle.pfr_commit.specs.Lines.{verdict_line}
-use Rattle.pfr_commit.specs.Telling.{events_of, origin_of}
 
 -- a packet as its capture has it: the link type, the seconds, the 16 bytes of the record's header, the captured bytes
 pub record Frame : Type 0 where
@@ -45,10 +48,6 @@ pub record World : Type 0 where
 
 abbrev pub clock_at : Clock → Frame → Clock
 clock_at clock frame = record { 0 = max clock.0 frame.seconds }
-
-abbrev pub changed : Option TableChange → StateTable → StateTable
-changed None table = table
-changed (Some change) table = record { states = with_change change table.states; limit = table.limit }
 
 -- the bytes of a frame with what is written into them
 abbrev pub with_bytes : ℕ → Option Change → List ℕ → List ℕ
@@ -99,6 +98,10 @@ unfoldable pub world_of : RunJob → List Frame → World
 world_of job frames = world_after job (opening job) frames
 
 -- ---- what is written of it
+
+-- who tells a standby: the interface, the MD5 of the ruleset's text, and the number of the firewall (pf.conf(5), "set hostid")
+abbrev pub origin_of : RunJob → Origin
+origin_of job = record { interface = plain_name job.interface.name; checksum = md5 job.text; creator = job.rules.options.host_id }
 
 -- verdict lines, passed packets, and what a standby is told
 pub record Texts : Type 0 where

@@ -17,7 +17,6 @@ ghost use Rattle.pfr_commit.specs.World as spec;
 use crate::counters::Counters;
 use crate::emitted::Emitted;
 use crate::ending::Ending;
-use crate::telling::Telling;
 use crate::verdict_line::VerdictLine;
 use pfr_capture::Record;
 use pfr_headers::View;
@@ -28,6 +27,7 @@ use pfr_packet::{Direct, Job, Outcome, step};
 use pfr_record::Speculation;
 use pfr_states::Table;
 use pfr_sync::checksum;
+use pfr_telling::Telling;
 use pfr_track::Clock;
 use std::alloc::{AllocError, Global};
 use std::fmt::Write;
@@ -225,7 +225,7 @@ impl Book {
             self.line.as_str(),
             packet,
             outcome,
-            &mut self.telling.closed,
+            self.telling.closed(),
         )?;
         self.counters.count(view, outcome);
         self.count = number;

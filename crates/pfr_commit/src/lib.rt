@@ -13,7 +13,6 @@ pub mod ending;
 pub mod laws;
 mod results;
 pub mod state_line;
-mod telling;
 mod texts;
 pub mod verdict_line;
 

@@ -4,14 +4,12 @@ ghost use Rattle.std.specs.List.{All};
 ghost use Rattle.std.specs.Option.{option_to_list};
 ghost use Rattle.pfr_messages.specs.Messages.{Content};
 ghost use Rattle.pfr_states.specs.declared.change.TableChange.TheVariants.{Removed};
-ghost use Rattle.pfr_states.specs.States.{refusal, with_change};
+ghost use Rattle.pfr_states.specs.States.{purged, refusal, with_change};
 ghost use Rattle.pfr_sync.specs.declared.event.Event.{Event as E};
 ghost use Rattle.pfr_sync.specs.Events.{MayCome};
 ghost use Rattle.pfr_sync.specs.Messages.{closed_at, message_of, open_at};
 ghost use Rattle.pfr_sync.specs.Queues.{Tells, plain_name};
-ghost use Rattle.pfr_packet.specs.Plan.{purged_at};
-ghost use Rattle.pfr_commit.specs.World as world;
-ghost use Rattle.pfr_commit.specs.Telling as spec;
+ghost use Rattle.pfr_telling.specs.Telling as spec;
 
 use pfr_states::laws::{a_purge_goes_state_by_state, due_is_the_first};
 use pfr_states::{Table, TableChange, TableError};
@@ -49,10 +47,10 @@ fn apply(table: &mut Table, change: TableChange) -> Result<(), AllocError>
 }
 
 impl Telling {
-    ghost use Rattle.pfr_commit.specs.Telling.{AreTold, HasTold, IsNextChange};
+    ghost use Rattle.pfr_telling.specs.Telling.{AreTold, HasTold, IsNextChange};
 
     /// Nothing yet, by messages of an interface, a checksum of rules and a creator.
-    pub(crate) fn new(alloc: Global, interface: &IfName, checksum: [u8; 16], creator: u32) -> Telling
+    pub fn new(alloc: Global, interface: &IfName, checksum: [u8; 16], creator: u32) -> Telling
         ensures queue { result.queue ≡ record { origin = record { interface = plain_name interface.now; checksum = checksum; creator = creator }; entries = [] } }
     {
         Telling {
@@ -62,7 +60,7 @@ impl Telling {
     }
 
     /// Begins with the next packet, which comes at a clock: the open message is closed where that is a later one.
-    pub(crate) fn begin(&mut self, clock: Clock, later: Clock) -> Result<(), AllocError>
+    pub fn begin(&mut self, clock: Clock, later: Clock) -> Result<(), AllocError>
         requires { clock.0 ≤ later.0 }
         ensures told { OnOk result ((before : List Content) (events : List E) → Tells self.old.queue clock events → closed_at self.old.queue.origin clock events ≡ before
             → All (λ event. event.clock.0 ≤ clock.0) events → HasTold before self.new later events) }
@@ -114,8 +112,8 @@ impl Telling {
     }
 
     /// Takes out the states whose deadline has come, one after the other, and tells of each.
-    pub(crate) fn purge(&mut self, table: &mut Table, clock: Clock) -> Result<(), AllocError>
-        ensures table { OnOk result (table.new ≡ purged_at clock table.old) }
+    pub fn purge(&mut self, table: &mut Table, clock: Clock) -> Result<(), AllocError>
+        ensures table { OnOk result (table.new ≡ record { states = purged clock table.old.states; limit = table.old.limit }) }
         ensures told { OnOk result ((before : List Content) (events : List E) (count : ℕ) → HasTold before self.old clock events → AreTold count clock table.old.states events
             → HasTold before self.new clock (events ++ spec.events_of_purge clock table.old.states) × AreTold count clock table.new.states (events ++ spec.events_of_purge clock table.old.states)) }
         ensures origin { self.new.queue.origin ≡ self.old.queue.origin }
@@ -149,9 +147,9 @@ impl Telling {
     }
 
     /// Tells of what a packet changes in a table, and has the table take it over.
-    pub(crate) fn change(&mut self, table: &mut Table, clock: Clock, change: Option<TableChange>) -> Result<(), AllocError>
+    pub fn change(&mut self, table: &mut Table, clock: Clock, change: Option<TableChange>) -> Result<(), AllocError>
         requires { IfSome change (λ change. refusal change table.old.limit table.old.states ≡ None) }
-        ensures table { OnOk result (table.new ≡ world.changed change table.old) }
+        ensures table { OnOk result (table.new ≡ spec.changed change table.old) }
         ensures told { OnOk result ((before : List Content) (events : List E) (count : ℕ) → HasTold before self.old clock events → AreTold count clock table.old.states events
             → IfSome change (λ change. IsNextChange count table.old.states change) → HasTold before self.new clock (events ++ spec.events_of_change clock change table.old.states)) }
         ensures origin { self.new.queue.origin ≡ self.old.queue.origin }
@@ -164,7 +162,7 @@ impl Telling {
     }
 
     /// Closes the open message at the end of a run: none where nothing is told.
-    pub(crate) fn close(&mut self, clock: Clock) -> Result<Option<Message>, AllocError>
+    pub fn close(&mut self, clock: Clock) -> Result<Option<Message>, AllocError>
         ensures { IfOk result (λ message. (events : List E) → Tells self.old.queue clock events → option_to_list message ≡ message_of self.old.queue.origin (open_at self.old.queue.origin clock events)) }
     {
         self.queue.close(clock)

@@ -1,26 +1,26 @@
--- What becomes of states at a packet, as far as a standby is told of it.
+-- What becomes of the states of a table at a packet, as far as a standby is told of it.
 use Rattle.std.specs.Prelude.{◌≡◌, ℕ, ◌≤◌, ◌+◌, true, if◌then◌else◌, List, [], ◌∷◌, ◌++◌, Option, Some, None, ⊤}
 use Rattle.std.specs.List.{All, Contains, flat_map}
-use Rattle.md5.specs.Md5.{md5}
 use Rattle.pfr_track.specs.declared.state.State.{State}
 use Rattle.pfr_track.specs.declared.time.Clock.{Clock}
 use Rattle.pfr_states.specs.declared.change.TableChange.{TableChange}
 use Rattle.pfr_states.specs.declared.change.TableChange.TheVariants as table
-use Rattle.pfr_states.specs.States.{all_due, purged, state_of}
-use Rattle.pfr_packet.specs.Job.{RunJob}
+use Rattle.pfr_states.specs.States.{StateTable, all_due, purged, state_of, with_change}
 use Rattle.pfr_messages.specs.Messages.{Content}
 use Rattle.pfr_sync.specs.declared.event.Change.{Change}
 use Rattle.pfr_sync.specs.declared.event.Change.TheVariants.{Made, Touched, Removed}
 use Rattle.pfr_sync.specs.declared.event.Event.{Event}
-use Rattle.pfr_sync.specs.declared.origin.Origin.{Origin}
 use Rattle.pfr_sync.specs.Events.{is_removed}
 use Rattle.pfr_sync.specs.Messages.{closed_at}
-use Rattle.pfr_sync.specs.Queues.{Tells, plain_name}
-use Rattle.pfr_commit.specs.declared.telling.Telling.{Telling}
+use Rattle.pfr_sync.specs.Queues.{Tells}
+use Rattle.pfr_telling.specs.declared.telling.Telling.{Telling}
 
--- who tells: the interface, the MD5 of the ruleset's text, and the number of the firewall (pf.conf(5), "set hostid")
-abbrev pub origin_of : RunJob → Origin
-origin_of job = record { interface = plain_name job.interface.name; checksum = md5 job.text; creator = job.rules.options.host_id }
+-- ---- the table
+
+-- a table that has taken over what a packet changes
+abbrev pub changed : Option TableChange → StateTable → StateTable
+changed None table = table
+changed (Some change) table = record { states = with_change change table.states; limit = table.limit }
 
 -- ---- events
 
@@ -65,7 +65,7 @@ pub record AreTold (count : ℕ) (clock : Clock) (states : List State) (events :
 -- At a clock, what is told of the open part of these events is in the queue, and all other messages of them are these and then those
 -- that the packet that is taken has closed.
 pub record HasTold (before : List Content) (telling : Telling) (clock : Clock) (events : List Event) : Type 0 where
-  pub open : Tells telling.queue clock events
+  pub tells : Tells telling.queue clock events
   pub closed : closed_at telling.queue.origin clock events ≡ before ++ telling.closed.items
 
 -- ---- the next packet

@@ -1,0 +1,2 @@
+pub mod ChangeLemmas
+pub mod ToldLemmas
