@@ -225,7 +225,7 @@ impl Book {
             self.line.as_str(),
             packet,
             outcome,
-            self.telling.closed(),
+            &mut self.telling.closed,
         )?;
         self.counters.count(view, outcome);
         self.count = number;

@@ -1,5 +1,5 @@
 -- Where the states of a table come from that has taken over a change.
-use Rattle.std.proofs.Common.{◌≡◌, ◌⊎◌, Bool, nat_lt, List, [], ◌∷◌, if◌then◌else◌, inl, inr}
+use Rattle.std.proofs.Common.{◌≡◌, ◌⊎◌, nat_lt, List, [], ◌∷◌, if◌then◌else◌, inl, inr}
 use Rattle.std.specs.List.{Contains}
 use Rattle.std.proofs.lemmas.Bool.{cases_Bool}
 use Rattle.pfr_track.specs.declared.state.State.{State}

@@ -1,2 +1,3 @@
 pub mod ChangeLemmas
+pub mod PurgeLemmas
 pub mod ToldLemmas

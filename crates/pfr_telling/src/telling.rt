@@ -11,18 +11,19 @@ ghost use Rattle.pfr_sync.specs.Messages.{closed_at, message_of, open_at};
 ghost use Rattle.pfr_sync.specs.Queues.{Tells, plain_name};
 ghost use Rattle.pfr_telling.specs.Telling as spec;
 
+use pfr_net::IfName;
 use pfr_states::laws::{a_purge_goes_state_by_state, due_is_the_first};
 use pfr_states::{Table, TableChange, TableError};
 use pfr_sync::{Change, Event, Message, Queue};
-use pfr_net::IfName;
 use pfr_track::{Clock, State, StateNumber};
 use std::alloc::{AllocError, Global};
 
-/// What a standby is told: the open message, and those that the packet that is taken has closed.
+/// What a standby is told.
 #[derive(Drop)]
 pub struct Telling {
     pub(crate) queue: Queue,
-    pub(crate) closed: Vec<Message>,
+    /// The messages that the packet that is taken has closed.
+    pub closed: Vec<Message>,
 }
 
 /// Takes a state out of a table.
@@ -131,7 +132,12 @@ impl Telling {
     }
 
     /// Tells of a change before the table takes it over.
-    fn tell_change(&mut self, table: &Table, clock: Clock, change: &TableChange) -> Result<(), AllocError>
+    fn tell_change(
+        &mut self,
+        table: &Table,
+        clock: Clock,
+        change: &TableChange,
+    ) -> Result<(), AllocError>
         ensures told { OnOk result ((before : List Content) (events : List E) (count : ℕ) → HasTold before self.old clock events → AreTold count clock table.now.states events
             → IsNextChange count table.now.states change.now → HasTold before self.new clock (events ++ spec.events_of_change clock (Some change.now) table.now.states)) }
         ensures origin { self.new.queue.origin ≡ self.old.queue.origin }
@@ -147,7 +153,12 @@ impl Telling {
     }
 
     /// Tells of what a packet changes in a table, and has the table take it over.
-    pub fn change(&mut self, table: &mut Table, clock: Clock, change: Option<TableChange>) -> Result<(), AllocError>
+    pub fn change(
+        &mut self,
+        table: &mut Table,
+        clock: Clock,
+        change: Option<TableChange>,
+    ) -> Result<(), AllocError>
         requires { IfSome change (λ change. refusal change table.old.limit table.old.states ≡ None) }
         ensures table { OnOk result (table.new ≡ spec.changed change table.old) }
         ensures told { OnOk result ((before : List Content) (events : List E) (count : ℕ) → HasTold before self.old clock events → AreTold count clock table.old.states events

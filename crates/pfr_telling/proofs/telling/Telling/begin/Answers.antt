@@ -1,11 +1,8 @@
-use Rattle.std.proofs.Common.{◌≡◌, ◌≤◌, List, ◌∙◌, sym}
-use Rattle.std.specs.List.{All}
+use Rattle.std.proofs.Common.{List}
 use Rattle.std.proofs.lemmas.List.{append-nil}
 use Rattle.std.proofs.lemmas.Result.{on_ok_weaker}
 use Rattle.pfr_messages.specs.Messages.{Content}
 use Rattle.pfr_sync.specs.declared.event.Event.{Event}
-use Rattle.pfr_sync.specs.Messages.{closed_at}
-use Rattle.pfr_sync.specs.Queues.{Tells}
 use Rattle.pfr_telling.proofs.telling.Telling.begin.Goals as goal
 
 pub returns-clause-told : goal.returns-clause-told
