@@ -22,7 +22,7 @@ use Rattle.pfr_commit.specs.declared.counters.Totals.{Totals}
 use Rattle.pfr_commit.specs.Counters.{added_to, counted, counts_for_rules, length_of, no_totals, with_named, with_verdict}
 use Rattle.pfr_commit.specs.Lines.{verdict_line}
 use Rattle.pfr_commit.specs.Runs.{Taken, bytes_for, capped, comes_to, counts_for, is_rule, is_same_verdict, next_taken, reason_counts, taken_after, taken_in, total_length_of, total_of}
-use Rattle.pfr_commit.specs.World.{Frame, World, after, opening, packet_text, with_outcome, with_texts, world_after, world_of}
+use Rattle.pfr_commit.specs.World.{Frame, World, after, opening, packet_text, with_outcome, world_after, world_of}
 use Rattle.pfr_commit.proofs.WorldLemmas.{world_count}
 
 -- ---- lines and records
@@ -41,22 +41,22 @@ numbers_after job world (frame ∷ frames) =
     ap (λ (ns : List ℕ). (world.count + 1) ∷ ns) (numbers_after job (after job world frame) frames ∙ ap (λ (n : ℕ). range_with_len (n + 1) (length frames)) (count_next job world frame))
 
 pub verdicts_after : (job : RunJob) (world : World) (frames : List Frame)
-    → (world_after job world frames).texts.verdicts ≡ world.texts.verdicts ++ flat_map (λ (p : Taken). verdict_line p.number p.clock p.outcome) (taken_after job world frames)
-unfolding world_after after with_outcome with_texts
-verdicts_after job world [] = sym (append-nil world.texts.verdicts)
+    → (world_after job world frames).verdicts ≡ world.verdicts ++ flat_map (λ (p : Taken). verdict_line p.number p.clock p.outcome) (taken_after job world frames)
+unfolding world_after after with_outcome
+verdicts_after job world [] = sym (append-nil world.verdicts)
 verdicts_after job world (frame ∷ frames) =
     let p = next_taken job world frame in
     verdicts_after job (after job world frame) frames
-    ∙ append_assoc world.texts.verdicts (verdict_line p.number p.clock p.outcome) (flat_map (λ (p : Taken). verdict_line p.number p.clock p.outcome) (taken_after job (after job world frame) frames))
+    ∙ append_assoc world.verdicts (verdict_line p.number p.clock p.outcome) (flat_map (λ (p : Taken). verdict_line p.number p.clock p.outcome) (taken_after job (after job world frame) frames))
 
 pub packets_after : (job : RunJob) (world : World) (frames : List Frame)
-    → (world_after job world frames).texts.packets ≡ world.texts.packets ++ flat_map (λ (p : Taken). packet_text p.frame p.outcome) (taken_after job world frames)
-unfolding world_after after with_outcome with_texts
-packets_after job world [] = sym (append-nil world.texts.packets)
+    → (world_after job world frames).packets ≡ world.packets ++ flat_map (λ (p : Taken). packet_text p.frame p.outcome) (taken_after job world frames)
+unfolding world_after after with_outcome
+packets_after job world [] = sym (append-nil world.packets)
 packets_after job world (frame ∷ frames) =
     let p = next_taken job world frame in
     packets_after job (after job world frame) frames
-    ∙ append_assoc world.texts.packets (packet_text p.frame p.outcome) (flat_map (λ (p : Taken). packet_text p.frame p.outcome) (taken_after job (after job world frame) frames))
+    ∙ append_assoc world.packets (packet_text p.frame p.outcome) (flat_map (λ (p : Taken). packet_text p.frame p.outcome) (taken_after job (after job world frame) frames))
 
 -- ---- the clock
 

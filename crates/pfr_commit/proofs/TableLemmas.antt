@@ -19,8 +19,10 @@ use Rattle.pfr_packet.specs.Job.{RunJob}
 use Rattle.pfr_packet.specs.Laws.{IsOwnChange}
 use Rattle.pfr_packet.specs.Plan.{purged_at}
 use Rattle.pfr_packet.specs.Steps.{step_of}
+use Rattle.pfr_telling.specs.Telling.{changed}
+use Rattle.pfr_telling.proofs.ChangeLemmas.{from_touched, from_with}
 use Rattle.pfr_commit.specs.Runs.{IsMadeAmong, Taken, next_taken, taken_after}
-use Rattle.pfr_commit.specs.World.{Frame, World, after, changed, with_outcome, world_after}
+use Rattle.pfr_commit.specs.World.{Frame, World, after, with_outcome, world_after}
 
 -- ---- one table
 
@@ -63,26 +65,6 @@ table_after none job world (frame ∷ frames) is = table_after none job (after j
 abbrev pub OwnChanges : Type 0
 OwnChanges = (job : RunJob) (number : ℕ) (clock : Clock) (view : View) (table : StateTable) (change : TableChange) → (step_of job number clock view table).change ≡ Some change
     → IsOwnChange number clock (purged clock table.states) (step_of job number clock view table) change
-
-from_with : (made : State) (states : List State) (s : State) → Contains (with_state made states) s → (made ≡ s) ⊎ Contains states s
-from_with made [] s h = in_cons made [] s h
-from_with made (other ∷ states) s h = elim (cases_Bool (nat_lt made.number.0 other.number.0)) [
-  | inl before ↦ in_cons made (other ∷ states) s (rw before at h)
-  | inr behind ↦ elim (cases_Bool (is_number made.number other)) [
-    | inl same ↦ elim (in_cons made states s (rw (behind, same) at h)) [ inl is ↦ inl is | inr rest ↦ inr (there other states s rest) ]
-    | inr not_same ↦ elim (in_cons other (with_state made states) s (rw (behind, not_same) at h)) [
-      | inl is ↦ inr (rw (← is) (here other states))
-      | inr rest ↦ elim (from_with made states s rest) [ inl is ↦ inl is | inr more ↦ inr (there other states s more) ]
-    ]
-  ]
-]
-
-from_touched : (touched : State) (states : List State) (s : State) → Contains (with_touched touched states) s → (touched ≡ s) ⊎ Contains states s
-from_touched touched [] s h = absurd (in_none s h)
-from_touched touched (other ∷ states) s h = elim (in_cons (if is_number touched.number other then touched else other) (with_touched touched states) s h) [
-  | inl is ↦ elim (cases_Bool (is_number touched.number other)) [ inl same ↦ inl (rw same at is) | inr not_same ↦ inr (rw (← (rw not_same at is)) (here other states)) ]
-  | inr rest ↦ elim (from_touched touched states s rest) [ inl is ↦ inl is | inr more ↦ inr (there other states s more) ]
-]
 
 from_change : (change : TableChange) (number : ℕ) (clock : Clock) (states : List State) (outcome : Outcome) (packets : List Taken) (p : Taken) (s : State)
     → p.number ≡ number → p.clock ≡ clock → p.outcome ≡ outcome → Contains packets p → IsOwnChange number clock states outcome change → ((s : State) → Contains states s → IsMadeAmong packets s)

@@ -14,16 +14,19 @@ use Rattle.pfr_packet.specs.Steps.{step_of}
 use Rattle.pfr_commit.specs.declared.counters.Counters.{Counters}
 use Rattle.pfr_commit.specs.Counters.{counted}
 use Rattle.pfr_commit.specs.Lines.{verdict_line}
-use Rattle.pfr_commit.specs.World.{Frame, Texts, World, after, changed, clock_at, packet_text, with_outcome, with_texts, world_after}
+use Rattle.pfr_telling.specs.Telling.{changed, events_of}
+use Rattle.pfr_commit.specs.Books.{untold}
+use Rattle.pfr_commit.specs.Runs.{next_taken}
+use Rattle.pfr_commit.specs.World.{Frame, World, after, clock_at, packet_text, with_outcome, world_after}
 
 -- an outcome taken over, from what its parts came to
-pub outcome_taken : (world : World) (frame : Frame) (clock : Clock) (view : View) (outcome : Outcome) (table : StateTable) (counters : Counters) (verdicts packets : List ℕ)
-    → view ≡ view_of frame.link frame.bytes → table ≡ changed outcome.change (purged_at clock world.table) → counters ≡ counted view outcome world.counters
-    → verdicts ≡ world.texts.verdicts ++ verdict_line (world.count + 1) clock outcome → packets ≡ world.texts.packets ++ packet_text frame outcome
-    → record { count = world.count + 1; clock = clock; table = table; counters = counters; texts = record { verdicts = verdicts; packets = packets } } ≡ with_outcome world frame clock outcome
-unfolding with_outcome with_texts
-outcome_taken world frame clock view outcome table counters verdicts packets view_is table_is counters_is verdicts_is packets_is =
-    rw (table_is, counters_is, verdicts_is, packets_is, view_is) refl
+pub outcome_taken : (world : World) (frame : Frame) (clock : Clock) (view : View) (outcome : Outcome) (purged table : StateTable) (counters : Counters) (verdicts packets : List ℕ)
+    → view ≡ view_of frame.link frame.bytes → purged ≡ purged_at clock world.table → table ≡ changed outcome.change purged → counters ≡ counted view outcome world.counters
+    → verdicts ≡ world.verdicts ++ verdict_line (world.count + 1) clock outcome → packets ≡ world.packets ++ packet_text frame outcome
+    → record { count = world.count + 1; clock = clock; table = table; counters = counters; verdicts = verdicts; packets = packets; events = [] } ≡ untold (with_outcome world frame clock outcome)
+unfolding with_outcome
+outcome_taken world frame clock view outcome purged table counters verdicts packets view_is purged_is table_is counters_is verdicts_is packets_is =
+    rw (table_is, purged_is, counters_is, verdicts_is, packets_is, view_is) refl
 
 -- the next packet, from its outcome
 pub after_is : (job : RunJob) (world : World) (frame : Frame) (clock : Clock) (view : View) (outcome : Outcome)
@@ -34,22 +37,22 @@ after_is job world frame clock view outcome clock_is view_is outcome_is =
     let now : clock ≡ clock_at world.clock frame = ap (λ (n : ℕ). record { 0 = n }) clock_is in
     rw (outcome_is, view_is, now) refl
 
--- a text in front of what was emitted
-abbrev pub behind : Texts → World → World
-behind texts world = record world { texts = record { verdicts = texts.verdicts ++ world.texts.verdicts; packets = texts.packets ++ world.texts.packets } }
+-- a world behind what was written and told before
+abbrev pub behind : World → World → World
+behind before world = record world { verdicts = before.verdicts ++ world.verdicts; packets = before.packets ++ world.packets; events = before.events ++ world.events }
 
-after_behind : (job : RunJob) (texts : Texts) (world : World) (frame : Frame) → after job (behind texts world) frame ≡ behind texts (after job world frame)
-unfolding after with_outcome with_texts
-after_behind job texts world frame =
-    let added = with_texts (world.count + 1) (clock_at world.clock frame) frame (step_of job (world.count + 1) (clock_at world.clock frame) (view_of frame.link frame.bytes) world.table) (record { verdicts = []; packets = [] }) in
-    rw (append_assoc texts.verdicts world.texts.verdicts added.verdicts, append_assoc texts.packets world.texts.packets added.packets) refl
+after_behind : (job : RunJob) (before world : World) (frame : Frame) → after job (behind before world) frame ≡ behind before (after job world frame)
+unfolding after with_outcome
+after_behind job before world frame =
+    let p = next_taken job world frame in
+    rw (append_assoc before.verdicts world.verdicts (verdict_line p.number p.clock p.outcome), append_assoc before.packets world.packets (packet_text frame p.outcome), append_assoc before.events world.events (events_of p.clock p.outcome.change world.table.states)) refl
 
--- what packets add doesn't hang on what was emitted before
-pub world_behind : (job : RunJob) (texts : Texts) (frames : List Frame) (world : World) → world_after job (behind texts world) frames ≡ behind texts (world_after job world frames)
+-- what packets add doesn't hang on what was written and told before
+pub world_behind : (job : RunJob) (before : World) (frames : List Frame) (world : World) → world_after job (behind before world) frames ≡ behind before (world_after job world frames)
 unfolding world_after
-world_behind job texts [] world = refl
-world_behind job texts (frame ∷ frames) world =
-    ap (λ (w : World). fold (after job) w frames) (after_behind job texts world frame) ∙ world_behind job texts frames (after job world frame)
+world_behind job before [] world = refl
+world_behind job before (frame ∷ frames) world =
+    ap (λ (w : World). fold (after job) w frames) (after_behind job before world frame) ∙ world_behind job before frames (after job world frame)
 
 pub world_append : (job : RunJob) (world : World) (xs ys : List Frame) → world_after job world (xs ++ ys) ≡ world_after job (world_after job world xs) ys
 unfolding world_after
@@ -70,6 +73,21 @@ world_next job world g xs i d below =
     let next : i + 1 ≡ suc i = omega arith in
     rw (next, take-suc xs i d below, map-append g (take i xs) (get_or xs i d ∷ []), world_append job world (map g (take i xs)) (g (get_or xs i d) ∷ [])) (world_one job (world_after job world (map g (take i xs))) (g (get_or xs i d)))
 
+-- what a packet adds doesn't hang on what was told
+after_untold : (job : RunJob) (world : World) (frame : Frame) → untold (after job (untold world) frame) ≡ untold (after job world frame)
+unfolding after with_outcome
+after_untold job world frame = refl
+
+-- one packet more of a batch
+pub batch_next : {X : Type 0} (job own_job : RunJob) (start now : World) (g : X → Frame) (xs : List X) (i : ℕ) (d p : X) → own_job ≡ job → now ≡ untold (world_after job start (map g (take i xs))) → p ≡ get_or xs i d → i < length xs
+    → untold (after own_job now (g p)) ≡ untold (world_after job start (map g (take (i + 1) xs)))
+batch_next {X = X} job own_job start now g xs i d p job_is now_is p_is below =
+    ap (λ (w : World). untold (after own_job w (g p))) now_is
+    ∙ after_untold own_job (world_after job start (map g (take i xs))) (g p)
+    ∙ ap (λ (j : RunJob). untold (after j (world_after job start (map g (take i xs))) (g p))) job_is
+    ∙ ap (λ (x : X). untold (after job (world_after job start (map g (take i xs))) (g x))) p_is
+    ∙ ap untold (sym (world_next job start g xs i d below))
+
 pub world_count : (job : RunJob) (world : World) (frames : List Frame) → (world_after job world frames).count ≡ world.count + length frames
 unfolding world_after after with_outcome
 world_count job world [] = (let same : world.count ≡ world.count + 0 = omega arith in same)
@@ -78,10 +96,10 @@ world_count job world (frame ∷ frames) =
     world_count job (after job world frame) frames ∙ step
 
 -- none of the packets was taken
-pub nothing_taken : (job : RunJob) (world : World) (count : ℕ) (frames : List Frame) → world.texts ≡ (world_after job world (take (count - count) frames)).texts
+pub nothing_taken : (job : RunJob) (world : World) (count : ℕ) (frames : List Frame) → world ≡ world_after job world (take (count - count) frames)
 nothing_taken job world count frames =
     let none : count - count ≡ 0 = omega arith in
-    rw none (ap (λ (w : World). w.texts) (sym (world_none job world)))
+    rw none (sym (world_none job world))
 
 -- so many of them were taken
 pub part_taken : {X : Type 0} (job : RunJob) (world : World) (g : X → Frame) (xs : List X) (start count index : ℕ) → count ≡ start + index

@@ -96,7 +96,7 @@ abbrev pub lines_of : Emitted → List ℕ × List ℕ
 lines_of out = (out.verdicts.items, out.packets.items)
 
 -- where memory was refused: what was emitted is what is written by then
-abbrev pub LeavesTexts : (old new : Book) → (out out' : Emitted) → List Frame → Type 0
-LeavesTexts old new out out' frames =
+abbrev pub LeavesTexts : (old : Book) → (count : ℕ) → (out out' : Emitted) → List Frame → Type 0
+LeavesTexts old count out out' frames =
     (world : World) (before : Texts) → StandsAt old world → online (job_of old) world ≡ joined before (texts_of out)
-    → online (job_of old) (world_up_to (job_of old) world new.count frames) ≡ joined before (texts_of out')
+    → online (job_of old) (world_up_to (job_of old) world count frames) ≡ joined before (texts_of out')

@@ -12,11 +12,11 @@ use Rattle.pfr_packet.specs.Job.{RunJob}
 use Rattle.pfr_packet.specs.Plan.{purged_at}
 use Rattle.pfr_packet.specs.Steps.{step_of}
 use Rattle.pfr_packet.specs.Verdicts.{is_written}
-use Rattle.md5.specs.Md5.{md5}
 use Rattle.pfr_messages.specs.Messages.{Content}
 use Rattle.pfr_sync.specs.declared.event.Event.{Event}
 use Rattle.pfr_sync.specs.declared.origin.Origin.{Origin}
 use Rattle.pfr_sync.specs.Messages.{closed_at, message_of, open_at}
+use Rattle.pfr_sync.specs.Origins.{checksum_of}
 use Rattle.pfr_sync.specs.Queues.{plain_name}
 use Rattle.pfr_telling.specs.Telling.{changed, events_of}
 use Rattle.pfr_commit.specs.declared.counters.Counters.{Counters}
@@ -99,9 +99,9 @@ world_of job frames = world_after job (opening job) frames
 
 -- ---- what is written of it
 
--- who tells a standby: the interface, the MD5 of the ruleset's text, and the number of the firewall (pf.conf(5), "set hostid")
+-- who tells a standby: the interface, the checksum of the ruleset's text, and the number of the firewall (pf.conf(5), "set hostid")
 abbrev pub origin_of : RunJob → Origin
-origin_of job = record { interface = plain_name job.interface.name; checksum = md5 job.text; creator = job.rules.options.host_id }
+origin_of job = record { interface = plain_name job.interface.name; checksum = checksum_of job.text; creator = job.rules.options.host_id }
 
 -- verdict lines, passed packets, and what a standby is told
 pub record Texts : Type 0 where

@@ -30,7 +30,7 @@ impl Book {
         ensures world { OnOk result (world_with self.new out.new ≡ untold (spec.world_after (job_of self.old) (world_with self.old out.old) (frames_of packets.now))) }
         ensures told { OnOk result (LeadsTo self.old self.new out.old out.new (λ world. spec.world_after (job_of self.old) world (frames_of packets.now))) }
         ensures part { OnErr result (lines_of out.new ≡ written (world_up_to (job_of self.old) (world_with self.old out.old) self.new.count (frames_of packets.now))) }
-        ensures part_told { OnErr result (LeavesTexts self.old self.new out.old out.new (frames_of packets.now)) }
+        ensures part_told { OnErr result (LeavesTexts self.old self.new.count out.old out.new (frames_of packets.now)) }
         ensures counted { OnOk result (self.new.count ≡ self.old.count + length packets.now) }
         ensures own { OnOk result (RisesOver (job_of self.old) (world_with self.old out.old) results.items packets.now self.old.own self.new.own) }
         ensures job { self.new.job ≡ self.old.job }

@@ -218,8 +218,7 @@ impl Book {
         let number = self.count + 1;
         self.telling.begin(self.clock, clock)?;
         self.telling.purge(&mut self.table, clock)?;
-        self.telling
-            .change(&mut self.table, clock, outcome.change)?;
+        self.telling.change(&mut self.table, clock, outcome.change)?;
         put_line(number, clock, outcome, &mut self.line)?;
         out.put(
             self.line.as_str(),
@@ -301,6 +300,16 @@ impl Book {
         Ok(out)
     }
 
+    /// What stands at the end of a run.
+    fn end(&mut self) -> Result<Ending, AllocError>
+        ensures message { IfOk result (λ ending. (world : World) → StandsAt self.old world → option_to_list ending.message ≡ spec.last_message (job_of self.old) world) }
+        ensures counters { IfOk result (λ ending. ending.counters.items ≡ counters_text self.old.count self.old.counters) }
+        ensures states { IfOk result (λ ending. ending.states.items ≡ states_text self.old.table.states) }
+    {
+        let message = self.telling.close(self.clock)?;
+        Ending::new(self.alloc, message, self.count, &self.counters, &self.table)
+    }
+
     /// The last message, the counters and the states at the end of a run. Once memory was refused there are none.
     pub fn finish(mut self) -> Result<Ending, AllocError>
         ensures message { IfOk result (λ ending. (world : World) → StandsAt self world → option_to_list ending.message ≡ spec.last_message (job_of self) world) }
@@ -311,13 +320,6 @@ impl Book {
         if self.is_over {
             return Err(AllocError);
         }
-        let message = self.telling.close(self.clock)?;
-        Ending::new(
-            self.alloc,
-            message,
-            self.count,
-            &self.counters,
-            &self.table,
-        )
+        self.end()
     }
 }

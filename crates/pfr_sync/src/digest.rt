@@ -1,6 +1,6 @@
 //! The checksum of a ruleset's text.
 ghost use Rattle.std.specs.Prelude.{◌≡◌};
-ghost use Rattle.md5.specs.Md5.{md5};
+ghost use Rattle.pfr_sync.specs.Origins.{checksum_of};
 
 use md5::{Digest, Md5};
 
@@ -8,7 +8,7 @@ use md5::{Digest, Md5};
 ///
 /// The text may have any length.
 pub fn checksum(text: &[u8]) -> [u8; 16]
-    ensures { result ≡ md5 text.now }
+    ensures { result ≡ checksum_of text.now }
 {
     Md5::digest(text)
 }

@@ -1,23 +1,30 @@
-use Rattle.std.proofs.Common.{◌≡◌, ◌+◌, ◌<◌, ◌∙◌, ℕ, refl, sym, ap, length, map, take, rules, arith}
+use Rattle.std.proofs.Common.{◌≡◌, ◌+◌, ◌<◌, ◌∙◌, ℕ, List, [], refl, sym, ap, subst, length, map, take, rules, arith}
 use Rattle.std.specs.List.{find}
 use Rattle.pfr_headers.specs.declared.packet.View.{View}
 use Rattle.pfr_states.proofs.RefusalLemmas.{on_err}
 use Rattle.pfr_packet.specs.Job.{RunJob}
 use Rattle.pfr_capture.specs.declared.capture.Record.{Record}
-use Rattle.pfr_commit.specs.Books.{job_of, world_in}
-use Rattle.pfr_commit.specs.Emissions.{frame_of, texts_of}
+use Rattle.pfr_commit.specs.Books.{LeadsTo, job_of, untold, world_with, written}
+use Rattle.pfr_commit.specs.Emissions.{frame_of}
 use Rattle.pfr_commit.specs.Results.{is_of}
-use Rattle.pfr_commit.specs.World.{World, after, world_after}
+use Rattle.pfr_commit.specs.World.{Frame, Texts, World, after, world_after}
 use Rattle.pfr_commit.proofs.BatchLemmas.{rises_by, rises_next}
 use Rattle.pfr_commit.proofs.BookLemmas.{same_job}
-use Rattle.pfr_commit.proofs.WorldLemmas.{nothing_taken, part_taken, world_next, world_none}
+use Rattle.pfr_commit.proofs.StandLemmas.{leads_next, leads_none, leaves_none, leaves_part}
+use Rattle.pfr_commit.proofs.WorldLemmas.{batch_next, nothing_taken, part_taken, world_none}
 use Rattle.pfr_commit.proofs.book.Book.commit_batch.Goals as goal
 
 pub returns-then-self-clause-part : goal.returns-then-self-clause-part
-returns-then-self-clause-part c = nothing_taken (job_of c.args.self.now) (world_in c.args.self.now (texts_of c.args.out.now)) c.args.self.now.count _
+returns-then-self-clause-part c = ap written (nothing_taken (job_of c.args.self.now) (world_with c.args.self.now c.args.out.now) c.args.self.now.count _)
+
+pub returns-then-self-clause-part_told : goal.returns-then-self-clause-part_told
+returns-then-self-clause-part_told c = leaves_none c.args.self.now c.args.self.now.count c.args.out.now c.args.out.now (map (λ packet. frame_of packet.0) c.args.packets.now) refl refl
 
 pub returns-in-Err-clause-part : goal.returns-in-Err-clause-part
-returns-in-Err-clause-part c = nothing_taken (job_of c.args.self.now) (world_in c.args.self.now (texts_of c.args.out.now)) c.args.self.now.count _
+returns-in-Err-clause-part c = ap written (nothing_taken (job_of c.args.self.now) (world_with c.args.self.now c.args.out.now) c.args.self.now.count _)
+
+pub returns-in-Err-clause-part_told : goal.returns-in-Err-clause-part_told
+returns-in-Err-clause-part_told c = leaves_none c.args.self.now c.args.self.now.count c.args.out.now c.args.out.now (map (λ packet. frame_of packet.0) c.args.packets.now) refl refl
 
 pub loop-index-init : goal.loop-index-init
 loop-index-init c = record {
@@ -26,15 +33,22 @@ loop-index-init c = record {
   is_open = c.if-self.false;
   own = refl;
   tried = λ place _ below. c.in-Ok.ensures place below;
-  world = sym (world_none (job_of c.args.self.now) (world_in c.args.self.now (texts_of c.args.out.now)));
+  world = ap untold (sym (world_none (job_of c.args.self.now) (world_with c.args.self.now c.args.out.now)));
+  told = leads_none c.args.self.now c.args.out.now [] refl;
 }
 
 pub returns-in_err-take-clause-part : goal.returns-in_err-take-clause-part
 returns-in_err-take-clause-part c =
     on_err c.from_residual.result _ (
-    c.in_err-take.ensures.kept.1
-    ∙ ap (λ (w : World). w.texts) c.loop-index.invariant.world
-    ∙ ap (λ (w : World). w.texts) (part_taken (job_of c.args.self.now) (world_in c.args.self.now (texts_of c.args.out.now)) (λ packet. frame_of packet.0) c.args.packets.now c.args.self.now.count c.take.new.self.count c.loop-index.index (c.in_err-take.ensures.kept.0 ∙ c.loop-index.invariant.counted)))
+    ap (λ (t : Texts). (t.verdicts, t.packets)) c.in_err-take.ensures.kept.1
+    ∙ ap written c.loop-index.invariant.world
+    ∙ ap written (part_taken (job_of c.args.self.now) (world_with c.args.self.now c.args.out.now) (λ packet. frame_of packet.0) c.args.packets.now c.args.self.now.count c.take.new.self.count c.loop-index.index (c.in_err-take.ensures.kept.0 ∙ c.loop-index.invariant.counted)))
+
+pub returns-in_err-take-clause-part_told : goal.returns-in_err-take-clause-part_told
+returns-in_err-take-clause-part_told c =
+    on_err c.from_residual.result _ (
+    leaves_part c.args.self.now c.loop-index.self c.take.new.self.count c.args.out.now c.loop-index.out c.take.new.out (λ packet. frame_of packet.0) c.args.packets.now c.loop-index.index
+    (c.in_err-take.ensures.kept.0 ∙ c.loop-index.invariant.counted) c.in_err-take.ensures.kept.1 c.loop-index.invariant.told)
 
 pub loop-index-preserved : goal.loop-index-preserved
 loop-index-preserved c =
@@ -43,6 +57,7 @@ loop-index-preserved c =
     let below : c.loop-index.index < length c.args.packets.now = search rules in
     let count = c.in_ok-take.ensures.counted in
     let before = i.counted in
+    let job_is = same_job c.loop-index.self c.args.self.now i.job in
     record {
       job = c.take.ensures.job ∙ i.job;
       counted = omega arith;
@@ -50,17 +65,23 @@ loop-index-preserved c =
       own =
           let number : c.args.self.now.count + 1 + c.loop-index.index ≡ c.loop-index.self.count + 1 = omega arith in
           let held = c.take_at.ensures.taken ∙ i.tried c.loop-index.index (omega arith) below ∙ ap (λ (n : ℕ). find (is_of n) c.args.results.items) number in
-          rises_next (job_of c.args.self.now) (world_in c.args.self.now (texts_of c.args.out.now)) c.args.results.items c.args.packets.now c.loop-index.index c.index-packets-index.result
+          rises_next (job_of c.args.self.now) (world_with c.args.self.now c.args.out.now) c.args.results.items c.args.packets.now c.loop-index.index c.index-packets-index.result
           c.args.self.now.own c.loop-index.self.own c.take.new.self.own below i.own
-          (rises_by (job_of c.args.self.now) (job_of c.loop-index.self) _ (world_in c.loop-index.self (texts_of c.loop-index.out)) c.args.results.items c.index-packets-index.result _ c.take_at.result
-          c.loop-index.self.own c.take.new.self.own (same_job c.loop-index.self c.args.self.now i.job) i.world c.index-packets-index.is held c.in_ok-take.ensures.used c.in_ok-take.ensures.evaluated);
+          (rises_by (job_of c.args.self.now) (job_of c.loop-index.self) _ (world_with c.loop-index.self c.loop-index.out) c.args.results.items c.index-packets-index.result _ c.take_at.result
+          c.loop-index.self.own c.take.new.self.own job_is i.world c.index-packets-index.is held c.in_ok-take.ensures.used c.in_ok-take.ensures.evaluated);
       tried = λ place from within. c.take_at.ensures.others place (omega arith) ∙ i.tried place (omega arith) within;
       world = c.in_ok-take.ensures.world
-          ∙ ap (λ (w : World). after (job_of c.loop-index.self) w (frame_of c.index-packets-index.result.0)) i.world
-          ∙ ap (λ (j : RunJob). after j (world_after (job_of c.args.self.now) (world_in c.args.self.now (texts_of c.args.out.now)) (map (λ packet. frame_of packet.0) (take c.loop-index.index c.args.packets.now))) (frame_of c.index-packets-index.result.0)) (same_job c.loop-index.self c.args.self.now i.job)
-          ∙ ap (λ (p : Record × View). after (job_of c.args.self.now) (world_after (job_of c.args.self.now) (world_in c.args.self.now (texts_of c.args.out.now)) (map (λ packet. frame_of packet.0) (take c.loop-index.index c.args.packets.now))) (frame_of p.0)) c.index-packets-index.is
-          ∙ sym (world_next (job_of c.args.self.now) (world_in c.args.self.now (texts_of c.args.out.now)) (λ packet. frame_of packet.0) c.args.packets.now c.loop-index.index c.index-packets-index.result below);
+          ∙ batch_next (job_of c.args.self.now) (job_of c.loop-index.self) (world_with c.args.self.now c.args.out.now) (world_with c.loop-index.self c.loop-index.out) (λ packet. frame_of packet.0) c.args.packets.now c.loop-index.index
+          c.index-packets-index.result c.index-packets-index.result job_is i.world c.index-packets-index.is below;
+      told = leads_next c.args.self.now c.loop-index.self c.take.new.self c.args.out.now c.loop-index.out c.take.new.out (λ packet. frame_of packet.0) c.args.packets.now c.loop-index.index
+          c.index-packets-index.result c.index-packets-index.result job_is c.index-packets-index.is below i.told c.in_ok-take.ensures.told;
     }
 
 pub returns-then-self-clause-over : goal.returns-then-self-clause-over
 returns-then-self-clause-over c = search rules
+
+pub returns-clause-told : goal.returns-clause-told
+returns-clause-told c =
+    let all : take c.loop-index.index c.args.packets.now ≡ c.args.packets.now = search rules in
+    subst (λ (packets : List (Record × View)). LeadsTo c.args.self.now c.loop-index.self c.args.out.now c.loop-index.out (λ world. world_after (job_of c.args.self.now) world (map (λ packet. frame_of packet.0) packets))) all
+    c.loop-index.invariant.told

@@ -1,7 +1,7 @@
 use Rattle.std.proofs.Common.{◌≡◌, ◌≤◌, ◌<◌, ◌+◌, ℕ, false, None, get_or, map, take, length}
 use Rattle.std.specs.List.{find}
-use Rattle.pfr_commit.specs.Books.{RisesOver, job_of, world_in}
-use Rattle.pfr_commit.specs.Emissions.{frame_of, texts_of}
+use Rattle.pfr_commit.specs.Books.{LeadsTo, RisesOver, job_of, untold, world_with}
+use Rattle.pfr_commit.specs.Emissions.{frame_of}
 use Rattle.pfr_commit.specs.Results.{is_of}
 use Rattle.pfr_commit.specs.World.{world_after}
 use Rattle.pfr_commit.proofs.book.Book.commit_batch.Given as goal
@@ -11,7 +11,8 @@ invariant-loop-index l = record {
   job : l.self.job ≡ l.fn.self.job;
   counted : l.self.count ≡ l.fn.self.count + l.index;
   is_open : l.self.is_over ≡ false;
-  own : RisesOver (job_of l.fn.self) (world_in l.fn.self (texts_of l.fn.out)) l.fn.results.items (take l.index l.packets) l.fn.self.own l.self.own;
+  own : RisesOver (job_of l.fn.self) (world_with l.fn.self l.fn.out) l.fn.results.items (take l.index l.packets) l.fn.self.own l.self.own;
   tried : (place : ℕ) → l.index ≤ place → place < length l.packets → get_or l.places.items place None ≡ find (is_of (l.fn.self.count + 1 + place)) l.fn.results.items;
-  world : world_in l.self (texts_of l.out) ≡ world_after (job_of l.fn.self) (world_in l.fn.self (texts_of l.fn.out)) (map (λ packet. frame_of packet.0) (take l.index l.packets));
+  world : world_with l.self l.out ≡ untold (world_after (job_of l.fn.self) (world_with l.fn.self l.fn.out) (map (λ packet. frame_of packet.0) (take l.index l.packets)));
+  told : LeadsTo l.fn.self l.self l.fn.out l.out (λ world. world_after (job_of l.fn.self) world (map (λ packet. frame_of packet.0) (take l.index l.packets)));
 }

@@ -1,9 +1,11 @@
-use Rattle.std.proofs.Common.{◌∙◌, ap, sym, rules}
+use Rattle.std.proofs.Common.{◌∙◌, ap, refl, sym, rules}
 use Rattle.pfr_headers.specs.declared.change.Change.{Change}
 use Rattle.pfr_packet.specs.declared.outcome.Outcome.{Outcome}
-use Rattle.pfr_commit.specs.Books.{job_of, world_in}
-use Rattle.pfr_commit.specs.Emissions.{frame_of, texts_of}
+use Rattle.pfr_commit.specs.Books.{job_of, untold, world_with}
+use Rattle.pfr_commit.specs.Emissions.{frame_of}
+use Rattle.pfr_commit.specs.World.{World}
 use Rattle.pfr_commit.proofs.BookLemmas.{if_some}
+use Rattle.pfr_commit.proofs.StandLemmas.{taken_leads}
 use Rattle.pfr_commit.proofs.WorldLemmas.{after_is}
 use Rattle.pfr_commit.proofs.book.Book.take.Goals as goal
 
@@ -15,8 +17,13 @@ take_outcome-requires-clause-bytes c =
 pub returns-clause-world : goal.returns-clause-world
 returns-clause-world c =
     c.in_ok-take_outcome.ensures.world
-    ∙ after_is (job_of c.args.self.now) (world_in c.args.self.now (texts_of c.args.out.now)) (frame_of c.args.packet.now) c.later-clock.result c.args.view.now c.in_ok-outcome.outcome
-    c.later-clock.ensures c.requires.view c.in_ok-outcome.ensures.outcome
+    ∙ ap untold (after_is (job_of c.args.self.now) (world_with c.args.self.now c.args.out.now) (frame_of c.args.packet.now) c.later-clock.result c.args.view.now c.in_ok-outcome.outcome
+    c.later-clock.ensures c.requires.view c.in_ok-outcome.ensures.outcome)
+
+pub returns-clause-told : goal.returns-clause-told
+returns-clause-told c =
+    taken_leads c.args.self.now _ c.take_outcome.new.self _ c.args.out.now c.take_outcome.new.out (frame_of c.args.packet.now) c.later-clock.result c.args.view.now c.in_ok-outcome.outcome
+    refl refl refl refl refl refl c.later-clock.ensures c.requires.view c.in_ok-outcome.ensures.outcome c.in_ok-take_outcome.ensures.told
 
 pub returns-clause-used : goal.returns-clause-used
 returns-clause-used c = search rules

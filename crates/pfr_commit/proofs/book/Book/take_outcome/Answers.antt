@@ -1,12 +1,23 @@
-use Rattle.std.proofs.Common.{◌++◌, ◌∙◌, List, ℕ, ap}
-use Rattle.pfr_commit.specs.Books.{world_in}
-use Rattle.pfr_commit.specs.Emissions.{frame_of, texts_of}
+use Rattle.std.proofs.Common.{◌++◌, ◌∙◌, List, ℕ, ap, refl}
+use Rattle.pfr_packet.specs.Plan.{purged_at}
+use Rattle.pfr_commit.specs.Books.{world_with}
+use Rattle.pfr_commit.specs.Emissions.{frame_of}
+use Rattle.pfr_commit.proofs.StandLemmas.{outcome_leads}
 use Rattle.pfr_commit.proofs.WorldLemmas.{outcome_taken}
 use Rattle.pfr_commit.proofs.book.Book.take_outcome.Goals as goal
 
 pub returns-clause-world : goal.returns-clause-world
+unfolding purged_at
 returns-clause-world c =
-    outcome_taken (world_in c.args.self.now (texts_of c.args.out.now)) (frame_of c.args.packet.now) c.args.clock c.args.view.now c.args.outcome.now _ _ _ _
-    c.requires.view c.in_ok-change_table.ensures c.count.ensures
+    outcome_taken (world_with c.args.self.now c.args.out.now) (frame_of c.args.packet.now) c.args.clock c.args.view.now c.args.outcome.now c.purge.new.table _ _ _ _
+    c.requires.view c.in_ok-purge.ensures.table c.in_ok-change.ensures.table c.count.ensures
     (c.in_ok-put.ensures.verdicts ∙ ap (λ (t : List ℕ). c.args.out.now.verdicts.items ++ t) (c.as_str.ensures.value ∙ c.in_ok-put_line.ensures))
     c.in_ok-put.ensures.packets
+
+pub returns-clause-told : goal.returns-clause-told
+unfolding purged_at
+returns-clause-told c =
+    outcome_leads c.args.self.now _ c.args.out.now c.put.new.self (frame_of c.args.packet.now) c.args.clock c.args.outcome.now c.begin.new.self c.purge.new.self c.change.new.self c.purge.new.table
+    c.requires.later c.in_ok-purge.ensures.table c.requires.own
+    (record { begin = c.in_ok-begin.ensures.told; purge = c.in_ok-purge.ensures.told; next = c.in_ok-change.ensures.told; origin_is = c.change.ensures.origin ∙ c.purge.ensures.origin ∙ c.begin.ensures.origin })
+    refl refl c.in_ok-put.ensures.messages (returns-clause-world c)
