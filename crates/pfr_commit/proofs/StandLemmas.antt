@@ -67,9 +67,10 @@ packet_told old begun purged_telling new clock later states purged_states limit 
     let both = tells.purge (closed_at old.queue.origin clock events) events count begun_told (told_by_then count clock later states events is_later are) in
     let told = tells.next (closed_at old.queue.origin clock events) (events ++ events_of_purge later states) count both.0 both.1 next in
     let then_are = told_of_change count later (record { states = purged_states; limit = limit }) (events ++ events_of_purge later states) change both.1 next in
-    let all = ap (λ (ss : List State). (events ++ events_of_purge later states) ++ events_of_change later change ss) purged_is ∙ packet_events later change states events in
-    (subst (λ (es : List Event). HasTold (closed_at old.queue.origin clock events) new later es) all told,
-    subst (λ (es : List Event). AreTold (count + 1) later (changed change (record { states = purged_states; limit = limit })).states es) all then_are)
+    let all = ap (λ (ss : List State). (events ++ events_of_purge later states) ++ events_of_change later change ss) purged_is ∙ packet_events later change states events in (
+      subst (λ (es : List Event). HasTold (closed_at old.queue.origin clock events) new later es) all told,
+      subst (λ (es : List Event). AreTold (count + 1) later (changed change (record { states = purged_states; limit = limit })).states es) all then_are,
+    )
 
 -- the world at which a book stands, by what the book holds of it
 abbrev around : Book → World → World
@@ -120,17 +121,19 @@ outcome_leads old new out out' frame clock outcome begun purged_telling told lef
         let states_are : left.states ≡ purged clock old.table.states = ap (λ (t : StateTable). t.states) left_is in
         let next = subst (λ (ss : List State). IfSome outcome.change (λ change. IsNextChange old.count ss change)) (sym states_are) (option_own_is_next old.count clock (purged clock old.table.states) outcome outcome.change own) in
         let both = packet_told old.telling begun purged_telling told old.clock clock old.table.states left.states old.table.limit old.count outcome.change world.events tells is_later states_are at.tells at.told next in
-        let all = world.events ++ events_of clock outcome.change old.table.states in
-        (record {
-          left = ap bare world_is;
-          origin_is = rw queue_is (tells.origin_is ∙ at.origin_is ∙ same_origin old new job_is);
-          tells = rw queue_is both.0.tells;
-          told = subst (λ (ss : List State). AreTold (old.count + 1) clock (changed outcome.change (record { states = ss; limit = old.table.limit })).states all) states_are both.1;
-        }, texts_are (online (job_of old) (with_outcome (around old world) frame clock outcome)) (joined before (texts_of out'))
-        (behind_both world.verdicts before.verdicts out.verdicts.items out'.verdicts.items _ (ap (λ (t : Texts). t.verdicts) is) (ap (λ (w : World). w.verdicts) world_is))
-        (behind_both world.packets before.packets out.packets.items out'.packets.items _ (ap (λ (t : Texts). t.packets) is) (ap (λ (w : World). w.packets) world_is))
-        (messages_behind old.telling.queue.origin told.queue.origin (origin_of (job_of old)) old.clock clock world.events all before.messages out.messages.items out'.messages.items told.closed.items
-        tells.origin_is at.origin_is both.0.closed (ap (λ (t : Texts). t.messages) is) messages_are))
+        let all = world.events ++ events_of clock outcome.change old.table.states in (
+          record {
+            left = ap bare world_is;
+            origin_is = rw queue_is (tells.origin_is ∙ at.origin_is ∙ same_origin old new job_is);
+            tells = rw queue_is both.0.tells;
+            told = subst (λ (ss : List State). AreTold (old.count + 1) clock (changed outcome.change (record { states = ss; limit = old.table.limit })).states all) states_are both.1;
+          },
+          texts_are (online (job_of old) (with_outcome (around old world) frame clock outcome)) (joined before (texts_of out'))
+              (behind_both world.verdicts before.verdicts out.verdicts.items out'.verdicts.items _ (ap (λ (t : Texts). t.verdicts) is) (ap (λ (w : World). w.verdicts) world_is))
+              (behind_both world.packets before.packets out.packets.items out'.packets.items _ (ap (λ (t : Texts). t.packets) is) (ap (λ (w : World). w.packets) world_is))
+              (messages_behind old.telling.queue.origin told.queue.origin (origin_of (job_of old)) old.clock clock world.events all before.messages out.messages.items out'.messages.items told.closed.items
+              tells.origin_is at.origin_is both.0.closed (ap (λ (t : Texts). t.messages) is) messages_are),
+        )
 
 -- a book that holds the same stands where the other one does
 restand : (book other : Book) (world : World) → world_in other ≡ world_in book → other.telling ≡ book.telling → other.job ≡ book.job → StandsAt book world → StandsAt other world
@@ -156,9 +159,10 @@ taken_leads old begun done new out out' frame clock view outcome left telling jo
     let next = after_is (job_of old) world frame clock view outcome
     (clock_is ∙ ap (λ (c : Clock). max c.0 frame.seconds) clock_was) view_is
     (outcome_is ∙ ap (λ (n : ℕ). step_of (job_of old) (n + 1) clock view old.table) count ∙ ap (λ (t : StateTable). step_of (job_of old) (world.count + 1) clock view t) table) in
-    subst (λ (w : World). StandsAt new w × (online (job_of old) w ≡ joined before (texts_of out'))) next
-    (restand done new (with_outcome world frame clock outcome) left' telling' job' led.0,
-    subst (λ (j : RunJob). online j (with_outcome world frame clock outcome) ≡ joined before (texts_of out')) job_is led.1)
+    subst (λ (w : World). StandsAt new w × (online (job_of old) w ≡ joined before (texts_of out'))) next (
+      restand done new (with_outcome world frame clock outcome) left' telling' job' led.0,
+      subst (λ (j : RunJob). online j (with_outcome world frame clock outcome) ≡ joined before (texts_of out')) job_is led.1,
+    )
 
 -- ---- a batch
 
@@ -175,7 +179,7 @@ leads_next {X = X} start mid new out out' out'' g xs i d p job_is p_is below fir
     let at = world_after (job_of start) world (map g (take i xs)) in
     let led = second at before led_first.0 (subst (λ (job : RunJob). online job at ≡ joined before (texts_of out')) (sym job_is) led_first.1) in
     let step : after (job_of mid) at (g p) ≡ world_after (job_of start) world (map g (take (i + 1) xs)) =
-        ap (λ (job : RunJob). after job at (g p)) job_is ∙ ap (λ (x : X). after (job_of start) at (g x)) p_is ∙ sym (world_next (job_of start) world g xs i d below) in
+    ap (λ (job : RunJob). after job at (g p)) job_is ∙ ap (λ (x : X). after (job_of start) at (g x)) p_is ∙ sym (world_next (job_of start) world g xs i d below) in
     subst (λ (w : World). StandsAt new w × (online (job_of start) w ≡ joined before (texts_of out''))) step
     (led.0, subst (λ (job : RunJob). online job (after (job_of mid) at (g p)) ≡ joined before (texts_of out'')) job_is led.1)
 

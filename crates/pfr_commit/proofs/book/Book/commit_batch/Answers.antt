@@ -1,5 +1,6 @@
 use Rattle.std.proofs.Common.{◌≡◌, ◌+◌, ◌<◌, ◌∙◌, ℕ, List, [], refl, sym, ap, subst, length, map, take, rules, arith}
 use Rattle.std.specs.List.{find}
+use Rattle.std.proofs.Math.Seq.{take-length}
 use Rattle.pfr_headers.specs.declared.packet.View.{View}
 use Rattle.pfr_states.proofs.RefusalLemmas.{on_err}
 use Rattle.pfr_packet.specs.Job.{RunJob}
@@ -82,6 +83,7 @@ returns-then-self-clause-over c = search rules
 
 pub returns-clause-told : goal.returns-clause-told
 returns-clause-told c =
-    let all : take c.loop-index.index c.args.packets.now ≡ c.args.packets.now = search rules in
+    let end : c.loop-index.index ≡ length c.args.packets.now = search rules in
+    let all = ap (λ (i : ℕ). take i c.args.packets.now) end ∙ take-length c.args.packets.now in
     subst (λ (packets : List (Record × View)). LeadsTo c.args.self.now c.loop-index.self c.args.out.now c.loop-index.out (λ world. world_after (job_of c.args.self.now) world (map (λ packet. frame_of packet.0) packets))) all
     c.loop-index.invariant.told
