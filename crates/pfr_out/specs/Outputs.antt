@@ -5,6 +5,7 @@ use Rattle.pfr_commit.specs.World.{Texts}
 use Rattle.pfr_out.specs.declared.report.Output.{Output}
 use Rattle.pfr_out.specs.declared.report.Output.TheVariants as output
 use Rattle.pfr_out.specs.declared.sinks.Sinks.{Sinks}
+use Rattle.pfr_out.specs.Spelling.{Run, messages_text}
 
 -- something of each sink
 abbrev pub each_of : {S A : Type 0} → (S → A) → Sinks S → Sinks A
@@ -42,11 +43,15 @@ nothing = record { verdicts = []; packets = []; counters = []; states = []; mess
 abbrev pub header_alone : List ℕ → Outputs
 header_alone header = record nothing { packets = header }
 
-abbrev pub batch_alone : Texts → Outputs
-batch_alone texts = record nothing { verdicts = texts.verdicts; packets = texts.packets }
+abbrev pub batch_alone : List ℕ → List ℕ → List ℕ → Outputs
+batch_alone verdicts packets messages = record nothing { verdicts = verdicts; packets = packets; messages = messages }
 
-abbrev pub ending_alone : List ℕ → List ℕ → Outputs
-ending_alone counters states = record nothing { counters = counters; states = states }
+-- texts as a run writes them
+abbrev pub texts_alone : Run → Texts → Outputs
+texts_alone run texts = batch_alone texts.verdicts texts.packets (messages_text run texts.messages)
+
+abbrev pub ending_alone : List ℕ → List ℕ → List ℕ → Outputs
+ending_alone counters states message = record nothing { counters = counters; states = states; messages = message }
 
 -- an output grew by its text of a piece
 abbrev pub GrewAt : Output → (old new piece : Outputs) → Type 0

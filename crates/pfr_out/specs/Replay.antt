@@ -13,7 +13,9 @@ use Rattle.pfr_capture.specs.Device.{GrewByBeginning, Rose}
 use Rattle.pfr_capture.specs.Header.{opening_of}
 use Rattle.pfr_capture.specs.Records.{IsCapture, RecordBytes, seconds_of}
 use Rattle.pfr_commit.specs.Endings.{counters_text, states_text}
-use Rattle.pfr_commit.specs.World.{Frame, Texts, World, world_of}
+use Rattle.pfr_sync.specs.Messages.{messages_of}
+use Rattle.pfr_commit.specs.World.{Frame, Texts, World, last_message, origin_of, world_of}
+use Rattle.pfr_commit.specs.World.{online as written}
 use Rattle.pfr_out.specs.declared.report.Output.{Output}
 use Rattle.pfr_out.specs.declared.report.Output.TheVariants as output
 use Rattle.pfr_out.specs.declared.report.Report.{Report}
@@ -21,7 +23,8 @@ use Rattle.pfr_out.specs.declared.report.Stop.{Stop}
 use Rattle.pfr_out.specs.declared.report.Stop.TheVariants as stop
 use Rattle.pfr_out.specs.declared.settings.Settings.{Settings}
 use Rattle.pfr_out.specs.declared.sinks.Sinks.{Sinks}
-use Rattle.pfr_out.specs.Outputs.{AllTold, Grew, Outputs, PartWritten, RoseAt, batch_alone, each_of, ending_alone, header_alone, nothing, of_output}
+use Rattle.pfr_out.specs.Outputs.{AllTold, Grew, Outputs, PartWritten, RoseAt, batch_alone, each_of, ending_alone, header_alone, of_output, texts_alone}
+use Rattle.pfr_out.specs.Spelling.{Run, messages_text}
 
 -- ---- what a replay writes
 
@@ -33,22 +36,28 @@ frame_in form r = record { link = form.link; seconds = seconds_of form.order r.h
 unfoldable pub run_of : RunJob → Form → List RecordBytes → World
 run_of job form records = world_of job (map (frame_in form) records)
 
--- the outputs after these records of a capture with this header
-abbrev pub online : List ℕ → World → Outputs
-online header world = record nothing { verdicts = world.texts.verdicts; packets = header ++ world.texts.packets }
+-- the outputs after these records of a capture with this header: a message that may still grow isn't written
+abbrev pub online : List ℕ → Run → World → Outputs
+online header run world = batch_alone world.verdicts (header ++ world.packets) (messages_text run (written run.job world).messages)
 
--- what stands at the end of a capture that was read to its end
-abbrev pub closing : World → Outputs
-closing world = ending_alone (counters_text world.count world.counters) (states_text world.table.states)
+-- what stands at the end of a capture that was read to its end: the message that was open, counters and states
+abbrev pub closing : Run → World → Outputs
+closing run world = ending_alone (counters_text world.count world.counters) (states_text world.table.states) (messages_text run (last_message run.job world))
 
--- the outputs after all records of a capture
-abbrev pub whole : List ℕ → World → Outputs
-whole header world = record (online header world) { counters = (closing world).counters; states = (closing world).states }
+-- the outputs after all records of a capture, with all messages of what became of states
+abbrev pub whole : List ℕ → Run → World → Outputs
+whole header run world = record {
+  verdicts = world.verdicts;
+  packets = header ++ world.packets;
+  counters = counters_text world.count world.counters;
+  states = states_text world.table.states;
+  messages = messages_text run (messages_of (origin_of run.job) world.events);
+}
 
 -- what the replay of a capture with this header writes, by how it ends
-abbrev pub replay_of : List ℕ → World → Result Tail CaptureError → Outputs
-replay_of header world (Ok tail) = whole header world
-replay_of header world (Err refusal) = online header world
+abbrev pub replay_of : List ℕ → Run → World → Result Tail CaptureError → Outputs
+replay_of header run world (Ok tail) = whole header run world
+replay_of header run world (Err refusal) = online header run world
 
 -- each output grew by a beginning of what it would grow by
 abbrev pub Begins : (old new all : Outputs) → Type 0
@@ -58,12 +67,12 @@ Begins old new all = (o : Output) → GrewByBeginning (of_output o old) (of_outp
 
 -- Facts of the outputs hold where all sinks tell their bytes.
 
-pub record Replayed (job : RunJob) (text : List ℕ) (told : Sinks Bool) (old new : Outputs) (report : Report) : Type 0 where
+pub record Replayed (run : Run) (text : List ℕ) (told : Sinks Bool) (old new : Outputs) (report : Report) : Type 0 where
   pub form : Form
   pub records : List RecordBytes
   pub capture : IsCapture text form records (Ok report.tail)
   pub counted : length records ≡ report.committed
-  pub grew : AllTold told → Grew old new (whole (take 24 text) (run_of job form records))
+  pub grew : AllTold told → Grew old new (whole (take 24 text) run (run_of run.job form records))
 
 -- ---- stops
 
@@ -81,10 +90,10 @@ abbrev pub IsBoundary : ℕ → ℕ → Type 0
 IsBoundary batch count = (batches : ℕ) × (count ≡ batches * batch)
 
 -- the outputs hold just what so many of the records write, and that is a number of whole batches
-pub record Holds (job : RunJob) (batch : ℕ) (told : Sinks Bool) (old new : Outputs) (committed : ℕ) (header : List ℕ) (form : Form) (records : List RecordBytes) : Type 0 where
+pub record Holds (run : Run) (batch : ℕ) (told : Sinks Bool) (old new : Outputs) (committed : ℕ) (header : List ℕ) (form : Form) (records : List RecordBytes) : Type 0 where
   pub within : committed ≤ length records
   pub boundary : IsBoundary batch committed
-  pub grew : AllTold told → Grew old new (online header (run_of job form (take committed records)))
+  pub grew : AllTold told → Grew old new (online header run (run_of run.job form (take committed records)))
 
 -- the header wasn't written whole, and nothing else was
 pub record HoldsPartOfHeader (told : Sinks Bool) (old new : Outputs) (output : Output) (committed : ℕ) (header : List ℕ) : Type 0 where
@@ -93,16 +102,16 @@ pub record HoldsPartOfHeader (told : Sinks Bool) (old new : Outputs) (output : O
 
 -- The outputs hold what so many records write, a number of whole batches, and a part of what the next ones write, at most a batch
 -- of them: of one output a part that lacks at least its last byte, and nothing behind that.
-pub record HoldsPartOfBatch (job : RunJob) (batch : ℕ) (told : Sinks Bool) (old new : Outputs) (output : Output) (committed : ℕ) (header : List ℕ) (form : Form) (records : List RecordBytes) : Type 0 where
+pub record HoldsPartOfBatch (run : Run) (batch : ℕ) (told : Sinks Bool) (old new : Outputs) (output : Output) (committed : ℕ) (header : List ℕ) (form : Form) (records : List RecordBytes) : Type 0 where
   pub next : ℕ
   pub at_most : next ≤ committed + batch
   pub within : next ≤ length records
   pub boundary : IsBoundary batch committed
   pub mid : Outputs
-  pub before : AllTold told → Grew old mid (online header (run_of job form (take committed records)))
+  pub before : AllTold told → Grew old mid (online header run (run_of run.job form (take committed records)))
   pub piece : Texts
-  pub piece_is : Grew (online header (run_of job form (take committed records))) (online header (run_of job form (take next records))) (batch_alone piece)
-  pub part : AllTold told → PartWritten mid new (batch_alone piece) output
+  pub piece_is : Grew (online header run (run_of run.job form (take committed records))) (online header run (run_of run.job form (take next records))) (texts_alone run piece)
+  pub part : AllTold told → PartWritten mid new (texts_alone run piece) output
 
 -- nothing was written, since not all of the capture's header had come
 pub record Unopened (text left : List ℕ) (told : Sinks Bool) (old new : Outputs) (committed : ℕ) : Type 0 where
@@ -116,7 +125,7 @@ pub record Unwritten (told : Sinks Bool) (old new : Outputs) (committed : ℕ) :
   pub same : AllTold told → new ≡ old
 
 -- what was read of the source is a capture of just the records committed, and the outputs hold just what these write
-pub record HoldsAllRead (job : RunJob) (text left : List ℕ) (told : Sinks Bool) (old new : Outputs) (committed : ℕ) : Type 0 where
+pub record HoldsAllRead (run : Run) (text left : List ℕ) (told : Sinks Bool) (old new : Outputs) (committed : ℕ) : Type 0 where
   pub read : List ℕ
   pub is : text ≡ read ++ left
   pub form : Form
@@ -124,52 +133,52 @@ pub record HoldsAllRead (job : RunJob) (text left : List ℕ) (told : Sinks Bool
   pub tail : Tail
   pub capture : IsCapture read form records (Ok tail)
   pub counted : length records ≡ committed
-  pub grew : AllTold told → Grew old new (online (take 24 text) (run_of job form records))
+  pub grew : AllTold told → Grew old new (online (take 24 text) run (run_of run.job form records))
 
 -- the source is a capture of just the records committed, which ends so, and the outputs hold just what these write
-pub record HoldsAll (job : RunJob) (text : List ℕ) (told : Sinks Bool) (old new : Outputs) (ending : Result Tail CaptureError) (committed : ℕ) : Type 0 where
+pub record HoldsAll (run : Run) (text : List ℕ) (told : Sinks Bool) (old new : Outputs) (ending : Result Tail CaptureError) (committed : ℕ) : Type 0 where
   pub form : Form
   pub records : List RecordBytes
   pub capture : IsCapture text form records ending
   pub counted : length records ≡ committed
-  pub grew : AllTold told → Grew old new (online (take 24 text) (run_of job form records))
+  pub grew : AllTold told → Grew old new (online (take 24 text) run (run_of run.job form records))
 
 -- the source is a capture that was read to its end, and what stands there was written in part
-pub record HoldsPartOfEnding (job : RunJob) (text : List ℕ) (told : Sinks Bool) (old new : Outputs) (output : Output) (committed : ℕ) : Type 0 where
+pub record HoldsPartOfEnding (run : Run) (text : List ℕ) (told : Sinks Bool) (old new : Outputs) (output : Output) (committed : ℕ) : Type 0 where
   pub form : Form
   pub records : List RecordBytes
   pub tail : Tail
   pub capture : IsCapture text form records (Ok tail)
   pub counted : length records ≡ committed
   pub mid : Outputs
-  pub before : AllTold told → Grew old mid (online (take 24 text) (run_of job form records))
-  pub part : AllTold told → PartWritten mid new (closing (run_of job form records)) output
+  pub before : AllTold told → Grew old mid (online (take 24 text) run (run_of run.job form records))
+  pub part : AllTold told → PartWritten mid new (closing run (run_of run.job form records)) output
 
 -- what a refusal of the capture says of the source's bytes and of the outputs
-abbrev pub Refused : RunJob → List ℕ → (told : Sinks Bool) → (old new : Outputs) → CaptureError → ℕ → Type 0
-Refused job text told old new capture.Read committed = ⊥
-Refused job text told old new capture.Memory committed = ⊥
-Refused job text told old new (capture.RecordTooLong asked) committed = HoldsAll job text told old new (Err (capture.RecordTooLong asked)) committed
-Refused job text told old new e committed = (opening_of text ≡ Err e) × (committed ≡ 0) × (AllTold told → new ≡ old)
+abbrev pub Refused : Run → List ℕ → (told : Sinks Bool) → (old new : Outputs) → CaptureError → ℕ → Type 0
+Refused run text told old new capture.Read committed = ⊥
+Refused run text told old new capture.Memory committed = ⊥
+Refused run text told old new (capture.RecordTooLong asked) committed = HoldsAll run text told old new (Err (capture.RecordTooLong asked)) committed
+Refused run text told old new e committed = (opening_of text ≡ Err e) × (committed ≡ 0) × (AllTold told → new ≡ old)
 
 -- what a refusal of memory says: nothing was written, or whole batches were, or all that stands before the end
-abbrev pub Wanting : RunJob → ℕ → (text left : List ℕ) → (told : Sinks Bool) → (old new : Outputs) → ℕ → Type 0
-Wanting job batch text left told old new committed =
-    Unwritten told old new committed ⊎ (OfEvery text left (Holds job batch told old new committed) ⊎ ((tail : Tail) × HoldsAll job text told old new (Ok tail) committed))
+abbrev pub Wanting : Run → ℕ → (text left : List ℕ) → (told : Sinks Bool) → (old new : Outputs) → ℕ → Type 0
+Wanting run batch text left told old new committed =
+    Unwritten told old new committed ⊎ (OfEvery text left (Holds run batch told old new committed) ⊎ ((tail : Tail) × HoldsAll run text told old new (Ok tail) committed))
 
 -- what a failed write says
-abbrev pub Failing : RunJob → ℕ → (text left : List ℕ) → (told : Sinks Bool) → (old new : Outputs) → Output → ℕ → Type 0
-Failing job batch text left told old new output committed =
-    OfEvery text left (λ header form records. HoldsPartOfHeader told old new output committed header ⊎ HoldsPartOfBatch job batch told old new output committed header form records)
-    ⊎ HoldsPartOfEnding job text told old new output committed
+abbrev pub Failing : Run → ℕ → (text left : List ℕ) → (told : Sinks Bool) → (old new : Outputs) → Output → ℕ → Type 0
+Failing run batch text left told old new output committed =
+    OfEvery text left (λ header form records. HoldsPartOfHeader told old new output committed header ⊎ HoldsPartOfBatch run batch told old new output committed header form records)
+    ⊎ HoldsPartOfEnding run text told old new output committed
 
 -- what each stop after the ruleset was read says
-abbrev pub Stopped : RunJob → ℕ → (text left : List ℕ) → (told : Sinks Bool) → (old new : Outputs) → Stop → Type 0
-Stopped job batch text left told old new (stop.Ruleset fault) = ⊥
-Stopped job batch text left told old new (stop.Capture e committed) = Refused job text told old new e committed
-Stopped job batch text left told old new (stop.Read committed) = Unopened text left told old new committed ⊎ HoldsAllRead job text left told old new committed
-Stopped job batch text left told old new (stop.Memory committed) = Wanting job batch text left told old new committed
-Stopped job batch text left told old new (stop.Write output committed) = Failing job batch text left told old new output committed
+abbrev pub Stopped : Run → ℕ → (text left : List ℕ) → (told : Sinks Bool) → (old new : Outputs) → Stop → Type 0
+Stopped run batch text left told old new (stop.Ruleset fault) = ⊥
+Stopped run batch text left told old new (stop.Capture e committed) = Refused run text told old new e committed
+Stopped run batch text left told old new (stop.Read committed) = Unopened text left told old new committed ⊎ HoldsAllRead run text left told old new committed
+Stopped run batch text left told old new (stop.Memory committed) = Wanting run batch text left told old new committed
+Stopped run batch text left told old new (stop.Write output committed) = Failing run batch text left told old new output committed
 
 -- the stop for a refusal of the capture's reader
 abbrev pub stop_for : CaptureError → ℕ → Stop
@@ -216,28 +225,31 @@ pub record IsFaultOf (text : List ℕ) (settings : Settings) (fault : ConfError)
   pub is : Gives (ruleset_of text settings.interface) (Err fault)
   pub line : fault.kind ≡ NoMemory → fault.line ≡ 0
 
+abbrev pub run_with : RunJob → Settings → Run
+run_with job settings = record { job = job; form = settings.form }
+
 -- What each stop says where the source tells its bytes, where all sinks do, and where neither does. A fault of the ruleset leaves the
 -- source unread and the outputs as they were.
 abbrev pub StopOf : (text seed : List ℕ) → Settings → (tells : Bool) → (before left : List ℕ) → (told : Sinks Bool) → (old new : Outputs) → Stop → Type 0
 StopOf text seed settings tells before left told old new (stop.Ruleset fault) = IsFaultOf text settings fault × (IsTrue tells → left ≡ before) × (AllTold told → new ≡ old)
-StopOf text seed settings tells before left told old new s = UnderJob text seed settings (λ job. IsTrue tells → Stopped job settings.batch before left told old new s)
+StopOf text seed settings tells before left told old new s = UnderJob text seed settings (λ job. IsTrue tells → Stopped (run_with job settings) settings.batch before left told old new s)
 
 -- ---- by what the devices show
 
 -- where the source tells its bytes, a run came to the end of its capture
-abbrev pub Replays : {R S : Type 0} → (tells : R → Bool) → (unread : R → List ℕ) → (told : S → Bool) → (written : S → List ℕ) → RunJob → R → (sinks sinks' : Sinks S) → Report → Type 0
-Replays tells unread told written job source sinks sinks' report =
-    IsTrue (tells source) → Replayed job (unread source) (each_of told sinks) (each_of written sinks) (each_of written sinks') report
+abbrev pub Replays : {R S : Type 0} → (tells : R → Bool) → (unread : R → List ℕ) → (told : S → Bool) → (written : S → List ℕ) → Run → R → (sinks sinks' : Sinks S) → Report → Type 0
+Replays tells unread told written run source sinks sinks' report =
+    IsTrue (tells source) → Replayed run (unread source) (each_of told sinks) (each_of written sinks) (each_of written sinks') report
 
 -- it stopped behind its ruleset
-abbrev pub Stops : {R S : Type 0} → (tells : R → Bool) → (unread : R → List ℕ) → (told : S → Bool) → (written : S → List ℕ) → RunJob → ℕ → (source source' : R) → (sinks sinks' : Sinks S) → Stop → Type 0
-Stops tells unread told written job batch source source' sinks sinks' s =
-    IsTrue (tells source) → Stopped job batch (unread source) (unread source') (each_of told sinks) (each_of written sinks) (each_of written sinks') s
+abbrev pub Stops : {R S : Type 0} → (tells : R → Bool) → (unread : R → List ℕ) → (told : S → Bool) → (written : S → List ℕ) → Run → ℕ → (source source' : R) → (sinks sinks' : Sinks S) → Stop → Type 0
+Stops tells unread told written run batch source source' sinks sinks' s =
+    IsTrue (tells source) → Stopped run batch (unread source) (unread source') (each_of told sinks) (each_of written sinks) (each_of written sinks') s
 
 -- the same by a ruleset's text, which means a ruleset then
 abbrev pub ReplaysRun : {R S : Type 0} → (tells : R → Bool) → (unread : R → List ℕ) → (told : S → Bool) → (written : S → List ℕ) → (text seed : List ℕ) → Settings → R → (sinks sinks' : Sinks S) → Report → Type 0
 ReplaysRun tells unread told written text seed settings source sinks sinks' report =
-    UnderJob text seed settings (λ job. Replays tells unread told written job source sinks sinks' report)
+    UnderJob text seed settings (λ job. Replays tells unread told written (run_with job settings) source sinks sinks' report)
 
 -- and a run by a text stopped
 abbrev pub StopsRun : {R S : Type 0} → (tells : R → Bool) → (unread : R → List ℕ) → (told : S → Bool) → (written : S → List ℕ) → (text seed : List ℕ) → Settings → (source source' : R) → (sinks sinks' : Sinks S) → Stop → Type 0

@@ -2,10 +2,17 @@
 use Rattle.std.specs.Prelude.{ℕ, List, [], ◌++◌, length}
 use Rattle.std.specs.List.{flat_map}
 use Rattle.pfr_net.specs.declared.address.Ipv4Address.{Ipv4Address}
+use Rattle.pfr_packet.specs.Job.{RunJob}
 use Rattle.pfr_messages.specs.Messages.{Content, spelling}
 use Rattle.pfr_sync.specs.Files.{ip_header}
 use Rattle.pfr_out.specs.declared.settings.Form.{Form}
 use Rattle.pfr_out.specs.declared.settings.Form.TheVariants as form
+
+-- what the outputs of a run hang on, but for its capture
+pub record Run : Type 0 where
+  pub job : RunJob
+  -- of the messages to a standby
+  pub form : Form
 
 -- a message behind an IP header from an interface's address
 abbrev pub packet_of : Ipv4Address → Content → List ℕ
@@ -16,6 +23,10 @@ in_form form.File source message = packet_of source message
 in_form form.Peer source message = spelling message
 in_form form.None source message = []
 
--- one after the other
+-- messages, one after the other
 unfoldable pub spelled : Form → Ipv4Address → List Content → List ℕ
 spelled form source messages = flat_map (in_form form source) messages
+
+-- as a run writes them
+abbrev pub messages_text : Run → List Content → List ℕ
+messages_text run messages = spelled run.form run.job.interface.address messages

@@ -7,53 +7,62 @@ use Rattle.pfr_capture.specs.declared.capture.Record.{Record}
 use Rattle.pfr_capture.specs.declared.capture.Tail.{Tail}
 use Rattle.pfr_capture.specs.Reading.{HasGiven, Reading}
 use Rattle.pfr_commit.specs.declared.book.Book.{Book}
-use Rattle.pfr_commit.specs.Books.{frames_of, job_of, world_in}
-use Rattle.pfr_commit.specs.World.{Frame, Texts, World, no_texts, world_after}
+use Rattle.pfr_commit.specs.Books.{StandsAt, frames_of, job_of}
+use Rattle.pfr_commit.specs.World.{Frame, Texts, World, joined, online, world_after}
 use Rattle.pfr_out.specs.declared.report.Report.{Report}
 use Rattle.pfr_out.specs.declared.report.Stop.{Stop}
 use Rattle.pfr_out.specs.declared.report.Stop.TheVariants as stop
 use Rattle.pfr_out.specs.declared.sinks.Sinks.{Sinks}
-use Rattle.pfr_out.specs.Outputs.{AllTold, Outputs, PartWritten, RoseAt, batch_alone, each_of}
+use Rattle.pfr_out.specs.declared.settings.Form.{Form}
+use Rattle.pfr_out.specs.Spelling.{Run}
+use Rattle.pfr_out.specs.Outputs.{AllTold, Outputs, PartWritten, RoseAt, each_of, texts_alone}
 use Rattle.pfr_out.specs.Replay.{HoldsAll, Replayed, Stopped, closing, run_of, stop_for}
 
--- what packets add to the outputs, by the world before them
-abbrev pub added_by : RunJob → World → List Frame → Texts
-added_by job world frames = (world_after job (record world { texts = no_texts }) frames).texts
+-- a run by a book's job
+abbrev pub run_in : Book → Form → Run
+run_in book form = record { job = job_of book; form = form }
 
--- what packets of a batch add, behind those that a book has taken
-abbrev pub texts_added : Book → List (Record × View) → Texts
-texts_added book packets = added_by (job_of book) (world_in book no_texts) (frames_of packets)
+-- a fact of whatever world a book stands at
+abbrev pub Standing : Book → (World → Type 0) → Type 0
+Standing book P = (world : World) → StandsAt book world → P world
 
 -- a book has taken the packets of a batch
 abbrev pub HasTaken : (old new : Book) → List (Record × View) → Type 0
-HasTaken old new packets = world_in new (texts_added old packets) ≡ world_after (job_of old) (world_in old no_texts) (frames_of packets)
+HasTaken old new packets = Standing old (λ world. StandsAt new (world_after (job_of old) world (frames_of packets)))
 
--- what stands at the end of a run whose packets a book has taken
-abbrev pub closing_of : Book → Outputs
-closing_of book = closing (world_in book no_texts)
+-- packets add texts to what is written of a world, and this is a fact of the texts
+pub record Add (job : RunJob) (world : World) (frames : List Frame) (P : Texts → Type 0) : Type 0 where
+  pub added : Texts
+  pub is : online job (world_after job world frames) ≡ joined (online job world) added
+  pub hold : P added
+
+-- the same of the packets of a batch, behind those that a book has taken
+abbrev pub Added : Book → List (Record × View) → (Texts → Type 0) → Type 0
+Added book packets P = Standing book (λ world. Add (job_of book) world (frames_of packets) P)
 
 -- Facts of the outputs hold where all sinks tell their bytes.
 
--- a batch that was not written whole, after so many packets
-abbrev pub BatchStops : Texts → ℕ → (told : Sinks Bool) → Outputs → Outputs → Stop → Type 0
-BatchStops added count told old new (stop.Memory committed) = (committed ≡ count) × (new ≡ old)
-BatchStops added count told old new (stop.Write output committed) = (committed ≡ count) × (AllTold told → PartWritten old new (batch_alone added) output)
-BatchStops added count told old new _ = ⊥
+-- a batch that was not written whole
+abbrev pub BatchStops : Book → List (Record × View) → Form → (told : Sinks Bool) → Outputs → Outputs → Stop → Type 0
+BatchStops book packets form told old new (stop.Memory committed) = (committed ≡ book.count) × (new ≡ old)
+BatchStops book packets form told old new (stop.Write output committed) =
+    (committed ≡ book.count) × Added book packets (λ added. AllTold told → PartWritten old new (texts_alone (run_in book form) added) output)
+BatchStops book packets form told old new _ = ⊥
 
--- the same of a book's batch, as its sinks show it
-abbrev pub BatchStopsIn : {S : Type 0} → (told : S → Bool) → (written : S → List ℕ) → Book → List (Record × View) → (old new : Sinks S) → Stop → Type 0
-BatchStopsIn told written book packets old new s =
-    BatchStops (texts_added book packets) book.count (each_of told old) (each_of written old) (each_of written new) s
+-- the same, as its sinks show it
+abbrev pub BatchStopsIn : {S : Type 0} → (told : S → Bool) → (written : S → List ℕ) → Book → List (Record × View) → Form → (old new : Sinks S) → Stop → Type 0
+BatchStopsIn told written book packets form old new s = BatchStops book packets form (each_of told old) (each_of written old) (each_of written new) s
 
--- an end that was not written whole, after so many packets
-abbrev pub EndStops : World → (told : Sinks Bool) → Outputs → Outputs → Stop → Type 0
-EndStops world told old new (stop.Memory committed) = (committed ≡ world.count) × (new ≡ old)
-EndStops world told old new (stop.Write output committed) = (committed ≡ world.count) × (AllTold told → PartWritten old new (closing world) output)
-EndStops world told old new _ = ⊥
+-- an end that was not written whole
+abbrev pub EndStops : Book → Form → (told : Sinks Bool) → Outputs → Outputs → Stop → Type 0
+EndStops book form told old new (stop.Memory committed) = (committed ≡ book.count) × (new ≡ old)
+EndStops book form told old new (stop.Write output committed) =
+    (committed ≡ book.count) × Standing book (λ world. AllTold told → PartWritten old new (closing (run_in book form) world) output)
+EndStops book form told old new _ = ⊥
 
--- the same of a book's end, as its sinks show it
-abbrev pub EndStopsIn : {S : Type 0} → (told : S → Bool) → (written : S → List ℕ) → Book → (old new : Sinks S) → Stop → Type 0
-EndStopsIn told written book old new s = EndStops (world_in book no_texts) (each_of told old) (each_of written old) (each_of written new) s
+-- the same, as its sinks show it
+abbrev pub EndStopsIn : {S : Type 0} → (told : S → Bool) → (written : S → List ℕ) → Book → Form → (old new : Sinks S) → Stop → Type 0
+EndStopsIn told written book form old new s = EndStops book form (each_of told old) (each_of written old) (each_of written new) s
 
 -- what such a stop says of the counts of failures of the sinks
 abbrev pub SinksFail : Stop → Sinks ℕ → Sinks ℕ → Type 0
@@ -62,13 +71,13 @@ SinksFail (stop.Memory committed) old new = new ≡ old
 SinksFail _ old new = ⊥
 
 -- the end of the reading: at the capture's, an end that was not written whole; else a stop for the refusal
-abbrev pub Concludes : Result Tail CaptureError → World → (told : Sinks Bool) → Outputs → Outputs → Stop → Type 0
-Concludes (Ok tail) world told old new s = EndStops world told old new s
-Concludes (Err e) world told old new s = (s ≡ stop_for e world.count) × (new ≡ old)
+abbrev pub Concludes : Result Tail CaptureError → Book → Form → (told : Sinks Bool) → Outputs → Outputs → Stop → Type 0
+Concludes (Ok tail) book form told old new s = EndStops book form told old new s
+Concludes (Err e) book form told old new s = (s ≡ stop_for e book.count) × (new ≡ old)
 
--- the same of a book's end, as its sinks show it
-abbrev pub ConcludesIn : {S : Type 0} → (told : S → Bool) → (written : S → List ℕ) → Result Tail CaptureError → Book → (old new : Sinks S) → Stop → Type 0
-ConcludesIn told written end book old new s = Concludes end (world_in book no_texts) (each_of told old) (each_of written old) (each_of written new) s
+-- the same, as its sinks show it
+abbrev pub ConcludesIn : {S : Type 0} → (told : S → Bool) → (written : S → List ℕ) → Result Tail CaptureError → Book → Form → (old new : Sinks S) → Stop → Type 0
+ConcludesIn told written end book form old new s = Concludes end book form (each_of told old) (each_of written old) (each_of written new) s
 
 -- and of the counts of failures of the sinks
 abbrev pub ConcludeFails : Result Tail CaptureError → ℕ → Sinks ℕ → Sinks ℕ → Stop → Type 0
@@ -77,15 +86,15 @@ ConcludeFails (Err e) count old new s = (s ≡ stop_for e count) × (new ≡ old
 
 -- ---- all packets of a capture
 
--- the source is a capture of just the packets that a world has taken, and the outputs hold just what these write
-pub record TakenAll (job : RunJob) (text : List ℕ) (told : Sinks Bool) (old new : Outputs) (world : World) (tail : Tail) : Type 0 where
-  pub all : HoldsAll job text told old new (Ok tail) world.count
-  pub left : world ≡ record (run_of job all.form all.records) { texts = no_texts }
+-- the source is a capture of just the packets that a book has taken, and the outputs hold just what these write
+pub record TakenAll (run : Run) (text : List ℕ) (told : Sinks Bool) (old new : Outputs) (book : Book) (tail : Tail) : Type 0 where
+  pub all : HoldsAll run text told old new (Ok tail) book.count
+  pub stands : StandsAt book (run_of run.job all.form all.records)
 
 -- the reading ended so, and all packets before that are taken and written
-abbrev pub Reaches : RunJob → ℕ → (text left : List ℕ) → (told : Sinks Bool) → (old new : Outputs) → World → Result Tail CaptureError → Type 0
-Reaches job batch text left told old new world (Ok tail) = TakenAll job text told old new world tail
-Reaches job batch text left told old new world (Err e) = Stopped job batch text left told old new (stop_for e world.count)
+abbrev pub Reaches : Run → ℕ → (text left : List ℕ) → (told : Sinks Bool) → (old new : Outputs) → Book → Result Tail CaptureError → Type 0
+Reaches run batch text left told old new book (Ok tail) = TakenAll run text told old new book tail
+Reaches run batch text left told old new book (Err e) = Stopped run batch text left told old new (stop_for e book.count)
 
 -- a stop behind the ruleset
 abbrev pub IsLate : Stop → Type 0
@@ -96,17 +105,17 @@ IsLate s = ⊤
 
 -- Behind a reader that has given no record, where the source tells its bytes: the packets are taken and written as far as the reading
 -- came, they were to the end, or a stop came before.
-abbrev pub ReachesOn : {R S : Type 0} → (tells : R → Bool) → (unread : R → List ℕ) → (told : S → Bool) → (written : S → List ℕ) → ℕ → (book book' : Book) → Reading → (source source' : R) → (sinks sinks' : Sinks S) → Result Tail CaptureError → Type 0
-ReachesOn tells unread told written batch book book' capture source source' sinks sinks' end =
+abbrev pub ReachesOn : {R S : Type 0} → (tells : R → Bool) → (unread : R → List ℕ) → (told : S → Bool) → (written : S → List ℕ) → Run → ℕ → Book → Reading → (source source' : R) → (sinks sinks' : Sinks S) → Result Tail CaptureError → Type 0
+ReachesOn tells unread told written run batch book capture source source' sinks sinks' end =
     IsTrue (tells source) → (read : List ℕ) → HasGiven capture read []
-    → Reaches (job_of book) batch (read ++ unread source) (unread source') (each_of told sinks) (each_of written sinks) (each_of written sinks') (world_in book' no_texts) end
+    → Reaches run batch (read ++ unread source) (unread source') (each_of told sinks) (each_of written sinks) (each_of written sinks') book end
 
-abbrev pub ReplaysOn : {R S : Type 0} → (tells : R → Bool) → (unread : R → List ℕ) → (told : S → Bool) → (written : S → List ℕ) → RunJob → Reading → R → (sinks sinks' : Sinks S) → Report → Type 0
-ReplaysOn tells unread told written job capture source sinks sinks' report =
+abbrev pub ReplaysOn : {R S : Type 0} → (tells : R → Bool) → (unread : R → List ℕ) → (told : S → Bool) → (written : S → List ℕ) → Run → Reading → R → (sinks sinks' : Sinks S) → Report → Type 0
+ReplaysOn tells unread told written run capture source sinks sinks' report =
     IsTrue (tells source) → (read : List ℕ) → HasGiven capture read []
-    → Replayed job (read ++ unread source) (each_of told sinks) (each_of written sinks) (each_of written sinks') report
+    → Replayed run (read ++ unread source) (each_of told sinks) (each_of written sinks) (each_of written sinks') report
 
-abbrev pub StopsOn : {R S : Type 0} → (tells : R → Bool) → (unread : R → List ℕ) → (told : S → Bool) → (written : S → List ℕ) → RunJob → ℕ → Reading → (source source' : R) → (sinks sinks' : Sinks S) → Stop → Type 0
-StopsOn tells unread told written job batch capture source source' sinks sinks' s =
+abbrev pub StopsOn : {R S : Type 0} → (tells : R → Bool) → (unread : R → List ℕ) → (told : S → Bool) → (written : S → List ℕ) → Run → ℕ → Reading → (source source' : R) → (sinks sinks' : Sinks S) → Stop → Type 0
+StopsOn tells unread told written run batch capture source source' sinks sinks' s =
     IsTrue (tells source) → (read : List ℕ) → HasGiven capture read []
-    → Stopped job batch (read ++ unread source) (unread source') (each_of told sinks) (each_of written sinks) (each_of written sinks') s
+    → Stopped run batch (read ++ unread source) (unread source') (each_of told sinks) (each_of written sinks) (each_of written sinks') s

@@ -10,11 +10,10 @@ use std::alloc::{AllocError, Global};
 /// The length of the IP header before a message in a file.
 const IP_HEADER: usize = 20;
 
-/// What spells messages in a form, from an interface's address, into a text that is kept.
+/// What spells messages in a form, into a text that is kept.
 #[derive(Drop)]
 pub struct Channel {
     pub(crate) form: Form,
-    pub(crate) source: Ipv4Address,
     text: Vec<u8>,
 }
 
@@ -34,39 +33,39 @@ fn put_packet(source: Ipv4Address, message: &Message, text: &mut Vec<u8>) -> Res
 
 impl Channel {
     /// What spells messages in a form.
-    pub(crate) fn new(alloc: Global, form: Form, source: Ipv4Address) -> Channel
-        ensures form { result.form ≡ form }
-        ensures source { result.source ≡ source }
+    pub(crate) fn new(alloc: Global, form: Form) -> Channel
+        ensures { result.form ≡ form }
     {
         Channel {
             form,
-            source,
             text: Vec::new(alloc),
         }
     }
 
-    /// Puts a message behind the text.
-    fn put(&mut self, message: &Message) -> Result<(), AllocError>
-        ensures text { OnOk result (self.new.text.items ≡ self.old.text.items ++ spec.in_form self.old.form self.old.source message.now) }
+    /// Puts a message behind the text, from an interface's address.
+    fn put(&mut self, source: Ipv4Address, message: &Message) -> Result<(), AllocError>
+        ensures text { OnOk result (self.new.text.items ≡ self.old.text.items ++ spec.in_form self.old.form source message.now) }
         ensures form { self.new.form ≡ self.old.form }
-        ensures source { self.new.source ≡ self.old.source }
     {
         match self.form {
-            Form::File => put_packet(self.source, message, &mut self.text),
+            Form::File => put_packet(source, message, &mut self.text),
             Form::Peer => encode_onto(message, &mut self.text),
             Form::None => Ok(()),
         }
     }
 
-    /// Spells messages.
-    pub(crate) fn spell(&mut self, messages: &[Message]) -> Result<&[u8], AllocError>
-        ensures text { IfOk result (λ text. text.now ≡ spec.spelled self.old.form self.old.source messages.now) }
+    /// Spells messages from an interface's address.
+    pub(crate) fn spell(
+        &mut self,
+        source: Ipv4Address,
+        messages: &[Message],
+    ) -> Result<&[u8], AllocError>
+        ensures text { IfOk result (λ text. text.now ≡ spec.spelled self.old.form source messages.now) }
         ensures form { self.new.form ≡ self.old.form }
-        ensures source { self.new.source ≡ self.old.source }
     {
         self.text.clear();
         for message in messages {
-            self.put(message)?;
+            self.put(source, message)?;
         }
         Ok(self.text.as_slice())
     }

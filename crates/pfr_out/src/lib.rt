@@ -1,5 +1,5 @@
 //! A capture through a ruleset: the lines that say what becomes of each packet, the packets that aren't blocked, the counters
-//! of the rules, and the states that are left.
+//! of the rules, the states that are left, and the messages by which another firewall is told of the states.
 //!
 //! [`replay`] is the whole run, over any source and any sinks. Its contract is the theorem of this crate: at a run to the end
 //! the sinks have grown by exactly what one thread writes that takes the packets in the order of the capture; and where a

@@ -1,15 +1,15 @@
 //! The replay of a capture.
 ghost use Rattle.std.specs.Prelude.{◌≡◌, ◌≤◌, None, Some, IfErr, IfOk, OnOk};
-ghost use Rattle.pfr_commit.specs.Books.{job_of, world_in};
-ghost use Rattle.pfr_commit.specs.World.{no_texts, opening};
+ghost use Rattle.pfr_commit.specs.Books.{StandsAt, job_of};
+ghost use Rattle.pfr_commit.specs.World.{opening};
 ghost use Rattle.pfr_out.specs.Outputs.{Stay, each_of};
 ghost use Rattle.pfr_out.specs.Reading.{BatchFails};
 ghost use Rattle.pfr_out.specs.Replay.{Replays, ReplaysRun, StopFails, Stops, StopsRun};
-ghost use Rattle.pfr_out.specs.Taking.{IsLate, ReachesOn, ReplaysOn, StopsOn};
+ghost use Rattle.pfr_out.specs.Taking.{IsLate, ReachesOn, ReplaysOn, StopsOn, run_in};
 
+use crate::channel::Channel;
 use crate::reading::{read_batch, wants_memory};
 use crate::report::{Report, Stop};
-use crate::channel::Channel;
 use crate::settings::{Form, Settings};
 use crate::sinks::Sinks;
 use crate::taking::{conclude, stop_for, take_batch};
@@ -21,7 +21,7 @@ use std::sync::Arc;
 
 /// A book that has taken no packet of a job.
 fn book_of(alloc: Global, job: Job) -> Result<Book, AllocError>
-    ensures world { IfOk result (λ book. world_in book no_texts ≡ opening job) }
+    ensures world { IfOk result (λ book. StandsAt book (opening job)) }
     ensures job { IfOk result (λ book. job_of book ≡ job) }
 {
     let job = Arc::new(alloc, job)?;
@@ -41,11 +41,13 @@ fn take_packets<R: Source, S: Sink>(
 ) -> Result<Result<Tail, CaptureError>, Stop>
     requires reading { capture.old.over ≡ None }
     requires start { capture.old.count ≡ 0 }
-    requires world { world_in book.old no_texts ≡ opening (job_of book.old) }
+    requires world { StandsAt book.old (opening (job_of book.old)) }
     requires batch { (1 ≤ batch) × (batch ≤ 4096) }
     ensures told { (R.told source.new ≡ R.told source.old) × (each_of S.told sinks.new ≡ each_of S.told sinks.old) }
-    ensures reaches { IfOk result (λ end. ReachesOn R.told R.unread S.told S.written batch book.old book.new capture.old source.old source.new sinks.old sinks.new end) }
-    ensures stopped { IfErr result (λ stop. StopsOn R.told R.unread S.told S.written (job_of book.old) batch capture.old source.old source.new sinks.old sinks.new stop) }
+    ensures reaches { IfOk result (λ end. ReachesOn R.told R.unread S.told S.written (run_in book.old channel.old.form) batch book.new capture.old source.old source.new sinks.old sinks.new end) }
+    ensures stopped { IfErr result (λ stop. StopsOn R.told R.unread S.told S.written (run_in book.old channel.old.form) batch capture.old source.old source.new sinks.old sinks.new stop) }
+    ensures job { book.new.job ≡ book.old.job }
+    ensures form { channel.new.form ≡ channel.old.form }
     ensures late { IfErr result (λ stop. IsLate stop) }
     ensures no_failure { IfOk result (λ end. BatchFails (Some end) (R.failures source.old) (R.failures source.new) × Stay S.failures sinks.old sinks.new) }
     ensures failure { IfErr result (λ stop. StopFails stop (R.failures source.old) (R.failures source.new) (each_of S.failures sinks.old) (each_of S.failures sinks.new)) }
@@ -61,14 +63,7 @@ fn take_packets<R: Source, S: Sink>(
         if wants_memory(&end) {
             return Err(Stop::Memory(book.committed()));
         }
-        match take_batch(
-            alloc,
-            book,
-            packets.as_slice(),
-            &mut out,
-            channel,
-            sinks,
-        ) {
+        match take_batch(alloc, book, packets.as_slice(), &mut out, channel, sinks) {
             Ok(()) => {}
             Err(stop) => return Err(stop),
         }
@@ -90,11 +85,11 @@ fn replay_capture<R: Source, S: Sink>(
 ) -> Result<Report, Stop>
     requires reading { capture.old.over ≡ None }
     requires start { capture.old.count ≡ 0 }
-    requires world { world_in book no_texts ≡ opening (job_of book) }
+    requires world { StandsAt book (opening (job_of book)) }
     requires batch { (1 ≤ batch) × (batch ≤ 4096) }
     ensures told { (R.told source.new ≡ R.told source.old) × (each_of S.told sinks.new ≡ each_of S.told sinks.old) }
-    ensures ok { IfOk result (λ report. ReplaysOn R.told R.unread S.told S.written (job_of book) capture.old source.old sinks.old sinks.new report) }
-    ensures stopped { IfErr result (λ stop. StopsOn R.told R.unread S.told S.written (job_of book) batch capture.old source.old source.new sinks.old sinks.new stop) }
+    ensures ok { IfOk result (λ report. ReplaysOn R.told R.unread S.told S.written (run_in book channel.form) capture.old source.old sinks.old sinks.new report) }
+    ensures stopped { IfErr result (λ stop. StopsOn R.told R.unread S.told S.written (run_in book channel.form) batch capture.old source.old source.new sinks.old sinks.new stop) }
     ensures late { IfErr result (λ stop. IsLate stop) }
     ensures no_failure { OnOk result ((R.failures source.new ≡ R.failures source.old) × (each_of S.failures sinks.new ≡ each_of S.failures sinks.old)) }
     ensures failure { IfErr result (λ stop. StopFails stop (R.failures source.old) (R.failures source.new) (each_of S.failures sinks.old) (each_of S.failures sinks.new)) }
@@ -125,8 +120,8 @@ pub fn replay_job<H: AllocGlobal, R: Source, S: Sink>(
 ) -> Result<Report, Stop>
     requires batch { (1 ≤ batch) × (batch ≤ 4096) }
     ensures told { (R.told source.new ≡ R.told source.old) × (each_of S.told sinks.new ≡ each_of S.told sinks.old) }
-    ensures ok { IfOk result (λ report. Replays R.told R.unread S.told S.written job source.old sinks.old sinks.new report) }
-    ensures stopped { IfErr result (λ stop. Stops R.told R.unread S.told S.written job batch source.old source.new sinks.old sinks.new stop) }
+    ensures ok { IfOk result (λ report. Replays R.told R.unread S.told S.written (record { job = job; form = form }) source.old sinks.old sinks.new report) }
+    ensures stopped { IfErr result (λ stop. Stops R.told R.unread S.told S.written (record { job = job; form = form }) batch source.old source.new sinks.old sinks.new stop) }
     ensures late { IfErr result (λ stop. IsLate stop) }
     ensures no_failure { OnOk result ((R.failures source.new ≡ R.failures source.old) × (each_of S.failures sinks.new ≡ each_of S.failures sinks.old)) }
     ensures failure { IfErr result (λ stop. StopFails stop (R.failures source.old) (R.failures source.new) (each_of S.failures sinks.old) (each_of S.failures sinks.new)) }
@@ -136,7 +131,7 @@ pub fn replay_job<H: AllocGlobal, R: Source, S: Sink>(
         Ok(capture) => capture,
         Err(refusal) => return Err(stop_for(refusal, 0)),
     };
-    let channel = Channel::new(alloc, form, job.interface().address);
+    let channel = Channel::new(alloc, form);
     let book = match book_of(alloc, job) {
         Ok(book) => book,
         Err(_) => return Err(Stop::Memory(0)),
@@ -148,9 +143,10 @@ pub fn replay_job<H: AllocGlobal, R: Source, S: Sink>(
 /// of the capture, a batch at a time. A packet whose source lies in an inside network goes out.
 ///
 /// The text is read first, and a fault of it leaves the source unread. The capture's header goes to the packets, in a write of
-/// its own. Then each batch adds a line for each packet to the verdicts, and the packets that aren't blocked to the packets,
-/// in one write each. At the end the counters are written, and then the states. A read that fails, and a record that is too
-/// long, end the run as soon as the packets before it are written; counters and states are left out then.
+/// its own. Then each batch adds the messages that it closes, a line for each packet to the verdicts, and the packets that
+/// aren't blocked to the packets, in one write each. At the end the message that is open is written, and then the counters and
+/// the states. A read that fails, and a record that is too long, end the run as soon as the packets before it are written; that
+/// message, counters and states are left out then.
 ///
 /// Ok comes where the capture was read to its end; the sinks have then grown by just what its packets write, one after the
 /// other. At every stop they have grown by a beginning of that, and hold all that the packets write that the stop reports as

@@ -21,7 +21,6 @@ pub struct Sinks<S> {
 }
 
 impl<S: Sink> Sinks<S> {
-    ghost use Rattle.pfr_commit.specs.Emissions.{texts_of};
     ghost use Rattle.pfr_out.specs.Outputs.{GrewBy, RoseAt, TookPart, batch_alone, each_of, ending_alone, header_alone};
 
     /// Writes the header of a capture.

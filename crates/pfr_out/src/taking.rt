@@ -2,9 +2,9 @@
 ghost use Rattle.std.specs.Prelude.{◌≡◌, ◌≤◌, ◌+◌, ◌^◌, false, length, IfErr, IfOk, OnOk, Ok};
 ghost use Rattle.std.specs.List.{All};
 ghost use Rattle.pfr_headers.specs.View.{view_of};
-ghost use Rattle.pfr_out.specs.Outputs.{GrewBy, batch_alone, each_of};
-ghost use Rattle.pfr_out.specs.Replay.{stop_for};
-ghost use Rattle.pfr_out.specs.Taking.{BatchStopsIn, ConcludeFails, ConcludesIn, EndStopsIn, HasTaken, SinksFail, closing_of, texts_added};
+ghost use Rattle.pfr_out.specs.Outputs.{GrewBy, each_of, texts_alone};
+ghost use Rattle.pfr_out.specs.Replay.{closing, stop_for};
+ghost use Rattle.pfr_out.specs.Taking.{Added, BatchStopsIn, ConcludeFails, ConcludesIn, EndStopsIn, HasTaken, SinksFail, Standing, run_in};
 
 use crate::channel::Channel;
 use crate::report::{Report, Stop};
@@ -27,10 +27,11 @@ pub(crate) fn take_batch<S: Sink>(
     requires few { book.old.count + length packets.now ≤ 2 ^ 43 }
     ensures told { each_of S.told sinks.new ≡ each_of S.told sinks.old }
     ensures job { book.new.job ≡ book.old.job }
+    ensures form { channel.new.form ≡ channel.old.form }
     ensures world { OnOk result (HasTaken book.old book.new packets.now) }
     ensures counted { OnOk result (book.new.count ≡ book.old.count + length packets.now) }
-    ensures written { OnOk result (GrewBy S.told S.written sinks.old sinks.new (batch_alone (texts_added book.old packets.now))) }
-    ensures stops { IfErr result (λ stop. BatchStopsIn S.told S.written book.old packets.now sinks.old sinks.new stop) }
+    ensures written { OnOk result (Added book.old packets.now (λ added. GrewBy S.told S.written sinks.old sinks.new (texts_alone (run_in book.old channel.old.form) added))) }
+    ensures stops { IfErr result (λ stop. BatchStopsIn S.told S.written book.old packets.now channel.old.form sinks.old sinks.new stop) }
     ensures no_failure { OnOk result (each_of S.failures sinks.new ≡ each_of S.failures sinks.old) }
     ensures failure { IfErr result (λ stop. SinksFail stop (each_of S.failures sinks.old) (each_of S.failures sinks.new)) }
 {
@@ -40,7 +41,7 @@ pub(crate) fn take_batch<S: Sink>(
         Ok(()) => {}
         Err(_) => return Err(Stop::Memory(committed)),
     }
-    let messages = match channel.spell(out.messages.as_slice()) {
+    let messages = match channel.spell(book.job().interface().address, out.messages.as_slice()) {
         Ok(messages) => messages,
         Err(_) => return Err(Stop::Memory(committed)),
     };
@@ -58,17 +59,19 @@ pub(crate) fn close<S: Sink>(
     sinks: &mut Sinks<S>,
 ) -> Result<Report, Stop>
     ensures told { each_of S.told sinks.new ≡ each_of S.told sinks.old }
-    ensures closed { IfOk result (λ report. (report.committed ≡ book.count) × (report.tail ≡ tail) × GrewBy S.told S.written sinks.old sinks.new (closing_of book)) }
-    ensures stops { IfErr result (λ stop. EndStopsIn S.told S.written book sinks.old sinks.new stop) }
+    ensures closed { IfOk result (λ report. (report.committed ≡ book.count) × (report.tail ≡ tail)) }
+    ensures written { OnOk result (Standing book (λ world. GrewBy S.told S.written sinks.old sinks.new (closing (run_in book channel.old.form) world))) }
+    ensures stops { IfErr result (λ stop. EndStopsIn S.told S.written book channel.old.form sinks.old sinks.new stop) }
     ensures no_failure { OnOk result (each_of S.failures sinks.new ≡ each_of S.failures sinks.old) }
     ensures failure { IfErr result (λ stop. SinksFail stop (each_of S.failures sinks.old) (each_of S.failures sinks.new)) }
 {
     let committed = book.committed();
+    let source = book.job().interface().address;
     let ending = match book.finish() {
         Ok(ending) => ending,
         Err(_) => return Err(Stop::Memory(committed)),
     };
-    let message = match channel.spell(ending.message.as_slice()) {
+    let message = match channel.spell(source, ending.message.as_slice()) {
         Ok(message) => message,
         Err(_) => return Err(Stop::Memory(committed)),
     };
@@ -97,8 +100,9 @@ pub(crate) fn conclude<S: Sink>(
     sinks: &mut Sinks<S>,
 ) -> Result<Report, Stop>
     ensures told { each_of S.told sinks.new ≡ each_of S.told sinks.old }
-    ensures closed { IfOk result (λ report. (report.committed ≡ book.count) × (end ≡ Ok report.tail) × GrewBy S.told S.written sinks.old sinks.new (closing_of book)) }
-    ensures stops { IfErr result (λ stop. ConcludesIn S.told S.written end book sinks.old sinks.new stop) }
+    ensures closed { IfOk result (λ report. (report.committed ≡ book.count) × (end ≡ Ok report.tail)) }
+    ensures written { OnOk result (Standing book (λ world. GrewBy S.told S.written sinks.old sinks.new (closing (run_in book channel.old.form) world))) }
+    ensures stops { IfErr result (λ stop. ConcludesIn S.told S.written end book channel.old.form sinks.old sinks.new stop) }
     ensures no_failure { OnOk result (each_of S.failures sinks.new ≡ each_of S.failures sinks.old) }
     ensures failure { IfErr result (λ stop. ConcludeFails end book.count (each_of S.failures sinks.old) (each_of S.failures sinks.new) stop) }
 {
