@@ -1,5 +1,5 @@
 //! Messages to a standby as they are written.
-ghost use Rattle.std.specs.Prelude.{◌≡◌, ◌++◌, IfOk, OnOk};
+ghost use Rattle.std.specs.Prelude.{◌≡◌, ◌++◌, OnOk};
 ghost use Rattle.pfr_out.specs.Spelling as spec;
 
 use crate::settings::Form;
@@ -54,19 +54,26 @@ impl Channel {
         }
     }
 
-    /// Spells messages from an interface's address.
+    /// Spells messages from an interface's address, in place of what was spelled before.
     pub(crate) fn spell(
         &mut self,
         source: Ipv4Address,
         messages: &[Message],
-    ) -> Result<&[u8], AllocError>
-        ensures text { IfOk result (λ text. text.now ≡ spec.spelled self.old.form source messages.now) }
+    ) -> Result<(), AllocError>
+        ensures text { OnOk result (self.new.text.items ≡ spec.spelled self.old.form source messages.now) }
         ensures form { self.new.form ≡ self.old.form }
     {
         self.text.clear();
         for message in messages {
             self.put(source, message)?;
         }
-        Ok(self.text.as_slice())
+        Ok(())
+    }
+
+    /// What was spelled.
+    pub(crate) fn text(&self) -> &[u8]
+        ensures { result.now ≡ self.now.text.items }
+    {
+        self.text.as_slice()
     }
 }

@@ -41,11 +41,11 @@ pub(crate) fn take_batch<S: Sink>(
         Ok(()) => {}
         Err(_) => return Err(Stop::Memory(committed)),
     }
-    let messages = match channel.spell(book.job().interface().address, out.messages.as_slice()) {
-        Ok(messages) => messages,
+    match channel.spell(book.job().interface().address, out.messages.as_slice()) {
+        Ok(()) => {}
         Err(_) => return Err(Stop::Memory(committed)),
-    };
-    match sinks.write_batch(out, messages) {
+    }
+    match sinks.write_batch(out, channel.text()) {
         Ok(()) => Ok(()),
         Err(output) => Err(Stop::Write(output, committed)),
     }
@@ -71,11 +71,11 @@ pub(crate) fn close<S: Sink>(
         Ok(ending) => ending,
         Err(_) => return Err(Stop::Memory(committed)),
     };
-    let message = match channel.spell(source, ending.message.as_slice()) {
-        Ok(message) => message,
+    match channel.spell(source, ending.message.as_slice()) {
+        Ok(()) => {}
         Err(_) => return Err(Stop::Memory(committed)),
-    };
-    match sinks.write_ending(&ending, message) {
+    }
+    match sinks.write_ending(&ending, channel.text()) {
         Ok(()) => Ok(Report { committed, tail }),
         Err(output) => Err(Stop::Write(output, committed)),
     }
