@@ -82,7 +82,7 @@ around_is book world left = ap (λ (w : World). record w { verdicts = world.verd
 abbrev texts_by : List ℕ → List ℕ → List Content → Texts
 texts_by verdicts packets messages = record { verdicts = verdicts; packets = packets; messages = messages }
 
-texts_are : (a b : Texts) → a.verdicts ≡ b.verdicts → a.packets ≡ b.packets → a.messages ≡ b.messages → a ≡ b
+pub texts_are : (a b : Texts) → a.verdicts ≡ b.verdicts → a.packets ≡ b.packets → a.messages ≡ b.messages → a ≡ b
 texts_are a b verdicts packets messages =
     ap (λ (t : List ℕ). texts_by t a.packets a.messages) verdicts ∙ ap (λ (t : List ℕ). texts_by b.verdicts t a.messages) packets ∙ ap (λ (t : List Content). texts_by b.verdicts b.packets t) messages
 

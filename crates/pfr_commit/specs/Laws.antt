@@ -6,7 +6,8 @@ use Rattle.pfr_track.specs.declared.state.State.{State}
 use Rattle.pfr_packet.specs.Job.{RunJob}
 use Rattle.pfr_packet.specs.declared.verdict.Verdict.{Verdict}
 use Rattle.pfr_commit.specs.declared.counters.Totals.{Totals}
-use Rattle.pfr_commit.specs.World.{Frame, World, world_after, world_of, packet_text}
+use Rattle.pfr_sync.specs.Messages.{messages_of}
+use Rattle.pfr_commit.specs.World.{Frame, Texts, World, joined, last_message, online, origin_of, packet_text, world_after, world_of}
 use Rattle.pfr_commit.specs.Lines.{verdict_line}
 use Rattle.pfr_commit.specs.Runs.{taken_in, capped, comes_to, total_of, counts_for, bytes_for, IsMadeAmong}
 
@@ -15,6 +16,18 @@ abbrev pub TwoPartsAreTheWhole : Type 0
 TwoPartsAreTheWhole =
     (job : RunJob) (world : World) (first second : List Frame)
     → world_after job world (first ++ second) ≡ world_after job (world_after job world first) second
+
+-- what is written after some packets is a beginning of what is written after more
+abbrev pub WhatIsWrittenStays : Type 0
+WhatIsWrittenStays =
+    (job : RunJob) (first second : List Frame)
+    → (added : Texts) × (online job (world_of job (first ++ second)) ≡ joined (online job (world_of job first)) added)
+
+-- the messages of all that became of states are those that were written, and the last one
+abbrev pub TheLastMessageIsTheRest : Type 0
+TheLastMessageIsTheRest =
+    (job : RunJob) (world : World)
+    → messages_of (origin_of job) world.events ≡ (online job world).messages ++ last_message job world
 
 -- the verdicts are the lines of the packets, in the order of the capture
 abbrev pub EachHasItsLine : Type 0

@@ -3,7 +3,7 @@ ghost use Rattle.std.specs.Prelude.{◌≡◌, ◌≤◌, List, length, map};
 ghost use Rattle.std.specs.List.{All, range_with_len};
 ghost use Rattle.pfr_states.specs.States.{IsTable};
 ghost use Rattle.pfr_packet.specs.Job.{RunJob};
-ghost use Rattle.pfr_commit.specs.Laws.{BytesOfARule, ClockIsOfARecord, EachHasItsLine, EachHasItsRecord, PacketsOfARule, StatesAreOfPackets, TotalsAreTheCount, TotalsCountVerdicts, TwoPartsAreTheWhole};
+ghost use Rattle.pfr_commit.specs.Laws.{BytesOfARule, ClockIsOfARecord, EachHasItsLine, EachHasItsRecord, PacketsOfARule, StatesAreOfPackets, TotalsAreTheCount, TheLastMessageIsTheRest, TotalsCountVerdicts, TwoPartsAreTheWhole, WhatIsWrittenStays};
 ghost use Rattle.pfr_commit.specs.Runs.{taken_in};
 ghost use Rattle.pfr_commit.specs.World.{Frame, world_of};
 
@@ -12,6 +12,13 @@ use pfr_packet::laws::{every_change_is_of_the_named_state, no_change_is_refused}
 /// Packets that are taken in two parts leave what they leave together.
 pub fn two_parts_are_the_whole()
     ensures { TwoPartsAreTheWhole }
+{}
+
+/// What is written by a packet is a beginning of what is written by a later one: lines, packets and messages. At the end of a run
+/// the last message is all that its messages lack.
+pub fn what_is_written_stays()
+    ensures stays { WhatIsWrittenStays }
+    ensures last { TheLastMessageIsTheRest }
 {}
 
 /// Each packet has one line, in the order of the capture, and the lines are numbered from 1. The packets hold the records of

@@ -64,7 +64,7 @@ one_at_most : (test : Bool) (x e : Event) → Contains (if test then x ∷ [] el
 one_at_most true x e at = elim (in_cons x [] e at) [ inl same ↦ sym same | inr none ↦ absurd (in_none e none) ]
 one_at_most false x e at = absurd (in_none e at)
 
-what_is_told : (change : Change) (clock : Clock) (state : State) (e : Event) → Contains (told change clock state) e → e ≡ record { change = change; state = state; clock = clock }
+pub what_is_told : (change : Change) (clock : Clock) (state : State) (e : Event) → Contains (told change clock state) e → e ≡ record { change = change; state = state; clock = clock }
 what_is_told change clock state e at = one_at_most state.rules.is_synchronised (record { change = change; state = state; clock = clock }) e at
 
 pub told_is : (change : Change) (clock : Clock) (state : State) → state.rules.is_synchronised ≡ true → told change clock state ≡ record { change = change; state = state; clock = clock } ∷ []
