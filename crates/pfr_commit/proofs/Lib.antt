@@ -2,6 +2,7 @@ pub mod BatchLemmas
 pub mod BookLemmas
 pub mod CountLemmas
 pub mod EndingLemmas
+pub mod MachineLemmas
 pub mod OnlineLemmas
 pub mod ResultLemmas
 pub mod StandLemmas

@@ -1,5 +1,5 @@
 -- Worlds at which a book stands.
-use Rattle.std.proofs.Common.{◌≡◌, ◌≤◌, ◌+◌, ◌-◌, max, ℕ, Bool, List, [], ◌∷◌, ◌++◌, Option, Some, None, IfSome, map, take, length, refl, sym, ap, ◌∙◌, subst, arith, ◌<◌, get_or}
+use Rattle.std.proofs.Common.{◌≡◌, ◌≤◌, ◌+◌, ◌-◌, max, ℕ, List, [], ◌++◌, Option, Some, None, IfSome, map, take, length, refl, sym, ap, ◌∙◌, subst, ◌<◌, get_or}
 use Rattle.std.specs.List.{All}
 use Rattle.std.proofs.lemmas.List.{append_assoc, append-nil}
 use Rattle.pfr_headers.specs.declared.packet.View.{View}
@@ -26,7 +26,7 @@ use Rattle.pfr_commit.specs.declared.book.Book.{Book}
 use Rattle.pfr_commit.specs.declared.emitted.Emitted.{Emitted}
 use Rattle.pfr_commit.specs.Books.{LeadsTo, LeavesTexts, StandsAt, bare, job_of, untold, world_in, world_with}
 use Rattle.pfr_commit.specs.Emissions.{texts_of}
-use Rattle.pfr_commit.specs.World.{Frame, Texts, World, after, clock_at, joined, no_texts, online, origin_of, with_outcome, world_after}
+use Rattle.pfr_commit.specs.World.{Frame, Texts, World, after, joined, no_texts, online, origin_of, with_outcome, world_after}
 use Rattle.pfr_commit.proofs.BookLemmas.{same_job}
 use Rattle.pfr_commit.proofs.WorldLemmas.{after_is, nothing_taken, part_taken, world_next, world_none}
 

@@ -1,5 +1,5 @@
 -- What packets leave in the table of states.
-use Rattle.std.proofs.Common.{◌≡◌, ◌⊎◌, ℕ, false, not, nat_lt, List, [], ◌∷◌, length, Option, Some, None, if◌then◌else◌, inl, inr, refl, sym, ap, ◌∙◌}
+use Rattle.std.proofs.Common.{◌≡◌, ℕ, false, not, List, [], ◌∷◌, length, Option, Some, None, inl, inr, refl, sym, ap, ◌∙◌}
 use Rattle.std.specs.List.{Contains}
 use Rattle.std.proofs.lemmas.Bool.{cases_Bool, ltb-true, not-false}
 use Rattle.pfr_headers.specs.declared.packet.View.{View}
@@ -9,9 +9,9 @@ use Rattle.pfr_track.specs.declared.state.StateNumber.{StateNumber}
 use Rattle.pfr_track.specs.declared.time.Clock.{Clock}
 use Rattle.pfr_states.specs.declared.change.TableChange.{TableChange}
 use Rattle.pfr_states.specs.declared.change.TableChange.TheVariants.{Made, Touched, Removed}
-use Rattle.pfr_states.specs.States.{IsTable, StateTable, has_room, is_number, is_taken, is_too_many, lives, purged, refusal, with_change, with_state, with_touched}
+use Rattle.pfr_states.specs.States.{IsTable, StateTable, has_room, is_number, is_taken, is_too_many, lives, purged, refusal, with_change}
 use Rattle.pfr_states.proofs.FilterLemmas.{table_filter}
-use Rattle.pfr_states.proofs.Membership.{from_filter, here, in_cons, in_none, there}
+use Rattle.pfr_states.proofs.Membership.{from_filter, here, there}
 use Rattle.pfr_states.proofs.PutLemmas.{table_with}
 use Rattle.pfr_states.proofs.TouchLemmas.{table_touched}
 use Rattle.pfr_packet.specs.declared.outcome.Outcome.{Outcome}

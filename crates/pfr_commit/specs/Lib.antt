@@ -4,6 +4,7 @@ pub mod Emissions
 pub mod Endings
 pub mod Laws
 pub mod Lines
+pub mod Machine
 pub mod Results
 pub mod Runs
 pub mod Texts

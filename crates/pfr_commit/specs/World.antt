@@ -5,8 +5,7 @@ use Rattle.pfr_headers.specs.declared.change.Change.{Change}
 use Rattle.pfr_headers.specs.Rewriting.{rewritten}
 use Rattle.pfr_headers.specs.View.{view_of}
 use Rattle.pfr_track.specs.declared.time.Clock.{Clock}
-use Rattle.pfr_states.specs.declared.change.TableChange.{TableChange}
-use Rattle.pfr_states.specs.States.{StateTable, empty, with_change}
+use Rattle.pfr_states.specs.States.{StateTable, empty}
 use Rattle.pfr_packet.specs.declared.outcome.Outcome.{Outcome}
 use Rattle.pfr_packet.specs.Job.{RunJob}
 use Rattle.pfr_packet.specs.Plan.{purged_at}

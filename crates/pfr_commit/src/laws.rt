@@ -4,6 +4,7 @@ ghost use Rattle.std.specs.List.{All, range_with_len};
 ghost use Rattle.pfr_states.specs.States.{IsTable};
 ghost use Rattle.pfr_packet.specs.Job.{RunJob};
 ghost use Rattle.pfr_commit.specs.Laws.{BytesOfARule, ClockIsOfARecord, EachHasItsLine, EachHasItsRecord, PacketsOfARule, StatesAreOfPackets, TotalsAreTheCount, TheLastMessageIsTheRest, TotalsCountVerdicts, TwoPartsAreTheWhole, WhatIsWrittenStays};
+ghost use Rattle.pfr_commit.specs.Machine.{EveryRun};
 ghost use Rattle.pfr_commit.specs.Runs.{taken_in};
 ghost use Rattle.pfr_commit.specs.World.{Frame, world_of};
 
@@ -63,3 +64,10 @@ pub fn every_run_leaves_a_table()
     // so each change that a packet comes to leaves a table
     no_change_is_refused();
 }
+
+/// The run of the speculative machine: whatever packets are opened together, whoever claims and evaluates which of them and on
+/// which older states, and whatever speculations come, are lost or come twice, in whatever order, the world is that of the
+/// packets that are committed, taken one by one, and what was emitted is what is written of it.
+pub fn every_run()
+    ensures { EveryRun }
+{}

@@ -1,4 +1,3 @@
-use Rattle.std.proofs.Common.{ap}
 use Rattle.pfr_commit.specs.Books.{StandsAt, job_of}
 use Rattle.pfr_commit.specs.World.{World, online}
 use Rattle.pfr_commit.proofs.StandLemmas.{nothing_behind}

@@ -3,7 +3,6 @@ use Rattle.pfr_headers.specs.declared.change.Change.{Change}
 use Rattle.pfr_packet.specs.declared.outcome.Outcome.{Outcome}
 use Rattle.pfr_commit.specs.Books.{job_of, untold, world_with}
 use Rattle.pfr_commit.specs.Emissions.{frame_of}
-use Rattle.pfr_commit.specs.World.{World}
 use Rattle.pfr_commit.proofs.BookLemmas.{if_some}
 use Rattle.pfr_commit.proofs.StandLemmas.{taken_leads}
 use Rattle.pfr_commit.proofs.WorldLemmas.{after_is}
