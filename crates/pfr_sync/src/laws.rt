@@ -2,7 +2,7 @@
 ghost use Rattle.std.specs.Prelude.{◌≡◌, length, ℕ};
 ghost use Rattle.pfr_net.specs.declared.address.Ipv4Address.{Ipv4Address};
 ghost use Rattle.pfr_sync.specs.Files.{ip_header};
-ghost use Rattle.pfr_sync.specs.Laws.{ClosedMessagesStay, FileHeaderVerifies};
+ghost use Rattle.pfr_sync.specs.Laws.{ClosedMessagesStay, FileHeaderVerifies, FileMessageIsAPacket};
 
 pub use pfr_messages::laws::{one_spelling, readable};
 
@@ -16,4 +16,10 @@ pub fn closed_messages_stay()
 pub fn file_header_verifies()
     ensures length { (source : Ipv4Address) (len : ℕ) → length (ip_header source len) ≡ 20 }
     ensures checksum { FileHeaderVerifies }
+{}
+
+/// A message in a file, seen as raw IP, is an IPv4 packet of protocol 240 to 224.0.0.240, with no options and the message's
+/// length in its total length: from every address, and for every text of at most 1480 bytes.
+pub fn file_message_is_a_packet()
+    ensures { FileMessageIsAPacket }
 {}
