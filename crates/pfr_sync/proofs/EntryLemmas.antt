@@ -18,14 +18,14 @@ put_is : (told : Option Entry) (rest : List Entry) → (elim told [ None ↦ res
 put_is None rest = refl
 put_is (Some entry) rest = refl
 
-entries_step : (events : List Event) (n : ℕ) (numbers : List ℕ) → entries_by events (n ∷ numbers) ≡ cons_option (told_at n events) (entries_by events numbers)
+pub entries_step : (events : List Event) (n : ℕ) (numbers : List ℕ) → entries_by events (n ∷ numbers) ≡ cons_option (told_at n events) (entries_by events numbers)
 entries_step events n numbers = put_is (told_at n events) (entries_by events numbers)
 
 above_put : (k n : ℕ) (told : Option Entry) (rest : List Entry) → IsOf n told → nat_lt k n ≡ true → are_above k rest ≡ true → are_above k (cons_option told rest) ≡ true
 above_put k n None rest is it above = above
 above_put k n (Some entry) rest is it above = rw (is, it) above
 
-entries_above : (events : List Event) (k : ℕ) (numbers : List ℕ) → all_above k numbers ≡ true → are_above k (entries_by events numbers) ≡ true
+pub entries_above : (events : List Event) (k : ℕ) (numbers : List ℕ) → all_above k numbers ≡ true → are_above k (entries_by events numbers) ≡ true
 entries_above events k [] above = refl
 entries_above events k (n ∷ numbers) above =
     let parts = and_parts (nat_lt k n) (all_above k numbers) above in

@@ -6,6 +6,7 @@ pub mod LawLemmas
 pub mod MessageLemmas
 pub mod NameLemmas
 pub mod NumberLemmas
+pub mod OnceLemmas
 pub mod PacketLemmas
 pub mod PartLemmas
 pub mod QueueLemmas

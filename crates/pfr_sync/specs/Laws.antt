@@ -1,6 +1,6 @@
 -- Words of the laws.
-use Rattle.std.specs.Prelude.{◌≡◌, ◌≤◌, ◌<◌, ℕ, ◌+◌, ◌^◌, List, ◌++◌, length}
-use Rattle.std.specs.List.{flat_map}
+use Rattle.std.specs.Prelude.{◌≡◌, ◌≤◌, ◌<◌, ℕ, ◌+◌, ◌^◌, ◌==◌, List, ◌++◌, length, map}
+use Rattle.std.specs.List.{All, IsDistinct, flat_map}
 use Rattle.pfr_net.specs.declared.address.Ipv4Address.{Ipv4Address}
 use Rattle.pfr_headers.specs.declared.packet.Packet.{Packet}
 use Rattle.pfr_headers.specs.declared.packet.View.TheVariants.{Ipv4}
@@ -11,7 +11,7 @@ use Rattle.pfr_messages.specs.Messages.{Content}
 use Rattle.pfr_sync.specs.declared.event.Event.{Event}
 use Rattle.pfr_sync.specs.declared.origin.Origin.{Origin}
 use Rattle.pfr_sync.specs.Files.{ip_header}
-use Rattle.pfr_sync.specs.Messages.{message_of, parts_of}
+use Rattle.pfr_sync.specs.Messages.{message_of, messages_of, parts_of}
 
 -- the messages of the parts of events that are closed
 abbrev pub closed_of : Origin → List Event → List Content
@@ -42,3 +42,13 @@ abbrev pub FileMessageIsAPacket : Type 0
 FileMessageIsAPacket =
     (source : Ipv4Address) (text : List ℕ) → source.0 < 2 ^ 32 → length text ≤ 1480
     → view_of 101 (ip_header source (length text) ++ text) ≡ Ipv4 (packet_of_message source (length text))
+
+-- the numbers of the states of which a message tells
+abbrev pub numbers_in : Content → List ℕ
+numbers_in content =
+    map (λ r. r.number.0) content.insertions ++ map (λ r. r.number.0) content.updates ++ map (λ r. r.number.0) content.deletions
+
+-- each message of events tells of a state once at most
+abbrev pub AStateIsToldOfOnce : Type 0
+AStateIsToldOfOnce =
+    (origin : Origin) (events : List Event) → All (λ content. IsDistinct (λ n m. n == m) (numbers_in content)) (messages_of origin events)

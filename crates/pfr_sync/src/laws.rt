@@ -2,7 +2,7 @@
 ghost use Rattle.std.specs.Prelude.{◌≡◌, length, ℕ};
 ghost use Rattle.pfr_net.specs.declared.address.Ipv4Address.{Ipv4Address};
 ghost use Rattle.pfr_sync.specs.Files.{ip_header};
-ghost use Rattle.pfr_sync.specs.Laws.{ClosedMessagesStay, FileHeaderVerifies, FileMessageIsAPacket};
+ghost use Rattle.pfr_sync.specs.Laws.{AStateIsToldOfOnce, ClosedMessagesStay, FileHeaderVerifies, FileMessageIsAPacket};
 
 pub use pfr_messages::laws::{one_spelling, readable};
 
@@ -22,4 +22,9 @@ pub fn file_header_verifies()
 /// length in its total length: from every address, and for every text of at most 1480 bytes.
 pub fn file_message_is_a_packet()
     ensures { FileMessageIsAPacket }
+{}
+
+/// In each message of events a state's number stands at most once, in its insertions, updates and deletions together.
+pub fn a_state_is_told_of_once()
+    ensures { AStateIsToldOfOnce }
 {}
