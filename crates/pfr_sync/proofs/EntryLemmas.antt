@@ -5,9 +5,10 @@ use Rattle.std.proofs.lemmas.Bool.{and_parts, or_parts, cases_order, cases_Bool,
 use Rattle.pfr_sync.specs.declared.event.Event.{Event}
 use Rattle.pfr_sync.specs.declared.queue.Entry.{Entry}
 use Rattle.pfr_sync.specs.Events.{MayCome, is_of}
+use Rattle.pfr_sync.specs.Laws.{has}
 use Rattle.pfr_sync.specs.Messages.{entries_by, entries_of, numbers_of, with_number}
 use Rattle.pfr_sync.specs.Queues.{begun, number_of, with_entry}
-use Rattle.pfr_sync.proofs.NumberLemmas.{all_above, ascend, above_lower, has, none_above, number_before, number_behind, number_over, numbers_ascend, numbers_have, numbers_push}
+use Rattle.pfr_sync.proofs.NumberLemmas.{all_above, ascend, above_lower, none_above, number_before, number_behind, number_over, numbers_ascend, numbers_have, numbers_push}
 use Rattle.pfr_sync.proofs.QueueLemmas.{with_before, with_behind, with_over}
 use Rattle.pfr_sync.proofs.RiseLemmas.{are_above}
 use Rattle.pfr_sync.proofs.ToldLemmas.{Follows, IsOf, told_at, told_begins, told_follows, told_is_of, told_other}

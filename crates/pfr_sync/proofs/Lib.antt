@@ -12,4 +12,5 @@ pub mod PartLemmas
 pub mod QueueLemmas
 pub mod RiseLemmas
 pub mod SizeLemmas
+pub mod StandbyLemmas
 pub mod ToldLemmas

@@ -5,6 +5,7 @@ use Rattle.std.proofs.lemmas.Bool.{and_parts, and_from, or_from, cases_order, lt
 use Rattle.std.proofs.lemmas.List.Sums.{fold_push}
 use Rattle.pfr_sync.specs.declared.event.Event.{Event}
 use Rattle.pfr_sync.specs.Events.{is_of}
+use Rattle.pfr_sync.specs.Laws.{has}
 use Rattle.pfr_sync.specs.Messages.{numbers_of, with_number}
 
 abbrev pub all_above : ℕ → List ℕ → Bool
@@ -14,9 +15,6 @@ all_above n numbers = list_all (λ m. nat_lt n m) numbers
 abbrev pub ascend : List ℕ → Bool
 ascend [] = true
 ascend (n ∷ numbers) = all_above n numbers && ascend numbers
-
-abbrev pub has : ℕ → List ℕ → Bool
-has n numbers = list_any (λ m. m == n) numbers
 
 -- ---- a number in its place
 
@@ -89,7 +87,7 @@ or_behind true false z = refl
 or_behind false true z = refl
 or_behind false false z = refl
 
-or_nothing : (x : Bool) → (x || false) ≡ x
+pub or_nothing : (x : Bool) → (x || false) ≡ x
 or_nothing true = refl
 or_nothing false = refl
 

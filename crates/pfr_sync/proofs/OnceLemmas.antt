@@ -85,7 +85,7 @@ flips n m = elim (cases_Bool (n == m)) [
 
 -- ---- messages
 
-map_twice : {X Y : Type 0} (f : Y → ℕ) (g : X → Y) (xs : List X) → map f (map g xs) ≡ map (λ x. f (g x)) xs
+pub map_twice : {X Y : Type 0} (f : Y → ℕ) (g : X → Y) (xs : List X) → map f (map g xs) ≡ map (λ x. f (g x)) xs
 map_twice f g [] = refl
 map_twice f g (x ∷ xs) = ap (λ (rest : List ℕ). f (g x) ∷ rest) (map_twice f g xs)
 

@@ -40,7 +40,7 @@ joined_from origin parts (e ∷ events) =
     ∙ ap (λ front. front ++ events) (joined_step origin parts e)
     ∙ append_assoc (joined parts) (e ∷ []) events
 
-parts_joined : (origin : Origin) (events : List Event) → flat_map (λ part. part) (parts_of origin events).closed ++ (parts_of origin events).last ≡ events
+pub parts_joined : (origin : Origin) (events : List Event) → flat_map (λ part. part) (parts_of origin events).closed ++ (parts_of origin events).last ≡ events
 parts_joined origin events = joined_from origin (record { closed = []; last = [] }) events
 
 behind_front : {X : Type 0} (P : X → Type 0) (front xs : List X) → AllByRecursion P (front ++ xs) → AllByRecursion P xs

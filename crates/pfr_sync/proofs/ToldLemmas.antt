@@ -62,7 +62,7 @@ last_push : (first : Event) (events : List Event) (e : Event) → last_of first 
 last_push first [] e = refl
 last_push first (x ∷ events) e = last_push x events e
 
-last_all : (p : Event → Bool) (first : Event) (events : List Event) → list_all p (first ∷ events) ≡ true → p (last_of first events) ≡ true
+pub last_all : (p : Event → Bool) (first : Event) (events : List Event) → list_all p (first ∷ events) ≡ true → p (last_of first events) ≡ true
 last_all p first [] all = (and_parts (p first) true all).0
 last_all p first (x ∷ events) all = last_all p x events (and_parts (p first) (list_all p (x ∷ events)) all).1
 
@@ -74,7 +74,7 @@ follows_all first events e lives moved =
 
 -- ---- events that may come
 
-lives_by : (e : Event) (events : List Event) → AllByRecursion (λ before. is_of e.state.number.0 before ≡ true → (is_removed before ≡ false) × (is_made e ≡ false)) events
+pub lives_by : (e : Event) (events : List Event) → AllByRecursion (λ before. is_of e.state.number.0 before ≡ true → (is_removed before ≡ false) × (is_made e ≡ false)) events
     → list_all (λ x. not (is_removed x)) (filter (is_of e.state.number.0) events) ≡ true
 lives_by e [] all = refl
 lives_by e (x ∷ events) all = elim (cases_Bool (is_of e.state.number.0 x)) [
@@ -82,7 +82,7 @@ lives_by e (x ∷ events) all = elim (cases_Bool (is_of e.state.number.0 x)) [
   | inr not_it ↦ rw not_it (lives_by e events all.1)
 ]
 
-moved_by : (e : Event) (events : List Event) → AllByRecursion (λ before. is_of e.state.number.0 before ≡ true → (is_removed before ≡ false) × (is_made e ≡ false)) events
+pub moved_by : (e : Event) (events : List Event) → AllByRecursion (λ before. is_of e.state.number.0 before ≡ true → (is_removed before ≡ false) × (is_made e ≡ false)) events
     → list_any (is_of e.state.number.0) events ≡ true → is_made e ≡ false
 moved_by e [] all some = absurd cc
 moved_by e (x ∷ events) all some = elim (cases_Bool (is_of e.state.number.0 x)) [
@@ -90,7 +90,7 @@ moved_by e (x ∷ events) all some = elim (cases_Bool (is_of e.state.number.0 x)
   | inr not_it ↦ moved_by e events all.1 (rw not_it at some)
 ]
 
-none_kept : (p : Event → Bool) (events : List Event) → list_any p events ≡ false → filter p events ≡ []
+pub none_kept : (p : Event → Bool) (events : List Event) → list_any p events ≡ false → filter p events ≡ []
 none_kept p [] none = refl
 none_kept p (x ∷ events) none =
     let parts = or_parts (p x) (list_any p events) none in

@@ -1,6 +1,6 @@
 -- Words of the laws.
-use Rattle.std.specs.Prelude.{◌≡◌, ◌≤◌, ◌<◌, ℕ, ◌+◌, ◌^◌, ◌==◌, List, ◌++◌, length, map}
-use Rattle.std.specs.List.{All, IsDistinct, flat_map}
+use Rattle.std.specs.Prelude.{◌≡◌, ◌≤◌, ◌<◌, ℕ, ◌+◌, ◌^◌, ◌==◌, ◌&&◌, Bool, true, false, not, List, [], ◌∷◌, ◌++◌, length, map, fold}
+use Rattle.std.specs.List.{All, IsDistinct, filter, flat_map, list_any}
 use Rattle.pfr_net.specs.declared.address.Ipv4Address.{Ipv4Address}
 use Rattle.pfr_headers.specs.declared.packet.Packet.{Packet}
 use Rattle.pfr_headers.specs.declared.packet.View.TheVariants.{Ipv4}
@@ -10,8 +10,9 @@ use Rattle.pfr_headers.specs.View.{view_of}
 use Rattle.pfr_messages.specs.Messages.{Content}
 use Rattle.pfr_sync.specs.declared.event.Event.{Event}
 use Rattle.pfr_sync.specs.declared.origin.Origin.{Origin}
+use Rattle.pfr_sync.specs.Events.{MayCome, is_made, is_of, is_removed}
 use Rattle.pfr_sync.specs.Files.{ip_header}
-use Rattle.pfr_sync.specs.Messages.{message_of, messages_of, parts_of}
+use Rattle.pfr_sync.specs.Messages.{last_of, message_of, messages_of, parts_of}
 
 -- the messages of the parts of events that are closed
 abbrev pub closed_of : Origin → List Event → List Content
@@ -52,3 +53,37 @@ numbers_in content =
 abbrev pub AStateIsToldOfOnce : Type 0
 AStateIsToldOfOnce =
     (origin : Origin) (events : List Event) → All (λ content. IsDistinct (λ n m. n == m) (numbers_in content)) (messages_of origin events)
+
+-- ---- a standby
+
+-- a number is among others
+abbrev pub has : ℕ → List ℕ → Bool
+has n numbers = list_any (λ m. m == n) numbers
+
+-- the numbers that are held after a message: those of its insertions come in, and then those of its deletions go out
+abbrev pub numbers_after : List ℕ → Content → List ℕ
+numbers_after numbers content =
+    filter (λ n. not (has n (map (λ r. r.number.0) content.deletions))) (numbers ++ map (λ r. r.number.0) content.insertions)
+
+-- the numbers that are held after messages
+abbrev pub held_after : List Content → List ℕ
+held_after contents = fold numbers_after [] contents
+
+-- the events of one state leave it there: the first is that it was made, and the last isn't its removal
+abbrev pub leave_it : List Event → Bool
+leave_it [] = false
+leave_it (first ∷ events) = is_made first && not (is_removed (last_of first events))
+
+-- the state of a number is there after events
+abbrev pub is_left : ℕ → List Event → Bool
+is_left n events = leave_it (filter (is_of n) events)
+
+-- each event may come after those before it, and the first one of a state is that it was made
+pub record IsHistory (events : List Event) : Type 0 where
+  pub may_come : (before : List Event) (event : Event) (more : List Event) → events ≡ before ++ event ∷ more → MayCome before event
+  pub begins : (before : List Event) (event : Event) (more : List Event) → events ≡ before ++ event ∷ more → list_any (is_of event.state.number.0) before ≡ false → is_made event ≡ true
+
+-- who applies the messages of events holds the numbers of the states that are there after them, and no others
+abbrev pub AStandbyHoldsWhatIsLeft : Type 0
+AStandbyHoldsWhatIsLeft =
+    (origin : Origin) (events : List Event) → IsHistory events → (n : ℕ) → has n (held_after (messages_of origin events)) ≡ is_left n events

@@ -2,7 +2,7 @@
 ghost use Rattle.std.specs.Prelude.{◌≡◌, length, ℕ};
 ghost use Rattle.pfr_net.specs.declared.address.Ipv4Address.{Ipv4Address};
 ghost use Rattle.pfr_sync.specs.Files.{ip_header};
-ghost use Rattle.pfr_sync.specs.Laws.{AStateIsToldOfOnce, ClosedMessagesStay, FileHeaderVerifies, FileMessageIsAPacket};
+ghost use Rattle.pfr_sync.specs.Laws.{AStandbyHoldsWhatIsLeft, AStateIsToldOfOnce, ClosedMessagesStay, FileHeaderVerifies, FileMessageIsAPacket};
 
 pub use pfr_messages::laws::{one_spelling, readable};
 
@@ -27,4 +27,10 @@ pub fn file_message_is_a_packet()
 /// In each message of events a state's number stands at most once, in its insertions, updates and deletions together.
 pub fn a_state_is_told_of_once()
     ensures { AStateIsToldOfOnce }
+{}
+
+/// Whoever applies the messages of events to a set of numbers, which is empty at first, holds at the end the numbers of the states
+/// that the events leave, and no others.
+pub fn a_standby_holds_what_is_left()
+    ensures { AStandbyHoldsWhatIsLeft }
 {}
