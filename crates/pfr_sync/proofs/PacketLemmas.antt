@@ -1,9 +1,8 @@
 -- The packet of a message in a file.
-use Rattle.std.proofs.Common.{◌≡◌, ◌≤◌, ◌<◌, ℕ, List, ◌++◌, length, refl, sym, inl, arith}
-use Rattle.std.proofs.lemmas.List.{length-append}
+use Rattle.std.proofs.Common.{◌≤◌, ◌<◌, ℕ, List, ◌++◌, length, refl, sym, inl, arith}
 use Rattle.pfr_net.specs.declared.address.Ipv4Address.{Ipv4Address}
 use Rattle.pfr_headers.specs.declared.packet.View.TheVariants.{Ipv4}
-use Rattle.pfr_headers.specs.View.{IsHeader, IsPacket, IsRaw, IsView}
+use Rattle.pfr_headers.specs.View.{IsHeader, IsPacket, IsRaw}
 use Rattle.pfr_headers.proofs.ViewLemmas.{view_is}
 use Rattle.pfr_sync.specs.Files.{checksum_of, header_with}
 use Rattle.pfr_sync.specs.Laws.{FileMessageIsAPacket, packet_of_message}

@@ -1,6 +1,6 @@
 -- Who applies the messages of events holds what is left.
 use Rattle.std.proofs.Common.{◌≡◌, ℕ, ◌==◌, ◌&&◌, ◌||◌, Bool, true, false, not, List, [], ◌∷◌, ◌++◌, map, fold, Option, Some, None, sym, refl, ap, ◌∙◌, inl, inr}
-use Rattle.std.specs.List.{AllByRecursion, cons_option, filter, flat_map, list_all, list_any}
+use Rattle.std.specs.List.{cons_option, filter, flat_map, list_all, list_any}
 use Rattle.std.proofs.lemmas.Bool.{cases_Bool, eqb-true, not-true}
 use Rattle.std.proofs.lemmas.List.{append_assoc, append-nil}
 use Rattle.std.proofs.lemmas.List.Concat.{flat_map-append}
@@ -160,20 +160,20 @@ moves_on events n before part more b bs first rest history are kept next =
     let place = first_of (is_of n) part first rest next in
     let same : first.state.number.0 ≡ n = eqb-true first.state.number.0 n place.it_is in
     let whole : events ≡ (before ++ place.front) ++ first ∷ (place.back ++ more) =
-        are
-        ∙ ap (λ (es : List Event). before ++ (es ++ more)) place.are
-        ∙ ap (λ (es : List Event). before ++ es) (append_assoc place.front (first ∷ place.back) more)
-        ∙ sym (append_assoc before place.front (first ∷ (place.back ++ more))) in
+    are
+    ∙ ap (λ (es : List Event). before ++ (es ++ more)) place.are
+    ∙ ap (λ (es : List Event). before ++ es) (append_assoc place.front (first ∷ place.back) more)
+    ∙ sym (append_assoc before place.front (first ∷ (place.back ++ more))) in
     let may = recursion_from_All (λ (x : Event). is_of first.state.number.0 x ≡ true → (is_removed x ≡ false) × (is_made first ≡ false)) (before ++ place.front) (history.may_come (before ++ place.front) first (place.back ++ more) whole) in
     let some : list_any (is_of first.state.number.0) (before ++ place.front) ≡ true =
-        list_any-append (is_of first.state.number.0) before place.front
-        ∙ ap (λ (some : Bool). some || list_any (is_of first.state.number.0) place.front) (ap (λ (k : ℕ). list_any (is_of k) before) same ∙ some_there (is_of n) before b bs kept) in
+    list_any-append (is_of first.state.number.0) before place.front
+    ∙ ap (λ (some : Bool). some || list_any (is_of first.state.number.0) place.front) (ap (λ (k : ℕ). list_any (is_of k) before) same ∙ some_there (is_of n) before b bs kept) in
     let all_kept : filter (is_of first.state.number.0) (before ++ place.front) ≡ b ∷ bs =
-        ap (λ (k : ℕ). filter (is_of k) (before ++ place.front)) same
-        ∙ filter-append (is_of n) before place.front
-        ∙ ap (λ (es : List Event). es ++ filter (is_of n) place.front) kept
-        ∙ ap (λ (es : List Event). (b ∷ bs) ++ es) (none_kept (is_of n) place.front place.none)
-        ∙ append-nil (b ∷ bs) in
+    ap (λ (k : ℕ). filter (is_of k) (before ++ place.front)) same
+    ∙ filter-append (is_of n) before place.front
+    ∙ ap (λ (es : List Event). es ++ filter (is_of n) place.front) kept
+    ∙ ap (λ (es : List Event). (b ∷ bs) ++ es) (none_kept (is_of n) place.front place.none)
+    ∙ append-nil (b ∷ bs) in
     let lives : list_all (λ x. not (is_removed x)) (b ∷ bs) ≡ true = ap (list_all (λ (x : Event). not (is_removed x))) (sym all_kept) ∙ lives_by first (before ++ place.front) may in
     (moved_by first (before ++ place.front) may some, not-true (is_removed (last_of b bs)) (last_all (λ x. not (is_removed x)) b bs lives))
 
@@ -210,11 +210,11 @@ a_standby_holds_what_is_left origin events history n =
     let parts = parts_of origin events in
     let all = parts.closed ++ parts.last ∷ [] in
     let whole : events ≡ flat_map (λ part. part) all =
-        sym (parts_joined origin events)
-        ∙ ap (λ (es : List Event). flat_map (λ (part : List Event). part) parts.closed ++ es) (sym (append-nil parts.last))
-        ∙ sym (flat_map-append (λ (part : List Event). part) parts.closed (parts.last ∷ [])) in
+    sym (parts_joined origin events)
+    ∙ ap (λ (es : List Event). flat_map (λ (part : List Event). part) parts.closed ++ es) (sym (append-nil parts.last))
+    ∙ sym (flat_map-append (λ (part : List Event). part) parts.closed (parts.last ∷ [])) in
     let told : messages_of origin events ≡ flat_map (message_of origin) all =
-        ap (λ (contents : List Content). flat_map (message_of origin) parts.closed ++ contents) (sym (append-nil (message_of origin parts.last)))
-        ∙ sym (flat_map-append (message_of origin) parts.closed (parts.last ∷ [])) in
+    ap (λ (contents : List Content). flat_map (message_of origin) parts.closed ++ contents) (sym (append-nil (message_of origin parts.last)))
+    ∙ sym (flat_map-append (message_of origin) parts.closed (parts.last ∷ [])) in
     ap (λ (contents : List Content). has n (fold numbers_after [] contents)) told
     ∙ parts_left origin n events [] all [] history whole refl
