@@ -58,7 +58,7 @@ follows first last e lives moved = elim (cases_Bool (is_made first)) [
   }
 ]
 
-last_push : (first : Event) (events : List Event) (e : Event) → last_of first (events ++ e ∷ []) ≡ e
+pub last_push : (first : Event) (events : List Event) (e : Event) → last_of first (events ++ e ∷ []) ≡ e
 last_push first [] e = refl
 last_push first (x ∷ events) e = last_push x events e
 

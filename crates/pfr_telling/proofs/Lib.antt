@@ -1,3 +1,5 @@
 pub mod ChangeLemmas
+pub mod HistoryLemmas
 pub mod PurgeLemmas
+pub mod StandbyLemmas
 pub mod ToldLemmas

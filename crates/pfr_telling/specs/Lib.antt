@@ -1,1 +1,2 @@
+pub mod Standby
 pub mod Telling

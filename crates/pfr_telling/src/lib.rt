@@ -6,6 +6,7 @@
 //! packet's own change. Of states of rules with `no-sync` nothing is told.
 #![tactic(auto)]
 
+pub mod laws;
 pub mod telling;
 
 pub use telling::Telling;
