@@ -44,7 +44,7 @@ history_push events e history may begins = record {
   begins = λ before x more is none. elim (placed events e before x more is) [
     | inl ends ↦
         let none_of_it : list_any (is_of e.state.number.0) events ≡ false =
-            ap (λ (es : List Event). list_any (is_of e.state.number.0) es) ends.0 ∙ ap (λ (y : Event). list_any (is_of y.state.number.0) before) ends.1 ∙ none in
+        ap (λ (es : List Event). list_any (is_of e.state.number.0) es) ends.0 ∙ ap (λ (y : Event). list_any (is_of y.state.number.0) before) ends.1 ∙ none in
         ap is_made (sym ends.1) ∙ begins none_of_it
     | inr on ↦ history.begins before x on.0 on.1 none
   ];

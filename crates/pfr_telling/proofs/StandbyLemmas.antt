@@ -1,7 +1,7 @@
 -- The events of a run leave the states of the table.
 use Rattle.std.proofs.Common.{◌≡◌, ◌≤◌, ◌+◌, ◌==◌, ◌&&◌, ℕ, zero, suc, Bool, true, false, not, nat_lt, List, [], ◌∷◌, ◌++◌, length, Option, Some, None, IfSome, if◌then◌else◌, inl, inr, refl, sym, ap, ◌∙◌, subst, arith}
-use Rattle.std.specs.List.{All, Contains, filter, flat_map, list_any}
-use Rattle.std.proofs.lemmas.Bool.{and_from, and_parts, cases_Bool, eq-eqb, eqb-false, eqb-true, false≢true, ne_eqb, not-true}
+use Rattle.std.specs.List.{Contains, flat_map, list_any}
+use Rattle.std.proofs.lemmas.Bool.{and_from, cases_Bool, eq-eqb, eqb-false, eqb-true, false≢true, ne_eqb, not-true}
 use Rattle.std.proofs.lemmas.List.{append_assoc, append-nil}
 use Rattle.std.proofs.lemmas.List.Elements.{All-contains}
 use Rattle.std.proofs.lemmas.List.Folds.{list_any_none}
@@ -10,11 +10,11 @@ use Rattle.pfr_track.specs.declared.state.StateNumber.{StateNumber}
 use Rattle.pfr_track.specs.declared.time.Clock.{Clock}
 use Rattle.pfr_states.specs.declared.change.TableChange.{TableChange}
 use Rattle.pfr_states.specs.declared.change.TableChange.TheVariants as table
-use Rattle.pfr_states.specs.States.{StateTable, all_due, due, is_number, purged, rise, state_of, with_change, with_state, with_touched}
+use Rattle.pfr_states.specs.States.{StateTable, due, is_number, purged, rise, state_of, with_change, with_state, with_touched}
 use Rattle.pfr_states.proofs.DueOrderLemmas.{none_left, one_state_less, takes_first}
 use Rattle.pfr_states.proofs.FilterLemmas.{rise_filter}
 use Rattle.pfr_states.proofs.FindLemmas.{found_none, found_there, none_any, some_any}
-use Rattle.pfr_states.proofs.Membership.{from_filter, here, in_cons, in_none, none_of, there, to_filter}
+use Rattle.pfr_states.proofs.Membership.{from_filter, here, in_cons, in_none, there, to_filter}
 use Rattle.pfr_states.proofs.PurgeLemmas.{first_of_due, purged_on}
 use Rattle.pfr_sync.specs.declared.event.Change.{Change}
 use Rattle.pfr_sync.specs.declared.event.Change.TheVariants.{Made, Touched, Removed}
@@ -66,8 +66,7 @@ removal_untold states events state is_there is_not leave = record {
   history = leave.history;
   of_states = λ s at. leave.of_states s (from_filter (is_another state.number) states s at).0;
   no_other = λ n left.
-      let found = leave.no_other n left in
-      (
+      let found = leave.no_other n left in (
         found.0,
         other_kept state.number states found.0 found.1 (λ same. false≢true (sym is_not ∙ sym (leave.of_states state is_there) ∙ ap (λ (k : ℕ). is_left k events) (sym same ∙ found.2) ∙ left)),
         found.2,
@@ -139,12 +138,12 @@ touch_leaves count clock states events state before are is_there number stays le
     let untold = touch_untold states events state before is_there number stays leave in
     by_told Touched clock state (with_touched state states) events
     (λ is.
-        let left : is_left state.number.0 events ≡ true = ap (λ (k : StateNumber). is_left k.0 events) number ∙ leave.of_states before is_there ∙ sym stays ∙ is in
-        record {
-          history = history_push events e leave.history (may_come count clock states events e before are is_there number refl) (λ none. absurd (false≢true (sym none ∙ left_some state.number.0 events left)));
-          of_states = λ s at. left_same s.number.0 events e left refl ∙ untold.of_states s at;
-          no_other = λ n now. untold.no_other n (sym (left_same n events e left refl) ∙ now);
-        })
+    let left : is_left state.number.0 events ≡ true = ap (λ (k : StateNumber). is_left k.0 events) number ∙ leave.of_states before is_there ∙ sym stays ∙ is in
+    record {
+      history = history_push events e leave.history (may_come count clock states events e before are is_there number refl) (λ none. absurd (false≢true (sym none ∙ left_some state.number.0 events left)));
+      of_states = λ s at. left_same s.number.0 events e left refl ∙ untold.of_states s at;
+      no_other = λ n now. untold.no_other n (sym (left_same n events e left refl) ∙ now);
+    })
     (λ is_not. untold)
 
 -- ---- a state that is made
@@ -263,8 +262,8 @@ purge_by (suc k) count clock states events (Some state) is long in_order both =
     let step : Both count clock rest more = (told_of_removal count clock states events state both.0 is_there, removal_leaves count clock states events state both.0 is_there both.1) in
     let all : Both count clock (purged clock rest) (more ++ events_of_purge clock rest) = purge_by k count clock rest more (due clock rest) refl (omega (arith, less, long)) (rise_filter (is_another state.number) states in_order) step in
     let whole : more ++ events_of_purge clock rest ≡ events ++ events_of_purge clock states =
-        append_assoc events (told Removed clock state) (events_of_purge clock rest)
-        ∙ ap (λ (gone : List State). events ++ flat_map (told Removed clock) gone) (sym (takes_first states clock state in_order is)) in
+    append_assoc events (told Removed clock state) (events_of_purge clock rest)
+    ∙ ap (λ (gone : List State). events ++ flat_map (told Removed clock) gone) (sym (takes_first states clock state in_order is)) in
     subst (λ (left : List State). Both count clock left (events ++ events_of_purge clock states)) (purged_on clock states state in_order is)
     (subst (λ (es : List Event). Both count clock (purged clock rest) es) whole all)
 
