@@ -30,7 +30,7 @@ abbrev passes : (Entry → Bool) → Option Entry → Bool
 passes p None = false
 passes p (Some entry) = p entry
 
-and_nothing : (b : Bool) → (b && false) ≡ false
+pub and_nothing : (b : Bool) → (b && false) ≡ false
 and_nothing true = refl
 and_nothing false = refl
 

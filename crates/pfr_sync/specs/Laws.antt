@@ -81,7 +81,9 @@ is_left n events = leave_it (filter (is_of n) events)
 -- each event may come after those before it, and the first one of a state is that it was made
 pub record IsHistory (events : List Event) : Type 0 where
   pub may_come : (before : List Event) (event : Event) (more : List Event) → events ≡ before ++ event ∷ more → MayCome before event
-  pub begins : (before : List Event) (event : Event) (more : List Event) → events ≡ before ++ event ∷ more → list_any (is_of event.state.number.0) before ≡ false → is_made event ≡ true
+  pub begins :
+      (before : List Event) (event : Event) (more : List Event) → events ≡ before ++ event ∷ more
+      → list_any (is_of event.state.number.0) before ≡ false → is_made event ≡ true
 
 -- who applies the messages of events holds the numbers of the states that are there after them, and no others
 abbrev pub AStandbyHoldsWhatIsLeft : Type 0

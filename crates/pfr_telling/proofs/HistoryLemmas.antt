@@ -1,5 +1,5 @@
 -- Histories with one event more, and what they leave.
-use Rattle.std.proofs.Common.{◌≡◌, ◌⊎◌, ℕ, ◌&&◌, Bool, true, false, not, List, [], ◌∷◌, ◌++◌, sym, refl, ap, ◌∙◌, subst, inl, inr}
+use Rattle.std.proofs.Common.{◌≡◌, ◌⊎◌, ℕ, true, false, not, List, [], ◌∷◌, ◌++◌, sym, refl, ap, ◌∙◌, subst, inl, inr}
 use Rattle.std.specs.List.{filter, list_any}
 use Rattle.std.proofs.lemmas.Bool.{and_parts, cases_Bool, eqb-true, false≢true}
 use Rattle.std.proofs.lemmas.List.{append-nil}
@@ -8,6 +8,7 @@ use Rattle.pfr_sync.specs.declared.event.Event.{Event}
 use Rattle.pfr_sync.specs.Events.{MayCome, is_made, is_of, is_removed}
 use Rattle.pfr_sync.specs.Laws.{IsHistory, is_left, leave_it}
 use Rattle.pfr_sync.specs.Messages.{last_of}
+use Rattle.pfr_sync.proofs.StandbyLemmas.{and_nothing}
 use Rattle.pfr_sync.proofs.ToldLemmas.{last_push, none_kept}
 
 -- ---- histories
@@ -51,10 +52,6 @@ history_push events e history may begins = record {
 }
 
 -- ---- what is left
-
-and_nothing : (b : Bool) → (b && false) ≡ false
-and_nothing true = refl
-and_nothing false = refl
 
 pub left_none : (n : ℕ) (events : List Event) → list_any (is_of n) events ≡ false → is_left n events ≡ false
 left_none n events none = ap leave_it (none_kept (is_of n) events none)

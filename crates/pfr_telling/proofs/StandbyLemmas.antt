@@ -26,7 +26,7 @@ use Rattle.pfr_telling.specs.Standby.{APacketLeavesTheTable, AStandbyHoldsTheTab
 use Rattle.pfr_telling.specs.Telling.{AreTold, IsNextChange, changed, events_of, events_of_change, events_of_purge, events_of_removal, told}
 use Rattle.pfr_telling.proofs.ChangeLemmas.{from_touched, from_with}
 use Rattle.pfr_telling.proofs.HistoryLemmas.{history_none, history_push, left_made, left_none, left_other, left_removed, left_same, left_some}
-use Rattle.pfr_telling.proofs.ToldLemmas.{each_of, made_may_come, may_come, told_is, told_of_removal}
+use Rattle.pfr_telling.proofs.ToldLemmas.{each_of, made_may_come, may_come, same_number, told_is, told_of_removal}
 
 pub nothing_leaves : Leave [] []
 nothing_leaves = record {
@@ -207,9 +207,6 @@ making_leaves count clock states events state are number leave =
     })
 
 -- ---- a packet's change
-
-same_number : (a b : StateNumber) → a.0 ≡ b.0 → a ≡ b
-same_number a b is = ap (λ (n : ℕ). record { 0 = n }) is
 
 found_leaves : (count : ℕ) (clock : Clock) (states : List State) (events : List Event) (number : StateNumber) (found : Option State) → state_of number states ≡ found → AreTold count clock states events → Leave states events
     → Leave (with_change (table.Removed number) states) (events ++ events_of_removal clock found)

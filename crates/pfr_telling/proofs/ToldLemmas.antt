@@ -159,7 +159,7 @@ told_by_then count clock later states events is_later are = record {
 
 -- ---- a packet's change
 
-same_number : (a b : StateNumber) → a.0 ≡ b.0 → a ≡ b
+pub same_number : (a b : StateNumber) → a.0 ≡ b.0 → a ≡ b
 same_number a b is = ap (λ (n : ℕ). record { 0 = n }) is
 
 -- no state has it
