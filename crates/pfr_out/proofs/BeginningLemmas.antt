@@ -3,7 +3,6 @@ use Rattle.std.proofs.Common.{◌≡◌, ◌<◌, ℕ, zero, suc, Bool, ◌+◌,
 use Rattle.std.specs.List.{flat_map}
 use Rattle.std.proofs.lemmas.Bool.{cases_lt}
 use Rattle.std.proofs.lemmas.List.{append_assoc, append_cancel_right, append-nil, length-take-le, take-append-drop, take_at}
-use Rattle.pfr_packet.specs.Job.{RunJob}
 use Rattle.pfr_capture.specs.declared.capture.CaptureError.{CaptureError}
 use Rattle.pfr_capture.specs.declared.capture.CaptureError.TheVariants as refusal
 use Rattle.pfr_capture.specs.declared.capture.Form.{Form}
@@ -14,16 +13,18 @@ use Rattle.pfr_capture.specs.Reading.{HasGiven, Reading}
 use Rattle.pfr_capture.specs.Records.{IsCapture, RecordBytes, text_of}
 use Rattle.pfr_capture.proofs.CaptureLemmas.{IsFront, given_first}
 use Rattle.pfr_capture.proofs.LawLemmas.{every_capture, one_capture}
-use Rattle.pfr_commit.specs.World.{World, world_after}
+use Rattle.pfr_commit.specs.World.{World}
+use Rattle.pfr_commit.specs.World.{online as written}
 use Rattle.pfr_out.specs.declared.report.Output.{Output}
 use Rattle.pfr_out.specs.declared.report.Output.TheVariants as output
 use Rattle.pfr_out.specs.declared.report.Stop.{Stop}
 use Rattle.pfr_out.specs.declared.report.Stop.TheVariants as stop
 use Rattle.pfr_out.specs.declared.sinks.Sinks.{Sinks}
-use Rattle.pfr_out.specs.Outputs.{AllTold, Grew, Outputs, PartWritten, batch_alone, header_alone, of_output, turn}
-use Rattle.pfr_out.specs.Replay.{Begins, Holds, HoldsAll, HoldsAllRead, HoldsPartOfBatch, HoldsPartOfEnding, HoldsPartOfHeader, OfEvery, Refused, Stopped, closing, committed_of, frame_in, online, replay_of, run_of, whole}
+use Rattle.pfr_out.specs.Outputs.{AllTold, Grew, Outputs, PartWritten, header_alone, of_output, texts_alone, turn}
+use Rattle.pfr_out.specs.Replay.{Begins, Holds, HoldsAll, HoldsAllRead, HoldsPartOfBatch, HoldsPartOfEnding, HoldsPartOfHeader, OfEvery, Refused, Stopped, closing, committed_of, online, replay_of, run_of, whole}
+use Rattle.pfr_out.specs.Spelling.{Run}
 use Rattle.pfr_out.proofs.ReadingLemmas.{capture_opens}
-use Rattle.pfr_out.proofs.RunLemmas.{bare, run_behind}
+use Rattle.pfr_out.proofs.RunLemmas.{run_grows}
 use Rattle.pfr_out.proofs.WritingLemmas.{each_output, online_behind, whole_is}
 
 -- ---- texts
@@ -101,23 +102,23 @@ part_begins_all old new a written p o = elim (cases_lt (turn o) (turn written)) 
 -- ---- what a replay writes
 
 -- what packets write begins what the replay writes, however the capture ends
-online_begins : (old new : Outputs) (header : List ℕ) (world : World) (end : Result Tail CaptureError) → Begins old new (online header world) → Begins old new (replay_of header world end)
-online_begins old new header world (Ok tail) b = all_longer old new (online header world) (closing world) (whole header world) (whole_is header world) b
-online_begins old new header world (Err e) b = b
+online_begins : (old new : Outputs) (header : List ℕ) (run : Run) (world : World) (end : Result Tail CaptureError) → Begins old new (online header run world) → Begins old new (replay_of header run world end)
+online_begins old new header run world (Ok tail) b = all_longer old new (online header run world) (closing run world) (whole header run world) (whole_is header run world) b
+online_begins old new header run world (Err e) b = b
 
-header_begins : (header : List ℕ) (world : World) → Grew (header_alone header) (online header world) (batch_alone world.texts)
-header_begins header world = each_output _ refl refl refl refl refl
+header_begins : (header : List ℕ) (run : Run) (world : World) → Grew (header_alone header) (online header run world) (texts_alone run (written run.job world))
+header_begins header run world = each_output _ refl refl refl refl refl
 
 front_and_rest : (given records : List RecordBytes) → IsFront given records → records ≡ given ++ drop (length given) records
 front_and_rest given records f = sym (ap (λ (t : List RecordBytes). t ++ drop (length given) records) f.front ∙ take-append-drop (length given) records)
 
 -- and so does what the first of them write
-fewer_begin : (job : RunJob) (old new : Outputs) (header : List ℕ) (form : Form) (given records : List RecordBytes) → IsFront given records → Begins old new (online header (run_of job form given)) → Begins old new (online header (run_of job form records))
-fewer_begin job old new header form given records front b =
-    let rest = drop (length given) records in
-    let is : run_of job form records ≡ _ = ap (λ (rs : List RecordBytes). run_of job form rs) (front_and_rest given records front) ∙ run_behind job form given rest in
-    rw is (all_longer old new (online header (run_of job form given)) (batch_alone (world_after job (bare (run_of job form given)) (map (frame_in form) rest)).texts) _
-    (online_behind header (run_of job form given).texts (world_after job (bare (run_of job form given)) (map (frame_in form) rest)) (run_of job form given) refl) b)
+fewer_begin : (run : Run) (old new : Outputs) (header : List ℕ) (form : Form) (given records : List RecordBytes) → IsFront given records → Begins old new (online header run (run_of run.job form given)) → Begins old new (online header run (run_of run.job form records))
+fewer_begin run old new header form given records front b =
+    let grows = run_grows run.job form given (drop (length given) records) in
+    let is = ap (λ (rs : List RecordBytes). written run.job (run_of run.job form rs)) (front_and_rest given records front) ∙ grows.1 in
+    all_longer old new (online header run (run_of run.job form given)) (texts_alone run grows.0) (online header run (run_of run.job form records))
+    (online_behind header run (run_of run.job form given) (run_of run.job form records) grows.0 is) b
 
 taken_front : (count : ℕ) (records : List RecordBytes) → count ≤ length records → IsFront (take count records) records
 taken_front count records within =
@@ -151,85 +152,85 @@ of_source text left P form records end o c =
     let is : IsCapture (o.read ++ left) form records end = rw (← o.is) c in
     rw o.is (o.every left form records end is)
 
-all_begins : (job : RunJob) (text : List ℕ) (told : Sinks Bool) (is_told : AllTold told) (old new : Outputs) (end : Result Tail CaptureError) (committed : ℕ) (form : Form) (records : List RecordBytes) (end' : Result Tail CaptureError) → HoldsAll job text told old new end committed → IsCapture text form records end'
-    → Begins old new (replay_of (take 24 text) (run_of job form records) end')
-all_begins job text told is_told old new end committed form records end' h c =
+all_begins : (run : Run) (text : List ℕ) (told : Sinks Bool) (is_told : AllTold told) (old new : Outputs) (end : Result Tail CaptureError) (committed : ℕ) (form : Form) (records : List RecordBytes) (end' : Result Tail CaptureError) → HoldsAll run text told old new end committed → IsCapture text form records end'
+    → Begins old new (replay_of (take 24 text) run (run_of run.job form records) end')
+all_begins run text told is_told old new end committed form records end' h c =
     let one = one_capture text h.form form h.records records end end' h.capture c in
-    online_begins old new (take 24 text) (run_of job form records) end' (rw (← one.0, ← one.1) (all_whole old new (online (take 24 text) (run_of job h.form h.records)) (h.grew is_told)))
+    online_begins old new (take 24 text) run (run_of run.job form records) end' (rw (← one.0, ← one.1) (all_whole old new (online (take 24 text) run (run_of run.job h.form h.records)) (h.grew is_told)))
 
-read_begins : (job : RunJob) (text left : List ℕ) (told : Sinks Bool) (is_told : AllTold told) (old new : Outputs) (committed : ℕ) (form : Form) (records : List RecordBytes) (end : Result Tail CaptureError) → HoldsAllRead job text left told old new committed → IsCapture text form records end
-    → Begins old new (replay_of (take 24 text) (run_of job form records) end)
-read_begins job text left told is_told old new committed form records end h c =
+read_begins : (run : Run) (text left : List ℕ) (told : Sinks Bool) (is_told : AllTold told) (old new : Outputs) (committed : ℕ) (form : Form) (records : List RecordBytes) (end : Result Tail CaptureError) → HoldsAllRead run text left told old new committed → IsCapture text form records end
+    → Begins old new (replay_of (take 24 text) run (run_of run.job form records) end)
+read_begins run text left told is_told old new committed form records end h c =
     let first = capture_first h.read left h.form form h.records records (Ok h.tail) end h.capture (rw (← h.is) c) in
-    online_begins old new (take 24 text) (run_of job form records) end
-    (rw first.0 (fewer_begin job old new (take 24 text) h.form h.records records first.1 (all_whole old new (online (take 24 text) (run_of job h.form h.records)) (h.grew is_told))))
+    online_begins old new (take 24 text) run (run_of run.job form records) end
+    (rw first.0 (fewer_begin run old new (take 24 text) h.form h.records records first.1 (all_whole old new (online (take 24 text) run (run_of run.job h.form h.records)) (h.grew is_told))))
 
-holds_begins : (job : RunJob) (batch : ℕ) (told : Sinks Bool) (is_told : AllTold told) (old new : Outputs) (committed : ℕ) (header : List ℕ) (form : Form) (records : List RecordBytes) (end : Result Tail CaptureError) → Holds job batch told old new committed header form records
-    → Begins old new (replay_of header (run_of job form records) end)
-holds_begins job batch told is_told old new committed header form records end h =
-    online_begins old new header (run_of job form records) end
-    (fewer_begin job old new header form (take committed records) records (taken_front committed records h.within) (all_whole old new (online header (run_of job form (take committed records))) (h.grew is_told)))
+holds_begins : (run : Run) (batch : ℕ) (told : Sinks Bool) (is_told : AllTold told) (old new : Outputs) (committed : ℕ) (header : List ℕ) (form : Form) (records : List RecordBytes) (end : Result Tail CaptureError) → Holds run batch told old new committed header form records
+    → Begins old new (replay_of header run (run_of run.job form records) end)
+holds_begins run batch told is_told old new committed header form records end h =
+    online_begins old new header run (run_of run.job form records) end
+    (fewer_begin run old new header form (take committed records) records (taken_front committed records h.within) (all_whole old new (online header run (run_of run.job form (take committed records))) (h.grew is_told)))
 
-part_of_header_begins : (job : RunJob) (told : Sinks Bool) (is_told : AllTold told) (old new : Outputs) (at : Output) (committed : ℕ) (header : List ℕ) (form : Form) (records : List RecordBytes) (end : Result Tail CaptureError) → HoldsPartOfHeader told old new at committed header
-    → Begins old new (replay_of header (run_of job form records) end)
-part_of_header_begins job told is_told old new at committed header form records end h =
-    online_begins old new header (run_of job form records) end
-    (all_longer old new (header_alone header) (batch_alone (run_of job form records).texts) (online header (run_of job form records)) (header_begins header (run_of job form records)) (part_begins_all old new (header_alone header) at (h.part is_told)))
+part_of_header_begins : (run : Run) (told : Sinks Bool) (is_told : AllTold told) (old new : Outputs) (at : Output) (committed : ℕ) (header : List ℕ) (form : Form) (records : List RecordBytes) (end : Result Tail CaptureError) → HoldsPartOfHeader told old new at committed header
+    → Begins old new (replay_of header run (run_of run.job form records) end)
+part_of_header_begins run told is_told old new at committed header form records end h =
+    online_begins old new header run (run_of run.job form records) end
+    (all_longer old new (header_alone header) (texts_alone run (written run.job (run_of run.job form records))) (online header run (run_of run.job form records)) (header_begins header run (run_of run.job form records)) (part_begins_all old new (header_alone header) at (h.part is_told)))
 
-part_of_batch_begins : (job : RunJob) (batch : ℕ) (told : Sinks Bool) (is_told : AllTold told) (old new : Outputs) (at : Output) (committed : ℕ) (header : List ℕ) (form : Form) (records : List RecordBytes) (end : Result Tail CaptureError) → HoldsPartOfBatch job batch told old new at committed header form records
-    → Begins old new (replay_of header (run_of job form records) end)
-part_of_batch_begins job batch told is_told old new at committed header form records end h =
-    online_begins old new header (run_of job form records) end
-    (fewer_begin job old new header form (take h.next records) records (taken_front h.next records h.within)
-    (all_behind old h.mid new (online header (run_of job form (take committed records))) (batch_alone h.piece) (online header (run_of job form (take h.next records))) (h.before is_told) h.piece_is (part_begins_all h.mid new (batch_alone h.piece) at (h.part is_told))))
+part_of_batch_begins : (run : Run) (batch : ℕ) (told : Sinks Bool) (is_told : AllTold told) (old new : Outputs) (at : Output) (committed : ℕ) (header : List ℕ) (form : Form) (records : List RecordBytes) (end : Result Tail CaptureError) → HoldsPartOfBatch run batch told old new at committed header form records
+    → Begins old new (replay_of header run (run_of run.job form records) end)
+part_of_batch_begins run batch told is_told old new at committed header form records end h =
+    online_begins old new header run (run_of run.job form records) end
+    (fewer_begin run old new header form (take h.next records) records (taken_front h.next records h.within)
+    (all_behind old h.mid new (online header run (run_of run.job form (take committed records))) (texts_alone run h.piece) (online header run (run_of run.job form (take h.next records))) (h.before is_told) h.piece_is (part_begins_all h.mid new (texts_alone run h.piece) at (h.part is_told))))
 
-part_of_ending_begins : (job : RunJob) (text : List ℕ) (told : Sinks Bool) (is_told : AllTold told) (old new : Outputs) (at : Output) (committed : ℕ) (form : Form) (records : List RecordBytes) (end : Result Tail CaptureError) → HoldsPartOfEnding job text told old new at committed → IsCapture text form records end
-    → Begins old new (replay_of (take 24 text) (run_of job form records) end)
-part_of_ending_begins job text told is_told old new at committed form records end h c =
+part_of_ending_begins : (run : Run) (text : List ℕ) (told : Sinks Bool) (is_told : AllTold told) (old new : Outputs) (at : Output) (committed : ℕ) (form : Form) (records : List RecordBytes) (end : Result Tail CaptureError) → HoldsPartOfEnding run text told old new at committed → IsCapture text form records end
+    → Begins old new (replay_of (take 24 text) run (run_of run.job form records) end)
+part_of_ending_begins run text told is_told old new at committed form records end h c =
     let one = one_capture text h.form form h.records records (Ok h.tail) end h.capture c in
     rw (← one.0, ← one.1, ← one.2)
-    (all_behind old h.mid new (online (take 24 text) (run_of job h.form h.records)) (closing (run_of job h.form h.records)) (whole (take 24 text) (run_of job h.form h.records)) (h.before is_told) (whole_is (take 24 text) (run_of job h.form h.records))
-    (part_begins_all h.mid new (closing (run_of job h.form h.records)) at (h.part is_told)))
+    (all_behind old h.mid new (online (take 24 text) run (run_of run.job h.form h.records)) (closing run (run_of run.job h.form h.records)) (whole (take 24 text) run (run_of run.job h.form h.records)) (h.before is_told) (whole_is (take 24 text) run (run_of run.job h.form h.records))
+    (part_begins_all h.mid new (closing run (run_of run.job h.form h.records)) at (h.part is_told)))
 
-refused_begins : (job : RunJob) (text : List ℕ) (told : Sinks Bool) (is_told : AllTold told) (old new : Outputs) (e : CaptureError) (committed : ℕ) (form : Form) (records : List RecordBytes) (end : Result Tail CaptureError) → Refused job text told old new e committed → IsCapture text form records end
-    → Begins old new (replay_of (take 24 text) (run_of job form records) end)
-refused_begins job text told is_told old new refusal.Read committed form records end r c = absurd r
-refused_begins job text told is_told old new refusal.Memory committed form records end r c = absurd r
-refused_begins job text told is_told old new (refusal.RecordTooLong asked) committed form records end r c = all_begins job text told is_told old new (Err (refusal.RecordTooLong asked)) committed form records end r c
-refused_begins job text told is_told old new refusal.HeaderCut committed form records end r c = all_nothing old new _ (r.2 is_told)
-refused_begins job text told is_told old new refusal.BadMagic committed form records end r c = all_nothing old new _ (r.2 is_told)
-refused_begins job text told is_told old new refusal.BadVersion committed form records end r c = all_nothing old new _ (r.2 is_told)
-refused_begins job text told is_told old new (refusal.LinkType link) committed form records end r c = all_nothing old new _ (r.2 is_told)
+refused_begins : (run : Run) (text : List ℕ) (told : Sinks Bool) (is_told : AllTold told) (old new : Outputs) (e : CaptureError) (committed : ℕ) (form : Form) (records : List RecordBytes) (end : Result Tail CaptureError) → Refused run text told old new e committed → IsCapture text form records end
+    → Begins old new (replay_of (take 24 text) run (run_of run.job form records) end)
+refused_begins run text told is_told old new refusal.Read committed form records end r c = absurd r
+refused_begins run text told is_told old new refusal.Memory committed form records end r c = absurd r
+refused_begins run text told is_told old new (refusal.RecordTooLong asked) committed form records end r c = all_begins run text told is_told old new (Err (refusal.RecordTooLong asked)) committed form records end r c
+refused_begins run text told is_told old new refusal.HeaderCut committed form records end r c = all_nothing old new _ (r.2 is_told)
+refused_begins run text told is_told old new refusal.BadMagic committed form records end r c = all_nothing old new _ (r.2 is_told)
+refused_begins run text told is_told old new refusal.BadVersion committed form records end r c = all_nothing old new _ (r.2 is_told)
+refused_begins run text told is_told old new (refusal.LinkType link) committed form records end r c = all_nothing old new _ (r.2 is_told)
 
-pub stop_begins : (job : RunJob) (batch : ℕ) (text left : List ℕ) (told : Sinks Bool) (is_told : AllTold told) (old new : Outputs) (s : Stop) (form : Form) (records : List RecordBytes) (end : Result Tail CaptureError) → Stopped job batch text left told old new s → IsCapture text form records end
-    → Begins old new (replay_of (take 24 text) (run_of job form records) end)
-stop_begins job batch text left told is_told old new (stop.Ruleset fault) form records end s c = absurd s
-stop_begins job batch text left told is_told old new (stop.Capture e committed) form records end s c = refused_begins job text told is_told old new e committed form records end s c
-stop_begins job batch text left told is_told old new (stop.Read committed) form records end (inl unopened) c = all_nothing old new _ (unopened.same is_told)
-stop_begins job batch text left told is_told old new (stop.Read committed) form records end (inr holds) c = read_begins job text left told is_told old new committed form records end holds c
-stop_begins job batch text left told is_told old new (stop.Memory committed) form records end (inl unwritten) c = all_nothing old new _ (unwritten.same is_told)
-stop_begins job batch text left told is_told old new (stop.Memory committed) form records end (inr (inl holds)) c =
-    holds_begins job batch told is_told old new committed (take 24 text) form records end (of_source text left (Holds job batch told old new committed) form records end holds c)
-stop_begins job batch text left told is_told old new (stop.Memory committed) form records end (inr (inr holds)) c = all_begins job text told is_told old new (Ok holds.0) committed form records end holds.1 c
-stop_begins job batch text left told is_told old new (stop.Write at committed) form records end (inl holds) c =
-    by_part (of_source text left (λ header form records. HoldsPartOfHeader told old new at committed header ⊎ HoldsPartOfBatch job batch told old new at committed header form records) form records end holds c)
+pub stop_begins : (run : Run) (batch : ℕ) (text left : List ℕ) (told : Sinks Bool) (is_told : AllTold told) (old new : Outputs) (s : Stop) (form : Form) (records : List RecordBytes) (end : Result Tail CaptureError) → Stopped run batch text left told old new s → IsCapture text form records end
+    → Begins old new (replay_of (take 24 text) run (run_of run.job form records) end)
+stop_begins run batch text left told is_told old new (stop.Ruleset fault) form records end s c = absurd s
+stop_begins run batch text left told is_told old new (stop.Capture e committed) form records end s c = refused_begins run text told is_told old new e committed form records end s c
+stop_begins run batch text left told is_told old new (stop.Read committed) form records end (inl unopened) c = all_nothing old new _ (unopened.same is_told)
+stop_begins run batch text left told is_told old new (stop.Read committed) form records end (inr holds) c = read_begins run text left told is_told old new committed form records end holds c
+stop_begins run batch text left told is_told old new (stop.Memory committed) form records end (inl unwritten) c = all_nothing old new _ (unwritten.same is_told)
+stop_begins run batch text left told is_told old new (stop.Memory committed) form records end (inr (inl holds)) c =
+    holds_begins run batch told is_told old new committed (take 24 text) form records end (of_source text left (Holds run batch told old new committed) form records end holds c)
+stop_begins run batch text left told is_told old new (stop.Memory committed) form records end (inr (inr holds)) c = all_begins run text told is_told old new (Ok holds.0) committed form records end holds.1 c
+stop_begins run batch text left told is_told old new (stop.Write at committed) form records end (inl holds) c =
+    by_part (of_source text left (λ header form records. HoldsPartOfHeader told old new at committed header ⊎ HoldsPartOfBatch run batch told old new at committed header form records) form records end holds c)
   where
-    by_part : HoldsPartOfHeader told old new at committed (take 24 text) ⊎ HoldsPartOfBatch job batch told old new at committed (take 24 text) form records → Begins old new (replay_of (take 24 text) (run_of job form records) end)
-    by_part (inl h) = part_of_header_begins job told is_told old new at committed (take 24 text) form records end h
-    by_part (inr h) = part_of_batch_begins job batch told is_told old new at committed (take 24 text) form records end h
-stop_begins job batch text left told is_told old new (stop.Write at committed) form records end (inr holds) c = part_of_ending_begins job text told is_told old new at committed form records end holds c
+    by_part : HoldsPartOfHeader told old new at committed (take 24 text) ⊎ HoldsPartOfBatch run batch told old new at committed (take 24 text) form records → Begins old new (replay_of (take 24 text) run (run_of run.job form records) end)
+    by_part (inl h) = part_of_header_begins run told is_told old new at committed (take 24 text) form records end h
+    by_part (inr h) = part_of_batch_begins run batch told is_told old new at committed (take 24 text) form records end h
+stop_begins run batch text left told is_told old new (stop.Write at committed) form records end (inr holds) c = part_of_ending_begins run text told is_told old new at committed form records end holds c
 
 -- where reading failed, the outputs begin the replay of every capture that begins with what was read
-pub read_stop_begins : (job : RunJob) (batch : ℕ) (text left : List ℕ) (told : Sinks Bool) (is_told : AllTold told) (old new : Outputs) (committed : ℕ) (read more : List ℕ) (form : Form) (records : List RecordBytes) (end : Result Tail CaptureError) → Stopped job batch text left told old new (stop.Read committed)
-    → text ≡ read ++ left → IsCapture (read ++ more) form records end → Begins old new (replay_of (take 24 (read ++ more)) (run_of job form records) end)
-read_stop_begins job batch text left told is_told old new committed read more form records end (inl unopened) is c = all_nothing old new _ (unopened.same is_told)
-read_stop_begins job batch text left told is_told old new committed read more form records end (inr h) is c =
+pub read_stop_begins : (run : Run) (batch : ℕ) (text left : List ℕ) (told : Sinks Bool) (is_told : AllTold told) (old new : Outputs) (committed : ℕ) (read more : List ℕ) (form : Form) (records : List RecordBytes) (end : Result Tail CaptureError) → Stopped run batch text left told old new (stop.Read committed)
+    → text ≡ read ++ left → IsCapture (read ++ more) form records end → Begins old new (replay_of (take 24 (read ++ more)) run (run_of run.job form records) end)
+read_stop_begins run batch text left told is_told old new committed read more form records end (inl unopened) is c = all_nothing old new _ (unopened.same is_told)
+read_stop_begins run batch text left told is_told old new committed read more form records end (inr h) is c =
     let same : h.read ≡ read = append_cancel_right h.read read left (sym h.is ∙ is) in
     let whole_read : IsCapture read h.form h.records (Ok h.tail) = rw same at h.capture in
     let first = capture_first read more h.form form h.records records (Ok h.tail) end whole_read c in
     let grew = rw (is, same_header read left h.form h.records (Ok h.tail) whole_read) at (h.grew is_told) in
-    online_begins old new (take 24 (read ++ more)) (run_of job form records) end
-    (rw (first.0, same_header read more h.form h.records (Ok h.tail) whole_read) (fewer_begin job old new (take 24 read) h.form h.records records first.1 (all_whole old new (online (take 24 read) (run_of job h.form h.records)) grew)))
+    online_begins old new (take 24 (read ++ more)) run (run_of run.job form records) end
+    (rw (first.0, same_header read more h.form h.records (Ok h.tail) whole_read) (fewer_begin run old new (take 24 read) h.form h.records records first.1 (all_whole old new (online (take 24 read) run (run_of run.job h.form h.records)) grew)))
 
 -- ---- a refused header
 
@@ -250,12 +251,12 @@ of_every_opens : (text left : List ℕ) (P : List ℕ → Form → List RecordBy
 of_every_opens text left P o = rw o.is (opened_longer o.read left o.form o.opened)
 
 -- then nothing was written, and no packet committed
-pub nothing_behind_a_refusal : (job : RunJob) (batch : ℕ) (text left : List ℕ) (told : Sinks Bool) (old new : Outputs) (s : Stop) (e : CaptureError) → opening_of text ≡ Err e → Stopped job batch text left told old new s
+pub nothing_behind_a_refusal : (run : Run) (batch : ℕ) (text left : List ℕ) (told : Sinks Bool) (old new : Outputs) (s : Stop) (e : CaptureError) → opening_of text ≡ Err e → Stopped run batch text left told old new s
     → (AllTold told → new ≡ old) × (committed_of s ≡ 0)
-nothing_behind_a_refusal job batch text left told old new (stop.Ruleset fault) e refused s = absurd s
-nothing_behind_a_refusal job batch text left told old new (stop.Capture e' committed) e refused s = by_refusal e' s
+nothing_behind_a_refusal run batch text left told old new (stop.Ruleset fault) e refused s = absurd s
+nothing_behind_a_refusal run batch text left told old new (stop.Capture e' committed) e refused s = by_refusal e' s
   where
-    by_refusal : (e' : CaptureError) → Refused job text told old new e' committed → (AllTold told → new ≡ old) × (committed ≡ 0)
+    by_refusal : (e' : CaptureError) → Refused run text told old new e' committed → (AllTold told → new ≡ old) × (committed ≡ 0)
     by_refusal refusal.Read s = absurd s
     by_refusal refusal.Memory s = absurd s
     by_refusal (refusal.RecordTooLong asked) s = absurd (not_both text s.form e refused (capture_is_opened text s.form s.records (Err (refusal.RecordTooLong asked)) s.capture))
@@ -263,13 +264,13 @@ nothing_behind_a_refusal job batch text left told old new (stop.Capture e' commi
     by_refusal refusal.BadMagic s = (s.2, s.1)
     by_refusal refusal.BadVersion s = (s.2, s.1)
     by_refusal (refusal.LinkType link) s = (s.2, s.1)
-nothing_behind_a_refusal job batch text left told old new (stop.Read committed) e refused (inl unopened) = (unopened.same, unopened.none)
-nothing_behind_a_refusal job batch text left told old new (stop.Read committed) e refused (inr h) =
+nothing_behind_a_refusal run batch text left told old new (stop.Read committed) e refused (inl unopened) = (unopened.same, unopened.none)
+nothing_behind_a_refusal run batch text left told old new (stop.Read committed) e refused (inr h) =
     absurd (not_both text h.form e refused (rw h.is (capture_opens h.read left h.form h.records (Ok h.tail) h.capture)))
-nothing_behind_a_refusal job batch text left told old new (stop.Memory committed) e refused (inl unwritten) = (unwritten.same, unwritten.none)
-nothing_behind_a_refusal job batch text left told old new (stop.Memory committed) e refused (inr (inl holds)) = absurd (not_both text holds.form e refused (of_every_opens text left _ holds))
-nothing_behind_a_refusal job batch text left told old new (stop.Memory committed) e refused (inr (inr holds)) =
+nothing_behind_a_refusal run batch text left told old new (stop.Memory committed) e refused (inl unwritten) = (unwritten.same, unwritten.none)
+nothing_behind_a_refusal run batch text left told old new (stop.Memory committed) e refused (inr (inl holds)) = absurd (not_both text holds.form e refused (of_every_opens text left _ holds))
+nothing_behind_a_refusal run batch text left told old new (stop.Memory committed) e refused (inr (inr holds)) =
     absurd (not_both text holds.1.form e refused (capture_is_opened text holds.1.form holds.1.records (Ok holds.0) holds.1.capture))
-nothing_behind_a_refusal job batch text left told old new (stop.Write at committed) e refused (inl holds) = absurd (not_both text holds.form e refused (of_every_opens text left _ holds))
-nothing_behind_a_refusal job batch text left told old new (stop.Write at committed) e refused (inr h) =
+nothing_behind_a_refusal run batch text left told old new (stop.Write at committed) e refused (inl holds) = absurd (not_both text holds.form e refused (of_every_opens text left _ holds))
+nothing_behind_a_refusal run batch text left told old new (stop.Write at committed) e refused (inr h) =
     absurd (not_both text h.form e refused (capture_is_opened text h.form h.records (Ok h.tail) h.capture))

@@ -13,30 +13,29 @@ use Rattle.pfr_capture.specs.declared.capture.Tail.{Tail}
 use Rattle.pfr_capture.specs.Reading.{Gave, HasGiven, LacksRecord, OpenFails, Reading, ReadsOn, RefusesHeader, StopsEarly}
 use Rattle.pfr_capture.specs.Records.{IsCapture, RecordBytes}
 use Rattle.pfr_capture.proofs.CaptureLemmas.{IsFront, read_is_capture}
-use Rattle.pfr_commit.specs.Books.{frames_of}
-use Rattle.pfr_commit.specs.World.{Texts, World, no_texts, opening, world_after, world_of}
-use Rattle.pfr_commit.proofs.WorldLemmas.{behind, world_append, world_behind, world_count, world_none}
+use Rattle.pfr_commit.specs.declared.book.Book.{Book}
+use Rattle.pfr_commit.specs.Books.{StandsAt, bare, frames_of, job_of}
+use Rattle.pfr_commit.specs.World.{Frame, Texts, World, joined, no_texts, opening, world_after, world_of}
+use Rattle.pfr_commit.specs.World.{online as written}
+use Rattle.pfr_commit.proofs.BookLemmas.{same_job}
+use Rattle.pfr_commit.proofs.OnlineLemmas.{online_grows}
+use Rattle.pfr_commit.proofs.WorldLemmas.{world_append, world_count, world_none}
 use Rattle.pfr_out.specs.declared.report.Output.{Output}
 use Rattle.pfr_out.specs.declared.report.Report.{Report}
 use Rattle.pfr_out.specs.declared.report.Stop.{Stop}
 use Rattle.pfr_out.specs.declared.report.Stop.TheVariants as stop
+use Rattle.pfr_out.specs.declared.settings.Form.{Form as MessageForm}
 use Rattle.pfr_out.specs.declared.settings.Settings.{Settings}
 use Rattle.pfr_out.specs.declared.sinks.Sinks.{Sinks}
-use Rattle.pfr_out.specs.Outputs.{AllTold, Grew, Outputs, PartWritten, batch_alone, header_alone}
+use Rattle.pfr_out.specs.Outputs.{AllTold, Grew, Outputs, PartWritten, header_alone, texts_alone}
 use Rattle.pfr_out.specs.Reading.{BatchFails, BatchSays, End, EndsBehind, IsPacket, records_of, wants_memory}
-use Rattle.pfr_out.specs.Replay.{Failing, Holds, HoldsAllRead, HoldsAll, HoldsPartOfBatch, HoldsPartOfEnding, IsBoundary, IsJob, OfEvery, Replayed, StopOf, Stopped, Wanting, closing, frame_in, online, run_of, StopFails, stop_for, whole}
-use Rattle.pfr_out.specs.Taking.{BatchStops, ConcludeFails, Concludes, EndStops, IsLate, Reaches, SinksFail, TakenAll}
+use Rattle.pfr_out.specs.Replay.{Failing, Holds, HoldsAllRead, HoldsAll, HoldsPartOfBatch, HoldsPartOfEnding, IsBoundary, IsJob, OfEvery, Replayed, StopOf, Stopped, Wanting, closing, frame_in, online, run_of, run_with, StopFails, stop_for, whole}
+use Rattle.pfr_out.specs.Spelling.{Run}
+use Rattle.pfr_out.specs.Taking.{Add, Added, BatchStops, ConcludeFails, Concludes, EndStops, HasTaken, IsLate, Reaches, SinksFail, Standing, TakenAll, run_in}
 use Rattle.pfr_out.proofs.ReadingLemmas.{header_is, of_every, same_frames}
 use Rattle.pfr_out.proofs.WritingLemmas.{grew_twice, header_is_online, online_behind, whole_is}
 
 -- ---- worlds
-
--- what a world leaves, without what was emitted
-abbrev pub bare : World → World
-bare world = record world { texts = no_texts }
-
-behind_bare : (world : World) → behind world.texts (bare world) ≡ world
-behind_bare world = rw (append-nil world.texts.verdicts, append-nil world.texts.packets) refl
 
 run_append : (job : RunJob) (form : Form) (xs ys : List RecordBytes) → run_of job form (xs ++ ys) ≡ world_after job (run_of job form xs) (map (frame_in form) ys)
 unfolding run_of world_of
@@ -44,97 +43,119 @@ run_append job form xs ys =
     ap (λ fs. world_after job (opening job) fs) (map-append (frame_in form) xs ys)
     ∙ world_append job (opening job) (map (frame_in form) xs) (map (frame_in form) ys)
 
--- records more, behind those that were taken
-pub run_behind : (job : RunJob) (form : Form) (xs ys : List RecordBytes) → run_of job form (xs ++ ys) ≡ behind (run_of job form xs).texts (world_after job (bare (run_of job form xs)) (map (frame_in form) ys))
-run_behind job form xs ys =
-    run_append job form xs ys
-    ∙ ap (λ (w : World). world_after job w (map (frame_in form) ys)) (sym (behind_bare (run_of job form xs)))
-    ∙ world_behind job (run_of job form xs).texts (map (frame_in form) ys) (bare (run_of job form xs))
+-- records more, behind those that were taken: what is written stays
+pub run_grows : (job : RunJob) (form : Form) (xs ys : List RecordBytes) → (added : Texts) × (written job (run_of job form (xs ++ ys)) ≡ joined (written job (run_of job form xs)) added)
+unfolding run_of
+run_grows job form xs ys =
+    let grows = online_grows job (map (frame_in form) xs) (map (frame_in form) ys) in
+    (grows.0, ap (λ (fs : List Frame). written job (world_of job fs)) (map-append (frame_in form) xs ys) ∙ grows.1)
 
 run_none : (job : RunJob) (form : Form) → run_of job form [] ≡ opening job
 unfolding run_of world_of
 run_none job form = world_none job (opening job)
 
-opening_bare : (job : RunJob) → (opening job).texts ≡ no_texts
+opening_written : (job : RunJob) → written job (opening job) ≡ no_texts
 unfolding opening
-opening_bare job = refl
+opening_written job = refl
 
-bare_opening : (job : RunJob) → bare (opening job) ≡ opening job
-unfolding opening
-bare_opening job = refl
+-- ---- a book's run
+
+run_by : RunJob → MessageForm → Run
+run_by job form = record { job = job; form = form }
+
+-- a book of the same job, and messages of the same form
+pub same_run : (book other : Book) (form other_form : MessageForm) → book.job ≡ other.job → form ≡ other_form → run_in book form ≡ run_in other other_form
+unfolding run_by
+same_run book other form other_form job_is form_is =
+    ap (λ (j : RunJob). run_by j form) (same_job book other job_is) ∙ ap (λ (f : MessageForm). run_by (job_of other) f) form_is
 
 -- ---- how far a run has come
 
--- the reader has given these records, and all that they write is written
-pub record SoFar (job : RunJob) (capture : Reading) (text left : List ℕ) (told : Sinks Bool) (old new : Outputs) (world : World) (records : List RecordBytes) : Type 0 where
+-- the reader has given these records, a book has taken them, and all that they write is written
+pub record SoFar (run : Run) (capture : Reading) (text left : List ℕ) (told : Sinks Bool) (old new : Outputs) (book : Book) (records : List RecordBytes) : Type 0 where
   pub read : List ℕ
   pub text_is : text ≡ read ++ left
   pub given : HasGiven capture read records
-  pub grew : AllTold told → Grew old new (online capture.header (run_of job capture.form records))
-  pub world_is : world ≡ bare (run_of job capture.form records)
+  pub grew : AllTold told → Grew old new (online capture.header run (run_of run.job capture.form records))
+  pub stands : StandsAt book (run_of run.job capture.form records)
 
 -- at the head of the loop
-pub record AtHead (job : RunJob) (batch : ℕ) (capture : Reading) (text left : List ℕ) (told : Sinks Bool) (old new : Outputs) (world : World) : Type 0 where
+pub record AtHead (run : Run) (batch : ℕ) (capture : Reading) (text left : List ℕ) (told : Sinks Bool) (old new : Outputs) (book : Book) : Type 0 where
   pub records : List RecordBytes
-  pub so_far : SoFar job capture text left told old new world records
+  pub so_far : SoFar run capture text left told old new book records
   pub boundary : IsBoundary batch (length records)
 
 -- nothing was given yet, and the header was written
-pub at_start : (job : RunJob) (batch : ℕ) (capture : Reading) (read left : List ℕ) (told : Sinks Bool) (old new : Outputs) (world : World) → HasGiven capture read [] → world ≡ opening job → (AllTold told → Grew old new (header_alone capture.header))
-    → AtHead job batch capture (read ++ left) left told old new world
-at_start job batch capture read left told old new world given world_is grew = record {
+pub at_start : (run : Run) (batch : ℕ) (capture : Reading) (read left : List ℕ) (told : Sinks Bool) (old new : Outputs) (book : Book) → HasGiven capture read [] → StandsAt book (opening run.job) → (AllTold told → Grew old new (header_alone capture.header))
+    → AtHead run batch capture (read ++ left) left told old new book
+at_start run batch capture read left told old new book given stands grew = record {
   records = [];
   so_far = record {
     read = read;
     text_is = refl;
     given = given;
-    grew = λ t. header_is_online old new capture.header (run_of job capture.form []) (ap (λ (w : World). w.texts) (run_none job capture.form) ∙ opening_bare job) (grew t);
-    world_is = world_is ∙ sym (ap bare (run_none job capture.form) ∙ bare_opening job);
+    grew = λ t. header_is_online old new capture.header run (run_of run.job capture.form []) (ap (λ (w : World). written run.job w) (run_none run.job capture.form) ∙ opening_written run.job) (grew t);
+    stands = subst (λ (w : World). StandsAt book w) (sym (run_none run.job capture.form)) stands;
   };
   boundary = (0, sym (zero-mul batch));
 }
 
 -- ---- a batch
 
--- the packets of a batch, in the world before them
-pub record Batch (job : RunJob) (capture capture' : Reading) (left left' : List ℕ) (packets : List (Record × View)) : Type 0 where
+-- the packets of a batch
+pub record Batch (capture capture' : Reading) (left left' : List ℕ) (packets : List (Record × View)) : Type 0 where
   pub on : ReadsOn capture capture' left left' (records_of packets)
   pub same : (capture'.form ≡ capture.form) × (capture'.header ≡ capture.header)
   pub packets_are : All (IsPacket capture.form) packets
 
--- what the batch leaves
-taken_world : (job : RunJob) (form : Form) (world : World) (records : List RecordBytes) (packets : List (Record × View)) → world ≡ bare (run_of job form records) → All (IsPacket form) packets
-    → run_of job form (records ++ records_of packets) ≡ behind (run_of job form records).texts (world_after job world (frames_of packets))
-taken_world job form world records packets world_is all =
-    run_behind job form records (records_of packets)
-    ∙ ap (λ (w : World). behind (run_of job form records).texts w) (rw (world_is, same_frames form packets all) refl)
+-- a book took them, and what they add is written
+pub record Took (run : Run) (told : Sinks Bool) (mid new : Outputs) (book book' : Book) (packets : List (Record × View)) : Type 0 where
+  pub taken : Standing book (λ world. StandsAt book' (world_after run.job world (frames_of packets)))
+  pub adds : Standing book (λ world. Add run.job world (frames_of packets) (λ added. AllTold told → Grew mid new (texts_alone run added)))
 
-given_more : (job : RunJob) (capture capture' : Reading) (text left left' : List ℕ) (told : Sinks Bool) (old mid : Outputs) (world : World) (records : List RecordBytes) (packets : List (Record × View)) → SoFar job capture text left told old mid world records → Batch job capture capture' left left' packets
+-- by what is said of the book's own run, and of the same sinks
+pub took : (run : Run) (told told' : Sinks Bool) (mid new : Outputs) (book book' : Book) (form : MessageForm) (packets : List (Record × View)) → run_in book form ≡ run → told' ≡ told → HasTaken book book' packets
+    → Added book packets (λ added. AllTold told' → Grew mid new (texts_alone (run_in book form) added)) → Took run told mid new book book' packets
+took run told told' mid new book book' form packets run_is told_is taken adds = record {
+  taken = λ world stands. subst (λ (r : Run). StandsAt book' (world_after r.job world (frames_of packets))) run_is (taken world stands);
+  adds = λ world stands.
+      subst (λ (t : Sinks Bool). Add run.job world (frames_of packets) (λ added. AllTold t → Grew mid new (texts_alone run added))) told_is
+      (subst (λ (r : Run). Add r.job world (frames_of packets) (λ added. AllTold told' → Grew mid new (texts_alone r added))) run_is (adds world stands));
+}
+
+-- what the batch leaves
+taken_run : (job : RunJob) (form : Form) (records : List RecordBytes) (packets : List (Record × View)) → All (IsPacket form) packets
+    → run_of job form (records ++ records_of packets) ≡ world_after job (run_of job form records) (frames_of packets)
+taken_run job form records packets all =
+    run_append job form records (records_of packets) ∙ ap (λ (fs : List Frame). world_after job (run_of job form records) fs) (sym (same_frames form packets all))
+
+given_more : (run : Run) (capture capture' : Reading) (text left left' : List ℕ) (told : Sinks Bool) (old mid : Outputs) (book : Book) (records : List RecordBytes) (packets : List (Record × View)) → SoFar run capture text left told old mid book records → Batch capture capture' left left' packets
     → (read : List ℕ) × (text ≡ read ++ left') × HasGiven capture' read (records ++ records_of packets)
-given_more job capture capture' text left left' told old mid world records packets s b =
+given_more run capture capture' text left left' told old mid book records packets s b =
     (s.read ++ b.on.came, s.text_is ∙ (rw b.on.gave (sym (append_assoc s.read b.on.came left'))), b.on.on s.read records s.given)
 
 -- what it writes
-piece_is : (job : RunJob) (header : List ℕ) (form : Form) (world : World) (records : List RecordBytes) (packets : List (Record × View)) → world ≡ bare (run_of job form records) → All (IsPacket form) packets
-    → Grew (online header (run_of job form records)) (online header (run_of job form (records ++ records_of packets))) (batch_alone (world_after job world (frames_of packets)).texts)
-piece_is job header form world records packets world_is all =
-    rw (taken_world job form world records packets world_is all)
-    (online_behind header (run_of job form records).texts (world_after job world (frames_of packets)) (run_of job form records) refl)
+piece_is : (run : Run) (header : List ℕ) (form : Form) (records : List RecordBytes) (packets : List (Record × View)) (added : Texts) → All (IsPacket form) packets
+    → written run.job (world_after run.job (run_of run.job form records) (frames_of packets)) ≡ joined (written run.job (run_of run.job form records)) added
+    → Grew (online header run (run_of run.job form records)) (online header run (run_of run.job form (records ++ records_of packets))) (texts_alone run added)
+piece_is run header form records packets added all is =
+    online_behind header run (run_of run.job form records) (run_of run.job form (records ++ records_of packets)) added
+    (ap (λ (w : World). written run.job w) (taken_run run.job form records packets all) ∙ is)
 
 -- the batch was taken and written
-pub batch_taken : (job : RunJob) (capture capture' : Reading) (text left left' : List ℕ) (told : Sinks Bool) (old mid new : Outputs) (world world' : World) (records : List RecordBytes) (packets : List (Record × View))
-    → SoFar job capture text left told old mid world records → Batch job capture capture' left left' packets
-    → world' ≡ bare (world_after job world (frames_of packets)) → (AllTold told → Grew mid new (batch_alone (world_after job world (frames_of packets)).texts))
-    → SoFar job capture' text left' told old new world' (records ++ records_of packets)
-batch_taken job capture capture' text left left' told old mid new world world' records packets s b left_is grew =
-    let more = given_more job capture capture' text left left' told old mid world records packets s b in
+pub batch_taken : (run : Run) (capture capture' : Reading) (text left left' : List ℕ) (told : Sinks Bool) (old mid new : Outputs) (book book' : Book) (records : List RecordBytes) (packets : List (Record × View))
+    → SoFar run capture text left told old mid book records → Batch capture capture' left left' packets → Took run told mid new book book' packets
+    → SoFar run capture' text left' told old new book' (records ++ records_of packets)
+batch_taken run capture capture' text left left' told old mid new book book' records packets s b took =
+    let more = given_more run capture capture' text left left' told old mid book records packets s b in
+    let add = took.adds (run_of run.job capture.form records) s.stands in
     record {
       read = more.0;
       text_is = more.1;
       given = more.2;
-      grew = λ t. rw (b.same.0, b.same.1) (grew_twice old mid new (online capture.header (run_of job capture.form records)) (batch_alone (world_after job world (frames_of packets)).texts)
-          (online capture.header (run_of job capture.form (records ++ records_of packets))) (s.grew t) (grew t) (piece_is job capture.header capture.form world records packets s.world_is b.packets_are));
-      world_is = rw b.same.0 (left_is ∙ sym (ap bare (taken_world job capture.form world records packets s.world_is b.packets_are)));
+      grew = λ t. rw (b.same.0, b.same.1) (grew_twice old mid new (online capture.header run (run_of run.job capture.form records)) (texts_alone run add.added)
+          (online capture.header run (run_of run.job capture.form (records ++ records_of packets))) (s.grew t) (add.hold t) (piece_is run capture.header capture.form records packets add.added b.packets_are add.is));
+      stands = rw b.same.0 (subst (λ (w : World). StandsAt book' w) (sym (taken_run run.job capture.form records packets b.packets_are)) (took.taken (run_of run.job capture.form records) s.stands));
     }
 
 -- ---- stops
@@ -143,10 +164,10 @@ front_is : (records all : List RecordBytes) (count : ℕ) → IsFront records al
 front_is records all count front counted = rw (← counted) (sym front.front)
 
 -- the reader stopped, or memory was refused, with whole batches written
-pub holds_so_far : (job : RunJob) (batch : ℕ) (capture : Reading) (text left left' : List ℕ) (told : Sinks Bool) (old new : Outputs) (world : World) (records : List RecordBytes) (committed : ℕ) → SoFar job capture text left told old new world records → Gave left left'
-    → IsBoundary batch (length records) → length records ≡ committed → OfEvery text left' (Holds job batch told old new committed)
-holds_so_far job batch capture text left left' told old new world records committed s gave boundary counted =
-    of_every capture text left' s.read left records (Holds job batch told old new committed) s.text_is gave s.given (λ all front.
+pub holds_so_far : (run : Run) (batch : ℕ) (capture : Reading) (text left left' : List ℕ) (told : Sinks Bool) (old new : Outputs) (book : Book) (records : List RecordBytes) (committed : ℕ) → SoFar run capture text left told old new book records → Gave left left'
+    → IsBoundary batch (length records) → length records ≡ committed → OfEvery text left' (Holds run batch told old new committed)
+holds_so_far run batch capture text left left' told old new book records committed s gave boundary counted =
+    of_every capture text left' s.read left records (Holds run batch told old new committed) s.text_is gave s.given (λ all front.
     let within = front.within in
     record {
       within = omega (arith, counted);
@@ -165,12 +186,13 @@ front_of_part xs ys all f =
     }
 
 -- a batch was written in part
-pub holds_part_of_batch : (job : RunJob) (batch : ℕ) (capture capture' : Reading) (text left left' : List ℕ) (told : Sinks Bool) (old mid new : Outputs) (world : World) (records : List RecordBytes) (packets : List (Record × View)) (output : Output) (committed : ℕ)
-    → SoFar job capture text left told old mid world records → Batch job capture capture' left left' packets → length (records_of packets) ≤ batch → IsBoundary batch (length records) → length records ≡ committed
-    → (AllTold told → PartWritten mid new (batch_alone (world_after job world (frames_of packets)).texts) output) → Failing job batch text left' told old new output committed
-holds_part_of_batch job batch capture capture' text left left' told old mid new world records packets output committed s b few boundary counted part =
-    let more = given_more job capture capture' text left left' told old mid world records packets s b in
+pub holds_part_of_batch : (run : Run) (batch : ℕ) (capture capture' : Reading) (text left left' : List ℕ) (told : Sinks Bool) (old mid new : Outputs) (book : Book) (records : List RecordBytes) (packets : List (Record × View)) (output : Output) (committed : ℕ)
+    → SoFar run capture text left told old mid book records → Batch capture capture' left left' packets → length (records_of packets) ≤ batch → IsBoundary batch (length records) → length records ≡ committed
+    → Standing book (λ world. Add run.job world (frames_of packets) (λ added. AllTold told → PartWritten mid new (texts_alone run added) output)) → Failing run batch text left' told old new output committed
+holds_part_of_batch run batch capture capture' text left left' told old mid new book records packets output committed s b few boundary counted part =
+    let more = given_more run capture capture' text left left' told old mid book records packets s b in
     let all_long = length-append records (records_of packets) in
+    let add = part (run_of run.job capture.form records) s.stands in
     inl (of_every capture' text left' more.0 left' (records ++ records_of packets) _ more.1 (record { came = []; gave = refl }) more.2 (λ all front.
     let within = front.within in
     rw (b.same.0, b.same.1) (inr (record {
@@ -180,42 +202,42 @@ holds_part_of_batch job batch capture capture' text left left' told old mid new 
       boundary = rw (← counted) boundary;
       mid = mid;
       before = λ t. rw (front_is records all committed (front_of_part records (records_of packets) all front) counted) (s.grew t);
-      piece = (world_after job world (frames_of packets)).texts;
+      piece = add.added;
       piece_is = rw (front_is records all committed (front_of_part records (records_of packets) all front) counted, front_is (records ++ records_of packets) all (length (records ++ records_of packets)) front refl)
-          (piece_is job capture.header capture.form world records packets s.world_is b.packets_are);
-      part = part;
+          (piece_is run capture.header capture.form records packets add.added b.packets_are add.is);
+      part = add.hold;
     }))))
 
 -- as many packets as records
-pub counted_by : (job : RunJob) (capture : Reading) (text left : List ℕ) (told : Sinks Bool) (old new : Outputs) (world : World) (records : List RecordBytes) → SoFar job capture text left told old new world records → length records ≡ world.count
+pub counted_by : (run : Run) (capture : Reading) (text left : List ℕ) (told : Sinks Bool) (old new : Outputs) (book : Book) (records : List RecordBytes) → SoFar run capture text left told old new book records → length records ≡ book.count
 unfolding run_of world_of opening
-counted_by job capture text left told old new world records s =
-    let count : (run_of job capture.form records).count ≡ 0 + length (map (frame_in capture.form) records) = world_count job (opening job) (map (frame_in capture.form) records) in
+counted_by run capture text left told old new book records s =
+    let count : (run_of run.job capture.form records).count ≡ 0 + length (map (frame_in capture.form) records) = world_count run.job (opening run.job) (map (frame_in capture.form) records) in
     let same : length (map (frame_in capture.form) records) ≡ length records = length-map records (frame_in capture.form) in
-    let ours : world.count ≡ (run_of job capture.form records).count = ap (λ (w : World). w.count) s.world_is in
+    let ours : book.count ≡ (run_of run.job capture.form records).count = ap (λ (w : World). w.count) s.stands.left in
     omega arith
 
 -- the source's bytes, where the capture ends behind these records
-pub capture_is : (job : RunJob) (capture : Reading) (text left : List ℕ) (told : Sinks Bool) (old new : Outputs) (world : World) (records given : List RecordBytes) (end : End) → SoFar job capture text left told old new world records → EndsBehind capture left given end
+pub capture_is : (run : Run) (capture : Reading) (text left : List ℕ) (told : Sinks Bool) (old new : Outputs) (book : Book) (records given : List RecordBytes) (end : End) → SoFar run capture text left told old new book records → EndsBehind capture left given end
     → IsCapture text capture.form (records ++ given) end
-capture_is job capture text left told old new world records given end s ends = rw s.text_is (ends s.read records s.given)
+capture_is run capture text left told old new book records given end s ends = rw s.text_is (ends s.read records s.given)
 
-text_header : (job : RunJob) (capture : Reading) (text left : List ℕ) (told : Sinks Bool) (old new : Outputs) (world : World) (records : List RecordBytes) → SoFar job capture text left told old new world records → take 24 text ≡ capture.header
-text_header job capture text left told old new world records s = rw s.text_is (header_is capture s.read left records s.given)
+text_header : (run : Run) (capture : Reading) (text left : List ℕ) (told : Sinks Bool) (old new : Outputs) (book : Book) (records : List RecordBytes) → SoFar run capture text left told old new book records → take 24 text ≡ capture.header
+text_header run capture text left told old new book records s = rw s.text_is (header_is capture s.read left records s.given)
 
-pub holds_all : (job : RunJob) (capture : Reading) (text left : List ℕ) (told : Sinks Bool) (old new : Outputs) (world : World) (records : List RecordBytes) (end : End) → SoFar job capture text left told old new world records → IsCapture text capture.form records end
-    → HoldsAll job text told old new end world.count
-holds_all job capture text left told old new world records end s is = record {
+pub holds_all : (run : Run) (capture : Reading) (text left : List ℕ) (told : Sinks Bool) (old new : Outputs) (book : Book) (records : List RecordBytes) (end : End) → SoFar run capture text left told old new book records → IsCapture text capture.form records end
+    → HoldsAll run text told old new end book.count
+holds_all run capture text left told old new book records end s is = record {
   form = capture.form;
   records = records;
   capture = is;
-  counted = counted_by job capture text left told old new world records s;
-  grew = λ t. rw (text_header job capture text left told old new world records s) (s.grew t);
+  counted = counted_by run capture text left told old new book records s;
+  grew = λ t. rw (text_header run capture text left told old new book records s) (s.grew t);
 }
 
-pub holds_all_read : (job : RunJob) (capture : Reading) (text left : List ℕ) (told : Sinks Bool) (old new : Outputs) (world : World) (records : List RecordBytes) → SoFar job capture text left told old new world records → LacksRecord capture refusal.Read
-    → HoldsAllRead job text left told old new world.count
-holds_all_read job capture text left told old new world records s lacks =
+pub holds_all_read : (run : Run) (capture : Reading) (text left : List ℕ) (told : Sinks Bool) (old new : Outputs) (book : Book) (records : List RecordBytes) → SoFar run capture text left told old new book records → LacksRecord capture refusal.Read
+    → HoldsAllRead run text left told old new book.count
+holds_all_read run capture text left told old new book records s lacks =
     let is = read_is_capture capture s.read records s.given lacks in
     record {
       read = s.read;
@@ -224,38 +246,35 @@ holds_all_read job capture text left told old new world records s lacks =
       records = records;
       tail = is.0;
       capture = is.1;
-      counted = counted_by job capture text left told old new world records s;
-      grew = λ t. rw (text_header job capture text left told old new world records s) (s.grew t);
+      counted = counted_by run capture text left told old new book records s;
+      grew = λ t. rw (text_header run capture text left told old new book records s) (s.grew t);
     }
 
 -- ---- the end of a capture
 
-same_closing : (job : RunJob) (form : Form) (world : World) (records : List RecordBytes) → world ≡ bare (run_of job form records) → closing world ≡ closing (run_of job form records)
-same_closing job form world records is = ap closing is
-
-pub taken_all : (job : RunJob) (capture : Reading) (text left : List ℕ) (told : Sinks Bool) (old new : Outputs) (world : World) (records : List RecordBytes) (tail : Tail) → SoFar job capture text left told old new world records
-    → IsCapture text capture.form records (Ok tail) → TakenAll job text told old new world tail
+pub taken_all : (run : Run) (capture : Reading) (text left : List ℕ) (told : Sinks Bool) (old new : Outputs) (book : Book) (records : List RecordBytes) (tail : Tail) → SoFar run capture text left told old new book records
+    → IsCapture text capture.form records (Ok tail) → TakenAll run text told old new book tail
 unfolding holds_all
-taken_all job capture text left told old new world records tail s is = record { all = holds_all job capture text left told old new world records (Ok tail) s is; left = s.world_is }
+taken_all run capture text left told old new book records tail s is = record { all = holds_all run capture text left told old new book records (Ok tail) s is; stands = s.stands }
 
-replayed : (job : RunJob) (text : List ℕ) (told : Sinks Bool) (old mid new : Outputs) (world : World) (tail : Tail) (report : Report) → TakenAll job text told old mid world tail
-    → (AllTold told → Grew mid new (closing world)) → report.committed ≡ world.count → report.tail ≡ tail → Replayed job text told old new report
-replayed job text told old mid new world tail report t grew committed ends =
+replayed : (run : Run) (text : List ℕ) (told : Sinks Bool) (old mid new : Outputs) (book : Book) (form : MessageForm) (tail : Tail) (report : Report) → run_in book form ≡ run → TakenAll run text told old mid book tail
+    → Standing book (λ world. AllTold told → Grew mid new (closing (run_in book form) world)) → report.committed ≡ book.count → report.tail ≡ tail → Replayed run text told old new report
+replayed run text told old mid new book form tail report run_is t grew committed ends =
     let all = t.all in
-    let run = run_of job all.form all.records in
+    let world = run_of run.job all.form all.records in
     record {
       form = all.form;
       records = all.records;
       capture = rw ends all.capture;
       counted = all.counted ∙ sym committed;
-      grew = λ u. grew_twice old mid new (online (take 24 text) run) (closing world) (whole (take 24 text) run) (all.grew u) (grew u)
-          (rw (same_closing job all.form world all.records t.left) (whole_is (take 24 text) run));
+      grew = λ u. grew_twice old mid new (online (take 24 text) run world) (closing run world) (whole (take 24 text) run world) (all.grew u)
+          (subst (λ (r : Run). Grew mid new (closing r world)) run_is (grew world t.stands u)) (whole_is (take 24 text) run world);
     }
 
-end_stopped : (job : RunJob) (batch : ℕ) (text left : List ℕ) (told : Sinks Bool) (old mid new : Outputs) (world : World) (tail : Tail) (s : Stop) → TakenAll job text told old mid world tail → EndStops world told mid new s
-    → Stopped job batch text left told old new s
-end_stopped job batch text left told old mid new world tail (stop.Memory committed) t stops = rw (stops.0, stops.1) (inr (inr (tail, t.all)))
-end_stopped job batch text left told old mid new world tail (stop.Write output committed) t stops =
+end_stopped : (run : Run) (batch : ℕ) (text left : List ℕ) (told : Sinks Bool) (old mid new : Outputs) (book : Book) (form : MessageForm) (tail : Tail) (s : Stop) → run_in book form ≡ run → TakenAll run text told old mid book tail → EndStops book form told mid new s
+    → Stopped run batch text left told old new s
+end_stopped run batch text left told old mid new book form tail (stop.Memory committed) run_is t stops = rw (stops.0, stops.1) (inr (inr (tail, t.all)))
+end_stopped run batch text left told old mid new book form tail (stop.Write output committed) run_is t stops =
     rw stops.0 (inr (record {
       form = t.all.form;
       records = t.all.records;
@@ -264,44 +283,44 @@ end_stopped job batch text left told old mid new world tail (stop.Write output c
       counted = t.all.counted;
       mid = mid;
       before = t.all.grew;
-      part = λ u. rw (← same_closing job t.all.form world t.all.records t.left) (stops.1 u);
+      part = λ u. subst (λ (r : Run). PartWritten mid new (closing r (run_of run.job t.all.form t.all.records)) output) run_is (stops.1 (run_of run.job t.all.form t.all.records) t.stands u);
     }))
-end_stopped job batch text left told old mid new world tail (stop.Ruleset fault) t stops = absurd stops
-end_stopped job batch text left told old mid new world tail (stop.Capture e committed) t stops = absurd stops
-end_stopped job batch text left told old mid new world tail (stop.Read committed) t stops = absurd stops
+end_stopped run batch text left told old mid new book form tail (stop.Ruleset fault) run_is t stops = absurd stops
+end_stopped run batch text left told old mid new book form tail (stop.Capture e committed) run_is t stops = absurd stops
+end_stopped run batch text left told old mid new book form tail (stop.Read committed) run_is t stops = absurd stops
 
 -- ---- the loop
 
-pub memory_stopped : (job : RunJob) (batch : ℕ) (capture : Reading) (text left left' : List ℕ) (told : Sinks Bool) (old new : Outputs) (world : World) → AtHead job batch capture text left told old new world → Gave left left'
-    → Stopped job batch text left' told old new (stop.Memory world.count)
-memory_stopped job batch capture text left left' told old new world h gave =
-    inr (inl (holds_so_far job batch capture text left left' told old new world h.records world.count h.so_far gave h.boundary (counted_by job capture text left told old new world h.records h.so_far)))
+pub memory_stopped : (run : Run) (batch : ℕ) (capture : Reading) (text left left' : List ℕ) (told : Sinks Bool) (old new : Outputs) (book : Book) → AtHead run batch capture text left told old new book → Gave left left'
+    → Stopped run batch text left' told old new (stop.Memory book.count)
+memory_stopped run batch capture text left left' told old new book h gave =
+    inr (inl (holds_so_far run batch capture text left left' told old new book h.records book.count h.so_far gave h.boundary (counted_by run capture text left told old new book h.records h.so_far)))
 
-pub batch_stopped : (job : RunJob) (batch : ℕ) (capture capture' : Reading) (text left left' : List ℕ) (told : Sinks Bool) (old mid new : Outputs) (world : World) (packets : List (Record × View)) (s : Stop) → AtHead job batch capture text left told old mid world
-    → Batch job capture capture' left left' packets → length packets ≤ batch → BatchStops (world_after job world (frames_of packets)).texts world.count told mid new s → Stopped job batch text left' told old new s
-batch_stopped job batch capture capture' text left left' told old mid new world packets (stop.Memory committed) h b few stops =
-    rw (stops.0, stops.1) (memory_stopped job batch capture text left left' told old mid world h (record { came = b.on.came; gave = b.on.gave }))
-batch_stopped job batch capture capture' text left left' told old mid new world packets (stop.Write output committed) h b few stops =
-    rw stops.0 (holds_part_of_batch job batch capture capture' text left left' told old mid new world h.records packets output world.count h.so_far b (rw (length-map packets _) few) h.boundary
-    (counted_by job capture text left told old mid world h.records h.so_far) stops.1)
-batch_stopped job batch capture capture' text left left' told old mid new world packets (stop.Ruleset fault) h b few stops = absurd stops
-batch_stopped job batch capture capture' text left left' told old mid new world packets (stop.Capture e committed) h b few stops = absurd stops
-batch_stopped job batch capture capture' text left left' told old mid new world packets (stop.Read committed) h b few stops = absurd stops
+pub batch_stopped : (run : Run) (batch : ℕ) (capture capture' : Reading) (text left left' : List ℕ) (told : Sinks Bool) (old mid new : Outputs) (book : Book) (form : MessageForm) (packets : List (Record × View)) (s : Stop) → run_in book form ≡ run
+    → AtHead run batch capture text left told old mid book → Batch capture capture' left left' packets → length packets ≤ batch → BatchStops book packets form told mid new s → Stopped run batch text left' told old new s
+batch_stopped run batch capture capture' text left left' told old mid new book form packets (stop.Memory committed) run_is h b few stops =
+    rw (stops.0, stops.1) (memory_stopped run batch capture text left left' told old mid book h (record { came = b.on.came; gave = b.on.gave }))
+batch_stopped run batch capture capture' text left left' told old mid new book form packets (stop.Write output committed) run_is h b few stops =
+    rw stops.0 (holds_part_of_batch run batch capture capture' text left left' told old mid new book h.records packets output book.count h.so_far b (rw (length-map packets _) few) h.boundary
+    (counted_by run capture text left told old mid book h.records h.so_far)
+    (λ world stands. subst (λ (r : Run). Add r.job world (frames_of packets) (λ added. AllTold told → PartWritten mid new (texts_alone r added) output)) run_is (stops.1 world stands)))
+batch_stopped run batch capture capture' text left left' told old mid new book form packets (stop.Ruleset fault) run_is h b few stops = absurd stops
+batch_stopped run batch capture capture' text left left' told old mid new book form packets (stop.Capture e committed) run_is h b few stops = absurd stops
+batch_stopped run batch capture capture' text left left' told old mid new book form packets (stop.Read committed) run_is h b few stops = absurd stops
 
 -- the same of the same sinks
-pub batch_stops_for : (added : Texts) (count : ℕ) (told told' : Sinks Bool) (old new : Outputs) (s : Stop) → told ≡ told' → BatchStops added count told old new s → BatchStops added count told' old new s
-batch_stops_for added count told told' old new s is stops = subst (λ (t : Sinks Bool). BatchStops added count t old new s) is stops
+pub batch_stops_for : (book : Book) (packets : List (Record × View)) (form : MessageForm) (told told' : Sinks Bool) (old new : Outputs) (s : Stop) → told ≡ told' → BatchStops book packets form told old new s → BatchStops book packets form told' old new s
+batch_stops_for book packets form told told' old new s is stops = subst (λ (t : Sinks Bool). BatchStops book packets form t old new s) is stops
 
-pub concludes_for : (end : End) (world : World) (told told' : Sinks Bool) (old new : Outputs) (s : Stop) → told ≡ told' → Concludes end world told old new s → Concludes end world told' old new s
-concludes_for end world told told' old new s is concludes = subst (λ (t : Sinks Bool). Concludes end world t old new s) is concludes
+pub concludes_for : (end : End) (book : Book) (form : MessageForm) (told told' : Sinks Bool) (old new : Outputs) (s : Stop) → told ≡ told' → Concludes end book form told old new s → Concludes end book form told' old new s
+concludes_for end book form told told' old new s is concludes = subst (λ (t : Sinks Bool). Concludes end book form t old new s) is concludes
 
 -- a whole batch more
-pub next_head : (job : RunJob) (batch : ℕ) (capture capture' : Reading) (text left left' : List ℕ) (told : Sinks Bool) (old mid new : Outputs) (world world' : World) (packets : List (Record × View)) → AtHead job batch capture text left told old mid world
-    → Batch job capture capture' left left' packets → length packets ≡ batch → world' ≡ bare (world_after job world (frames_of packets)) → (AllTold told → Grew mid new (batch_alone (world_after job world (frames_of packets)).texts))
-    → AtHead job batch capture' text left' told old new world'
-next_head job batch capture capture' text left left' told old mid new world world' packets h b full left_is grew = record {
+pub next_head : (run : Run) (batch : ℕ) (capture capture' : Reading) (text left left' : List ℕ) (told : Sinks Bool) (old mid new : Outputs) (book book' : Book) (packets : List (Record × View)) → AtHead run batch capture text left told old mid book
+    → Batch capture capture' left left' packets → length packets ≡ batch → Took run told mid new book book' packets → AtHead run batch capture' text left' told old new book'
+next_head run batch capture capture' text left left' told old mid new book book' packets h b full took = record {
   records = h.records ++ records_of packets;
-  so_far = batch_taken job capture capture' text left left' told old mid new world world' h.records packets h.so_far b left_is grew;
+  so_far = batch_taken run capture capture' text left left' told old mid new book book' h.records packets h.so_far b took;
   boundary = more_batches batch (length h.records) (length (h.records ++ records_of packets)) h.boundary (length-append h.records (records_of packets) ∙ ap (λ (n : ℕ). length h.records + n) (length-map packets _ ∙ full));
 }
   where
@@ -311,58 +330,56 @@ next_head job batch capture capture' text left left' told old mid new world worl
         (boundary.0 + 1, is ∙ ap (λ (n : ℕ). n + batch) boundary.1 ∙ (rw next (sym (suc-mul boundary.0 batch))))
 
 -- the reading ended with a refusal, and the packets before it are written
-pub reading_stopped : (job : RunJob) (batch : ℕ) (capture capture' : Reading) (text left left' : List ℕ) (told : Sinks Bool) (old mid new : Outputs) (world world' : World) (packets : List (Record × View)) (e : CaptureError) → AtHead job batch capture text left told old mid world
+pub reading_stopped : (run : Run) (batch : ℕ) (capture capture' : Reading) (text left left' : List ℕ) (told : Sinks Bool) (old mid new : Outputs) (book book' : Book) (packets : List (Record × View)) (e : CaptureError) → AtHead run batch capture text left told old mid book
     → wants_memory (Some (Err e)) ≡ false → BatchSays capture capture' left left' (records_of packets) (Some (Err e))
-    → (capture'.form ≡ capture.form) × (capture'.header ≡ capture.header) → All (IsPacket capture.form) packets
-    → world' ≡ bare (world_after job world (frames_of packets)) → (AllTold told → Grew mid new (batch_alone (world_after job world (frames_of packets)).texts))
-    → Stopped job batch text left' told old new (stop_for e world'.count)
-reading_stopped job batch capture capture' text left left' told old mid new world world' packets refusal.Read h other says same all left_is grew =
-    inr (holds_all_read job capture' text left' told old new world' (h.records ++ records_of packets)
-    (batch_taken job capture capture' text left left' told old mid new world world' h.records packets h.so_far (record { on = says.0; same = same; packets_are = all }) left_is grew) says.1)
-reading_stopped job batch capture capture' text left left' told old mid new world world' packets refusal.Memory h other says same all left_is grew = absurd (cc other)
-reading_stopped job batch capture capture' text left left' told old mid new world world' packets (refusal.RecordTooLong asked) h other says same all left_is grew =
-    holds_all job capture' text left' told old new world' (h.records ++ records_of packets) (Err (refusal.RecordTooLong asked))
-    (batch_taken job capture capture' text left left' told old mid new world world' h.records packets h.so_far (record { on = says.0; same = same; packets_are = all }) left_is grew)
-    (rw same.0 (capture_is job capture text left told old mid world h.records (records_of packets) (Err (refusal.RecordTooLong asked)) h.so_far says.1))
-reading_stopped job batch capture capture' text left left' told old mid new world world' packets refusal.HeaderCut h other says same all left_is grew = absurd says
-reading_stopped job batch capture capture' text left left' told old mid new world world' packets refusal.BadMagic h other says same all left_is grew = absurd says
-reading_stopped job batch capture capture' text left left' told old mid new world world' packets refusal.BadVersion h other says same all left_is grew = absurd says
-reading_stopped job batch capture capture' text left left' told old mid new world world' packets (refusal.LinkType link) h other says same all left_is grew = absurd says
+    → (capture'.form ≡ capture.form) × (capture'.header ≡ capture.header) → All (IsPacket capture.form) packets → Took run told mid new book book' packets
+    → Stopped run batch text left' told old new (stop_for e book'.count)
+reading_stopped run batch capture capture' text left left' told old mid new book book' packets refusal.Read h other says same all took =
+    inr (holds_all_read run capture' text left' told old new book' (h.records ++ records_of packets)
+    (batch_taken run capture capture' text left left' told old mid new book book' h.records packets h.so_far (record { on = says.0; same = same; packets_are = all }) took) says.1)
+reading_stopped run batch capture capture' text left left' told old mid new book book' packets refusal.Memory h other says same all took = absurd (cc other)
+reading_stopped run batch capture capture' text left left' told old mid new book book' packets (refusal.RecordTooLong asked) h other says same all took =
+    holds_all run capture' text left' told old new book' (h.records ++ records_of packets) (Err (refusal.RecordTooLong asked))
+    (batch_taken run capture capture' text left left' told old mid new book book' h.records packets h.so_far (record { on = says.0; same = same; packets_are = all }) took)
+    (rw same.0 (capture_is run capture text left told old mid book h.records (records_of packets) (Err (refusal.RecordTooLong asked)) h.so_far says.1))
+reading_stopped run batch capture capture' text left left' told old mid new book book' packets refusal.HeaderCut h other says same all took = absurd says
+reading_stopped run batch capture capture' text left left' told old mid new book book' packets refusal.BadMagic h other says same all took = absurd says
+reading_stopped run batch capture capture' text left left' told old mid new book book' packets refusal.BadVersion h other says same all took = absurd says
+reading_stopped run batch capture capture' text left left' told old mid new book book' packets (refusal.LinkType link) h other says same all took = absurd says
 
 -- the reading ended, and the packets before that are written
-pub reached : (job : RunJob) (batch : ℕ) (capture capture' : Reading) (text left left' : List ℕ) (told : Sinks Bool) (old mid new : Outputs) (world world' : World) (packets : List (Record × View)) (end : End) → AtHead job batch capture text left told old mid world
+pub reached : (run : Run) (batch : ℕ) (capture capture' : Reading) (text left left' : List ℕ) (told : Sinks Bool) (old mid new : Outputs) (book book' : Book) (packets : List (Record × View)) (end : End) → AtHead run batch capture text left told old mid book
     → wants_memory (Some end) ≡ false → BatchSays capture capture' left left' (records_of packets) (Some end)
-    → (capture'.form ≡ capture.form) × (capture'.header ≡ capture.header) → All (IsPacket capture.form) packets
-    → world' ≡ bare (world_after job world (frames_of packets)) → (AllTold told → Grew mid new (batch_alone (world_after job world (frames_of packets)).texts))
-    → Reaches job batch text left' told old new world' end
-reached job batch capture capture' text left left' told old mid new world world' packets (Ok tail) h other says same all left_is grew =
-    taken_all job capture' text left' told old new world' (h.records ++ records_of packets) tail
-    (batch_taken job capture capture' text left left' told old mid new world world' h.records packets h.so_far (record { on = says.0; same = same; packets_are = all }) left_is grew)
-    (rw same.0 (capture_is job capture text left told old mid world h.records (records_of packets) (Ok tail) h.so_far says.1))
-reached job batch capture capture' text left left' told old mid new world world' packets (Err e) h other says same all left_is grew =
-    reading_stopped job batch capture capture' text left left' told old mid new world world' packets e h other says same all left_is grew
+    → (capture'.form ≡ capture.form) × (capture'.header ≡ capture.header) → All (IsPacket capture.form) packets → Took run told mid new book book' packets
+    → Reaches run batch text left' told old new book' end
+reached run batch capture capture' text left left' told old mid new book book' packets (Ok tail) h other says same all took =
+    taken_all run capture' text left' told old new book' (h.records ++ records_of packets) tail
+    (batch_taken run capture capture' text left left' told old mid new book book' h.records packets h.so_far (record { on = says.0; same = same; packets_are = all }) took)
+    (rw same.0 (capture_is run capture text left told old mid book h.records (records_of packets) (Ok tail) h.so_far says.1))
+reached run batch capture capture' text left left' told old mid new book book' packets (Err e) h other says same all took =
+    reading_stopped run batch capture capture' text left left' told old mid new book book' packets e h other says same all took
 
 -- ---- before the loop
 
 -- the capture was not opened
-pub refused_opening : (job : RunJob) (batch : ℕ) (text left : List ℕ) (told : Sinks Bool) (old : Outputs) (e : CaptureError) (before after : ℕ) → RefusesHeader text e → StopsEarly text left e → OpenFails e before after → Stopped job batch text left told old old (stop_for e 0)
-refused_opening job batch text left told old refusal.Read before after refuses early fails = inl (record { none = refl; early = early; same = λ t. refl })
-refused_opening job batch text left told old refusal.Memory before after refuses early fails = inl (record { none = refl; same = λ t. refl })
-refused_opening job batch text left told old (refusal.RecordTooLong asked) before after refuses early fails = absurd fails
-refused_opening job batch text left told old refusal.HeaderCut before after refuses early fails = (refuses, refl, λ t. refl)
-refused_opening job batch text left told old refusal.BadMagic before after refuses early fails = (refuses, refl, λ t. refl)
-refused_opening job batch text left told old refusal.BadVersion before after refuses early fails = (refuses, refl, λ t. refl)
-refused_opening job batch text left told old (refusal.LinkType link) before after refuses early fails = (refuses, refl, λ t. refl)
+pub refused_opening : (run : Run) (batch : ℕ) (text left : List ℕ) (told : Sinks Bool) (old : Outputs) (e : CaptureError) (before after : ℕ) → RefusesHeader text e → StopsEarly text left e → OpenFails e before after → Stopped run batch text left told old old (stop_for e 0)
+refused_opening run batch text left told old refusal.Read before after refuses early fails = inl (record { none = refl; early = early; same = λ t. refl })
+refused_opening run batch text left told old refusal.Memory before after refuses early fails = inl (record { none = refl; same = λ t. refl })
+refused_opening run batch text left told old (refusal.RecordTooLong asked) before after refuses early fails = absurd fails
+refused_opening run batch text left told old refusal.HeaderCut before after refuses early fails = (refuses, refl, λ t. refl)
+refused_opening run batch text left told old refusal.BadMagic before after refuses early fails = (refuses, refl, λ t. refl)
+refused_opening run batch text left told old refusal.BadVersion before after refuses early fails = (refuses, refl, λ t. refl)
+refused_opening run batch text left told old (refusal.LinkType link) before after refuses early fails = (refuses, refl, λ t. refl)
 
 -- the header was not written whole
-pub header_stopped : (job : RunJob) (batch : ℕ) (capture : Reading) (read left : List ℕ) (told : Sinks Bool) (old new : Outputs) (output : Output) → HasGiven capture read [] → (AllTold told → PartWritten old new (header_alone capture.header) output)
-    → Stopped job batch (read ++ left) left told old new (stop.Write output 0)
-header_stopped job batch capture read left told old new output h part =
+pub header_stopped : (run : Run) (batch : ℕ) (capture : Reading) (read left : List ℕ) (told : Sinks Bool) (old new : Outputs) (output : Output) → HasGiven capture read [] → (AllTold told → PartWritten old new (header_alone capture.header) output)
+    → Stopped run batch (read ++ left) left told old new (stop.Write output 0)
+header_stopped run batch capture read left told old new output h part =
     inl (of_every capture (read ++ left) left read left [] _ refl (record { came = []; gave = refl }) h (λ all front. inl (record { none = refl; part = part })))
 
-pub opening_count : (job : RunJob) (world : World) → world ≡ opening job → world.count ≡ 0
+pub opening_count : (job : RunJob) (book : Book) → StandsAt book (opening job) → book.count ≡ 0
 unfolding opening
-opening_count job world is = ap (λ (w : World). w.count) is
+opening_count job book stands = ap (λ (w : World). w.count) stands.left
 
 -- ---- how a batch of records ends
 
@@ -423,7 +440,7 @@ both_err (Ok x) P Q R f p q = tt
 both_err (Err e) P Q R f p q = f e p q
 
 pub under_job : (text seed : List ℕ) (settings : Settings) (job : RunJob) (tells : Bool) (before left : List ℕ) (told : Sinks Bool) (old new : Outputs) (s : Stop) → IsJob text seed settings job → IsLate s
-    → (IsTrue tells → Stopped job settings.batch before left told old new s) → StopOf text seed settings tells before left told old new s
+    → (IsTrue tells → Stopped (run_with job settings) settings.batch before left told old new s) → StopOf text seed settings tells before left told old new s
 under_job text seed settings job tells before left told old new (stop.Ruleset fault) is late stopped = absurd late
 under_job text seed settings job tells before left told old new (stop.Capture e committed) is late stopped = record { job = job; is = is; hold = stopped }
 under_job text seed settings job tells before left told old new (stop.Read committed) is late stopped = record { job = job; is = is; hold = stopped }
@@ -448,17 +465,17 @@ sinks_stop_late (stop.Read committed) sinks sinks' fails = tt
 
 -- ---- the end of the reading
 
-pub concluded : (job : RunJob) (batch : ℕ) (text left : List ℕ) (told : Sinks Bool) (old mid new : Outputs) (world : World) (end : End) (report : Report) → Reaches job batch text left told old mid world end
-    → report.committed ≡ world.count → end ≡ Ok report.tail → (AllTold told → Grew mid new (closing world)) → Replayed job text told old new report
-concluded job batch text left told old mid new world (Ok tail) report reaches committed ends closes =
+pub concluded : (run : Run) (batch : ℕ) (text left : List ℕ) (told : Sinks Bool) (old mid new : Outputs) (book : Book) (form : MessageForm) (end : End) (report : Report) → run_in book form ≡ run → Reaches run batch text left told old mid book end
+    → report.committed ≡ book.count → end ≡ Ok report.tail → Standing book (λ world. AllTold told → Grew mid new (closing (run_in book form) world)) → Replayed run text told old new report
+concluded run batch text left told old mid new book form (Ok tail) report run_is reaches committed ends closes =
     let is : tail ≡ report.tail = cc ends in
-    replayed job text told old mid new world tail report reaches closes committed (sym is)
-concluded job batch text left told old mid new world (Err e) report reaches committed ends closes = absurd (cc ends)
+    replayed run text told old mid new book form tail report run_is reaches closes committed (sym is)
+concluded run batch text left told old mid new book form (Err e) report run_is reaches committed ends closes = absurd (cc ends)
 
-pub concluded_stop : (job : RunJob) (batch : ℕ) (text left : List ℕ) (told : Sinks Bool) (old mid new : Outputs) (world : World) (end : End) (s : Stop) → Reaches job batch text left told old mid world end
-    → Concludes end world told mid new s → Stopped job batch text left told old new s
-concluded_stop job batch text left told old mid new world (Ok tail) s reaches concludes = end_stopped job batch text left told old mid new world tail s reaches concludes
-concluded_stop job batch text left told old mid new world (Err e) s reaches concludes = rw (concludes.0, concludes.1) reaches
+pub concluded_stop : (run : Run) (batch : ℕ) (text left : List ℕ) (told : Sinks Bool) (old mid new : Outputs) (book : Book) (form : MessageForm) (end : End) (s : Stop) → run_in book form ≡ run → Reaches run batch text left told old mid book end
+    → Concludes end book form told mid new s → Stopped run batch text left told old new s
+concluded_stop run batch text left told old mid new book form (Ok tail) s run_is reaches concludes = end_stopped run batch text left told old mid new book form tail s run_is reaches concludes
+concluded_stop run batch text left told old mid new book form (Err e) s run_is reaches concludes = rw (concludes.0, concludes.1) reaches
 
 pub conclude_is_late : (end : End) (count : ℕ) (sinks sinks' : Sinks ℕ) (s : Stop) → ConcludeFails end count sinks sinks' s → IsLate s
 conclude_is_late (Ok tail) count sinks sinks' s fails = sinks_stop_late s sinks sinks' fails

@@ -1,13 +1,20 @@
 -- Outputs that grow by pieces.
-use Rattle.std.proofs.Common.{◌≡◌, ℕ, Bool, List, [], ◌∷◌, ◌++◌, refl, sym, ◌∙◌, subst}
+use Rattle.std.proofs.Common.{◌≡◌, ℕ, Bool, List, [], ◌∷◌, ◌++◌, refl, sym, ◌∙◌, ap, subst}
+use Rattle.std.proofs.lemmas.Grind.{flat_map-append}
 use Rattle.std.proofs.lemmas.List.{append_assoc, append-nil}
-use Rattle.pfr_commit.specs.World.{Texts, World, no_texts}
-use Rattle.pfr_commit.proofs.WorldLemmas.{behind}
+use Rattle.pfr_net.specs.declared.address.Ipv4Address.{Ipv4Address}
+use Rattle.pfr_messages.specs.Messages.{Content}
+use Rattle.pfr_sync.specs.Messages.{closed_at, messages_of}
+use Rattle.pfr_commit.specs.World.{Texts, World, joined, last_message, no_texts, origin_of}
+use Rattle.pfr_commit.specs.World.{online as written}
+use Rattle.pfr_commit.proofs.OnlineLemmas.{all_messages}
 use Rattle.pfr_out.specs.declared.report.Output.{Output}
 use Rattle.pfr_out.specs.declared.report.Output.TheVariants as output
+use Rattle.pfr_out.specs.declared.settings.Form.{Form}
 use Rattle.pfr_out.specs.declared.sinks.Sinks.{Sinks}
-use Rattle.pfr_out.specs.Outputs.{AllTold, Grew, Outputs, batch_alone, header_alone, of_output}
+use Rattle.pfr_out.specs.Outputs.{AllTold, Grew, Outputs, header_alone, of_output, texts_alone}
 use Rattle.pfr_out.specs.Replay.{closing, online, whole}
+use Rattle.pfr_out.specs.Spelling.{Run, in_form, messages_text, spelled}
 
 -- contracts speak of the bytes of the same sinks as before
 pub still_told : (now before : Sinks Bool) → now ≡ before → AllTold before → AllTold now
@@ -34,17 +41,41 @@ pub grew_twice : (old mid new a b both : Outputs) → Grew old mid a → Grew mi
 grew_twice old mid new a b both first second is o =
     grew_by (of_output o old) (of_output o mid) (of_output o new) (of_output o a) (of_output o b) (of_output o both) (first o) (second o) (is o)
 
--- what a world writes, and one that comes behind it
-pub online_behind : (header : List ℕ) (texts : Texts) (world before : World) → before.texts ≡ texts → Grew (online header before) (online header (behind texts world)) (batch_alone world.texts)
-online_behind header texts world before is =
-    rw is (each_output _ refl (sym (append_assoc header texts.packets world.texts.packets)) refl refl refl)
+-- ---- messages
+
+pub spelled_none : (form : Form) (source : Ipv4Address) → spelled form source [] ≡ []
+unfolding spelled
+spelled_none form source = refl
+
+pub spelled_append : (form : Form) (source : Ipv4Address) (xs ys : List Content) → spelled form source (xs ++ ys) ≡ spelled form source xs ++ spelled form source ys
+unfolding spelled
+spelled_append form source xs ys = flat_map-append (in_form form source) xs ys
+
+both_spelled : (run : Run) (messages first second : List Content) → messages ≡ first ++ second → messages_text run messages ≡ messages_text run first ++ messages_text run second
+both_spelled run messages first second is = ap (λ (ms : List Content). messages_text run ms) is ∙ spelled_append run.form run.job.interface.address first second
+
+-- ---- what is written of worlds
+
+-- what is written of a world, and of one of which more is
+pub online_behind : (header : List ℕ) (run : Run) (world later : World) (added : Texts) → written run.job later ≡ joined (written run.job world) added → Grew (online header run world) (online header run later) (texts_alone run added)
+online_behind header run world later added is =
+    each_output _
+    (ap (λ (t : Texts). t.verdicts) is)
+    (ap (λ (t : Texts). header ++ t.packets) is ∙ sym (append_assoc header world.packets added.packets))
+    refl refl
+    (both_spelled run (written run.job later).messages (written run.job world).messages added.messages (ap (λ (t : Texts). t.messages) is))
 
 -- the end of a run behind its packets
-pub whole_is : (header : List ℕ) (world : World) → Grew (online header world) (whole header world) (closing world)
-whole_is header world =
-    each_output _ (sym (append-nil world.texts.verdicts)) (sym (append-nil (header ++ world.texts.packets))) refl refl refl
+pub whole_is : (header : List ℕ) (run : Run) (world : World) → Grew (online header run world) (whole header run world) (closing run world)
+whole_is header run world =
+    each_output _ (sym (append-nil world.verdicts)) (sym (append-nil (header ++ world.packets))) refl refl
+    (both_spelled run (messages_of (origin_of run.job) world.events) (closed_at (origin_of run.job) world.clock world.events) (last_message run.job world) (all_messages (origin_of run.job) world.clock world.events))
 
 -- the header alone is what no packets write
-pub header_is_online : (old new : Outputs) (header : List ℕ) (world : World) → world.texts ≡ no_texts → Grew old new (header_alone header) → Grew old new (online header world)
-header_is_online old new header world none grew =
-    rw none (each_output _ (grew output.Verdicts) (rw (append-nil header) (grew output.Packets)) (grew output.Counters) (grew output.States) (grew output.Messages))
+pub header_is_online : (old new : Outputs) (header : List ℕ) (run : Run) (world : World) → written run.job world ≡ no_texts → Grew old new (header_alone header) → Grew old new (online header run world)
+header_is_online old new header run world none grew =
+    each_output _
+    (grew output.Verdicts ∙ ap (λ (t : Texts). old.verdicts ++ t.verdicts) (sym none))
+    (grew output.Packets ∙ ap (λ (t : List ℕ). old.packets ++ t) (sym (append-nil header)) ∙ ap (λ (t : Texts). old.packets ++ (header ++ t.packets)) (sym none))
+    (grew output.Counters) (grew output.States)
+    (grew output.Messages ∙ ap (λ (t : List ℕ). old.messages ++ t) (sym (spelled_none run.form run.job.interface.address)) ∙ ap (λ (t : Texts). old.messages ++ messages_text run t.messages) (sym none))
