@@ -1,5 +1,5 @@
 -- How far a run has come, and how it stops.
-use Rattle.std.proofs.Common.{◌≡◌, ℕ, suc, ◌+◌, ◌*◌, ◌<◌, ◌≤◌, Bool, IsTrue, true, false, List, [], ◌++◌, length, map, take, drop, Option, Some, None, Result, Ok, Err, IfErr, inl, inr, refl, sym, ◌∙◌, ap, subst, arith}
+use Rattle.std.proofs.Common.{◌≡◌, ℕ, suc, ◌+◌, ◌*◌, ◌<◌, ◌≤◌, Bool, IsTrue, true, false, List, [], ◌++◌, length, map, take, drop, Option, Some, None, Result, Ok, Err, IfErr, IfOk, OnOk, inl, inr, refl, sym, ◌∙◌, ap, subst, arith}
 use Rattle.std.specs.List.{All}
 use Rattle.std.proofs.Math.Nat.{suc-mul, zero-mul}
 use Rattle.std.proofs.lemmas.List.{append-nil, append_assoc, length-append, length-map, map-append, take-take, take_at}
@@ -14,11 +14,14 @@ use Rattle.pfr_capture.specs.Reading.{Gave, HasGiven, LacksRecord, OpenFails, Re
 use Rattle.pfr_capture.specs.Records.{IsCapture, RecordBytes}
 use Rattle.pfr_capture.proofs.CaptureLemmas.{IsFront, read_is_capture}
 use Rattle.pfr_commit.specs.declared.book.Book.{Book}
-use Rattle.pfr_commit.specs.Books.{StandsAt, bare, frames_of, job_of}
+use Rattle.pfr_commit.specs.declared.emitted.Emitted.{Emitted}
+use Rattle.pfr_commit.specs.Books.{LeadsTo, StandsAt, frames_of, job_of}
+use Rattle.pfr_commit.specs.Emissions.{texts_of}
 use Rattle.pfr_commit.specs.World.{Frame, Texts, World, joined, no_texts, opening, world_after, world_of}
 use Rattle.pfr_commit.specs.World.{online as written}
 use Rattle.pfr_commit.proofs.BookLemmas.{same_job}
 use Rattle.pfr_commit.proofs.OnlineLemmas.{online_grows}
+use Rattle.pfr_commit.proofs.StandLemmas.{nothing_behind}
 use Rattle.pfr_commit.proofs.WorldLemmas.{world_append, world_count, world_none}
 use Rattle.pfr_out.specs.declared.report.Output.{Output}
 use Rattle.pfr_out.specs.declared.report.Report.{Report}
@@ -122,6 +125,11 @@ took run told told' mid new book book' form packets run_is told_is taken adds = 
       subst (λ (t : Sinks Bool). Add run.job world (frames_of packets) (λ added. AllTold t → Grew mid new (texts_alone run added))) told_is
       (subst (λ (r : Run). Add r.job world (frames_of packets) (λ added. AllTold told' → Grew mid new (texts_alone r added))) run_is (adds world stands));
 }
+
+-- where nothing was emitted before, what was emitted is what is written more
+pub leads_on : (old new : Book) (out out' : Emitted) (next : World → World) → texts_of out ≡ no_texts → LeadsTo old new out out' next → (world : World) → StandsAt old world
+    → StandsAt new (next world) × (written (job_of old) (next world) ≡ joined (written (job_of old) world) (texts_of out'))
+leads_on old new out out' next none leads world stands = leads world (written (job_of old) world) stands (nothing_behind (written (job_of old) world) (texts_of out) none)
 
 -- what the batch leaves
 taken_run : (job : RunJob) (form : Form) (records : List RecordBytes) (packets : List (Record × View)) → All (IsPacket form) packets
@@ -434,6 +442,10 @@ opening_fails refusal.BadVersion source source' sinks fails = (fails, refl)
 opening_fails (refusal.LinkType link) source source' sinks fails = (fails, refl)
 
 -- ---- under the text's rules
+
+pub ok_and : {T E : Type 0} → (r : Result T E) (P Q : T → Type 0) (W : Type 0) → ((x : T) → P x → W → Q x) → IfOk r P → OnOk r W → IfOk r Q
+ok_and (Ok x) P Q W f p w = f x p w
+ok_and (Err e) P Q W f p w = tt
 
 pub both_err : {T E : Type 0} → (r : Result T E) (P Q R : E → Type 0) → ((e : E) → P e → Q e → R e) → IfErr r P → IfErr r Q → IfErr r R
 both_err (Ok x) P Q R f p q = tt

@@ -1,5 +1,6 @@
 -- Outputs that grow by pieces.
-use Rattle.std.proofs.Common.{◌≡◌, ℕ, Bool, List, [], ◌∷◌, ◌++◌, refl, sym, ◌∙◌, ap, subst}
+use Rattle.std.proofs.Common.{◌≡◌, ◌<◌, ◌+◌, ℕ, suc, Bool, List, [], ◌∷◌, ◌++◌, length, take, get_or, refl, sym, ◌∙◌, ap, subst, arith}
+use Rattle.std.proofs.Math.Seq.{take-suc}
 use Rattle.std.proofs.lemmas.Grind.{flat_map-append}
 use Rattle.std.proofs.lemmas.List.{append_assoc, append-nil}
 use Rattle.pfr_net.specs.declared.address.Ipv4Address.{Ipv4Address}
@@ -50,6 +51,23 @@ spelled_none form source = refl
 pub spelled_append : (form : Form) (source : Ipv4Address) (xs ys : List Content) → spelled form source (xs ++ ys) ≡ spelled form source xs ++ spelled form source ys
 unfolding spelled
 spelled_append form source xs ys = flat_map-append (in_form form source) xs ys
+
+spelled_one : (form : Form) (source : Ipv4Address) (message : Content) → spelled form source (message ∷ []) ≡ in_form form source message
+unfolding spelled
+spelled_one form source message = append-nil (in_form form source message)
+
+-- one message more
+pub spelled_more : (form own : Form) (source : Ipv4Address) (messages : List Content) (i : ℕ) (message : Content) (old new : List ℕ) → own ≡ form → message ≡ get_or messages i message → i < length messages
+    → old ≡ spelled form source (take i messages) → new ≡ old ++ in_form own source message → new ≡ spelled form source (take (i + 1) messages)
+spelled_more form own source messages i message old new own_is message_is below old_is new_is =
+    let next : i + 1 ≡ suc i = omega arith in
+    let all : take (i + 1) messages ≡ take i messages ++ message ∷ [] = rw next (take-suc messages i message below ∙ ap (λ (m : Content). take i messages ++ m ∷ []) (sym message_is)) in
+    new_is
+    ∙ ap (λ (t : List ℕ). t ++ in_form own source message) old_is
+    ∙ ap (λ (f : Form). spelled form source (take i messages) ++ in_form f source message) own_is
+    ∙ ap (λ (t : List ℕ). spelled form source (take i messages) ++ t) (sym (spelled_one form source message))
+    ∙ sym (spelled_append form source (take i messages) (message ∷ []))
+    ∙ ap (λ (ms : List Content). spelled form source ms) (sym all)
 
 both_spelled : (run : Run) (messages first second : List Content) → messages ≡ first ++ second → messages_text run messages ≡ messages_text run first ++ messages_text run second
 both_spelled run messages first second is = ap (λ (ms : List Content). messages_text run ms) is ∙ spelled_append run.form run.job.interface.address first second

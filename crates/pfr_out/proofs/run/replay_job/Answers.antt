@@ -10,7 +10,7 @@ returns-clause-ok g c =
     IfOk-weaker c.replay_capture.result _ _ (λ (r : Report) p t.
     let o = c.in-Ok.ensures.opens t in
     let mid : IsTrue (g.R.Source.told c.open.new.source) = rw c.open.ensures.told t in
-    rw (c.in-Ok-book_of.ensures.job, ← o.gave) at (p mid o.came o.given))
+    rw (c.in-Ok-book_of.ensures.job, c.new-channel.ensures, ← o.gave) at (p mid o.came o.given))
     c.replay_capture.ensures.ok
 
 pub returns-clause-stopped : goal.returns-clause-stopped
@@ -18,13 +18,13 @@ returns-clause-stopped g c =
     IfErr-weaker c.replay_capture.result _ _ (λ (s : Stop) p t.
     let o = c.in-Ok.ensures.opens t in
     let mid : IsTrue (g.R.Source.told c.open.new.source) = rw c.open.ensures.told t in
-    rw (c.in-Ok-book_of.ensures.job, ← o.gave) at (p mid o.came o.given))
+    rw (c.in-Ok-book_of.ensures.job, c.new-channel.ensures, ← o.gave) at (p mid o.came o.given))
     c.replay_capture.ensures.stopped
 
 pub returns-in-Err-clause-stopped : goal.returns-in-Err-clause-stopped
 returns-in-Err-clause-stopped g c =
     rw c.stop_for.ensures (λ t.
-    refused_opening c.args.job c.args.batch _ _ _ _ c.in-Err.refusal _ _ (c.in-Err.ensures.refused t) (c.in-Err.ensures.early t) c.in-Err.ensures.failed)
+    refused_opening (record { job = c.args.job; form = c.args.form }) c.args.batch _ _ _ _ c.in-Err.refusal _ _ (c.in-Err.ensures.refused t) (c.in-Err.ensures.early t) c.in-Err.ensures.failed)
 
 pub returns-in-Err-clause-late : goal.returns-in-Err-clause-late
 returns-in-Err-clause-late g c = rw c.stop_for.ensures (stop_is_late c.in-Err.refusal 0)
