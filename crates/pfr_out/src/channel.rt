@@ -21,6 +21,8 @@ pub struct Channel {
 fn put_packet(source: Ipv4Address, message: &Message, text: &mut Vec<u8>) -> Result<(), AllocError>
     ensures { OnOk result (text.new.items ≡ text.old.items ++ spec.packet_of source message.now) }
 {
+    // it has at most 1480 bytes
+    message.has_spelling();
     let start = text.len();
     // the header says how long the message is, which is known once it is spelled
     text.extend_from_slice(&[0; IP_HEADER])?;
