@@ -1,5 +1,5 @@
 -- Batches of records, and the captures that they come from.
-use Rattle.std.proofs.Common.{◌≡◌, ℕ, ◌+◌, ◌≤◌, ltb, false, List, [], ◌∷◌, ◌++◌, length, map, take, drop, Option, Some, None, Result, Ok, Err, refl, sym, ◌∙◌, ap, arith}
+use Rattle.std.proofs.Common.{◌≡◌, ℕ, ltb, false, List, [], ◌∷◌, ◌++◌, length, map, take, Some, Ok, Err, refl, sym, ◌∙◌, ap, arith}
 use Rattle.std.specs.List.{All, flat_map}
 use Rattle.std.proofs.lemmas.Bool.{le-ltb}
 use Rattle.std.proofs.lemmas.List.{append_assoc, append-nil, length-append, map-append, take_at}
@@ -10,13 +10,11 @@ use Rattle.pfr_capture.specs.declared.capture.CaptureError.{CaptureError}
 use Rattle.pfr_capture.specs.declared.capture.CaptureError.TheVariants as refusal
 use Rattle.pfr_capture.specs.declared.capture.Form.{Form}
 use Rattle.pfr_capture.specs.declared.capture.Record.{Record}
-use Rattle.pfr_capture.specs.declared.capture.Tail.{Tail}
 use Rattle.pfr_capture.specs.Header.{form_of, opening_of}
 use Rattle.pfr_capture.specs.Reading.{EndsCapture, Gave, HasGiven, LacksRecord, NextFails, Reading, ReadsOn, Refuses, bytes_of}
 use Rattle.pfr_capture.specs.Records.{IsCapture, RecordBytes, text_of}
 use Rattle.pfr_capture.proofs.CaptureLemmas.{IsFront, given_first}
 use Rattle.pfr_commit.specs.Books.{frames_of}
-use Rattle.pfr_commit.specs.World.{Frame}
 use Rattle.pfr_out.specs.Reading.{BatchSays, End, EndsBehind, IsPacket, records_of}
 use Rattle.pfr_out.specs.Replay.{OfEvery, frame_in}
 

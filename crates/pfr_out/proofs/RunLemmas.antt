@@ -1,8 +1,8 @@
 -- How far a run has come, and how it stops.
-use Rattle.std.proofs.Common.{◌≡◌, ℕ, suc, ◌+◌, ◌*◌, ◌<◌, ◌≤◌, Bool, IsTrue, true, false, List, [], ◌++◌, length, map, take, drop, Option, Some, None, Result, Ok, Err, IfErr, IfOk, OnOk, inl, inr, refl, sym, ◌∙◌, ap, subst, arith}
+use Rattle.std.proofs.Common.{◌≡◌, ℕ, suc, ◌+◌, ◌≤◌, Bool, IsTrue, true, false, List, [], ◌++◌, length, map, take, Option, Some, None, Result, Ok, Err, IfErr, IfOk, OnOk, inl, inr, refl, sym, ◌∙◌, ap, subst, arith}
 use Rattle.std.specs.List.{All}
 use Rattle.std.proofs.Math.Nat.{suc-mul, zero-mul}
-use Rattle.std.proofs.lemmas.List.{append-nil, append_assoc, length-append, length-map, map-append, take-take, take_at}
+use Rattle.std.proofs.lemmas.List.{append_assoc, length-append, length-map, map-append, take-take, take_at}
 use Rattle.pfr_headers.specs.declared.packet.View.{View}
 use Rattle.pfr_packet.specs.Job.{RunJob}
 use Rattle.pfr_capture.specs.declared.capture.CaptureError.{CaptureError}
@@ -32,7 +32,7 @@ use Rattle.pfr_out.specs.declared.settings.Settings.{Settings}
 use Rattle.pfr_out.specs.declared.sinks.Sinks.{Sinks}
 use Rattle.pfr_out.specs.Outputs.{AllTold, Grew, Outputs, PartWritten, header_alone, texts_alone}
 use Rattle.pfr_out.specs.Reading.{BatchFails, BatchSays, End, EndsBehind, IsPacket, records_of, wants_memory}
-use Rattle.pfr_out.specs.Replay.{Failing, Holds, HoldsAllRead, HoldsAll, HoldsPartOfBatch, HoldsPartOfEnding, IsBoundary, IsJob, OfEvery, Replayed, StopOf, Stopped, Wanting, closing, frame_in, online, run_of, run_with, StopFails, stop_for, whole}
+use Rattle.pfr_out.specs.Replay.{Failing, Holds, HoldsAllRead, HoldsAll, IsBoundary, IsJob, OfEvery, Replayed, StopOf, Stopped, closing, frame_in, online, run_of, run_with, StopFails, stop_for, whole}
 use Rattle.pfr_out.specs.Spelling.{Run}
 use Rattle.pfr_out.specs.Taking.{Add, Added, BatchStops, ConcludeFails, Concludes, EndStops, HasTaken, IsLate, Reaches, SinksFail, Standing, TakenAll, run_in}
 use Rattle.pfr_out.proofs.ReadingLemmas.{header_is, of_every, same_frames}
@@ -126,7 +126,7 @@ took run told told' mid new book book' form packets run_is told_is taken adds = 
       (subst (λ (r : Run). Add r.job world (frames_of packets) (λ added. AllTold told' → Grew mid new (texts_alone r added))) run_is (adds world stands));
 }
 
--- where nothing was emitted before, what was emitted is what is written more
+-- where nothing was emitted before, what is emitted is what is written more
 pub leads_on : (old new : Book) (out out' : Emitted) (next : World → World) → texts_of out ≡ no_texts → LeadsTo old new out out' next → (world : World) → StandsAt old world
     → StandsAt new (next world) × (written (job_of old) (next world) ≡ joined (written (job_of old) world) (texts_of out'))
 leads_on old new out out' next none leads world stands = leads world (written (job_of old) world) stands (nothing_behind (written (job_of old) world) (texts_of out) none)

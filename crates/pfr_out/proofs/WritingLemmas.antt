@@ -74,7 +74,7 @@ both_spelled run messages first second is = ap (λ (ms : List Content). messages
 
 -- ---- what is written of worlds
 
--- what is written of a world, and of one of which more is
+-- a world of which more is written than of another one
 pub online_behind : (header : List ℕ) (run : Run) (world later : World) (added : Texts) → written run.job later ≡ joined (written run.job world) added → Grew (online header run world) (online header run later) (texts_alone run added)
 online_behind header run world later added is =
     each_output _

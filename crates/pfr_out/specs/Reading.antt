@@ -1,6 +1,5 @@
 -- A batch of records on its way from the source.
 use Rattle.std.specs.Prelude.{◌≡◌, ℕ, Bool, true, false, List, ◌++◌, map, Option, Some, None, Result, Ok, Err}
-use Rattle.std.specs.List.{All}
 use Rattle.pfr_headers.specs.declared.packet.View.{View}
 use Rattle.pfr_headers.specs.View.{view_of}
 use Rattle.pfr_capture.specs.declared.capture.CaptureError.{CaptureError}

@@ -1,5 +1,5 @@
 -- The replay of a capture through a ruleset, by one thread, a batch of packets at a time.
-use Rattle.std.specs.Prelude.{◌≡◌, ◌⊎◌, ◌≤◌, ◌<◌, ◌+◌, ◌*◌, ℕ, Bool, IsTrue, List, [], ◌++◌, length, map, take, Result, Ok, Err}
+use Rattle.std.specs.Prelude.{◌≡◌, ◌⊎◌, ◌≤◌, ◌<◌, ◌+◌, ◌*◌, ℕ, Bool, IsTrue, List, ◌++◌, length, map, take, Result, Ok, Err}
 use Rattle.pfr_terms.specs.declared.error.ConfError.{ConfError}
 use Rattle.pfr_terms.specs.declared.error.ConfErrorKind.TheVariants.{Memory as NoMemory}
 use Rattle.pfr_terms.specs.Input.{Gives}
@@ -17,7 +17,6 @@ use Rattle.pfr_sync.specs.Messages.{messages_of}
 use Rattle.pfr_commit.specs.World.{Frame, Texts, World, last_message, origin_of, world_of}
 use Rattle.pfr_commit.specs.World.{online as written}
 use Rattle.pfr_out.specs.declared.report.Output.{Output}
-use Rattle.pfr_out.specs.declared.report.Output.TheVariants as output
 use Rattle.pfr_out.specs.declared.report.Report.{Report}
 use Rattle.pfr_out.specs.declared.report.Stop.{Stop}
 use Rattle.pfr_out.specs.declared.report.Stop.TheVariants as stop

@@ -1,4 +1,4 @@
-use Rattle.std.proofs.Common.{◌≡◌, ◌+◌, ◌∙◌, ◌≤◌, ◌^◌, IsTrue, length, refl, arith}
+use Rattle.std.proofs.Common.{◌≡◌, ◌+◌, ◌∙◌, IsTrue, length, refl, arith}
 use Rattle.std.proofs.lemmas.List.{length_push}
 use Rattle.pfr_headers.specs.View.{view_of}
 use Rattle.pfr_out.proofs.ReadingLemmas.{batch_refused, ends_twice, gave_of, one_packet, one_record, reads_and_nothing, reads_twice}

@@ -1,4 +1,4 @@
-use Rattle.std.proofs.Common.{◌≡◌, ◌+◌, ◌∙◌, ◌≤◌, ◌^◌, false, true, IsTrue, length, refl, sym, ap, arith}
+use Rattle.std.proofs.Common.{◌≡◌, ◌∙◌, false, IsTrue, refl, sym, arith}
 use Rattle.pfr_commit.specs.Books.{job_of}
 use Rattle.pfr_out.specs.Reading.{wants_memory}
 use Rattle.pfr_out.specs.Taking.{run_in}

@@ -1,4 +1,4 @@
-use Rattle.std.proofs.Common.{◌≡◌, ◌≤◌, ◌+◌, ◌-◌, ◌^◌, ◌++◌, List, ℕ, [], None, IsTrue}
+use Rattle.std.proofs.Common.{◌≡◌, ◌≤◌, ◌-◌, ◌^◌, ◌++◌, List, ℕ, [], None, IsTrue}
 use Rattle.pfr_capture.specs.Reading.{HasGiven}
 use Rattle.pfr_out.specs.Outputs.{each_of}
 use Rattle.pfr_out.specs.Taking.{run_in}
