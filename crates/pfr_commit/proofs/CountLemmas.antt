@@ -21,7 +21,8 @@ use Rattle.pfr_commit.specs.declared.counters.Counters.{Counters}
 use Rattle.pfr_commit.specs.declared.counters.Totals.{Totals}
 use Rattle.pfr_commit.specs.Counters.{added_to, counted, counts_for_rules, length_of, no_totals, with_named, with_verdict}
 use Rattle.pfr_commit.specs.Lines.{verdict_line}
-use Rattle.pfr_commit.specs.Runs.{Taken, bytes_for, capped, comes_to, counts_for, is_rule, is_same_verdict, next_taken, reason_counts, taken_after, taken_in, total_length_of, total_of}
+use Rattle.pfr_commit.specs.Runs.{RuleKind, Taken, bytes_for, capped, comes_to, counters_of, counts_for, is_rule, is_same_verdict, named_by, next_taken, number_of, reason_counts, taken_after, taken_in, total_length_of, total_of}
+use Rattle.pfr_commit.specs.Runs.RuleKind.{filter_rule, translation_rule}
 use Rattle.pfr_commit.specs.World.{Frame, World, after, opening, packet_text, with_outcome, world_after, world_of}
 use Rattle.pfr_commit.proofs.WorldLemmas.{world_count}
 
@@ -198,53 +199,55 @@ same_length Skip = refl
 same_length Short = refl
 
 -- what a packet leaves of a list of counts
-abbrev counted_to : Outcome → ℕ → List ℕ → List ℕ
-counted_to outcome amount counts = cond (counts_for_rules outcome.reason) (added_to outcome.rule amount counts) counts
+abbrev pub counted_to : RuleKind → Outcome → ℕ → List ℕ → List ℕ
+counted_to kind outcome amount counts = cond (counts_for_rules outcome.reason) (added_to (named_by kind outcome) amount counts) counts
 
-length_counted : (outcome : Outcome) (amount : ℕ) (counts : List ℕ) → length (counted_to outcome amount counts) ≡ length counts
-length_counted outcome amount counts = elim (cases_Bool (counts_for_rules outcome.reason)) [ inl it ↦ rw it (length_added outcome.rule amount counts) | inr not_it ↦ rw not_it refl ]
+length_counted : (kind : RuleKind) (outcome : Outcome) (amount : ℕ) (counts : List ℕ) → length (counted_to kind outcome amount counts) ≡ length counts
+length_counted kind outcome amount counts = elim (cases_Bool (counts_for_rules outcome.reason)) [ inl it ↦ rw it (length_added (named_by kind outcome) amount counts) | inr not_it ↦ rw not_it refl ]
 
-counted_at : (outcome : Outcome) (amount k : ℕ) (counts : List ℕ) → k < length counts → get_or counts k 0 ≤ 2 ^ 64 - 1
-    → get_or (counted_to outcome amount counts) k 0 ≡ capped (get_or counts k 0 + cond (reason_counts outcome.reason && is_rule k outcome.rule) amount 0)
-counted_at outcome amount k counts below few = elim (cases_Bool (counts_for_rules outcome.reason)) [
-  | inl it ↦ rw (same_reasons outcome.reason, it) (added_at outcome.rule amount k counts below few)
+counted_at : (kind : RuleKind) (outcome : Outcome) (amount k : ℕ) (counts : List ℕ) → k < length counts → get_or counts k 0 ≤ 2 ^ 64 - 1
+    → get_or (counted_to kind outcome amount counts) k 0 ≡ capped (get_or counts k 0 + cond (reason_counts outcome.reason && is_rule k (named_by kind outcome)) amount 0)
+counted_at kind outcome amount k counts below few = elim (cases_Bool (counts_for_rules outcome.reason)) [
+  | inl it ↦ rw (same_reasons outcome.reason, it) (added_at (named_by kind outcome) amount k counts below few)
   | inr not_it ↦ rw (same_reasons outcome.reason, not_it) (let same : get_or counts k 0 ≡ capped (get_or counts k 0 + 0) = omega arith in same)
 ]
 
-packets_next : (job : RunJob) (world : World) (frame : Frame) → (after job world frame).counters.filter.packets ≡ counted_to (next_taken job world frame).outcome 1 world.counters.filter.packets
+packets_next : (kind : RuleKind) (job : RunJob) (world : World) (frame : Frame) → (counters_of kind (after job world frame).counters).packets ≡ counted_to kind (next_taken job world frame).outcome 1 (counters_of kind world.counters).packets
 unfolding after with_outcome counted
-packets_next job world frame = elim (cases_Bool (counts_for_rules (next_taken job world frame).outcome.reason)) [ inl it ↦ rw it refl | inr not_it ↦ rw not_it refl ]
+packets_next filter_rule job world frame = elim (cases_Bool (counts_for_rules (next_taken job world frame).outcome.reason)) [ inl it ↦ rw it refl | inr not_it ↦ rw not_it refl ]
+packets_next translation_rule job world frame = elim (cases_Bool (counts_for_rules (next_taken job world frame).outcome.reason)) [ inl it ↦ rw it refl | inr not_it ↦ rw not_it refl ]
 
-bytes_next : (job : RunJob) (world : World) (frame : Frame)
-    → (after job world frame).counters.filter.bytes ≡ counted_to (next_taken job world frame).outcome (total_length_of (view_of frame.link frame.bytes)) world.counters.filter.bytes
+bytes_next : (kind : RuleKind) (job : RunJob) (world : World) (frame : Frame)
+    → (counters_of kind (after job world frame).counters).bytes ≡ counted_to kind (next_taken job world frame).outcome (total_length_of (view_of frame.link frame.bytes)) (counters_of kind world.counters).bytes
 unfolding after with_outcome counted
-bytes_next job world frame = rw (← same_length (view_of frame.link frame.bytes)) (elim (cases_Bool (counts_for_rules (next_taken job world frame).outcome.reason)) [ inl it ↦ rw it refl | inr not_it ↦ rw not_it refl ])
+bytes_next filter_rule job world frame = rw (← same_length (view_of frame.link frame.bytes)) (elim (cases_Bool (counts_for_rules (next_taken job world frame).outcome.reason)) [ inl it ↦ rw it refl | inr not_it ↦ rw not_it refl ])
+bytes_next translation_rule job world frame = rw (← same_length (view_of frame.link frame.bytes)) (elim (cases_Bool (counts_for_rules (next_taken job world frame).outcome.reason)) [ inl it ↦ rw it refl | inr not_it ↦ rw not_it refl ])
 
-pub rule_packets_after : (k : ℕ) (job : RunJob) (world : World) (frames : List Frame) → k < length world.counters.filter.packets → get_or world.counters.filter.packets k 0 ≤ 2 ^ 64 - 1
-    → get_or (world_after job world frames).counters.filter.packets k 0 ≡ capped (get_or world.counters.filter.packets k 0 + count_by (counts_for k) (taken_after job world frames))
+pub rule_packets_after : (kind : RuleKind) (k : ℕ) (job : RunJob) (world : World) (frames : List Frame) → k < length (counters_of kind world.counters).packets → get_or (counters_of kind world.counters).packets k 0 ≤ 2 ^ 64 - 1
+    → get_or (counters_of kind (world_after job world frames).counters).packets k 0 ≡ capped (get_or (counters_of kind world.counters).packets k 0 + count_by (counts_for kind k) (taken_after job world frames))
 unfolding world_after
-rule_packets_after k job world [] below few = omega arith
-rule_packets_after k job world (frame ∷ frames) below few =
+rule_packets_after kind k job world [] below few = omega arith
+rule_packets_after kind k job world (frame ∷ frames) below few =
     let p = next_taken job world frame in
-    let long : length (after job world frame).counters.filter.packets ≡ length world.counters.filter.packets = ap length (packets_next job world frame) ∙ length_counted p.outcome 1 world.counters.filter.packets in
-    let next : get_or (after job world frame).counters.filter.packets k 0 ≡ capped (get_or world.counters.filter.packets k 0 + cond (counts_for k p) 1 0) =
-    ap (λ (counts : List ℕ). get_or counts k 0) (packets_next job world frame) ∙ counted_at p.outcome 1 k world.counters.filter.packets below few in
-    let rest = rule_packets_after k job (after job world frame) frames (omega (arith, long)) (omega (arith, next)) in
-    let more = sum_by-cons (λ (p : Taken). cond (counts_for k p) 1 0) p (taken_after job (after job world frame) frames) in
+    let long : length (counters_of kind (after job world frame).counters).packets ≡ length (counters_of kind world.counters).packets = ap length (packets_next kind job world frame) ∙ length_counted kind p.outcome 1 (counters_of kind world.counters).packets in
+    let next : get_or (counters_of kind (after job world frame).counters).packets k 0 ≡ capped (get_or (counters_of kind world.counters).packets k 0 + cond (counts_for kind k p) 1 0) =
+    ap (λ (counts : List ℕ). get_or counts k 0) (packets_next kind job world frame) ∙ counted_at kind p.outcome 1 k (counters_of kind world.counters).packets below few in
+    let rest = rule_packets_after kind k job (after job world frame) frames (omega (arith, long)) (omega (arith, next)) in
+    let more = sum_by-cons (λ (p : Taken). cond (counts_for kind k p) 1 0) p (taken_after job (after job world frame) frames) in
     omega (arith, next, rest, more)
 
-pub rule_bytes_after : (k : ℕ) (job : RunJob) (world : World) (frames : List Frame) → k < length world.counters.filter.bytes → get_or world.counters.filter.bytes k 0 ≤ 2 ^ 64 - 1
-    → get_or (world_after job world frames).counters.filter.bytes k 0 ≡ capped (get_or world.counters.filter.bytes k 0 + sum_by (bytes_for k) (taken_after job world frames))
+pub rule_bytes_after : (kind : RuleKind) (k : ℕ) (job : RunJob) (world : World) (frames : List Frame) → k < length (counters_of kind world.counters).bytes → get_or (counters_of kind world.counters).bytes k 0 ≤ 2 ^ 64 - 1
+    → get_or (counters_of kind (world_after job world frames).counters).bytes k 0 ≡ capped (get_or (counters_of kind world.counters).bytes k 0 + sum_by (bytes_for kind k) (taken_after job world frames))
 unfolding world_after
-rule_bytes_after k job world [] below few = omega arith
-rule_bytes_after k job world (frame ∷ frames) below few =
+rule_bytes_after kind k job world [] below few = omega arith
+rule_bytes_after kind k job world (frame ∷ frames) below few =
     let p = next_taken job world frame in
     let amount = total_length_of (view_of frame.link frame.bytes) in
-    let long : length (after job world frame).counters.filter.bytes ≡ length world.counters.filter.bytes = ap length (bytes_next job world frame) ∙ length_counted p.outcome amount world.counters.filter.bytes in
-    let next : get_or (after job world frame).counters.filter.bytes k 0 ≡ capped (get_or world.counters.filter.bytes k 0 + bytes_for k p) =
-    ap (λ (counts : List ℕ). get_or counts k 0) (bytes_next job world frame) ∙ counted_at p.outcome amount k world.counters.filter.bytes below few in
-    let rest = rule_bytes_after k job (after job world frame) frames (omega (arith, long)) (omega (arith, next)) in
-    let more = sum_by-cons (bytes_for k) p (taken_after job (after job world frame) frames) in
+    let long : length (counters_of kind (after job world frame).counters).bytes ≡ length (counters_of kind world.counters).bytes = ap length (bytes_next kind job world frame) ∙ length_counted kind p.outcome amount (counters_of kind world.counters).bytes in
+    let next : get_or (counters_of kind (after job world frame).counters).bytes k 0 ≡ capped (get_or (counters_of kind world.counters).bytes k 0 + bytes_for kind k p) =
+    ap (λ (counts : List ℕ). get_or counts k 0) (bytes_next kind job world frame) ∙ counted_at kind p.outcome amount k (counters_of kind world.counters).bytes below few in
+    let rest = rule_bytes_after kind k job (after job world frame) frames (omega (arith, long)) (omega (arith, next)) in
+    let more = sum_by-cons (bytes_for kind k) p (taken_after job (after job world frame) frames) in
     omega (arith, next, rest, more)
 
 -- ---- a run
@@ -275,20 +278,34 @@ totals_together job frames few =
     let count = world_count job (opening job) frames in
     omega (arith, pass, block, back, skip, all, long, count)
 
-pub packets_of_run : (job : RunJob) (frames : List Frame) (rule : ℕ) → rule < (counts job.rules).0 → get_or (world_of job frames).counters.filter.packets rule 0 ≡ capped (count_by (counts_for rule) (taken_in job frames))
-unfolding world_of opening
-packets_of_run job frames rule below =
-    let none : get_or (replicate (counts job.rules).0 0) rule 0 ≡ 0 = get_or-replicate {A = ℕ} (counts job.rules).0 rule 0 0 below in
-    let long : length (replicate (counts job.rules).0 0) ≡ (counts job.rules).0 = length-replicate {A = ℕ} (counts job.rules).0 0 in
-    let all = rule_packets_after rule job (opening job) frames (omega (arith, long, below)) (omega (arith, none)) in
+uncounted_packets : (kind : RuleKind) (job : RunJob) → (counters_of kind (opening job).counters).packets ≡ replicate (number_of kind job) 0
+unfolding opening
+uncounted_packets filter_rule job = refl
+uncounted_packets translation_rule job = refl
+
+uncounted_bytes : (kind : RuleKind) (job : RunJob) → (counters_of kind (opening job).counters).bytes ≡ replicate (number_of kind job) 0
+unfolding opening
+uncounted_bytes filter_rule job = refl
+uncounted_bytes translation_rule job = refl
+
+pub packets_of_run : (job : RunJob) (frames : List Frame) (kind : RuleKind) (rule : ℕ) → rule < number_of kind job
+    → get_or (counters_of kind (world_of job frames).counters).packets rule 0 ≡ capped (count_by (counts_for kind rule) (taken_in job frames))
+unfolding world_of
+packets_of_run job frames kind rule below =
+    let is = uncounted_packets kind job in
+    let none : get_or (counters_of kind (opening job).counters).packets rule 0 ≡ 0 = ap (λ (counts : List ℕ). get_or counts rule 0) is ∙ get_or-replicate {A = ℕ} (number_of kind job) rule 0 0 below in
+    let long : length (counters_of kind (opening job).counters).packets ≡ number_of kind job = ap length is ∙ length-replicate {A = ℕ} (number_of kind job) 0 in
+    let all = rule_packets_after kind rule job (opening job) frames (omega (arith, long, below)) (omega (arith, none)) in
     omega (arith, none, all)
 
-pub bytes_of_run : (job : RunJob) (frames : List Frame) (rule : ℕ) → rule < (counts job.rules).0 → get_or (world_of job frames).counters.filter.bytes rule 0 ≡ capped (sum_by (bytes_for rule) (taken_in job frames))
-unfolding world_of opening
-bytes_of_run job frames rule below =
-    let none : get_or (replicate (counts job.rules).0 0) rule 0 ≡ 0 = get_or-replicate {A = ℕ} (counts job.rules).0 rule 0 0 below in
-    let long : length (replicate (counts job.rules).0 0) ≡ (counts job.rules).0 = length-replicate {A = ℕ} (counts job.rules).0 0 in
-    let all = rule_bytes_after rule job (opening job) frames (omega (arith, long, below)) (omega (arith, none)) in
+pub bytes_of_run : (job : RunJob) (frames : List Frame) (kind : RuleKind) (rule : ℕ) → rule < number_of kind job
+    → get_or (counters_of kind (world_of job frames).counters).bytes rule 0 ≡ capped (sum_by (bytes_for kind rule) (taken_in job frames))
+unfolding world_of
+bytes_of_run job frames kind rule below =
+    let is = uncounted_bytes kind job in
+    let none : get_or (counters_of kind (opening job).counters).bytes rule 0 ≡ 0 = ap (λ (counts : List ℕ). get_or counts rule 0) is ∙ get_or-replicate {A = ℕ} (number_of kind job) rule 0 0 below in
+    let long : length (counters_of kind (opening job).counters).bytes ≡ number_of kind job = ap length is ∙ length-replicate {A = ℕ} (number_of kind job) 0 in
+    let all = rule_bytes_after kind rule job (opening job) frames (omega (arith, long, below)) (omega (arith, none)) in
     omega (arith, none, all)
 
 pub clock_of_run : (job : RunJob) (frame : Frame) (frames : List Frame) → Any (λ other. other.seconds ≡ (world_of job (frame ∷ frames)).clock.0) (frame ∷ frames)

@@ -1,7 +1,6 @@
 -- What the laws of a run say.
 use Rattle.std.specs.Prelude.{◌≡◌, ◌++◌, List, ◌∷◌, ◌<◌, ◌+◌, ◌^◌, length, ℕ, get_or}
 use Rattle.std.specs.List.{flat_map, Any, count_by, sum_by, Contains}
-use Rattle.pfr_ruleset.specs.Rulesets.{counts}
 use Rattle.pfr_track.specs.declared.state.State.{State}
 use Rattle.pfr_packet.specs.Job.{RunJob}
 use Rattle.pfr_packet.specs.declared.verdict.Verdict.{Verdict}
@@ -9,7 +8,7 @@ use Rattle.pfr_commit.specs.declared.counters.Totals.{Totals}
 use Rattle.pfr_sync.specs.Messages.{messages_of}
 use Rattle.pfr_commit.specs.World.{Frame, Texts, World, joined, last_message, online, origin_of, packet_text, world_after, world_of}
 use Rattle.pfr_commit.specs.Lines.{verdict_line}
-use Rattle.pfr_commit.specs.Runs.{taken_in, capped, comes_to, total_of, counts_for, bytes_for, IsMadeAmong}
+use Rattle.pfr_commit.specs.Runs.{taken_in, capped, comes_to, total_of, counts_for, bytes_for, counters_of, number_of, IsMadeAmong, RuleKind}
 
 -- packets that are taken in two parts leave what they leave together
 abbrev pub TwoPartsAreTheWhole : Type 0
@@ -66,16 +65,16 @@ TotalsAreTheCount =
 -- a rule's packets are those whose line names it for a reason that counts
 abbrev pub PacketsOfARule : Type 0
 PacketsOfARule =
-    (job : RunJob) (frames : List Frame) (rule : ℕ)
-    → rule < (counts job.rules).0
-    → get_or (world_of job frames).counters.filter.packets rule 0 ≡ capped (count_by (counts_for rule) (taken_in job frames))
+    (job : RunJob) (frames : List Frame) (kind : RuleKind) (rule : ℕ)
+    → rule < number_of kind job
+    → get_or (counters_of kind (world_of job frames).counters).packets rule 0 ≡ capped (count_by (counts_for kind rule) (taken_in job frames))
 
 -- its bytes are theirs
 abbrev pub BytesOfARule : Type 0
 BytesOfARule =
-    (job : RunJob) (frames : List Frame) (rule : ℕ)
-    → rule < (counts job.rules).0
-    → get_or (world_of job frames).counters.filter.bytes rule 0 ≡ capped (sum_by (bytes_for rule) (taken_in job frames))
+    (job : RunJob) (frames : List Frame) (kind : RuleKind) (rule : ℕ)
+    → rule < number_of kind job
+    → get_or (counters_of kind (world_of job frames).counters).bytes rule 0 ≡ capped (sum_by (bytes_for kind rule) (taken_in job frames))
 
 -- each state was made by a packet of the run that passed
 abbrev pub StatesAreOfPackets : Type 0

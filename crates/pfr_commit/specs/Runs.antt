@@ -3,6 +3,7 @@ use Rattle.std.specs.Prelude.{◌≡◌, ℕ, ◌+◌, ◌-◌, ◌^◌, ◌==�
 use Rattle.std.specs.List.{Contains}
 use Rattle.std.specs.Str.{bytes_eq}
 use Rattle.pfr_net.specs.declared.rule_number.RuleNumber.{RuleNumber}
+use Rattle.pfr_ruleset.specs.Rulesets.{counts}
 use Rattle.pfr_headers.specs.declared.packet.View.{View}
 use Rattle.pfr_headers.specs.declared.packet.View.TheVariants.{Ipv4}
 use Rattle.pfr_headers.specs.View.{view_of}
@@ -15,6 +16,8 @@ use Rattle.pfr_packet.specs.declared.verdict.Verdict.TheVariants as verdict
 use Rattle.pfr_packet.specs.Job.{RunJob}
 use Rattle.pfr_packet.specs.Steps.{step_of}
 use Rattle.pfr_packet.specs.Verdicts.{reason_text}
+use Rattle.pfr_commit.specs.declared.counters.Counters.{Counters}
+use Rattle.pfr_commit.specs.declared.counters.RuleCounters.{RuleCounters}
 use Rattle.pfr_commit.specs.declared.counters.Totals.{Totals}
 use Rattle.pfr_commit.specs.World.{Frame, World, after, clock_at, opening}
 
@@ -87,15 +90,33 @@ reason_counts reason =
     bytes_eq (reason_text reason) (codes "rule") || bytes_eq (reason_text reason) (codes "state")
     || bytes_eq (reason_text reason) (codes "state-error") || bytes_eq (reason_text reason) (codes "nat-pass")
 
--- its line names the filter rule, and for a reason that counts
-abbrev pub counts_for : ℕ → Taken → Bool
-counts_for rule packet = reason_counts packet.outcome.reason && is_rule rule packet.outcome.rule
+-- the rules of the filter, and those of translation
+pub data RuleKind : Type 0 where
+  filter_rule : RuleKind
+  translation_rule : RuleKind
+
+-- what is counted of them, how many there are, and which one an outcome names
+abbrev pub counters_of : RuleKind → Counters → RuleCounters
+counters_of filter_rule counters = counters.filter
+counters_of translation_rule counters = counters.translation
+
+abbrev pub number_of : RuleKind → RunJob → ℕ
+number_of filter_rule job = (counts job.rules).0
+number_of translation_rule job = (counts job.rules).1
+
+abbrev pub named_by : RuleKind → Outcome → Option RuleNumber
+named_by filter_rule outcome = outcome.rule
+named_by translation_rule outcome = outcome.translation
+
+-- its line names the rule, and for a reason that counts
+abbrev pub counts_for : RuleKind → ℕ → Taken → Bool
+counts_for kind rule packet = reason_counts packet.outcome.reason && is_rule rule (named_by kind packet.outcome)
 
 -- the total length of an IPv4 packet; what is none, or was cut, has none
 abbrev pub total_length_of : View → ℕ
 total_length_of (Ipv4 packet) = packet.total_length
 total_length_of _ = 0
 
--- the bytes that it counts for the filter rule
-abbrev pub bytes_for : ℕ → Taken → ℕ
-bytes_for rule packet = if counts_for rule packet then total_length_of (view_of packet.frame.link packet.frame.bytes) else 0
+-- the bytes that it counts for the rule
+abbrev pub bytes_for : RuleKind → ℕ → Taken → ℕ
+bytes_for kind rule packet = if counts_for kind rule packet then total_length_of (view_of packet.frame.link packet.frame.bytes) else 0

@@ -43,7 +43,8 @@ pub fn totals_are_the_count()
     ensures together { TotalsAreTheCount }
 {}
 
-/// The packets and bytes of a filter rule are those of the packets whose line names it for a reason that counts.
+/// The packets and bytes of a rule, of the filter or of translation, are those of the packets whose line names it for a reason
+/// that counts.
 pub fn rules_are_counted_by_their_lines()
     ensures packets { PacketsOfARule }
     ensures bytes { BytesOfARule }
