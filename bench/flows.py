@@ -3,10 +3,13 @@
 
     flows.py [PROGRAM] [--packets N ..] [--states K ..]
     flows.py [PROGRAM] [--packets N ..] --nat
+    flows.py [PROGRAM] [--packets N ..] --messages [--before PROGRAM]
 
 The first is of captures of many flows at once, the second of the memory of runs that have K states at their end. With
 --nat it prints a third one instead, of captures of many flows that the ruleset translates. There it measures the
-program beside itself without translation, on captures of as many packets, and beside tcprewrite.
+program beside itself without translation, on captures of as many packets, and beside tcprewrite. With --messages it
+prints a fourth one instead, of runs that tell a standby in a file: beside the same runs without, and these beside
+another program, which may know no messages.
 """
 
 import argparse
@@ -63,6 +66,8 @@ STATES = [1000, 10000, 30000]
 SHORT, LONG = 10**5, 10**6
 # on the long one, of the packets a second without translation and of those of tcprewrite
 GOALS = 0.85, 1.25
+# of the packets a second without messages, and of another program's without
+MESSAGE_GOALS = 0.9, 0.97
 
 
 class Contest:
@@ -129,6 +134,26 @@ class TranslatedContest:
             sys.exit(f"of {self.count} packets the program has {plain} without translation, tcprewrite {rewritten}")
 
 
+class ToldContest:
+    """One capture of many flows, and the program on it with messages in a file and without."""
+
+    def __init__(self, folder, program, count, before):
+        self.without = Contest(folder, program, count)
+        self.count = count
+        self.messages = folder / "messages"
+        files = {name: folder / f"told {name}" for name in OUTPUTS}
+        self.files = files
+        rules = folder / "rules"
+        self.program = [*replay_command(program, self.without.capture, rules, **files), "--messages", str(self.messages)]
+        self.before = replay_command(before, self.without.capture, rules, **self.without.files) if before else None
+
+    def check(self):
+        """The other outputs are the same with messages and without."""
+        for name in OUTPUTS:
+            if self.files[name].read_bytes() != self.without.files[name].read_bytes():
+                sys.exit(f"the {name} of {self.count} packets are others where a standby is told")
+
+
 def tcprewrite_command(capture, rewritten, rewrite):
     """The words that rewrite a capture."""
     return ["tcprewrite", f"--infile={capture}", f"--outfile={rewritten}", *rewrite]
@@ -171,6 +196,19 @@ def translated_row(folder, program, count):
     return [*words, *(f"{ratio:.2f}" for ratio in (*ratios, rewriting / silent))], ratios
 
 
+def told_row(folder, program, count, before):
+    """The measures of one capture with messages and without, as words, and the ratios."""
+    contest = ToldContest(folder, program, count, before)
+    commands = contest.program, contest.without.program, *([contest.before] if before else [])
+    told, untold, *others = best_seconds(*commands)
+    contest.check()
+    ratios = untold / told, *(other / untold for other in others)
+    words = [f"{count}", f"{contest.without.states()}", f"{contest.messages.stat().st_size / MEGABYTE:.1f}"]
+    for command, time in zip(commands, (told, untold)):
+        words += [f"{count / time:.0f}", peak_memory(command)]
+    return [*words, *(f"{ratio:.2f}" for ratio in ratios)], ratios
+
+
 def memory_row(folder, program, states):
     """The memory of two runs that end with so many states, as words."""
     words = [f"{states}"]
@@ -211,8 +249,20 @@ def print_translated(folder, program, counts):
             print_goals(ratios)
 
 
-def print_goals(ratios):
-    for other, goal, ratio in zip(("the untranslated packets a second", "tcprewrite's"), GOALS, ratios):
+def print_told(folder, program, counts, before):
+    names = ["packets", "states at the end", "MB of messages", "with messages packets/s", "peak MB",
+             "without packets/s", "peak MB", "with / without", *(["without / the other program"] if before else [])]
+    print_row(names)
+    print_row(["---:"] * len(names))
+    for count in counts:
+        words, ratios = told_row(folder, program, count, before)
+        print_row(words)
+        if count == LONG:
+            print_goals(ratios, ("the packets a second without", "the other program's"), MESSAGE_GOALS)
+
+
+def print_goals(ratios, others=("the untranslated packets a second", "tcprewrite's"), goals=GOALS):
+    for other, goal, ratio in zip(others, goals, ratios):
         print(f"{ratio:.3f} of {other}, the goal of {goal:.2f} is {'met' if ratio >= goal else 'missed'}")
 
 
@@ -221,23 +271,28 @@ def main():
     parser.add_argument("--packets", type=int, nargs="*", default=PACKETS)
     parser.add_argument("--states", type=int, nargs="*", default=STATES)
     parser.add_argument("--nat", action="store_true", help="prints the table of flows that are translated, alone")
+    parser.add_argument("--messages", action="store_true", help="prints the table of runs that tell a standby, alone")
+    parser.add_argument("--before", type=Path, help="another program, beside which runs without messages are measured")
     parser.add_argument("program", nargs="?", type=Path, default=PROGRAM)
     words = parser.parse_args()
     if not words.program.is_file():
         sys.exit(f"{words.program} isn't there: build the program first")
-    for needed in ("tcprewrite",) if words.nat else ("tcpdump", "tcprewrite"):
+    for needed in () if words.messages else ("tcprewrite",) if words.nat else ("tcpdump", "tcprewrite"):
         if shutil.which(needed) is None:
             sys.exit(f"{needed} isn't there: apt-get update && apt-get install -y tcpdump tcpreplay time")
     program = words.program.resolve()
     print(f"load {os.getloadavg()[0]:.1f}")
     with tempfile.TemporaryDirectory() as name:
         folder = Path(name)
-        if words.nat:
+        if words.messages:
+            print_told(folder, program, words.packets, words.before and words.before.resolve())
+        elif words.nat:
             print_translated(folder, program, words.packets)
-        if words.packets and not words.nat:
-            print_speeds(folder, program, words.packets)
-        if words.states and not words.nat:
-            print_memory(folder, program, words.states)
+        else:
+            if words.packets:
+                print_speeds(folder, program, words.packets)
+            if words.states:
+                print_memory(folder, program, words.states)
     print(f"load {os.getloadavg()[0]:.1f}")
 
 
