@@ -1,9 +1,10 @@
 -- Where the bytes of an output go.
 use Rattle.std.specs.Prelude.{ℕ, List, Option, None}
 use Rattle.pfr_cli.specs.declared.destination.Destination.{Destination}
-use Rattle.pfr_cli.specs.declared.destination.Destination.TheVariants.{File, Nowhere}
+use Rattle.pfr_cli.specs.declared.destination.Destination.TheVariants.{File, Stream, Nowhere}
 
--- the bytes that stand at a destination, where its file tells them
-abbrev pub contents_of : {F : Type 0} → (F → Option (List ℕ)) → Destination F → Option (List ℕ)
-contents_of contents (File file) = contents file
-contents_of contents Nowhere = None
+-- the bytes that stand at a destination, where its file or its stream tells them
+abbrev pub contents_of : {F S : Type 0} → (F → Option (List ℕ)) → (S → Option (List ℕ)) → Destination F S → Option (List ℕ)
+contents_of file_contents stream_contents (File file) = file_contents file
+contents_of file_contents stream_contents (Stream stream) = stream_contents stream
+contents_of file_contents stream_contents Nowhere = None

@@ -1,2 +1,3 @@
 pub mod Destinations
+pub mod Peers
 pub mod Seeds

@@ -1,5 +1,5 @@
 //! The commands of the program, with their words, flags and help.
-use crate::values::{ADDRESS, FILE, INSIDE, INTERFACE, SEED};
+use crate::values::{ADDRESS, FILE, INSIDE, INTERFACE, PEER, SEED};
 use clap::{Arg, ArgAction, Command};
 use std::alloc::{AllocError, Global};
 
@@ -77,7 +77,19 @@ fn run_command<'a>(alloc: Global) -> Result<Command<'a>, AllocError> {
 fn with_choices<'a>(alloc: Global, command: Command<'a>) -> Result<Command<'a>, AllocError> {
     let seed = "What random choices begin with, 64 hexadecimal digits [default: 64 zeros]";
     let command = with_flags(alloc, command, &RUN_FLAGS)?;
-    command.arg(flag(alloc, "seed", SEED, seed).required(false))
+    let command = command.arg(flag(alloc, "seed", SEED, seed).required(false))?;
+    with_messages(alloc, command)
+}
+
+/// A command with the flags that say where messages go, of which one at most may be given.
+fn with_messages<'a>(alloc: Global, command: Command<'a>) -> Result<Command<'a>, AllocError> {
+    let file = "The file for the messages to a standby, each behind an IP header";
+    let file = flag(alloc, "messages", FILE, file).required(false);
+    let peer =
+        "The peer that the messages to a standby are sent to, over TCP, in the place of a file";
+    let peer = flag(alloc, "peer", PEER, peer).required(false);
+    let command = command.arg(file.conflicts_with("peer")?)?;
+    command.arg(peer)
 }
 
 /// The command that reads a ruleset alone.

@@ -4,19 +4,21 @@ ghost use Rattle.pfr_cli.specs.Destinations.{contents_of};
 use std::io;
 use std::io::Write;
 
-/// A file, or nowhere: what is written there is dropped.
+/// A file, a stream to a peer, or nowhere: what is written there is dropped.
 #[derive(Drop)]
-pub enum Destination<F> {
+pub enum Destination<F, S> {
     File(F),
+    Stream(S),
     Nowhere,
 }
 
-impl<F: Write> Write for Destination<F> {
-    ghost contents = { contents_of F.contents };
+impl<F: Write, S: Write> Write for Destination<F, S> {
+    ghost contents = { contents_of F.contents S.contents };
 
     fn write(&mut self, piece: &[u8]) -> io::Result<usize> {
         match self {
             Destination::File(file) => file.write(piece),
+            Destination::Stream(stream) => stream.write(piece),
             Destination::Nowhere => Ok(piece.len()),
         }
     }
@@ -24,6 +26,7 @@ impl<F: Write> Write for Destination<F> {
     fn flush(&mut self) -> io::Result<()> {
         match self {
             Destination::File(file) => file.flush(),
+            Destination::Stream(stream) => stream.flush(),
             Destination::Nowhere => Ok(()),
         }
     }

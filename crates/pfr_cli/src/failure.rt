@@ -11,7 +11,7 @@ pub const DONE: u8 = 0;
 pub const REFUSED: u8 = 1;
 /// All was done, and the capture ends inside a record.
 pub const CUT: u8 = 2;
-/// A device failed, or a file could not be opened.
+/// A device failed, or a file could not be opened or a peer be reached.
 pub const DEVICE: u8 = 3;
 /// Memory was refused.
 pub const NO_MEMORY: u8 = 4;
@@ -31,7 +31,7 @@ pub enum Failure<'a> {
         form: &'a str,
         word: &'a str,
     },
-    /// A file can't be opened or created, or a ruleset's not be read.
+    /// A file can't be opened or created, a ruleset's not be read, or a peer not be reached.
     CannotOpen(&'a str),
     /// The ruleset was refused, or the run was stopped.
     Stopped(Stop),
@@ -65,7 +65,7 @@ impl From<AllocError> for Failure<'_> {
 }
 
 impl<'a> Failure<'a> {
-    /// The failure for a file that can't be opened or created.
+    /// The failure for a file that can't be opened or created, or a peer that can't be reached.
     pub fn of_opening(name: &'a str, error: &io::Error) -> Failure<'a> {
         match error.kind() {
             io::ErrorKind::OutOfMemory => Failure::from(AllocError),

@@ -2,18 +2,23 @@
 use crate::destination::Destination;
 use crate::failure::{CUT, DONE, Failure};
 use crate::files::{created, opened, ruleset_text};
-use crate::words::{OutputNames, RunWords};
+use crate::peer::{Connection, connected};
+use crate::words::{Messages, OutputNames, RunWords};
 use pfr_capture::{ReaderSource, Tail, WriterSink};
-use pfr_out::{Report, Sinks, replay_job};
+use pfr_out::{Form, Report, Sinks, replay_job};
 use pfr_packet::Job;
 use std::io::Write;
+use std::net::Net;
 use std::rt::Files;
 
 /// How many packets are committed and written at a time.
 const BATCH: usize = 256;
 
+/// A file, a peer or nowhere, by the files and connections of a runtime.
+type Output<R> = WriterSink<Destination<<R as Files>::File, Connection<<R as Net>::Stream>>>;
+
 /// Replays a capture through a ruleset, prints how many packets were committed, and answers the status.
-pub fn replay<'a, R: Files + AllocGlobal, O: Write>(
+pub fn replay<'a, R: Files + Net + AllocGlobal, O: Write>(
     rt: &R,
     asked: &RunWords<'a>,
     out: &mut O,
@@ -22,7 +27,8 @@ pub fn replay<'a, R: Files + AllocGlobal, O: Write>(
     let job = job_of(rt, asked)?;
     let mut source = ReaderSource::new(opened(rt, asked.capture)?);
     let mut sinks = sinks(rt, &asked.outputs)?;
-    let report = replay_job(rt, &mut source, job, BATCH, &mut sinks)?;
+    let form = form_of(&asked.outputs.messages);
+    let report = replay_job(rt, &mut source, job, BATCH, form, &mut sinks)?;
     finish(&report, out)
 }
 
@@ -40,27 +46,48 @@ fn job_of<'a, R: Files + AllocGlobal>(rt: &R, asked: &RunWords<'a>) -> Result<Jo
     Ok(job)
 }
 
-/// Creates the files of the outputs, in this order. The messages for a standby go nowhere.
-fn sinks<'a, R: Files>(
+/// The form in which messages are written.
+fn form_of(messages: &Messages<'_>) -> Form {
+    match messages {
+        Messages::File(_) => Form::File,
+        Messages::Peer(_) => Form::Peer,
+        Messages::Nowhere => Form::None,
+    }
+}
+
+/// Creates the files of the outputs, in this order, and behind them the connection to a peer.
+fn sinks<'a, R: Files + Net>(
     rt: &R,
     names: &OutputNames<'a>,
-) -> Result<Sinks<WriterSink<Destination<R::File>>>, Failure<'a>> {
+) -> Result<Sinks<Output<R>>, Failure<'a>> {
     Ok(Sinks {
-        verdicts: sink(rt, names.verdicts)?,
-        packets: sink(rt, names.packets)?,
-        counters: sink(rt, names.counters)?,
-        states: sink(rt, names.states)?,
-        messages: WriterSink::new(Destination::Nowhere),
+        verdicts: file_sink(rt, names.verdicts)?,
+        packets: file_sink(rt, names.packets)?,
+        counters: file_sink(rt, names.counters)?,
+        states: file_sink(rt, names.states)?,
+        messages: messages_sink(rt, &names.messages)?,
     })
 }
 
 /// Creates the file of an output.
-fn sink<'a, R: Files>(
-    rt: &R,
-    name: &'a str,
-) -> Result<WriterSink<Destination<R::File>>, Failure<'a>> {
+fn file_sink<'a, R: Files + Net>(rt: &R, name: &'a str) -> Result<Output<R>, Failure<'a>> {
     let file = created(rt, name)?;
     Ok(WriterSink::new(Destination::File(file)))
+}
+
+/// Creates the file of the messages, or connects to the peer that they go to.
+fn messages_sink<'a, R: Files + Net>(
+    rt: &R,
+    messages: &Messages<'a>,
+) -> Result<Output<R>, Failure<'a>> {
+    match messages {
+        Messages::File(name) => file_sink(rt, name),
+        Messages::Peer(peer) => {
+            let connection = connected(rt, peer)?;
+            Ok(WriterSink::new(Destination::Stream(connection)))
+        }
+        Messages::Nowhere => Ok(WriterSink::new(Destination::Nowhere)),
+    }
 }
 
 /// Prints how a run ended, and answers its status.

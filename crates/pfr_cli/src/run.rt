@@ -6,11 +6,12 @@ use crate::summary::Summary;
 use crate::words::{Asked, parse};
 use pfr_ruleset::Interface;
 use std::io::Write;
+use std::net::Net;
 use std::rt::Files;
 
 /// Does what the words ask, the program's name first among them, and answers the status to end with. What
 /// is wrong goes to `err`, in one line.
-pub fn run<R: Files + AllocGlobal, O: Write, E: Write>(
+pub fn run<R: Files + Net + AllocGlobal, O: Write, E: Write>(
     rt: &R,
     words: &[String],
     out: &mut O,
@@ -22,7 +23,7 @@ pub fn run<R: Files + AllocGlobal, O: Write, E: Write>(
     }
 }
 
-fn work<'a, R: Files + AllocGlobal, O: Write>(
+fn work<'a, R: Files + Net + AllocGlobal, O: Write>(
     rt: &R,
     words: &'a [String],
     out: &mut O,

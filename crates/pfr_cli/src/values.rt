@@ -1,11 +1,14 @@
 //! The values behind the flags of the command line, and their forms.
-ghost use Rattle.std.specs.Prelude.{◌≡◌, ◌<◌, ℕ, IfSome, SomeIff, length, slice_index};
+ghost use Rattle.std.specs.Prelude.{◌≡◌, ◌<◌, ℕ, IfOk, IfSome, MatchOption, OnErr, SomeIff, length, slice_index};
 ghost use Rattle.std.specs.Char.{digit_value};
+ghost use Rattle.pfr_cli.specs.Peers.{Names, NamesNone, WritesNone, WritesPort};
 ghost use Rattle.pfr_cli.specs.Seeds.{byte_at};
 
 use crate::failure::Failure;
+use crate::peer::Peer;
 use pfr_net::interface::LONGEST_NAME;
-use pfr_net::{IfName, Net};
+use pfr_net::notation::number;
+use pfr_net::{IfName, Net, Port};
 use pfr_ruleset::Interface;
 use std::alloc::{AllocError, Global};
 
@@ -17,6 +20,8 @@ pub const ADDRESS: &str = "A.B.C.D/BITS";
 pub const INSIDE: &str = "NETS";
 /// The form of the value behind `--seed`.
 pub const SEED: &str = "HEX";
+/// The form of the value behind `--peer`.
+pub const PEER: &str = "HOST:PORT";
 /// The form of the value behind the flags that name a file.
 pub const FILE: &str = "FILE";
 
@@ -94,5 +99,39 @@ fn digit(byte: u8) -> Option<u8>
     match char::from(byte).to_digit(16) {
         Some(digit) => Some(digit as u8),
         None => None,
+    }
+}
+
+/// The peer that a word names.
+pub fn peer<'a>(word: &'a str) -> Result<Peer<'a>, Failure<'a>>
+    ensures named { IfOk result (λ peer. (peer.word.now ≡ word.now) × Names word.now peer.host.now peer.port.0) }
+    ensures refused { OnErr result (NamesNone word.now) }
+{
+    peer_of(word).ok_or(Failure::BadValue {
+        flag: "--peer",
+        form: PEER,
+        word,
+    })
+}
+
+/// The peer that a word names: the host before its last colon, and the port behind it.
+fn peer_of<'a>(word: &'a str) -> Option<Peer<'a>>
+    ensures { MatchOption result (NamesNone word.now) (λ peer. (peer.word.now ≡ word.now) × Names word.now peer.host.now peer.port.0) }
+{
+    let (host, digits) = word.rsplit_once(':')?;
+    let port = port_of(digits.as_bytes())?;
+    if host.is_empty() {
+        return None;
+    }
+    Some(Peer { word, host, port })
+}
+
+/// The port that decimal digits write, 1 to 65535. They may have leading zeros.
+fn port_of(digits: &[u8]) -> Option<Port>
+    ensures { MatchOption result (WritesNone digits.now) (λ port. WritesPort digits.now port.0) }
+{
+    match number(digits) {
+        Some(port) if 1 <= port && port <= 65535 => Some(Port(port as u16)),
+        _ => None,
     }
 }

@@ -1,7 +1,8 @@
 //! The words of the command line.
 use crate::commands::command_line;
 use crate::failure::Failure;
-use crate::values::{interface, networks, seed};
+use crate::peer::Peer;
+use crate::values::{interface, networks, peer, seed};
 use clap::ArgMatches;
 use clap::error::ErrorKind;
 use pfr_net::Net;
@@ -35,13 +36,24 @@ pub struct RunWords<'a> {
     pub outputs: OutputNames<'a>,
 }
 
-/// The files that a run writes.
+/// The files that a run writes, and where its messages go.
 #[derive(Clone, Copy)]
 pub struct OutputNames<'a> {
     pub verdicts: &'a str,
     pub packets: &'a str,
     pub counters: &'a str,
     pub states: &'a str,
+    pub messages: Messages<'a>,
+}
+
+/// Where the messages to a standby go.
+#[derive(Clone, Copy)]
+pub enum Messages<'a> {
+    /// Into the file of this name.
+    File(&'a str),
+    /// To this peer.
+    Peer(Peer<'a>),
+    Nowhere,
 }
 
 /// The words that the process was started with, the program's name first.
@@ -98,14 +110,26 @@ fn run_words<'a>(alloc: Global, matches: &ArgMatches<'a>) -> Result<Asked<'a>, F
     }))
 }
 
-/// The files that the words name for the outputs.
+/// The files that the words name for the outputs, and where they send the messages.
 fn given_outputs<'a>(matches: &ArgMatches<'a>) -> Result<OutputNames<'a>, Failure<'a>> {
     Ok(OutputNames {
         verdicts: given(matches, "verdicts")?,
         packets: given(matches, "packets")?,
         counters: given(matches, "counters")?,
         states: given(matches, "states")?,
+        messages: given_messages(matches)?,
     })
+}
+
+/// Where the words send the messages. At most one of the two flags is there.
+fn given_messages<'a>(matches: &ArgMatches<'a>) -> Result<Messages<'a>, Failure<'a>> {
+    if let Some(name) = matches.get_str("messages") {
+        return Ok(Messages::File(name));
+    }
+    match matches.get_str("peer") {
+        Some(word) => Ok(Messages::Peer(peer(word)?)),
+        None => Ok(Messages::Nowhere),
+    }
 }
 
 /// The seed that the words say, or zeros.
