@@ -14,8 +14,8 @@ use std::rt::Files;
 /// How many packets are committed and written at a time.
 const BATCH: usize = 256;
 
-/// A file, a peer or nowhere, by the files and connections of a runtime.
-type Output<R> = WriterSink<Destination<<R as Files>::File, Connection<<R as Net>::Stream>>>;
+/// What takes an output, by the files and the network of a runtime.
+type OutputSink<R> = WriterSink<Destination<<R as Files>::File, Connection<<R as Net>::Stream>>>;
 
 /// Replays a capture through a ruleset, prints how many packets were committed, and answers the status.
 pub fn replay<'a, R: Files + Net + AllocGlobal, O: Write>(
@@ -59,7 +59,7 @@ fn form_of(messages: &Messages<'_>) -> Form {
 fn sinks<'a, R: Files + Net>(
     rt: &R,
     names: &OutputNames<'a>,
-) -> Result<Sinks<Output<R>>, Failure<'a>> {
+) -> Result<Sinks<OutputSink<R>>, Failure<'a>> {
     Ok(Sinks {
         verdicts: file_sink(rt, names.verdicts)?,
         packets: file_sink(rt, names.packets)?,
@@ -70,7 +70,10 @@ fn sinks<'a, R: Files + Net>(
 }
 
 /// Creates the file of an output.
-fn file_sink<'a, R: Files + Net>(rt: &R, name: &'a str) -> Result<Output<R>, Failure<'a>> {
+fn file_sink<'a, R: Files, S: Write + Drop>(
+    rt: &R,
+    name: &'a str,
+) -> Result<WriterSink<Destination<R::File, S>>, Failure<'a>> {
     let file = created(rt, name)?;
     Ok(WriterSink::new(Destination::File(file)))
 }
@@ -79,7 +82,7 @@ fn file_sink<'a, R: Files + Net>(rt: &R, name: &'a str) -> Result<Output<R>, Fai
 fn messages_sink<'a, R: Files + Net>(
     rt: &R,
     messages: &Messages<'a>,
-) -> Result<Output<R>, Failure<'a>> {
+) -> Result<OutputSink<R>, Failure<'a>> {
     match messages {
         Messages::File(name) => file_sink(rt, name),
         Messages::Peer(peer) => {
