@@ -144,7 +144,8 @@ class ToldContest:
         files = {name: folder / f"told {name}" for name in OUTPUTS}
         self.files = files
         rules = folder / "rules"
-        self.program = [*replay_command(program, self.without.capture, rules, **files), "--messages", str(self.messages)]
+        self.program = replay_command(program, self.without.capture, rules, **files)
+        self.program += ["--messages", str(self.messages)]
         self.before = replay_command(before, self.without.capture, rules, **self.without.files) if before else None
 
     def check(self):
