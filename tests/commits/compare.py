@@ -1,26 +1,33 @@
 """Compares the program whose book commits packets in batches with the model of such a book, and refuses it each allocation.
 
 The book is handed what was found out about packets before. Compared are scripts that are written out, the runs of the
-steps in batches of several sizes, and random scripts. What is written into packets shows here, byte for byte. So each
-checksum that was right has to stay right too.
+steps and those of the messages in batches of several sizes, and random scripts. What is written into packets shows here,
+byte for byte. So each checksum that was right has to stay right too.
 """
 
 import sys
+from itertools import chain
 
 import building
+import messages.rows
 import steps.cases
 import steps.rows
-from answering import answers_of, differing, place_of_difference, show_lines
+from answering import SHOWN, answers_of, differing, place_of_difference, show_lines
 from commits import scripts, translation_scripts
-from commits.scripts import in_batches, some_scripts, some_translated
+from commits.scripts import in_batches, some_runs_with_messages, some_scripts, some_translated, some_with_messages
+from commits.standby import row_faults, with_sizes
 from faults.command import ends_lawfully
 from steps.written_packets import spoilt_sums
 
 BATCHES = (1, 2, 256)
 RANDOM_PACKETS, TRANSLATED_PACKETS = 12000, 16000
+# random runs of which much is told
+RUNS_WITH_MESSAGES = 30
 # how many packets the random scripts have in which each allocation is refused; of the scripts with translation that are
 # written out each such one is run so
 REFUSED_PACKETS, REFUSED_STEP = 100, 5
+# and these runs whose messages are written out
+REFUSED_RUNS = ("a day of the open message", "flows, more of them and replies")
 
 
 def rows():
@@ -52,31 +59,67 @@ def compare(command, title, told):
     count = differing(zip(told, (book.told for book in books), seen), show)
     packets = sum(len(book.steps) for book in books)
     own, tried = sum(book.own for book in books), sum(book.tried for book in books)
+    closed = sum(len(book.emitted) for book in books)
     spoilt = sum(bool(spoilt_sums(book.link, step)) for book in books for step in book.steps)
     print(f"{title}: {len(told)} scripts with {packets} packets; of {tried} results {packets - own} were taken and "
-          f"{tried + own - packets} dropped; {count} differ, {spoilt} checksums are wrong that were right")
-    return count + spoilt
+          f"{tried + own - packets} dropped; {closed} messages; {count} differ, {spoilt} checksums are wrong that were "
+          "right")
+    return count + spoilt + disagreeing(title, books)
+
+
+def disagreeing(title, books):
+    """How many books emit other messages than the queue of the messages' model closes."""
+    wrong = [book for book in books if book.table and book.emitted != list(chain(*book.told_to_standby().closed()))]
+    if wrong:
+        print(f"{title}: in {len(wrong)} scripts the two models of messages disagree")
+    return len(wrong)
+
+
+def seen_as_written(lines, answers):
+    """So many lines of an answer as are written out, with sizes for messages as these have."""
+    return list(with_sizes(answers[:len(lines)]))
+
+
+# Messages that are written out
+
+def told_in_batches():
+    """Each run whose messages are written out, with a script for each size of batches."""
+    return [(row, in_batches(row.run, size)) for row in messages.rows.rows() for size in BATCHES]
+
+
+def wrong_messages(title, answers):
+    """How much is wrong with the messages of these runs, by the answers to each."""
+    asked = told_in_batches()
+    faults = [f"{row.run.name}, {script.calls[0].line() if script.calls else 'no batch'}: {fault}"
+              for (row, script), lines in zip(asked, answers) for fault in row_faults(row, lines)]
+    print(f"{len(asked)} runs with messages in batches: {len(faults)} faults by the {title}", *faults[:SHOWN], sep="\n  ")
+    return len(faults)
 
 
 def compare_model():
     """How many scripts that are written out differ from the model."""
     written = list(rows())
-    count = differing(((script, lines, script.by_model().told[:len(lines)]) for script, lines in written), show)
+    count = differing(((script, lines, seen_as_written(lines, script.by_model().told)) for script, lines in written),
+                      show)
     print(f"{len(written)} written scripts: {count} differ from the model")
-    return count
+    return count + wrong_messages("model", [script.by_model().told for _, script in told_in_batches()])
 
 
 def compare_rows(command):
     """How many scripts that are written out differ from the program."""
     told = [script for script, _ in rows()]
-    count = differing(((script, lines, found[:len(lines)])
+    count = differing(((script, lines, seen_as_written(lines, found))
                        for (script, lines), found in zip(rows(), answers(command, told))), show)
-    return count + compare(command, "written out", told)
+    with_messages = [script for _, script in told_in_batches()]
+    count += wrong_messages("program", answers(command, with_messages))
+    return count + compare(command, "written out", told) + compare(command, "messages in batches", with_messages)
 
 
 def compare_batches(command):
     runs = [each.run for each in (*steps.rows.rows(), *steps.cases.cases())]
-    return compare(command, "whole runs in batches", [in_batches(run, size) for run in runs for size in BATCHES])
+    wrong = compare(command, "whole runs in batches", [in_batches(run, size) for run in runs for size in BATCHES])
+    in_several = [in_batches(run, size) for run in some_runs_with_messages(RUNS_WITH_MESSAGES) for size in BATCHES]
+    return wrong + compare(command, "random runs with messages in batches", in_several)
 
 
 def model_alone():
@@ -88,6 +131,8 @@ def main():
     wrong = compare_model() + compare_rows(command) + compare_batches(command)
     wrong += compare(command, "random", list(some_scripts(RANDOM_PACKETS)))
     wrong += compare(command, "random, with translation", list(some_translated(TRANSLATED_PACKETS)))
+    wrong += compare(command, "random, with messages", list(some_with_messages(RUNS_WITH_MESSAGES)))
     refused = [script for script, _ in (*scripts.rows(), *list(translation_scripts.rows())[::REFUSED_STEP])]
     refused += [*some_scripts(REFUSED_PACKETS), *some_translated(REFUSED_PACKETS)]
+    refused += [script for row, script in told_in_batches() if row.run.name in REFUSED_RUNS]
     sys.exit(not ends_lawfully("commits", command, b"".join(map(script_bytes, refused))) or bool(wrong))

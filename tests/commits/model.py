@@ -8,11 +8,15 @@ It says which results the book tries and which it drops, and so how many packets
 - It is taken where number, clock, packet and job are those of the packet, and the table gives each answer anew. States
   whose deadline is at most the clock are gone from the table then. Else the book evaluates the packet itself.
 - What a batch emits, and what is left at the end, is the same in either case: what the packets one by one come to.
+- A batch emits the messages that close at its packets: those that are out behind it and weren't before. The end emits
+  the one that is open then.
 """
 
 from typing import NamedTuple
 
 from captures.frames import datagram_of, view
+from messages.run import told_of
+from messages.spelling import bare
 from steps.model import step
 from steps.replay import Refused, counters, job_of, step_of
 from steps.run import seed_of
@@ -107,12 +111,17 @@ def hex_of(octets):
     return octets.hex() or "-"
 
 
+def spelled(messages):
+    """Messages as a peer gets them, in hex."""
+    return hex_of(b"".join(map(bare, messages)))
+
+
 class Book:
     """The book of a run. Its records have their headers; `jobs` are pairs of a byte of the seed and a ruleset's text."""
 
     def __init__(self, run, jobs, records):
-        self.link, self.records, self.jobs = run.link, records, jobs
-        self.told, self.kept, self.steps = [], [], []
+        self.link, self.interface, self.records, self.jobs = run.link, run.interface, records, jobs
+        self.told, self.kept, self.steps, self.emitted = [], [], [], []
         self.own = self.clock = self.tried = 0
         self.meanings = [self.job_of(run, *job) for job in jobs]
         self.table = StateTable(self.meanings[0].ruleset.options.values["states"]) if self.meanings[0] else None
@@ -161,6 +170,16 @@ class Book:
         self.table.apply(done.outcome.change)
         self.steps.append(done)
 
+    def told_to_standby(self):
+        """What a standby is told of the run so far."""
+        return told_of(self.jobs[0][1].encode(), self.interface, self.meanings[0], self.steps)
+
+    def emit(self, messages):
+        """Of these messages the ones behind those that are emitted already."""
+        new = messages[len(self.emitted):]
+        self.emitted += new
+        return new
+
     def commit(self, count, kept):
         start = len(self.steps)
         results = [found for found in map(self.taken, kept) if found]
@@ -168,8 +187,9 @@ class Book:
             self.take(results)
         added = self.steps[start:]
         packets = b"".join(each.text() for each in added)
+        messages = self.emit(self.told_to_standby().online(len(self.steps)))
         self.told += [*(each.verdict_line() for each in added), f"packets {hex_of(packets)}",
-                      f"own {self.own}, committed {len(self.steps)}"]
+                      f"messages {spelled(messages)}", f"own {self.own}, committed {len(self.steps)}"]
 
     def holds(self, call):
         found = self.kept[call.kept]
@@ -188,9 +208,10 @@ class Book:
             case Commit():
                 self.commit(1, () if call.kept is None else (call.kept,))
 
-    def texts(self):
-        """The texts at the end: a line for each rule and the totals, and the states."""
+    def ending(self):
+        """What is told at the end: the last message, a line for each rule and the totals, and the states."""
         if not self.table:
             return []
-        return [*counters(self.meanings[0].ruleset, self.steps).splitlines(),
+        return [f"message {spelled(self.emit(self.told_to_standby().whole()))}",
+                *counters(self.meanings[0].ruleset, self.steps).splitlines(),
                 *(entry.text() for entry in self.table.by_number())]

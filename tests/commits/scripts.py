@@ -3,11 +3,13 @@
 import random
 from typing import NamedTuple
 
+import messages.random_runs
 import steps.random_runs
 import steps.translation_runs
 from captures.packets import SYN, record, tcp, udp
 from commits.model import Batch, Book, Clear, Commit, Holds, Speculate, hex_of
 from steps.replay import Record
+from steps.random_runs import LAST_SECOND
 from steps.rows import H, P
 from steps.run import Run
 from steps.texts import some_text
@@ -48,7 +50,7 @@ class Script(NamedTuple):
         book = Book(self.run, self.jobs, self.records())
         for call in self.calls:
             book.obey(call)
-        book.told += book.texts()
+        book.told += book.ending()
         return book
 
 
@@ -61,14 +63,15 @@ def both_ahead(name, rules, packets, lines):
     ahead = [Speculate(0, number, number, 0) for number in (1, 2)]
     written = hex_of(b"".join(each.header + each.frame for each, line in zip(Script(run, [], []).records(), lines)
                               if " pass " in line))
-    yield Script(run, [(0, rules)], [*ahead, Batch(2, (1, 0))]), [*lines, f"packets {written}", "own 1, committed 2"]
+    yield (Script(run, [(0, rules)], [*ahead, Batch(2, (1, 0))]),
+           [*lines, f"packets {written}", "messages -", "own 1, committed 2"])
     first = hex_of(b"".join(Script(run, [], []).records()[0][::2]))
     yield (Script(run, [(0, rules)], [*ahead, Holds(1, 0), Batch(1, (0,)), Holds(1, 0), Holds(0, 0)]),
-           ["holds", lines[0], f"packets {first}", "own 0, committed 1", "fails", "none"])
+           ["holds", lines[0], f"packets {first}", "messages -", "own 0, committed 1", "fails", "none"])
 
 
 def rows():
-    """Scripts, each with the lines that it is answered with before the end."""
+    """Scripts, each with the lines that it is answered with before the end. For messages these have their sizes."""
     opening = tcp(H, 1000, P, 80, SYN, 1000)
     yield from both_ahead("one packet twice", "pass out", [opening, opening],
                           ["1 0 out pass rule r=0 t=- s=1", "2 0 out pass state r=0 t=- s=1"])
@@ -196,3 +199,13 @@ def some_scripts(packets):
 def some_translated(packets):
     """The same of runs with translation."""
     return scripts_of(steps.translation_runs.runs(packets))
+
+
+def some_runs_with_messages(count):
+    """Runs of which much is told to a standby: so many, without those with a second that no record has."""
+    return [run for run in messages.random_runs.runs(count) if run.records[-1][0] <= LAST_SECOND]
+
+
+def some_with_messages(count):
+    """Random scripts for these."""
+    return scripts_of(some_runs_with_messages(count))

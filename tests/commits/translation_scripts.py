@@ -51,12 +51,13 @@ def filled(numbers, clock):
     return [Committed(number, f"{clock} in pass default r=- t=- s=-", FILLER) for number in numbers]
 
 
-def answer(run, packets, own):
-    """What a batch of these packets is answered with, behind which the book has evaluated so many itself."""
+def answer(run, packets, own, *sizes):
+    """What a batch of these packets is answered with, behind which the book has evaluated so many itself, and at which
+    messages of these sizes close."""
     records = Script(run, [], []).records()
     octets = b"".join(records[each.number - 1].header + each.frame for each in packets if each.frame)
     return [*(f"{each.number} {each.line}" for each in packets), f"packets {hex_of(octets)}",
-            f"own {own}, committed {packets[-1].number}"]
+            " ".join(["messages", *map(str, sizes or "-")]), f"own {own}, committed {packets[-1].number}"]
 
 
 def told(run, calls, *lines):
@@ -134,16 +135,16 @@ def freed_script():
               [(0, ASKED), (1, ASKED), (1, FILLER), (1, FILLER), (1, FILLER), (10, AGAIN)])
     calls = [Batch(1), *found_out((6,), 10), Holds(0, 10), Batch(4), Holds(0, 10), Batch(1, (0,))]
     return told(run, calls, *answer(run, [made(1, 50004)], 1), "holds",
-                *answer(run, [touched(2, 1, 50004), *filled((3, 4, 5), 1)], 5), "fails",
-                *answer(run, [made(6, 50004, 10)], 6))
+                *answer(run, [touched(2, 1, 50004), *filled((3, 4, 5), 1)], 5, 290), "fails",
+                *answer(run, [made(6, 50004, 10)], 6, 132))
 
 
 def no_longer_full_script():
     """A list of which each port was taken ahead, and isn't now."""
     run = Run("a list that is full ahead", SHORT + ONE_PORT, [(0, ASKED), (1, ASKED), (10, AGAIN)])
     calls = [Batch(1), *found_out((3,), 10), Holds(0, 10), Commit(), Holds(0, 10), Commit(0)]
-    return told(run, calls, *answer(run, [made(1, 50001)], 1), "holds", *answer(run, [touched(2, 1, 50001)], 2),
-                "fails", *answer(run, [made(3, 50001, 10)], 3))
+    return told(run, calls, *answer(run, [made(1, 50001)], 1), "holds", *answer(run, [touched(2, 1, 50001)], 2, 290),
+                "fails", *answer(run, [made(3, 50001, 10)], 3, 132))
 
 
 def still_full_script():
@@ -184,7 +185,7 @@ def error_script():
 
 
 def rows():
-    """Scripts, each with the lines that it is answered with before the end."""
+    """Scripts, each with the lines that it is answered with before the end. For messages these have their sizes."""
     yield from two_port_scripts()
     for make in (same_cut_script, other_cut_script, other_seed_script, one_server_script, judged_script, freed_script,
                  no_longer_full_script, still_full_script, touched_script, roomless_script, error_script):

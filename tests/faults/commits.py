@@ -3,12 +3,20 @@
 The program itself ends, having answered the runs before; or one run is answered otherwise. In that a job is answered
 with want of memory, or a packet that was to be evaluated ahead is, or the book refuses. A book that refuses a batch has
 emitted what its committed packets emit without the fault, and no more. From there on it refuses all else that it is told.
+Which messages close at a packet is told by their model.
 """
 
+from functools import lru_cache
 from typing import NamedTuple
 
+from expansions.model import dotted
 from faults.rulesets import TARGETS
 from faults.trial import Unlawful
+from messages import run
+from messages.spelling import bare
+from rulesets.tree import Network
+from steps.replay import Interface
+from steps.run import Run, seed_of
 
 # in the order of the summary
 ENDINGS = ("whole", "no speculation", "no batch", "no ending", "no job", "ended")
@@ -24,6 +32,7 @@ class Part(NamedTuple):
     is_refused: bool
     verdicts: list
     packets: str
+    messages: str
     own: int
     committed: int
 
@@ -58,8 +67,9 @@ class Answers:
         while not line.startswith("packets "):
             verdicts.append(line)
             line = self.next()
+        messages = self.next().removeprefix("messages ")
         _, own, _, committed = self.next().replace(",", "").split(" ")
-        return Part(is_refused, verdicts, line.removeprefix("packets "), int(own), int(committed))
+        return Part(is_refused, verdicts, line.removeprefix("packets "), messages, int(own), int(committed))
 
 
 def is_verdict(line):
@@ -83,11 +93,34 @@ def written_packets(lengths, lines):
     return written
 
 
+def octets_of(word):
+    """The bytes of a word in hex."""
+    return bytes.fromhex(word.replace("-", ""))
+
+
+def run_of(lines):
+    """The run of a script, by its first job."""
+    lines = [line.split(" ") for line in lines]
+    [(name, address, bits)] = [words[1:] for words in lines if words[0] == "interface"]
+    inside = tuple(Network(int(words[1]), int(words[2])) for words in lines if words[0] == "inside")
+    seed, text = next(words[1:] for words in lines if words[0] == "job")
+    packets = [words[1:] for words in lines if words[0] == "packet"]
+    return Run("", octets_of(text).decode(), [(int(words[1]), octets_of(words[3])) for words in packets],
+               int(packets[0][0]), Interface(name, dotted(int(address)), int(bits)), inside, seed_of(int(seed)))
+
+
+@lru_cache
+def closed_messages(lines):
+    """The bytes in hex of the messages that close at each packet of a script's run, which has packets."""
+    return ["".join(bare(message).hex() for message in messages) for messages in run.told(run_of(lines)).closed()]
+
+
 class Judged:
     """A run that is told again, with the lines that it is answered with and those without a fault."""
 
-    def __init__(self, told, whole, seen):
-        self.told = [line.split(" ") for line in told]
+    def __init__(self, lines, whole, seen):
+        self.lines = tuple(lines)
+        self.told = [line.split(" ") for line in lines]
         self.records = [words[3] + words[4].replace("-", "") for words in self.told if words[0] == "packet"]
         self.written = written_packets(list(map(len, self.records)), whole)
         self.whole, self.seen = Answers(whole), Answers(seen)
@@ -106,6 +139,11 @@ class Judged:
         """The bytes in hex of those of some lines' packets that are written."""
         return "".join(self.written.get(int(line.split(" ")[0]), "") for line in verdicts) or "-"
 
+    def messages_of(self, count):
+        """The bytes in hex of the messages that close at so many next packets."""
+        closed = closed_messages(self.lines) if count else []
+        return "".join(closed[self.committed:self.committed + count]) or "-"
+
     def judge_part(self, verdicts, most):
         """Judges one batch, for which the book may take so many packets; these are the lines of all packets."""
         part, right = self.seen.part(), self.whole.part()
@@ -114,6 +152,8 @@ class Judged:
             raise Unlawful("lines of other packets than of those that were committed")
         if part.packets != self.packets_of(part.verdicts):
             raise Unlawful("other packets than those of the lines")
+        if part.messages != self.messages_of(came):
+            raise Unlawful("other messages than those that close at the packets of the lines")
         if not self.own <= part.own <= self.own + came:
             raise Unlawful("more packets were evaluated than were committed")
         if not self.refusals and not part.is_refused and part.own != right.own:

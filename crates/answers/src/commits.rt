@@ -19,10 +19,11 @@
 //!     clear                                  what was emitted is forgotten
 //!     end                                    the end of the run
 //!
-//! A batch, and a packet that is committed alone, are answered with the verdict lines, `packets BYTES`, and `own N, committed
-//! N`; where memory is refused `refused` stands before these. `speculate` answers nothing, or `lost` where memory is refused. The end is answered
-//! with the counters and the states, or with `refused`, and then with `end`. Where the ruleset of a job is refused that is
-//! answered, and no book takes packets where it is the first.
+//! A batch, and a packet that is committed alone, are answered with the verdict lines, `packets BYTES`, `messages BYTES`, and
+//! `own N, committed N`; where memory is refused `refused` stands before these. Messages are as a peer gets them. `speculate`
+//! answers nothing, or `lost` where memory is refused. The end is answered with `message BYTES`, the counters and the states, or
+//! with `refused`, and then with `end`. Where the ruleset of a job is refused that is answered, and no book takes packets where
+//! it is the first.
 mod packets;
 
 use crate::commits::packets::Packets;
@@ -34,6 +35,7 @@ use pfr_net::{IfName, Ipv4Address, Net};
 use pfr_packet::Job;
 use pfr_record::{Speculation, speculate};
 use pfr_ruleset::Interface;
+use pfr_sync::{Message, encode_onto};
 use pfr_track::Clock;
 use std::alloc::{AllocError, Global};
 use std::io;
@@ -85,38 +87,80 @@ fn record(alloc: Global, words: &mut Words<'_>) -> Result<Record, AllocError> {
     })
 }
 
-/// What stands in some bytes from a place on.
-fn behind(bytes: &[u8], start: usize) -> &[u8] {
-    let (_, rest) = bytes.split_at(start.min(bytes.len()));
+/// How much was emitted: bytes of verdicts and of packets, and messages.
+#[derive(Clone, Copy)]
+struct Place {
+    verdicts: usize,
+    packets: usize,
+    messages: usize,
+}
+
+impl Place {
+    const START: Place = Place {
+        verdicts: 0,
+        packets: 0,
+        messages: 0,
+    };
+
+    fn behind(emitted: &Emitted) -> Place {
+        Place {
+            verdicts: emitted.verdicts.len(),
+            packets: emitted.packets.len(),
+            messages: emitted.messages.len(),
+        }
+    }
+}
+
+/// What stands in a list from a place on.
+fn behind<T>(items: &[T], start: usize) -> &[T] {
+    let (_, rest) = items.split_at(start.min(items.len()));
     rest
 }
 
-fn put_packets(alloc: Global, out: &mut String, bytes: &[u8]) -> Result<(), AllocError> {
+/// A line of a word and bytes.
+fn put_line(alloc: Global, out: &mut String, word: &str, bytes: &[u8]) -> Result<(), AllocError> {
     if bytes.is_empty() {
-        return out.push_str("packets -\n");
+        return writeln!(out, "{word} -");
     }
     let digits = hex::encode(alloc, bytes)?;
-    writeln!(out, "packets {digits}")
+    writeln!(out, "{word} {digits}")
 }
 
-/// Prints what was emitted behind these places, and how far a book has come.
+/// A line of a word and messages, one behind the other.
+fn put_messages(
+    alloc: Global,
+    out: &mut String,
+    word: &str,
+    messages: &[Message],
+) -> Result<(), AllocError> {
+    let mut bytes = Vec::new(alloc);
+    for message in messages {
+        encode_onto(message, &mut bytes)?;
+    }
+    put_line(alloc, out, word, bytes.as_slice())
+}
+
+/// Prints what was emitted behind a place, and how far a book has come.
 fn put_emitted(
     alloc: Global,
     out: &mut String,
     emitted: &Emitted,
-    verdicts: usize,
-    packets: usize,
+    place: Place,
     book: &Book,
 ) -> Result<(), AllocError> {
-    put_bytes(out, behind(emitted.verdicts.as_slice(), verdicts))?;
-    put_packets(alloc, out, behind(emitted.packets.as_slice(), packets))?;
+    put_bytes(out, behind(emitted.verdicts.as_slice(), place.verdicts))?;
+    let packets = behind(emitted.packets.as_slice(), place.packets);
+    put_line(alloc, out, "packets", packets)?;
+    let messages = behind(emitted.messages.as_slice(), place.messages);
+    put_messages(alloc, out, "messages", messages)?;
     writeln!(out, "own {}, committed {}", book.own(), book.committed())
 }
 
 /// Ends a book's run.
-fn put_ending(out: &mut String, book: Book) -> Result<(), AllocError> {
+fn put_ending(alloc: Global, out: &mut String, book: Book) -> Result<(), AllocError> {
     match book.finish() {
         Ok(ending) => {
+            put_messages(alloc, out, "message", ending.message.as_slice())?;
             put_bytes(out, ending.counters.as_slice())?;
             put_bytes(out, ending.states.as_slice())
         }
@@ -269,15 +313,14 @@ impl Run {
         if book.committed() > MOST || packets.len() as u64 > MOST {
             return Ok(());
         }
-        let verdicts = self.emitted.verdicts.len();
-        let written = self.emitted.packets.len();
+        let place = Place::behind(&self.emitted);
         if book
             .commit_batch(packets, results, &mut self.emitted)
             .is_err()
         {
             out.push_str("refused\n")?;
         }
-        put_emitted(self.alloc, out, &self.emitted, verdicts, written, book)
+        put_emitted(self.alloc, out, &self.emitted, place, book)
     }
 
     fn commit(&mut self, out: &mut String, words: &mut Words<'_>) -> Result<(), AllocError> {
@@ -292,18 +335,18 @@ impl Run {
             return Ok(());
         }
         match book.commit(record, *view, result) {
-            Ok(emitted) => put_emitted(self.alloc, out, &emitted, 0, 0, book),
+            Ok(emitted) => put_emitted(self.alloc, out, &emitted, Place::START, book),
             Err(_) => {
                 out.push_str("refused\n")?;
                 let emitted = Emitted::new(self.alloc);
-                put_emitted(self.alloc, out, &emitted, 0, 0, book)
+                put_emitted(self.alloc, out, &emitted, Place::START, book)
             }
         }
     }
 
     fn finish(&mut self, out: &mut String) -> Result<(), AllocError> {
         if let Some(book) = self.book.take() {
-            put_ending(out, book)?;
+            put_ending(self.alloc, out, book)?;
         }
         out.push_str("end\n")
     }
