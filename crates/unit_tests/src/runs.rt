@@ -3,7 +3,7 @@ ghost use Rattle.std.specs.Prelude.{◌≤◌};
 
 use pfr_capture::{Mem, Tail};
 use pfr_net::{IfName, Ipv4Address, Net};
-use pfr_out::{Output, Report, Settings, Sinks, Stop, replay};
+use pfr_out::{Form, Output, Report, Settings, Sinks, Stop, replay};
 use pfr_ruleset::Interface;
 use std::alloc::{AllocError, Global};
 use std::test::Fail;
@@ -22,6 +22,9 @@ const RECORD: [u8; 44] = [
 const TWO_LINES: &[u8] = b"1 0 out pass rule r=0 t=- s=1\n2 0 out pass state r=0 t=- s=1\n";
 
 const COUNTERS: &[u8] = b"filter 0 1 5 140\ntotal 5 5 0 0 0\n";
+
+/// The bytes of a message with one INS, behind its IP header.
+const MESSAGE: usize = 290;
 
 /// A capture of five such datagrams.
 fn capture(alloc: Global) -> Result<Mem, AllocError> {
@@ -43,14 +46,15 @@ fn sinks(alloc: Global, writes: u64) -> Sinks<Mem> {
     }
 }
 
-/// How a run ended, and what it left: whether the lines of the first two packets alone, how many bytes of packets and of
-/// counters, and whether the counters are those of all.
+/// How a run ended, and what it left: whether the lines of the first two packets alone, how many bytes of packets, of counters
+/// and of messages, and whether the counters are those of all.
 #[derive(Drop)]
 struct Left {
     end: Result<Report, Stop>,
     has_two_lines: bool,
     packets: usize,
     counters: usize,
+    messages: usize,
     counts_all: bool,
 }
 
@@ -73,6 +77,7 @@ fn run(rt: &HostRuntime, reads: u64, writes: u64, batch: usize) -> Result<Left, 
         },
         inside: &inside,
         batch,
+        form: Form::File,
     };
     let end = replay(
         rt,
@@ -87,6 +92,7 @@ fn run(rt: &HostRuntime, reads: u64, writes: u64, batch: usize) -> Result<Left, 
         has_two_lines: outputs.verdicts.bytes() == TWO_LINES,
         packets: outputs.packets.bytes().len(),
         counters: outputs.counters.bytes().len(),
+        messages: outputs.messages.bytes().len(),
         counts_all: outputs.counters.bytes() == COUNTERS,
     })
 }
@@ -112,7 +118,7 @@ fn a_batch_of_one_is_committed_by_itself(rt: HostRuntime) -> Result<(), Fail> {
 fn a_failed_read_leaves_what_was_read(rt: HostRuntime) -> Result<(), Fail> {
     let left = run(&rt, 4, 99, 256)?;
     assert!(rt; matches!(&left.end, Err(Stop::Read(2))));
-    assert!(rt; left.has_two_lines && left.counters == 0);
+    assert!(rt; left.has_two_lines && left.counters == 0 && left.messages == 0);
     Ok(())
 }
 
@@ -124,6 +130,6 @@ fn a_whole_run_is_closed(rt: HostRuntime) -> Result<(), Fail> {
         tail: Tail::Clean,
     };
     assert!(rt; matches!(&left.end, Ok(report) if *report == whole));
-    assert!(rt; left.counts_all && left.packets == 24 + 5 * 44);
+    assert!(rt; left.counts_all && left.packets == 24 + 5 * 44 && left.messages == MESSAGE);
     Ok(())
 }
