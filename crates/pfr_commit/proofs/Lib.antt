@@ -6,5 +6,6 @@ pub mod MachineLemmas
 pub mod OnlineLemmas
 pub mod ResultLemmas
 pub mod StandLemmas
+pub mod StandbyLemmas
 pub mod TableLemmas
 pub mod WorldLemmas

@@ -36,7 +36,7 @@ own_is_next count clock states outcome (Made state) own = own.number_is
 own_is_next count clock states outcome (Touched state) own = (own.before, own.is_there, own.number_is)
 own_is_next count clock states outcome (Removed number) own = tt
 
-option_own_is_next : (count : ℕ) (clock : Clock) (states : List State) (outcome : Outcome) (change : Option TableChange) → IfSome change (λ change. IsOwnChange (count + 1) clock states outcome change) → IfSome change (λ change. IsNextChange count states change)
+pub option_own_is_next : (count : ℕ) (clock : Clock) (states : List State) (outcome : Outcome) (change : Option TableChange) → IfSome change (λ change. IsOwnChange (count + 1) clock states outcome change) → IfSome change (λ change. IsNextChange count states change)
 option_own_is_next count clock states outcome None own = tt
 option_own_is_next count clock states outcome (Some change) own = own_is_next count clock states outcome change own
 

@@ -48,7 +48,7 @@ table_changed : (change : Option TableChange) (table : StateTable) → IsTable t
 table_changed None table is fits = is
 table_changed (Some change) table is fits = table_with_change change table.limit table.states (fits change refl) is
 
-table_next : NoneRefused → (job : RunJob) (world : World) (frame : Frame) → IsTable world.table → IsTable (after job world frame).table
+pub table_next : NoneRefused → (job : RunJob) (world : World) (frame : Frame) → IsTable world.table → IsTable (after job world frame).table
 unfolding after with_outcome purged_at
 table_next none job world frame is =
     let p = next_taken job world frame in

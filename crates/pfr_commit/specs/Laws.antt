@@ -5,7 +5,9 @@ use Rattle.pfr_track.specs.declared.state.State.{State}
 use Rattle.pfr_packet.specs.Job.{RunJob}
 use Rattle.pfr_packet.specs.declared.verdict.Verdict.{Verdict}
 use Rattle.pfr_commit.specs.declared.counters.Totals.{Totals}
+use Rattle.pfr_sync.specs.Laws.{has, held_after}
 use Rattle.pfr_sync.specs.Messages.{messages_of}
+use Rattle.pfr_telling.specs.Standby.{is_told_of}
 use Rattle.pfr_commit.specs.World.{Frame, Texts, World, joined, last_message, online, origin_of, packet_text, world_after, world_of}
 use Rattle.pfr_commit.specs.Lines.{verdict_line}
 use Rattle.pfr_commit.specs.Runs.{taken_in, capped, comes_to, total_of, counts_for, bytes_for, counters_of, number_of, IsMadeAmong, RuleKind}
@@ -82,3 +84,9 @@ StatesAreOfPackets =
     (job : RunJob) (frames : List Frame) (state : State)
     → Contains (world_of job frames).table.states state
     → IsMadeAmong (taken_in job frames) state
+
+-- who applies the messages of a run holds the numbers of the states that are left, but those of rules with `no-sync`, and no others
+abbrev pub AStandbyHoldsTheStates : Type 0
+AStandbyHoldsTheStates =
+    (job : RunJob) (frames : List Frame) (n : ℕ)
+    → has n (held_after (messages_of (origin_of job) (world_of job frames).events)) ≡ is_told_of n (world_of job frames).table.states

@@ -3,7 +3,7 @@ ghost use Rattle.std.specs.Prelude.{◌≡◌, ◌≤◌, List, length, map};
 ghost use Rattle.std.specs.List.{All, range_with_len};
 ghost use Rattle.pfr_states.specs.States.{IsTable};
 ghost use Rattle.pfr_packet.specs.Job.{RunJob};
-ghost use Rattle.pfr_commit.specs.Laws.{BytesOfARule, ClockIsOfARecord, EachHasItsLine, EachHasItsRecord, PacketsOfARule, StatesAreOfPackets, TotalsAreTheCount, TheLastMessageIsTheRest, TotalsCountVerdicts, TwoPartsAreTheWhole, WhatIsWrittenStays};
+ghost use Rattle.pfr_commit.specs.Laws.{AStandbyHoldsTheStates, BytesOfARule, ClockIsOfARecord, EachHasItsLine, EachHasItsRecord, PacketsOfARule, StatesAreOfPackets, TotalsAreTheCount, TheLastMessageIsTheRest, TotalsCountVerdicts, TwoPartsAreTheWhole, WhatIsWrittenStays};
 ghost use Rattle.pfr_commit.specs.Machine.{EveryRun};
 ghost use Rattle.pfr_commit.specs.Runs.{taken_in};
 ghost use Rattle.pfr_commit.specs.World.{Frame, world_of};
@@ -64,6 +64,17 @@ pub fn every_run_leaves_a_table()
 {
     // so each change that a packet comes to leaves a table
     no_change_is_refused();
+}
+
+/// Whoever applies the messages of a run to a set of numbers, which is empty at first, holds at the end just the numbers of the
+/// states that are left, those of rules with `no-sync` aside.
+pub fn a_standby_holds_the_states()
+    ensures { AStandbyHoldsTheStates }
+{
+    // each packet leaves a table
+    no_change_is_refused();
+    // and touches a state that keeps its rules
+    every_change_is_of_the_named_state();
 }
 
 /// The run of the speculative machine: whatever packets are opened together, whoever claims and evaluates which of them and on

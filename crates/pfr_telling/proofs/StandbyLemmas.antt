@@ -228,7 +228,7 @@ next_leaves count clock states events (table.Made state) are leave next stays = 
 next_leaves count clock states events (table.Touched state) are leave next stays = touch_leaves count clock states events state next.0 are next.1 next.2 (stays next.0 next.1 next.2) leave
 next_leaves count clock states events (table.Removed number) are leave next stays = found_leaves count clock states events number (state_of number states) refl are leave
 
-change_leaves : (count : ℕ) (clock : Clock) (before : StateTable) (events : List Event) (change : Option TableChange) → AreTold count clock before.states events → Leave before.states events
+pub change_leaves : (count : ℕ) (clock : Clock) (before : StateTable) (events : List Event) (change : Option TableChange) → AreTold count clock before.states events → Leave before.states events
     → IfSome change (λ change. IsNextChange count before.states change × StaysTold before.states change)
     → Leave (changed change before).states (events ++ events_of_change clock change before.states)
 change_leaves count clock before events None are leave next = subst (λ (all : List Event). Leave before.states all) (sym (append-nil events)) leave
@@ -237,7 +237,7 @@ change_leaves count clock before events (Some change) are leave next = next_leav
 -- ---- a purge
 
 -- both go on
-abbrev Both : ℕ → Clock → List State → List Event → Type 0
+abbrev pub Both : ℕ → Clock → List State → List Event → Type 0
 Both count clock states events = AreTold count clock states events × Leave states events
 
 purge_over : (count : ℕ) (clock : Clock) (states : List State) (events : List Event) → due clock states ≡ None → Both count clock states events → Both count clock (purged clock states) (events ++ events_of_purge clock states)
@@ -247,7 +247,7 @@ purge_over count clock states events none both =
     (subst (λ (left : List State). Both count clock left (events ++ [])) (sym over.1)
     (subst (λ (all : List Event). Both count clock states all) (sym (append-nil events)) both))
 
-purge_by : (k count : ℕ) (clock : Clock) (states : List State) (events : List Event) (first : Option State) → due clock states ≡ first → length states ≡ k → rise states ≡ true → Both count clock states events
+pub purge_by : (k count : ℕ) (clock : Clock) (states : List State) (events : List Event) (first : Option State) → due clock states ≡ first → length states ≡ k → rise states ≡ true → Both count clock states events
     → Both count clock (purged clock states) (events ++ events_of_purge clock states)
 purge_by k count clock states events None is long in_order both = purge_over count clock states events is both
 purge_by zero count clock states events (Some state) is long in_order both = (let less = one_state_less states clock state in_order is in absurd (omega (arith, less, long)))
