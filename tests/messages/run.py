@@ -1,6 +1,7 @@
 """A whole run with its messages."""
 
 import hashlib
+from itertools import chain
 from typing import NamedTuple
 
 from captures.model import Record
@@ -32,6 +33,16 @@ class Told(NamedTuple):
     def closed(self):
         """By the queue: those that close at each packet, and behind these the ones at the end."""
         return queue.by_packet(self.origin, self.packets)
+
+    def out(self, is_ended):
+        """Those that are out behind the last packet, where the run came to its end or was stopped there. Both ways have to
+        give the same."""
+        *closed, last = self.closed()
+        by_queue = [*chain.from_iterable(closed), *(last if is_ended else [])]
+        by_cut = self.whole() if is_ended else self.online(len(self.packets))
+        if by_cut != by_queue:
+            raise AssertionError("the cut and the queue give other messages")
+        return by_cut
 
 
 def told_of(text, interface, job, steps):

@@ -52,11 +52,11 @@ def wholly(case, verdicts, packets, count):
 
 def refused(case, text, **files):
     """What is written out of a case that is refused, with the files that aren't as they were."""
-    untouched = dict.fromkeys(("verdicts", "packets", "counters", "states"))
+    untouched = dict.fromkeys(EMPTIED)
     return Written(case, {"out": b"", "err": b"pfreplay: %s\n" % text, "status": 1, **untouched, **files})
 
 
-EMPTIED = {"verdicts": b"", "packets": b"", "counters": b"", "states": b""}
+EMPTIED = dict.fromkeys(("verdicts", "packets", "counters", "states", "messages"), b"")
 
 
 def capture_of(packets, order="<", **header):

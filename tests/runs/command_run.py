@@ -2,14 +2,18 @@
 
 import subprocess
 import sys
+from collections import Counter
 
 import captures.cases
 import captures.frame_cases
 import steps.cases
-from runs import cases, devices, filter_cases, filter_rows, lines, model, random_cases, rows
+from runs import cases, devices, filter_cases, filter_rows, lines, message_cases, message_rows, model, random_cases, rows
 from runs.case import EXAMPLES, INSIDE, PACKETS, Case, capture_of
 from runs.comparison import a_line
-from runs.model import OUTPUTS, Outcome
+from runs.model import FILE, NONE, OUTPUTS, PEER, Outcome
+
+# each such case is also run with its messages sent to a peer, and each such one without messages
+PEER_STEP, NONE_STEP = 5, 9
 
 
 def written_cases():
@@ -35,6 +39,10 @@ def compare_model(comparison):
     for case, parts in written_cases():
         said = model.run(case).parts()
         comparison.expect(f"model: {case.name}", parts, {name: said[name] for name in parts})
+    for row, case in message_rows.cases():
+        for form in (FILE, PEER):
+            expect_facts(comparison, f"model: {case.name}, {form}", row, model.run(case, form), form)
+    expect_packets(comparison, "model: messages as packets", model.run)
     for row in filter_rows.rows():
         for case, words in row.alone():
             line = model.run(case).files.verdicts.decode()
@@ -45,27 +53,73 @@ def compare_model(comparison):
 
 def compare(comparison):
     """All runs; the comparison keeps their number and what went wrong."""
-    every = [written.case for written in written_cases()] + list(modelled_cases())
+    every = [written.case for written in written_cases()]
+    written_count = len(every)
+    every += modelled_cases()
     for number, case in enumerate(every):
-        compare_case(comparison, case, is_old=number % 3 == 0)
+        forms = [FILE]
+        forms += [PEER] if number < written_count or number % PEER_STEP == 0 else []
+        forms += [NONE] if number % NONE_STEP == 0 else []
+        compare_case(comparison, case, forms, is_old=number % 3 == 0)
+    compare_messages(comparison)
     good_lines(comparison)
     bad_lines(comparison)
     devices.compare(comparison)
     example_captures(comparison)
 
 
-def compare_case(comparison, case, is_old):
-    """Runs a case, with files that are new or hold something old."""
-    comparison.prepare(case, is_old)
-    comparison.expect(f"{case.name} ({'old' if is_old else 'new'} files)", model.run(case),
-                      comparison.execute(comparison.command(case)))
+def compare_case(comparison, case, forms, is_old=False):
+    """Runs a case with its messages in some forms, and with files that are new or hold something old."""
+    for form in forms:
+        comparison.prepare(case, is_old)
+        comparison.expect(f"{case.name} ({'old' if is_old else 'new'} files, {form})", model.run(case, form),
+                          comparison.replay(case, form))
+
+
+# Messages
+
+def expect_facts(comparison, name, row, outcome, form):
+    """What is written out of a row of messages."""
+    for title, wanted, seen in message_rows.facts(row, outcome, form):
+        comparison.expect(f"{name}: {title}", wanted, seen)
+
+
+def expect_packets(comparison, name, run):
+    """Messages as packets of a capture, as a function runs a case."""
+    streams = [run(case).files.messages or b"" for _, case in message_rows.cases()]
+    for case, verdicts in message_rows.as_packets(streams):
+        comparison.expect(name, verdicts, run(case).files.verdicts)
+
+
+def compare_messages(comparison):
+    """Runs of which messages are written out or much is to be told."""
+    for row, case in message_rows.cases():
+        for form in (FILE, PEER):
+            comparison.prepare(case)
+            seen = comparison.replay(case, form)
+            comparison.expect(f"{case.name}, {form}", model.run(case, form), seen)
+            expect_facts(comparison, f"{case.name}, {form}", row, seen or Outcome(b"", b"", None), form)
+
+    def run(case):
+        comparison.prepare(case)
+        return comparison.replay(case) or Outcome(b"", b"", None)
+
+    expect_packets(comparison, "messages as packets", run)
+    counts = Counter()
+    for number, case in enumerate(message_cases.cases()):
+        forms = [FILE, PEER] if number % PEER_STEP == 0 else [FILE]
+        compare_case(comparison, case, forms)
+        counts += message_cases.counts_of(case)
+    message_cases.tell(comparison, counts)
 
 
 # Command lines
 
 def named(comparison, words):
-    """The words with the names of files for those that stand for them."""
+    """The words with the names of files, and of the peer, for those that stand for them."""
+    peer = comparison.peer
     places = {"capture": comparison.capture, "rules": comparison.rules, "missing": comparison.folder / "missing",
+              "peer": peer.name(), "--peer=peer": f"--peer={peer.name()}", "localhost:peer": f"localhost:{peer.port}",
               **dict(zip(OUTPUTS, comparison.files)),
               **{f"--{name}={name}": f"--{name}={file}" for name, file in zip(OUTPUTS, comparison.files)}}
     return [places.get(word, word) for word in words]
@@ -78,10 +132,15 @@ def good_lines(comparison):
         comparison.prepare(case)
         comparison.expect(f"words {words}", model.run(case._replace(inside=inside, seed=seed)),
                           comparison.execute(["run", *named(comparison, words)]))
+    for words in lines.peers():
+        comparison.prepare(case)
+        comparison.expect(f"words {words}", model.run(case, PEER),
+                          comparison.execute(["run", *named(comparison, words)], peer=comparison.peer))
     comparison.prepare()
-    for words in (["--help"], ["run", "--help"]):
+    for words, parts in ((["--help"], ()), (["run", "--help"], (b"--messages <FILE>", b"--peer <HOST:PORT>"))):
         seen = comparison.execute(words)
-        comparison.expect(f"words {words}", Outcome(seen.out if seen and seen.out else b"(some)", b"", 0), seen)
+        is_told = seen and seen.out and all(part in seen.out for part in parts)
+        comparison.expect(f"words {words}", Outcome(seen.out if is_told else b"(some)", b"", 0), seen)
 
 
 def bad_lines(comparison):

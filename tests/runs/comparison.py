@@ -4,7 +4,8 @@ import subprocess
 import zlib
 
 from runs.case import NO_SEED
-from runs.model import OUTPUTS, Files, Outcome
+from runs.model import FILE, OUTPUTS, PEER, Files, Outcome
+from runs.peers import Peer
 
 # seconds; other comparisons may run at the same time
 TIME_LIMIT = 30
@@ -23,22 +24,29 @@ class Comparison:
         self.rules = folder / "rules"
         self.capture = folder / "capture"
         self.files = Files(*(folder / name for name in OUTPUTS))
+        self.peer = Peer()
         self.count = 0
         self.wrong = []
 
-    def execute(self, words, out=subprocess.PIPE):
-        """One run of the program; None where it takes too long."""
-        try:
-            seen = subprocess.run([self.program, *map(str, words)], stdin=subprocess.DEVNULL, stdout=out,
-                                  stderr=subprocess.PIPE, timeout=TIME_LIMIT, check=False)
-        except subprocess.TimeoutExpired:
-            return None
-        return Outcome(seen.stdout or b"", seen.stderr, seen.returncode, self.left())
+    def execute(self, words, out=subprocess.PIPE, peer=None):
+        """One run of the program, with the peer to which it may send; None where it takes too long."""
+        with subprocess.Popen([self.program, *map(str, words)], stdin=subprocess.DEVNULL, stdout=out,
+                              stderr=subprocess.PIPE) as run:
+            try:
+                # what is printed is a line or two, which nobody has to read before the program ends
+                taken = peer and peer.take(run)
+                printed, said = run.communicate(timeout=TIME_LIMIT)
+            except (subprocess.TimeoutExpired, TimeoutError):
+                run.kill()
+                return None
+        return Outcome(printed or b"", said, run.returncode, self.left() if peer is None else self.left(taken))
 
-    def left(self):
-        """What stands in the files that a run writes. One with its old bytes is as it was."""
-        texts = (name.read_bytes() if name.is_file() else None for name in self.files)
-        return Files(*(None if text == OLD_BYTES else text for text in texts))
+    def left(self, *taken):
+        """What stands in the files that a run writes, where those of messages may be what a peer has taken. One with its
+        old bytes is as it was."""
+        files = self.files[:-1] if taken else self.files
+        texts = (name.read_bytes() if name.is_file() else None for name in files)
+        return Files(*(None if text == OLD_BYTES else text for text in texts), *taken)
 
     def prepare(self, case=None, is_old=False):
         """Writes the files that a run reads; those that it writes are gone, or hold something old."""
@@ -55,9 +63,15 @@ class Comparison:
         if seen != expected:
             self.wrong.append((name, expected, seen))
 
-    def command(self, case):
-        """The words that replay a case, with the names of all files."""
-        return ["run", self.capture, self.rules, *flags_of(case, self.files)]
+    def command(self, case, form=FILE):
+        """The words that replay a case, with the names of all files, and with its messages in a form."""
+        files = self.files if form == FILE else self.files[:-1]
+        peer = ["--peer", self.peer.name()] if form == PEER else []
+        return ["run", self.capture, self.rules, *flags_of(case, files), *peer]
+
+    def replay(self, case, form=FILE):
+        """One run that replays a case, with its messages in a form."""
+        return self.execute(self.command(case, form), peer=self.peer if form == PEER else None)
 
     def show(self, most):
         """Prints the first of what went wrong."""
@@ -66,7 +80,7 @@ class Comparison:
 
 
 def flags_of(case, files):
-    """The flags of the command `run`, each with its value; a seed of zeros is left out."""
+    """The flags of the command `run`, each with its value. A seed of zeros is left out, and so may be the last files."""
     named = zip(OUTPUTS, files)
     seed = [] if case.seed == NO_SEED else ["--seed", case.seed]
     return ["--interface", case.interface, "--address", case.address, "--inside", case.inside, *seed,

@@ -3,15 +3,18 @@
 from runs import check_cases
 from runs.case import NO_SEED, Line
 from runs.check_cases import BAD_ADDRESSES, BAD_INTERFACES
-from runs.model import OUTPUTS
+from runs.model import OUTPUTS, REQUIRED
 
-# the words that stand for files
-CAPTURE, RULES, MISSING = "capture", "rules", "missing"
+# the words that stand for files, and for the address of a peer
+CAPTURE, RULES, MISSING, PEER = "capture", "rules", "missing", "peer"
 SEED = "0123456789abcdef" * 4
 FLAGS = {"--interface": "em0", "--address": "192.0.2.1/24", "--inside": "10.0.0.0/8",
-         **{f"--{name}": name for name in OUTPUTS}}
+         **{f"--{name}": name for name in REQUIRED}}
+# those that may be missing
+SEED_FLAG, MESSAGES_FLAG, PEER_FLAG = ("--seed", SEED), ("--messages", "messages"), ("--peer", PEER)
 # what the help and what is said of a value call its form
-FORMS = {**check_cases.FORMS, "--inside": "NETS", "--seed": "HEX", **{f"--{name}": "FILE" for name in OUTPUTS}}
+FORMS = {**check_cases.FORMS, "--inside": "NETS", "--seed": "HEX", "--peer": "HOST:PORT",
+         **{f"--{name}": "FILE" for name in OUTPUTS}}
 BAD_VALUES = {
     "--interface": BAD_INTERFACES,
     "--address": BAD_ADDRESSES,
@@ -20,6 +23,10 @@ BAD_VALUES = {
                  "10.0.0.1 10.0.0.2", "10.0.0.1;10.0.0.2", "em0", "any", "10.0.0.0/8,em0", "10.0.0.1,10.0.0.0/4294967304"),
     "--seed": ("", "0", "0" * 63, "0" * 65, "0" * 128, "g" * 64, "0" * 63 + "G", "0x" + "0" * 62, "0" * 63 + " ",
                " " + "0" * 63, "-" + "0" * 63),
+    "--peer": ("", ":", "9", ":9", "127.0.0.1", "127.0.0.1:", "127.0.0.1:0", "127.0.0.1:70000", "127.0.0.1:65536",
+               "127.0.0.1:4294967305", "127.0.0.1:18446744073709551625", "127.0.0.1:-9", "127.0.0.1:+9", "127.0.0.1: 9",
+               "127.0.0.1:9 ", "127.0.0.1:9x", "127.0.0.1:0x9", "127.0.0.1:http", "localhost", "localhost:",
+               "localhost:0", "127.0.0.1/9", "127.0.0.1 9", "127.0.0.1:9:"),
 }
 # of a list of networks the first part that is none is refused
 REFUSED_PARTS = {",": "", "10.0.0.0/8,": "", ",10.0.0.0/8": "", "10.0.0.1,,10.0.0.2": "",
@@ -54,7 +61,8 @@ def missing_words():
         others = {name: value for name, value in FLAGS.items() if name != flag}
         yield Line(run_line(others))
         yield Line(run_line(others, flag))
-    yield Line(run_line(FLAGS, "--seed"))
+    for flag in ("--seed", "--messages", "--peer"):
+        yield Line(run_line(FLAGS, flag))
     yield Line(("run", *spelled(FLAGS)))
     yield Line(("run", CAPTURE, *spelled(FLAGS)))
     yield Line(("run", CAPTURE, RULES))
@@ -63,14 +71,19 @@ def missing_words():
 
 
 def surplus_words():
-    for flag, value in (*FLAGS.items(), ("--seed", SEED)):
-        again = {**FLAGS, "--seed": SEED}
+    for flag, value in (*FLAGS.items(), SEED_FLAG, MESSAGES_FLAG, PEER_FLAG):
+        again = {**FLAGS, flag: value}
         said = (f"the argument '{flag} <{FORMS[flag]}>' cannot be used multiple times".encode(),)
         yield Line(run_line(again, flag, value), said)
         yield Line(run_line(again, f"{flag}={value}"), said)
+    # messages go to one place at most
+    both = b"--messages", b"--peer"
+    yield Line(run_line(FLAGS, *MESSAGES_FLAG, *PEER_FLAG), both)
+    yield Line(run_line(FLAGS, *PEER_FLAG, *MESSAGES_FLAG), both)
+    yield Line(run_line({**dict([PEER_FLAG]), **FLAGS}, "--messages=messages"), both)
     yield Line(run_line(FLAGS, "more"))
     yield Line(("run", "more", CAPTURE, RULES, *spelled(FLAGS)))
-    for word in ("--quiet", "-x", "--bits=24", "--batch=256", "--workers=0", "--messages=messages", "--peer=192.0.2.9:9"):
+    for word in ("--quiet", "-x", "--bits=24", "--batch=256", "--workers=0", "--message=messages", "--peers=192.0.2.9:9"):
         yield Line(run_line(FLAGS, word))
     yield Line(run_line(FLAGS, "--batch", "256"))
     # words of no command
@@ -88,16 +101,25 @@ def bad():
 
 
 def good():
-    """Lines that fit and mean one run, but for the inside networks and the seed: the words of each, and both of
-    these."""
-    flags, inside = spelled(FLAGS), FLAGS["--inside"]
+    """Lines that fit and mean one run with its messages in a file, but for the inside networks and the seed: the words of
+    each, and both of these."""
+    flags, inside = (*spelled(FLAGS), *MESSAGES_FLAG), FLAGS["--inside"]
     for words in ((*flags, CAPTURE, RULES), (CAPTURE, *flags, RULES),
-                  (CAPTURE, RULES, *spelled(dict(reversed(FLAGS.items())))),
-                  (CAPTURE, RULES, *(f"{flag}={value}" for flag, value in FLAGS.items())),
+                  (*MESSAGES_FLAG, CAPTURE, RULES, *spelled(dict(reversed(FLAGS.items())))),
+                  (CAPTURE, RULES, "--messages=messages", *(f"{flag}={value}" for flag, value in FLAGS.items())),
                   (*flags[:4], CAPTURE, *flags[4:10], RULES, *flags[10:])):
         yield words, inside, NO_SEED
     for seed in GOOD_SEEDS:
         yield (CAPTURE, RULES, *flags, "--seed", seed), inside, seed
         yield (f"--seed={seed}", CAPTURE, RULES, *flags), inside, seed
     for networks in GOOD_INSIDES:
-        yield (CAPTURE, RULES, *spelled({**FLAGS, "--inside": networks})), networks, NO_SEED
+        yield (CAPTURE, RULES, *spelled({**FLAGS, "--inside": networks}), *MESSAGES_FLAG), networks, NO_SEED
+
+
+def peers():
+    """The words of lines that fit, with a peer by its address and by its name."""
+    flags = spelled(FLAGS)
+    yield (CAPTURE, RULES, *flags, *PEER_FLAG)
+    yield ("--peer=peer", CAPTURE, RULES, *flags)
+    yield (*PEER_FLAG, *flags[:6], CAPTURE, *flags[6:], RULES)
+    yield (CAPTURE, RULES, *flags, "--peer", "localhost:peer")

@@ -1,29 +1,37 @@
 """A model of the program: what its commands `run` and `check` leave, where the command line fits and files open.
 
-What a run comes to stands in steps.replay, what a ruleset means in expansions.model. Here is what is said of it, and what
-the files hold.
+What a run comes to stands in steps.replay, its messages in messages.run, what a ruleset means in expansions.model. Here
+is what is said of it, and what the files hold.
 """
 
 import hashlib
+from functools import lru_cache
 from typing import NamedTuple
 
 from captures.model import Refused
+from messages.run import Told, told_of
+from messages.spelling import bare, in_file
 from rulesets.tree import Network
-from steps.replay import Interface, job_of, replay_of, ruleset_of
+from steps.replay import Interface, Replay, job_of, replay_of, ruleset_of
 
-# what a run writes, in the order in which the files are opened
-OUTPUTS = ("verdicts", "packets", "counters", "states")
+# what each run writes, in the order in which the files are opened; messages are written where that is asked for
+REQUIRED = ("verdicts", "packets", "counters", "states")
+OUTPUTS = (*REQUIRED, "messages")
+# the forms of messages: in a file each stands behind an IP header, a peer gets them bare, and there may be none
+FILE, PEER, NONE = "a file of messages", "a peer", "no messages"
 
 
 class Files(NamedTuple):
-    """The bytes of the four files, None where a file isn't there, or is left as it was."""
+    """The bytes of the outputs, None where a file isn't there, or is left as it was. Those of the messages may be what a
+    peer got, None where it wasn't called."""
     verdicts: bytes | None = None
     packets: bytes | None = None
     counters: bytes | None = None
     states: bytes | None = None
+    messages: bytes | None = None
 
 
-UNTOUCHED, EMPTY = Files(), Files(b"", b"", b"", b"")
+UNTOUCHED, EMPTY = Files(), Files(b"", b"", b"", b"", b"")
 
 
 class Outcome(NamedTuple):
@@ -65,28 +73,72 @@ def interface_of(name, word):
     return Interface(name, address, int(bits))
 
 
-def files_of(texts):
-    """What the texts of a run leave in the files."""
-    return Files(texts.verdicts.encode(), texts.packets, (texts.counters or "").encode(), (texts.states or "").encode())
-
-
-def run(case):
-    """What the command `run` leaves for a Case."""
+def job_of_case(case):
     networks = tuple(map(network_of, case.inside.split(",")))
+    return job_of(case.rules, interface_of(case.interface, case.address), networks, bytes.fromhex(case.seed))
+
+
+class Done(NamedTuple):
+    """A run with the events of its packets, and the messages that it writes."""
+    replay: Replay
+    told: Told
+    messages: list
+
+
+@lru_cache(maxsize=1)
+def done_of(case):
+    """What a Case comes to whose ruleset has no fault."""
+    job = job_of_case(case)
+    replay = replay_of(job, case.capture)
+    told = told_of(case.rules, interface_of(case.interface, case.address), job, replay.steps)
+    return Done(replay, told, told.out(replay.tail in ("clean", "cut")))
+
+
+def spelled(messages, form, address):
+    """The bytes of messages in a form, from an interface's address with its bits."""
+    if form == NONE:
+        return None
+    return b"".join(in_file(each, address.partition("/")[0]) if form == FILE else bare(each) for each in messages)
+
+
+def opened(form):
+    """What is left where all files were opened, and no more."""
+    return EMPTY._replace(messages=None) if form == NONE else EMPTY
+
+
+def files_of(case, form):
+    """What a run leaves in the files."""
+    done = done_of(case)
+    texts = done.replay.texts
+    return Files(texts.verdicts.encode(), texts.packets, (texts.counters or "").encode(), (texts.states or "").encode(),
+                 spelled(done.messages, form, case.address))
+
+
+def run(case, form=FILE):
+    """What the command `run` leaves for a Case, with its messages in a form."""
     try:
-        job = job_of(case.rules, interface_of(case.interface, case.address), networks, bytes.fromhex(case.seed))
+        job_of_case(case)
     except Refused as why:
         return refused(f"rules {why}")
     try:
-        done = replay_of(job, case.capture)
+        replay = done_of(case).replay
     except Refused as why:
-        return refused(why, EMPTY)
-    files, committed = files_of(done.texts), f"committed {len(done.steps)}"
-    if done.tail == "clean":
+        return refused(why, opened(form))
+    files, committed = files_of(case, form), f"committed {len(replay.steps)}"
+    if replay.tail == "clean":
         return Outcome(f"{committed}\n".encode(), b"", 0, files)
-    if done.tail == "cut":
+    if replay.tail == "cut":
         return Outcome(f"{committed}, cut\n".encode(), b"", 2, files)
-    return refused(f"capture: {done.tail}, {committed}", files)
+    return refused(f"capture: {replay.tail}, {committed}", files)
+
+
+def online(case, count, form=FILE):
+    """What stands in the files behind so many packets, while the run goes on."""
+    done = done_of(case)
+    written = done.replay.steps[:count]
+    messages = spelled(done.told.online(count), form, case.address)
+    return Files("".join(each.verdict_line() + "\n" for each in written).encode(),
+                 case.capture[:24] + b"".join(each.text() for each in written), b"", b"", messages)
 
 
 def check(text, interface, address):

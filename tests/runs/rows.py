@@ -40,7 +40,7 @@ def ending(name, capture, texts, tail):
     """A row of `steps.rows.ends`."""
     case, count = Case(name, b"block in", INSIDE, capture), texts.verdicts.count("\n")
     files = {"verdicts": texts.verdicts.encode(), "packets": texts.packets, "counters": (texts.counters or "").encode(),
-             "states": (texts.states or "").encode()}
+             "states": (texts.states or "").encode(), "messages": b""}
     if tail not in ("clean", "cut"):
         return refused(case, b"capture: %s, committed %d" % (tail.encode(), count), **files)
     out, status = (b"committed %d, cut\n", 2) if tail == "cut" else (b"committed %d\n", 0)

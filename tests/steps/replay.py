@@ -1,5 +1,5 @@
-"""A model of the serial run with states and translation, without messages to other firewalls: a ruleset's text, an
-interface, inside networks, a seed and a capture to what each packet comes to and to the texts that the run leaves.
+"""A model of the serial run with states and translation: a ruleset's text, an interface, inside networks, a seed and a
+capture to what each packet comes to and to the texts that the run leaves. Its messages stand in messages.run.
 
 It is written from the description of the formats alone. What one packet comes to is in model.py; here is what goes
 round it:
