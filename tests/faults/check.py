@@ -6,19 +6,19 @@ output and standard error are written.
 
 import re
 
-from faults.replay import MEMORY, MESSAGES, TRANSFER, judge_lost
+from faults.replay import ERROR, MEMORY, TRANSFER, judge_lost
 from faults.trial import Target, Unlawful
 
 RULES = Target("read", "", TRANSFER)
 ANSWER = Target("write", "1", TRANSFER)
-TARGETS = (MEMORY, RULES, ANSWER, MESSAGES)
+TARGETS = (MEMORY, RULES, ANSWER, ERROR)
 # the place of the word for the ruleset
 RULES_WORD = 2
 
 # in the order of the summary
-ENDINGS = ("whole", "shorter input", "cannot open", "write failed", "no memory", "message lost")
+ENDINGS = ("whole", "shorter input", "cannot open", "write failed", "no memory", "error lost")
 
-# a cut read or write changes nothing; what an input that ends early or a lost message leaves is judged apart
+# a cut read or write changes nothing; what an input that ends early or a lost error leaves is judged apart
 LAWFUL = {
     (MEMORY, "fail"): {"whole", "no memory"},
     (RULES, "fail"): {"cannot open"},
@@ -38,7 +38,7 @@ def judge(trial, fault, counts, seen):
     """The ending of a run with this fault, one of ENDINGS; Unlawful where it is none of the lawful ones."""
     if fault.target == RULES and fault.deed == "zero":
         return judge_shorter(trial, counts, seen)
-    if fault.target == MESSAGES and fault.deed != "cut":
+    if fault.target == ERROR and fault.deed != "cut":
         return judge_lost(trial.clean, seen)
     ending = ending_of(trial, seen)
     if ending not in LAWFUL.get((fault.target, fault.deed), {"whole"}):

@@ -1,6 +1,7 @@
 """Runs pfreplay with each of its allocations, reads and writes failing in turn, and judges how each run ends.
 
-Before that the judge of the command `run` is handed made-up endings.
+Before that the judge of the command `run` is handed made-up endings, and some runs are asked for endings that are written
+out.
 """
 
 import sys
@@ -8,17 +9,24 @@ import tempfile
 from pathlib import Path
 
 import building
-from captures.packets import record
-from faults import judged
+from captures.packets import capture_header, record
+from faults import judged, rows, trial
 from faults.command import ends_lawfully
+from messages.rows import NOT_IPV4, flow, reply
 from runs.case import EXAMPLE_INSIDES, EXAMPLES, INSIDE
-from runs.model import OUTPUTS
+from runs.model import REQUIRED
 
 INTERFACE = ("--interface", "em0", "--address", "192.0.2.1/24")
+# where messages go
+FILE, PEER, NOWHERE = ("messages",), (trial.PEER,), ()
 # captures and rulesets of the examples: one capture makes more than a batch of packets, one ruleset has a fault
-RUNS = (("gateway", "gateway"), ("home", "home"), ("server", "server"), ("router", "router"), ("gateway", "broken"))
+RUNS = (("gateway", "gateway", FILE), ("home", "home", FILE), ("server", "server", FILE), ("router", "router", FILE),
+        ("gateway", "broken", FILE), ("home", "home", PEER), ("server", "server", NOWHERE))
 CHECKS = ("gateway", "broken")
 CUT_LENGTH, TOO_LONG = 2000, 262145
+# of each flow a second has the first packet and its reply
+SECONDS, FLOWS, LATE = 6, 25, 200
+TELLING_RULES = b"set timeout udp.single 3\nblock in\npass out"
 
 
 def bad_captures():
@@ -27,12 +35,22 @@ def bad_captures():
     yield (EXAMPLES / "first.pcap").read_bytes() + record(0, 0, b"", captured=TOO_LONG), "first"
 
 
-def run_ends_lawfully(program, capture, rules):
-    """Whether the command `run` does, on a capture and a ruleset of the examples."""
-    print(f"run {capture.name} {rules}.conf")
-    outputs = [word for name in OUTPUTS for word in (f"--{name}", name)]
-    return ends_lawfully("replay", [program, "run", capture, EXAMPLES / f"{rules}.conf", *INTERFACE,
-                                    "--inside", EXAMPLE_INSIDES.get(rules, INSIDE), *outputs])
+def telling_capture():
+    """A capture of two batches whose states come, move on and go, so that messages of each kind close in both, and one at
+    the end."""
+    packets = [(second, make(second * FLOWS + place)) for second in range(SECONDS) for make in (flow, reply)
+               for place in range(FLOWS)]
+    ends = [(LATE, NOT_IPV4), (LATE, flow(0)), (LATE + 1, reply(0))]
+    return capture_header() + b"".join(record(second, 0, packet) for second, packet in packets + ends)
+
+
+def run_ends_lawfully(program, capture, rules, messages=FILE):
+    """Whether the command `run` does, on the files of a capture and a ruleset, with its messages in a file, to a peer or
+    without them."""
+    print(f"run {capture.name} {rules.name} {' '.join(messages)}".rstrip())
+    outputs = [word for name in (*REQUIRED, *messages) for word in (f"--{name}", name)]
+    return ends_lawfully("replay", [program, "run", capture, rules, *INTERFACE,
+                                    "--inside", EXAMPLE_INSIDES.get(rules.stem, INSIDE), *outputs])
 
 
 def check_ends_lawfully(program, rules):
@@ -42,12 +60,17 @@ def check_ends_lawfully(program, rules):
 
 def compare(program):
     """How many commands end otherwise than is lawful."""
-    lawful = [run_ends_lawfully(program, EXAMPLES / f"{capture}.pcap", rules) for capture, rules in RUNS]
+    lawful = [run_ends_lawfully(program, EXAMPLES / f"{capture}.pcap", EXAMPLES / f"{rules}.conf", messages)
+              for capture, rules, messages in RUNS]
     with tempfile.TemporaryDirectory() as folder:
         for capture, rules in bad_captures():
             file = Path(folder) / f"bad_{rules}.pcap"
             file.write_bytes(capture)
-            lawful.append(run_ends_lawfully(program, file, rules))
+            lawful.append(run_ends_lawfully(program, file, EXAMPLES / f"{rules}.conf"))
+        capture, rules = Path(folder) / "telling.pcap", Path(folder) / "telling.conf"
+        capture.write_bytes(telling_capture())
+        rules.write_bytes(TELLING_RULES)
+        lawful += [run_ends_lawfully(program, capture, rules, messages) for messages in (FILE, PEER)]
     lawful += [check_ends_lawfully(program, rules) for rules in CHECKS]
     return lawful.count(False)
 
@@ -58,4 +81,4 @@ def model_alone():
 
 def main():
     program = building.pfreplay()
-    sys.exit(bool(judged.compare() + compare(program)))
+    sys.exit(bool(judged.compare() + rows.compare(program) + compare(program)))

@@ -11,6 +11,7 @@
 #include <stdlib.h>
 #include <string.h>
 #include <sys/mman.h>
+#include <sys/socket.h>
 #include <sys/stat.h>
 #include <sys/uio.h>
 #include <unistd.h>
@@ -43,10 +44,14 @@ static bool active;
 
 // The file whose reads and writes count alone, where one is named. It may be made only later.
 static const char *wanted_file;
+// Whether those of sockets count alone.
+static bool wanted_sockets;
 
 static bool is_wanted_file(int descriptor)
 {
     struct stat named, open_file;
+    if (wanted_sockets)
+        return fstat(descriptor, &open_file) == 0 && S_ISSOCK(open_file.st_mode);
     return wanted_file == NULL
         || (stat(wanted_file, &named) == 0 && fstat(descriptor, &open_file) == 0 && named.st_dev == open_file.st_dev
             && named.st_ino == open_file.st_ino);
@@ -205,6 +210,12 @@ TRANSFERS(WRITE, write, (int descriptor, const void *bytes, size_t size), (descr
           real_write(descriptor, bytes, one_of(size)))
 TRANSFERS(WRITE, writev, (int descriptor, const struct iovec *pieces, int count), (descriptor, pieces, count),
           real_writev(descriptor, (struct iovec[]){first_byte(pieces, count)}, 1))
+TRANSFERS(WRITE, send, (int descriptor, const void *bytes, size_t size, int flags), (descriptor, bytes, size, flags),
+          real_send(descriptor, bytes, one_of(size), flags))
+TRANSFERS(WRITE, sendto,
+          (int descriptor, const void *bytes, size_t size, int flags, const struct sockaddr *to, socklen_t length),
+          (descriptor, bytes, size, flags, to, length),
+          real_sendto(descriptor, bytes, one_of(size), flags, to, length))
 
 // Descriptors as `0,3`, or all others as `!0,3`.
 static void read_filter(const char *name, struct filter *filter)
@@ -257,6 +268,7 @@ __attribute__((constructor)) static void start(void)
     read_filter("FAULT_READS", &filters[READ]);
     read_filter("FAULT_WRITES", &filters[WRITE]);
     wanted_file = getenv("FAULT_FILE");
+    wanted_sockets = getenv("FAULT_SOCKETS") != NULL;
     if (getenv("FAULT_REPORT") != NULL)
         open_report(getenv("FAULT_REPORT"));
     // programs that this one starts run without faults

@@ -8,13 +8,17 @@ from typing import NamedTuple
 
 from captures.packets import capture_header, record, udp
 from faults import replay
-from faults.trial import Counts, Fault, Seen, Unlawful
+from faults.trial import PEER, Counts, Fault, Seen, Unlawful
 from runs import model
 from runs.case import Case
+from runs.model import Files
 
-PACKETS = [udp("10.0.0.5", 1000, "198.51.100.7", 53), udp("203.0.113.9", 9, "192.0.2.1", 9)] * 300
+# each second one makes a state, so that six of these fill a message
+PACKETS = [packet for number in range(300) for packet in (udp("10.0.0.5", 1000 + number, "198.51.100.7", 53),
+                                                          udp("203.0.113.9", 9, "192.0.2.1", 9))]
+RULES = b"block in\npass out"
 CAPTURE = capture_header() + b"".join(record(0, 0, packet) for packet in PACKETS)
-CASE = Case("made up", b"block in\npass out", "10.0.0.0/8", CAPTURE)
+CASE = Case("made up", RULES, "10.0.0.0/8", CAPTURE)
 RECORD = 16 + len(PACKETS[0])
 HEADER = 24
 BATCH, TWO_BATCHES, COUNT = 256, 512, 600
@@ -34,33 +38,37 @@ class Ending(NamedTuple):
     target: replay.Target
     err: str
     status: int
-    files: tuple
+    files: Files
     out: bytes = b""
     # bytes that were read before the fault
     moved: int = 0
 
 
-def trial_of(capture):
-    outcome = model.run(CASE)
-    words = ["program", "run", capture, "rules", *(word for name in replay.OUTPUTS for word in (f"--{name}", name))]
-    return MadeUp(words, Seen(outcome.status, outcome.out, outcome.err, tuple(outcome.files)))
+def trial_of(capture, rules, form):
+    """A made-up run with its messages in a form."""
+    outcome = model.run(CASE, form)
+    names = {model.FILE: model.OUTPUTS, model.PEER: (*model.REQUIRED, PEER), model.NONE: model.REQUIRED}[form]
+    words = ["program", "run", capture, rules, "--interface", CASE.interface, "--address", CASE.address, "--inside",
+             CASE.inside, *(word for name in names for word in (f"--{name}", name))]
+    return MadeUp(words, Seen(outcome.status, outcome.out, outcome.err, tuple(outcome.files)[:len(names)]))
 
 
 class Pieces:
     """What the outputs hold after so many packets."""
 
     def __init__(self, trial):
-        self.whole = trial.clean.files
-        self.told = replay.Whole(self.whole)
+        self.whole = replay.texts_of(trial.clean.files)
+        self.told = replay.whole_of(trial)
 
-    def verdicts(self, count):
-        return self.told.online(count)[0]
+    def online(self, count, **others):
+        """Behind so many packets, but that some outputs are others."""
+        return self.told.online(count)._replace(**others)
 
-    def packets(self, count):
-        return self.told.online(count)[1]
+    def ended(self, **others):
+        return self.whole._replace(**others)
 
-    def online(self, count):
-        return (*self.told.online(count), b"", b"")
+
+NOTHING = Files(b"", b"", b"", b"", b"")
 
 
 def failing(name, output, committed, files, **more):
@@ -76,94 +84,165 @@ def refusing(name, committed, files):
 
 
 def right_endings(pieces):
-    """Endings that are lawful."""
-    verdicts, packets, counters, states = pieces.whole
-    for count in (0, BATCH, TWO_BATCHES):
-        yield failing(f"verdicts behind {count}", "verdicts", count, pieces.online(count))
-        yield refusing(f"memory behind {count}", count, pieces.online(count))
-    yield failing("the capture's header", "packets", 0, (b"",) * 4)
-    for count, before in ((BATCH, 0), (TWO_BATCHES, BATCH), (COUNT, TWO_BATCHES)):
-        yield failing(f"packets of {count}", "packets", before, (pieces.verdicts(count), pieces.packets(before), b"", b""))
-        yield refusing(f"memory between verdicts and packets of {count}", before,
-                       (pieces.verdicts(count), pieces.packets(before), b"", b""))
-    yield failing("counters", "counters", COUNT, (verdicts, packets, b"", b""))
-    yield failing("states", "states", COUNT, (verdicts, packets, counters, b""))
-    yield refusing("memory for the counters", COUNT, (verdicts, packets, b"", b""))
+    """Endings that are lawful, whatever the form of the messages."""
+    for count, following in ((0, BATCH), (BATCH, TWO_BATCHES), (TWO_BATCHES, COUNT)):
+        now, then = pieces.online(count), pieces.online(following)
+        yield failing(f"verdicts behind {count}", "verdicts", count, now._replace(messages=then.messages))
+        yield failing(f"packets behind {count}", "packets", count, then._replace(packets=now.packets))
+        yield refusing(f"memory behind {count}", count, now)
+        yield refusing(f"memory between messages and verdicts behind {count}", count,
+                       now._replace(messages=then.messages))
+        yield refusing(f"memory between verdicts and packets behind {count}", count, then._replace(packets=now.packets))
+    yield failing("the capture's header", "packets", 0, NOTHING)
+    yield failing("counters", "counters", COUNT, pieces.ended(counters=b"", states=b""))
+    yield failing("states", "states", COUNT, pieces.ended(states=b""))
+    yield refusing("memory for the last message", COUNT, pieces.online(COUNT))
+    yield refusing("memory for the counters", COUNT, pieces.ended(counters=b"", states=b""))
     yield refusing("memory for the answer", COUNT, pieces.whole)
-    yield refusing("memory before a file is opened", 0, (None,) * 4)
-    yield refusing("memory between two files", 0, (b"", b"", None, None))
-    yield Ending("memory for the ruleset", replay.MEMORY, "rules line 0: no memory", 4, (None,) * 4)
-    yield Ending("memory for the ruleset in the run", replay.MEMORY, "rules line 0: no memory", 4, (b"",) * 4)
+    yield refusing("memory before a file is opened", 0, Files())
+    yield refusing("memory between two files", 0, Files(b"", b""))
+    yield refusing("memory before the last file", 0, NOTHING._replace(messages=None))
+    yield Ending("memory for the ruleset", replay.MEMORY, "rules line 0: no memory", 4, Files())
+    yield Ending("memory for the ruleset in the run", replay.MEMORY, "rules line 0: no memory", 4, NOTHING)
     for count in (0, 1, 255, BATCH, 257, COUNT):
         yield reading(f"a read behind {count} records", count, pieces.online(count), HEADER + count * RECORD + 20)
-    yield reading("the first read", 0, (b"",) * 4, 0)
-    yield reading("a read in the header", 0, (b"",) * 4, HEADER - 1)
+    yield reading("the first read", 0, NOTHING, 0)
+    yield reading("a read in the header", 0, NOTHING, HEADER - 1)
     yield Ending("the answer", replay.ANSWER, "write failed: standard output", 3, pieces.whole)
-    yield Ending("the ruleset", replay.RULES, "cannot open: rules", 3, (None,) * 4)
+    yield Ending("the ruleset", replay.RULES, "cannot open: RULES", 3, Files())
+
+
+def right_messages(pieces, target):
+    """Those of messages that are written to a target."""
+    for count in (0, BATCH, TWO_BATCHES):
+        yield Ending(f"messages behind {count}", target, f"write failed: messages, committed {count}", 3,
+                     pieces.online(count))
+    yield Ending("the last message", target, f"write failed: messages, committed {COUNT}", 3, pieces.online(COUNT))
 
 
 def wrong_endings(pieces):
     """Endings that aren't, each by one thing."""
-    verdicts, packets, counters, states = pieces.whole
+    verdicts, packets, counters, states, _ = pieces.whole
     behind_read = HEADER + 300 * RECORD
-    yield reading("counters behind a read that failed", 300, (*pieces.online(300)[:2], counters, b""), behind_read)
-    yield reading("states behind a read that failed", 300, (*pieces.online(300)[:2], b"", states), behind_read)
+    two_batches = pieces.online(TWO_BATCHES)
+    yield reading("counters behind a read that failed", 300, pieces.online(300, counters=counters), behind_read)
+    yield reading("states behind a read that failed", 300, pieces.online(300, states=states), behind_read)
     yield reading("one committed too many", 301, pieces.online(300), behind_read)
     yield reading("one committed too few", 299, pieces.online(300), behind_read)
     yield reading("the last batch not written", BATCH, pieces.online(BATCH), behind_read)
     yield reading("a packet that wasn't read", 301, pieces.online(301), behind_read)
     yield reading("a header that wasn't read", 0, pieces.online(0), HEADER - 1)
-    yield reading("a file that isn't opened", 0, (b"", b"", b"", None), 0)
+    yield reading("a file that isn't opened", 0, NOTHING._replace(states=None, messages=None), 0)
     for count, name in ((0, "none"), (TWO_BATCHES, "too many"), (255, "no boundary"), (BATCH + 1, "one too many")):
-        yield failing(f"verdicts, {name} committed", "verdicts", count, pieces.online(BATCH))
+        files = pieces.online(BATCH, messages=two_batches.messages)
+        yield failing(f"verdicts, {name} committed", "verdicts", count, files)
         yield refusing(f"memory, {name} committed", count, pieces.online(BATCH))
-    yield failing("packets before verdicts", "verdicts", 0, (b"", pieces.packets(BATCH), b"", b""))
+    first = pieces.online(BATCH)
+    yield failing("packets before verdicts", "verdicts", 0, first._replace(verdicts=b""))
     yield failing("packets before verdicts, told of the packets", "packets", 0, pieces.online(0))
-    yield failing("no header before the verdicts", "packets", 0, (pieces.verdicts(BATCH), b"", b"", b""))
-    yield failing("a part of a write that failed", "verdicts", 0, (verdicts[:10], packets[:24], b"", b""))
+    yield failing("no header before the verdicts", "packets", 0, first._replace(packets=b""))
+    yield failing("a part of a write that failed", "verdicts", 0, first._replace(verdicts=verdicts[:10],
+                                                                               packets=packets[:HEADER]))
     header_twice = packets[:HEADER] + packets
-    yield failing("the header twice", "counters", COUNT, (verdicts, header_twice, b"", b""))
+    yield failing("the header twice", "counters", COUNT, pieces.ended(packets=header_twice, counters=b"", states=b""))
     yield failing("another output", "packets", BATCH, pieces.online(BATCH))
-    yield failing("counters behind verdicts that failed", "verdicts", BATCH, (*pieces.online(BATCH)[:2], counters, b""))
-    yield failing("states before counters", "counters", COUNT, (verdicts, packets, b"", states))
-    yield failing("no counters before the states", "states", COUNT, (verdicts, packets, b"", b""))
+    yield failing("counters behind verdicts that failed", "verdicts", BATCH,
+                  pieces.online(BATCH, messages=two_batches.messages, counters=counters))
+    yield failing("states before counters", "counters", COUNT, pieces.ended(counters=b""))
+    yield failing("no counters before the states", "states", COUNT, pieces.ended(counters=b"", states=b""))
     yield failing("a whole run that is told to have failed", "states", COUNT, pieces.whole)
-    yield failing("a line too few before the counters", "counters", COUNT, (verdicts[:-1], packets, b"", b""))
-    yield refusing("counters, and not all packets", TWO_BATCHES, (*pieces.online(TWO_BATCHES)[:2], counters, b""))
-    yield refusing("states without counters", COUNT, (verdicts, packets, b"", states))
-    yield refusing("two batches past what is told", 0, (pieces.verdicts(TWO_BATCHES), packets[:HEADER], b"", b""))
-    yield refusing("a file missing between others", 0, (b"", None, b"", None))
-    yield refusing("a file written before all are open", 0, (b"", packets[:HEADER], None, None))
-    yield Ending("the status of another end", replay.MEMORY, "no memory, committed 0", 3, (None,) * 4)
+    yield failing("a line too few before the counters", "counters", COUNT,
+                  pieces.ended(verdicts=verdicts[:-1], counters=b"", states=b""))
+    yield refusing("counters, and not all packets", TWO_BATCHES, two_batches._replace(counters=counters))
+    yield refusing("states without counters", COUNT, pieces.ended(counters=b""))
+    yield refusing("two batches past what is told", 0, two_batches._replace(packets=packets[:HEADER]))
+    yield refusing("a file missing between others", 0, NOTHING._replace(packets=None))
+    yield refusing("a file written before all are open", 0, Files(b"", packets[:HEADER]))
+    yield Ending("the status of another end", replay.MEMORY, "no memory, committed 0", 3, Files())
     yield Ending("a stop that isn't told", replay.WRITES["verdicts"], "", 0, pieces.online(0))
-    yield Ending("a read that fails for no reason", replay.MEMORY, "read failed, committed 0", 3, (b"",) * 4)
+    yield Ending("a read that fails for no reason", replay.MEMORY, "read failed, committed 0", 3, NOTHING)
     yield Ending("an answer besides", replay.WRITES["states"], f"write failed: states, committed {COUNT}", 3,
-                 (verdicts, packets, counters, b""), b"committed 600\n")
-    yield Ending("a file opened before the ruleset", replay.RULES, "cannot open: rules", 3, (b"", None, None, None))
-    yield Ending("another file's name", replay.RULES, "cannot open: capture", 3, (None,) * 4)
+                 pieces.ended(states=b""), b"committed 600\n")
+    yield Ending("a file opened before the ruleset", replay.RULES, "cannot open: RULES", 3, Files(b""))
+    yield Ending("another file's name", replay.RULES, "cannot open: capture", 3, Files())
     yield Ending("files cut off by the answer", replay.ANSWER, "write failed: standard output", 3, pieces.online(COUNT))
-    yield Ending("two lines", replay.MEMORY, "no memory, committed 0\n", 4, (None,) * 4)
+    yield Ending("two lines", replay.MEMORY, "no memory, committed 0\n", 4, Files())
+
+
+def wrong_messages(pieces, target):
+    """Those where there are messages, which are written to a target."""
+    counters, states, messages = pieces.whole[2:]
+    first, second = pieces.online(BATCH), pieces.online(TWO_BATCHES)
+    behind_read = HEADER + 300 * RECORD
+
+    def told(name, committed, files):
+        return Ending(name, target, f"write failed: messages, committed {committed}", 3, files)
+
+    yield told("verdicts before messages", 0, first._replace(messages=b""))
+    yield told("verdicts before messages, behind a batch", BATCH, second._replace(messages=first.messages))
+    yield told("a part of the messages that failed", 0, pieces.online(0, messages=first.messages[:10]))
+    yield told("messages that are told to have failed and are there", BATCH, pieces.online(BATCH, messages=second.messages))
+    yield told("a batch that isn't committed", BATCH, pieces.online(0, messages=first.messages))
+    yield told("the last message failed and is there", COUNT, pieces.ended(counters=b"", states=b""))
+    yield told("counters before the last message", COUNT, pieces.online(COUNT, counters=counters))
+    yield told("states before the last message", COUNT, pieces.online(COUNT, counters=counters, states=states))
+    yield told("the last message, and less is committed", TWO_BATCHES, pieces.online(COUNT))
+    yield failing("messages behind verdicts", "verdicts", BATCH, first)
+    yield failing("messages behind packets", "packets", BATCH, second._replace(packets=first.packets,
+                                                                              messages=first.messages))
+    yield failing("no last message before the counters", "counters", COUNT, pieces.online(COUNT))
+    yield failing("no last message before the states", "states", COUNT, pieces.online(COUNT, counters=counters))
+    yield reading("the open message behind a read that failed", 300,
+                  pieces.online(300, messages=messages[:len(pieces.online(300).messages) + 1482]), behind_read)
+    yield reading("a message missing behind a read that failed", 300, pieces.online(300, messages=first.messages),
+                  behind_read)
+    yield reading("no messages behind a read that failed", 300, pieces.online(300, messages=b""), behind_read)
+    yield refusing("messages of a batch that is committed are missing", BATCH, first._replace(messages=b""))
+    yield refusing("messages two batches past what is told", 0, pieces.online(0, messages=second.messages))
+    yield refusing("the last message, and not all packets", TWO_BATCHES, second._replace(messages=messages))
+    yield refusing("counters without the last message", COUNT, pieces.online(COUNT, counters=counters))
+    yield refusing("messages opened before the states", 0, NOTHING._replace(states=None))
+    yield Ending("the answer without the last message", replay.ANSWER, "write failed: standard output", 3,
+                 pieces.ended(messages=pieces.online(COUNT).messages))
+    yield told("one committed too many", 1, pieces.online(0))
+    yield told("other messages", 0, pieces.online(0, messages=b"E\x11"))
 
 
 def is_allowed(trial, ending):
-    err = f"pfreplay: {ending.err}\n".encode() if ending.err else b""
+    err = f"pfreplay: {ending.err.replace('RULES', trial.name_of('rules'))}\n".encode() if ending.err else b""
+    files = tuple(ending.files)[:len(trial.clean.files)]
     try:
         replay.judge(trial, Fault(ending.target, "fail", 1), Counts(True, 1, ending.moved),
-                     Seen(ending.status, ending.out, err, ending.files))
+                     Seen(ending.status, ending.out, err, files))
     except Unlawful:
         return False
     return True
 
 
+def judged(trial, target):
+    """How many endings there are of a run, and those that are judged wrongly; with the target of its messages, if it has
+    any."""
+    pieces = Pieces(trial)
+    right, wrong = list(right_endings(pieces)), list(wrong_endings(pieces))
+    if target:
+        right += right_messages(pieces, target)
+        wrong += wrong_messages(pieces, target)
+    faults = [f"refused: {ending.name}" for ending in right if not is_allowed(trial, ending)]
+    faults += [f"allowed: {ending.name}" for ending in wrong if is_allowed(trial, ending)]
+    return len(right) + len(wrong), faults
+
+
 def compare():
     """How many endings are judged wrongly."""
-    with tempfile.NamedTemporaryFile() as capture:
-        capture.write(CAPTURE)
-        capture.flush()
-        trial = trial_of(capture.name)
-        pieces = Pieces(trial)
-        wrong = [f"refused: {ending.name}" for ending in right_endings(pieces) if not is_allowed(trial, ending)]
-        wrong += [f"allowed: {ending.name}" for ending in wrong_endings(pieces) if is_allowed(trial, ending)]
-        count = len([*right_endings(pieces), *wrong_endings(pieces)])
+    count, wrong = 0, []
+    with tempfile.NamedTemporaryFile() as capture, tempfile.NamedTemporaryFile() as rules:
+        for file, text in ((capture, CAPTURE), (rules, RULES)):
+            file.write(text)
+            file.flush()
+        for form, target in ((model.FILE, replay.WRITES["messages"]), (model.PEER, replay.WRITES[PEER]),
+                             (model.NONE, None)):
+            judged_count, faults = judged(trial_of(capture.name, rules.name, form), target)
+            count += judged_count
+            wrong += [f"{form}: {fault}" for fault in faults]
     print(f"{count} endings, {len(wrong)} judged wrongly", *wrong, sep="\n  ")
     return len(wrong)

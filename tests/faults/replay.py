@@ -1,43 +1,51 @@
 """Which endings of the command `run` are lawful under each fault.
 
-The words behind `run` are the capture, the ruleset and the flags. The outputs are the four files that the flags name; what
-is to stand in them is told by the run without a fault.
+The words behind `run` are the capture, the ruleset and the flags, each with its value. The outputs are the files that the
+flags name, and what a peer gets. What is to stand in them is told by the run without a fault, and by the model how much of
+the messages is out behind each packet.
 """
 
 import re
+from functools import lru_cache
 from itertools import accumulate
+from pathlib import Path
 
-from faults.trial import Target, Unlawful
+from captures.model import Refused
+from faults.trial import PEER, Target, Unlawful
+from runs import model
+from runs.case import NO_SEED, Case
+from runs.model import Files
 
 BATCH = 256
 HEADER, RECORD_HEADER = 24, 16
 TRANSFER = ("fail", "cut", "zero")
-# in the order in which they are opened
-OUTPUTS = ("verdicts", "packets", "counters", "states")
+# in the order in which they are opened; of the last two there is one at most
+OUTPUTS = (*model.OUTPUTS, PEER)
 
 MEMORY = Target("allocation", "", ("fail",))
 CAPTURE, RULES = (Target("read", "", TRANSFER, name) for name in ("capture", "rules"))
 WRITES = {name: Target("write", "", TRANSFER, name) for name in OUTPUTS}
-ANSWER, MESSAGES = (Target("write", descriptor, TRANSFER) for descriptor in ("1", "2"))
-TARGETS = (MEMORY, CAPTURE, RULES, *WRITES.values(), ANSWER, MESSAGES)
+ANSWER, ERROR = (Target("write", descriptor, TRANSFER) for descriptor in ("1", "2"))
+TARGETS = (MEMORY, CAPTURE, RULES, *WRITES.values(), ANSWER, ERROR)
 
 # in the order of the summary
-ENDINGS = ("whole", "shorter input", "read failed", "cannot open", *(f"{name} failed" for name in OUTPUTS), "answer failed",
-           "no memory", "message lost")
+ENDINGS = ("whole", "shorter input", "read failed", "cannot open", *(f"{name} failed" for name in model.OUTPUTS),
+           "answer failed", "no memory", "error lost")
 
-# a cut read or write changes nothing; what an input that ends early or a lost message leaves is judged apart
+# a cut read or write changes nothing; what an input that ends early or a lost error leaves is judged apart
 LAWFUL = {
     (MEMORY, "fail"): {"whole", "no memory"},
     (CAPTURE, "fail"): {"read failed"},
     (RULES, "fail"): {"cannot open"},
-    **{(target, deed): {f"{name} failed"} for name, target in WRITES.items() for deed in ("fail", "zero")},
+    **{(target, deed): {f"{'messages' if name == PEER else name} failed"} for name, target in WRITES.items()
+       for deed in ("fail", "zero")},
     **{(ANSWER, deed): {"answer failed"} for deed in ("fail", "zero")},
 }
 
 COMMITTED = rb"committed (0|[1-9][0-9]*)"
 TEXTS = (
     ("read failed", 3, rb"read failed, " + COMMITTED),
-    *((f"{name} failed", 3, rb"write failed: %s, " % name.encode() + COMMITTED) for name in OUTPUTS),
+    *((f"{name} failed", 3, rb"write failed: %s, " % name.encode() + COMMITTED) for name in model.OUTPUTS),
     ("answer failed", 3, rb"write failed[^,]*"),
     ("cannot open", 3, rb"cannot open: (.*)"),
     ("no memory", 4, rb"no memory, " + COMMITTED),
@@ -46,64 +54,122 @@ TEXTS = (
 
 
 def places(command):
-    """Which words of the command name its files."""
+    """Which words of the command name its files, and its peer."""
     first = command.index("run")
-    return {"capture": first + 1, "rules": first + 2, **{name: command.index(f"--{name}") + 1 for name in OUTPUTS}}
+    return {"capture": first + 1, "rules": first + 2,
+            **{name: command.index(f"--{name}") + 1 for name in OUTPUTS if f"--{name}" in command}}
+
+
+def outputs_of(command):
+    """The names of what the command writes."""
+    return [name for name in OUTPUTS if name in places(command)]
 
 
 # What the outputs hold
 
-class Whole:
-    """What a run without a fault leaves in the files, by the number of packets."""
+def case_of(command):
+    """The run of a command as the model has it."""
+    capture, rules, *words = command[command.index("run") + 1:]
+    flags = dict(zip(words[::2], words[1::2]))
+    return Case("", Path(rules).read_bytes(), flags["--inside"], Path(capture).read_bytes(), flags["--interface"],
+                flags["--address"], flags.get("--seed", NO_SEED))
 
-    def __init__(self, files):
-        verdicts, packets, self.counters, self.states = (text or b"" for text in files)
-        lines = verdicts.splitlines(keepends=True)
-        self.verdicts, self.packets = verdicts, packets
+
+def form_of(command):
+    return model.PEER if "--peer" in command else model.FILE if "--messages" in command else model.NONE
+
+
+def texts_of(files):
+    """What stands in files, nothing in one that isn't there."""
+    return Files(*(text or b"" for text in (*files, None)[:len(Files._fields)]))
+
+
+class Whole:
+    """What a run without a fault leaves in the files, by the number of packets. `messages_end` says how many bytes of
+    messages are out behind each."""
+
+    def __init__(self, files, messages_end):
+        self.files = texts_of(files)
+        lines = self.files.verdicts.splitlines(keepends=True)
         self.count = len(lines)
         self.lines_end = list(accumulate(map(len, lines), initial=0))
         self.packets_end = self.ends_of_packets(lines)
+        self.messages_end = messages_end
+        if len(messages_end) != self.count + 1:
+            raise Unlawful("the model has another number of packets")
 
     def ends_of_packets(self, lines):
         """Where the packets' text of the first packets ends."""
-        order = "little" if self.packets[:1] in (b"\xd4", b"\x4d") else "big"
-        ends = [min(HEADER, len(self.packets))]
+        packets = self.files.packets
+        order = "little" if packets[:1] in (b"\xd4", b"\x4d") else "big"
+        ends = [min(HEADER, len(packets))]
         for line in lines:
             place = ends[-1]
             if line.split()[3] in (b"pass", b"skip"):
-                place += RECORD_HEADER + int.from_bytes(self.packets[place + 8:place + 12], order)
+                place += RECORD_HEADER + int.from_bytes(packets[place + 8:place + 12], order)
             ends.append(place)
-        if ends[-1] != len(self.packets):
+        if ends[-1] != len(packets):
             raise Unlawful("the packets aren't those of the lines even without a fault")
         return ends
 
     def online(self, count):
-        """The verdicts and the packets once so many packets are written."""
-        return self.verdicts[:self.lines_end[count]], self.packets[:self.packets_end[count]]
+        """What the files hold once so many packets are written, and the run goes on."""
+        return Files(self.files.verdicts[:self.lines_end[count]], self.files.packets[:self.packets_end[count]], b"", b"",
+                     self.files.messages[:self.messages_end[count]])
 
     def boundaries(self):
         """The numbers of packets at which a batch ends."""
         return sorted({*range(BATCH, self.count + 1, BATCH), self.count} - {0})
 
-    def held(self, verdicts, packets):
-        """The greatest boundary up to which both are there, 0 where there is none."""
-        return max((count for count in self.boundaries()
-                    if len(verdicts) >= self.lines_end[count] and len(packets) >= self.packets_end[count]), default=0)
+    def is_held(self, count, files):
+        """Whether files hold at least what belongs to so many packets."""
+        return all(len(text) >= len(least) for text, least in zip(files, self.online(count)))
+
+    def held(self, files):
+        """The greatest boundary up to which all is there, 0 where there is none."""
+        return max((count for count in self.boundaries() if self.is_held(count, files)), default=0)
 
     def behind(self, count):
         """The least boundary above a number, or the number where there is none."""
         return min((boundary for boundary in self.boundaries() if boundary > count), default=count)
+
+    def most(self, committed):
+        """What the files may hold at most where so many packets are told as committed."""
+        return self.files if committed == self.count else self.online(self.behind(committed))
+
+    def failing(self, ending, committed, files):
+        """What is written before the write that fails."""
+        now, following = self.online(committed), self.online(self.behind(committed))
+        if ending == "packets failed" and not files.packets:
+            return Files(b"", b"", b"", b"", b"")
+        return {"messages failed": now, "verdicts failed": now._replace(messages=following.messages),
+                "packets failed": following._replace(packets=now.packets),
+                "counters failed": self.files._replace(counters=b"", states=b""),
+                "states failed": self.files._replace(states=b"")}[ending]
+
+
+@lru_cache
+def ends_of(words):
+    """How many bytes of messages are out behind each number of packets of a command."""
+    try:
+        return model.message_ends(case_of(words), form_of(words))
+    except Refused:
+        return [0]
+
+
+def whole_of(trial):
+    return Whole(trial.clean.files, ends_of(tuple(map(str, trial.command))))
 
 
 def is_untouched(seen):
     return all(text is None for text in seen.files)
 
 
-def check_beginnings(clean, seen):
+def check_beginnings(trial, seen):
     """Each output holds a beginning of what it holds without a fault, and files are opened in their order."""
-    if not clean.out.startswith(seen.out):
+    if not trial.clean.out.startswith(seen.out):
         raise Unlawful("standard output is no beginning of the whole one")
-    for name, whole, text in zip(OUTPUTS, clean.files, seen.files):
+    for name, whole, text in zip(outputs_of(trial.command), trial.clean.files, seen.files):
         if text is not None and (whole is None or not whole.startswith(text)):
             raise Unlawful(f"the {name} are no beginning of the whole ones")
     there = [text is not None for text in seen.files]
@@ -117,8 +183,8 @@ def judge(trial, fault, counts, seen):
     """The ending of a run with this fault, one of ENDINGS; Unlawful where it is none of the lawful ones."""
     if fault.target in (CAPTURE, RULES) and fault.deed == "zero":
         return judge_shorter(trial, fault, counts, seen)
-    check_beginnings(trial.clean, seen)
-    if fault.target == MESSAGES and fault.deed != "cut":
+    check_beginnings(trial, seen)
+    if fault.target == ERROR and fault.deed != "cut":
         return judge_lost(trial.clean, seen)
     ending, told = told_of(trial, seen)
     if ending not in LAWFUL.get((fault.target, fault.deed), {"whole"}):
@@ -163,36 +229,28 @@ def check(holds, otherwise):
 
 def check_committed(trial, ending, committed, counts, seen):
     """The outputs hold what belongs to the committed packets, and no more than may be there."""
-    whole = Whole(trial.clean.files)
-    verdicts, packets, counters, states = (text or b"" for text in seen.files)
+    whole, files = whole_of(trial), texts_of(seen.files)
     if ending == "read failed":
         check(None not in seen.files, "a file isn't opened before the capture is read")
-        check_read(trial, whole, committed, counts, seen)
+        check_read(trial, whole, committed, counts, files)
         return
-    check(committed == whole.held(verdicts, packets), "another number of packets is committed than is there")
+    check(committed == whole.held(files), "another number of packets is committed than is there")
     if ending == "no memory":
-        check_refused(whole, committed, seen.files)
+        check_refused(whole, committed, files)
         return
     check(None not in seen.files, "a file isn't opened before the first write")
-    if ending == "verdicts failed":
-        expected = (*whole.online(committed), b"", b"")
-    elif ending == "packets failed" and not packets:
-        expected = (b"", b"", b"", b"")
-    elif ending == "packets failed":
-        expected = (whole.online(whole.behind(committed))[0], whole.online(committed)[1], b"", b"")
-    else:
-        expected = (whole.verdicts, whole.packets, whole.counters if ending == "states failed" else b"", b"")
-    check(seen.files == expected, "the files aren't those of the writes before the one that failed")
+    check(files == whole.failing(ending, committed, files),
+          "the files aren't those of the writes before the one that failed")
 
 
-def check_read(trial, whole, committed, counts, seen):
+def check_read(trial, whole, committed, counts, files):
     """After a read that failed the outputs are just those of the records read before it."""
     with open(trial.name_of("capture"), "rb") as file:
         given = file.read(counts.moved)
     count = records_in(given)
     check(committed == count, f"{count} whole records were read")
-    expected = whole.online(count) if len(given) >= HEADER else (b"", b"")
-    check(seen.files == (*expected, b"", b""), "the files aren't those of the records read before")
+    expected = whole.online(count) if len(given) >= HEADER else texts_of((b"",) * 4)
+    check(files == expected, "the files aren't those of the records read before")
 
 
 def records_in(capture):
@@ -206,12 +264,13 @@ def records_in(capture):
 
 
 def check_refused(whole, committed, files):
-    """Where memory was refused no output goes past the next boundary, and each of the last two is written behind all."""
-    verdicts, packets, counters, states = (text or b"" for text in files)
-    most_verdicts, most_packets = whole.online(whole.behind(committed))
-    check(len(verdicts) <= len(most_verdicts) and len(packets) <= len(most_packets), "more is written than the next batch")
-    check(not counters or (verdicts, packets) == (whole.verdicts, whole.packets), "counters are written before the end")
-    check(not states or counters == whole.counters, "states are written before the counters")
+    """Where memory was refused no output goes past the next boundary. Behind all the last message is written, then the
+    counters, and then the states."""
+    most, ended = whole.most(committed), whole.files
+    check(all(len(text) <= len(longest) for text, longest in zip(files, most)), "more is written than the next batch")
+    check(not files.counters or files[:2] == ended[:2] and files.messages == ended.messages,
+          "counters are written before the end")
+    check(not files.states or files.counters == ended.counters, "states are written before the counters")
 
 
 def judge_shorter(trial, fault, counts, seen):
@@ -228,4 +287,4 @@ def judge_lost(clean, seen):
     """Where standard error can't be written the text may be lost, all of it or its end, but no more."""
     if seen._replace(err=clean.err) != clean or not clean.err.startswith(seen.err):
         raise Unlawful("more was lost than the text on standard error")
-    return "whole" if seen == clean else "message lost"
+    return "whole" if seen == clean else "error lost"

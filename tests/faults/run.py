@@ -5,7 +5,7 @@
 
 It prints how many runs ended each way, and exits with 1 where one ended in an unlawful way, and with 2 where no fault was
 reached. A word for a file that the command writes, as the judge tells, stands for a new file in each run; no file of that
-name is made.
+name is made. So does a word for a peer.
 """
 
 import argparse
@@ -87,8 +87,10 @@ def run(command, source, judge):
     with tempfile.TemporaryDirectory() as folder:
         places = judge.places(command) if hasattr(judge, "places") else {}
         trial = Trial(command, source, folder, places, getattr(judge, "OUTPUTS", ()))
-        calls = count_calls(trial, judge.TARGETS)
-        faults = [Fault(target, deed, number) for target in judge.TARGETS for deed in target.deeds
+        # a file that the command doesn't name has no calls
+        targets = [target for target in judge.TARGETS if not target.file or target.file in places]
+        calls = count_calls(trial, targets)
+        faults = [Fault(target, deed, number) for target in targets for deed in target.deeds
                   for number in range(1, calls[target] + 1)]
         with ThreadPoolExecutor(os.cpu_count()) as pool:
             results = list(pool.map(lambda fault: judged(trial, judge.judge, fault), faults))

@@ -7,18 +7,22 @@ import tempfile
 from pathlib import Path
 from typing import NamedTuple
 
+from runs.peers import Peer
+
 # seconds; other comparisons may run at the same time
 TIME_LIMIT = 30
 # as in `struct report`: loaded, fired, three counts of calls, three of bytes moved
 REPORT = struct.Struct("8Q")
 CALLS = ("allocation", "read", "write")
+# the name of the word that isn't a file but a peer
+PEER = "peer"
 
 
 class Target(NamedTuple):
     """A kind of call, each of which is to meet each of the deeds.
 
     Reads and writes count on these descriptors alone: `!0,1` is all but 0 and 1, no text is all. Where `file` says which
-    word of the command it is, they count on the file of that name alone.
+    word of the command it is, they count on the file of that name alone, or on sockets alone where that is the peer.
     """
     call: str
     descriptors: str
@@ -28,6 +32,8 @@ class Target(NamedTuple):
     def variables(self, names):
         """The variables that steer the library, where the command's files have these names."""
         variables = {"FAULT_FILE": names[self.file]} if self.file else {}
+        if self.file == PEER:
+            variables = {"FAULT_SOCKETS": "1"}
         if self.descriptors:
             variables[{"read": "FAULT_READS", "write": "FAULT_WRITES"}[self.call]] = self.descriptors
         return variables
@@ -53,7 +59,8 @@ class Fault(NamedTuple):
 class Seen(NamedTuple):
     """How a run ended: a status below 0 is the signal that ended it, None the time limit.
 
-    `files` are the bytes of the files that the run was to write, None for one that isn't there.
+    `files` are the bytes of the files that the run was to write, None for one that isn't there. Those of a peer are what
+    it got, None where it wasn't called.
     """
     status: int | None
     out: bytes
@@ -73,18 +80,30 @@ class Unlawful(Exception):
     """A run ended in a way that its judge doesn't allow."""
 
 
+def ended(run, peer):
+    """The status of a command that runs, None where it takes too long, and what its peer got, if it has one."""
+    taken = None
+    try:
+        taken = peer and peer.take(run)
+        return run.wait(TIME_LIMIT), taken
+    except (subprocess.TimeoutExpired, TimeoutError):
+        run.kill()
+        return None, taken
+
+
 class Trial:
     """A command with its standard input, and the library built for it.
 
-    `places` says by names which words of the command, the program at 0, name files. Those in `outputs` are files that the
-    command writes: each run has names of its own for them, in a folder that is new and empty.
+    `places` says by names which words of the command, the program at 0, name files or a peer. Those in `outputs` are
+    written by the command: each run has files of its own for them, in a folder that is new and empty, and a peer of its
+    own.
     """
 
     def __init__(self, command, source, folder, places=None, outputs=()):
         self.command = command
         self.source = source
         self.places = places or {}
-        self.outputs = outputs
+        self.outputs = [name for name in outputs if name in self.places]
         self.folder = folder
         self.library = Path(folder) / "faults.so"
         code = Path(__file__).with_name("faults.c")
@@ -106,21 +125,18 @@ class Trial:
     def without_fault(self, command=None, source=None, environment=lambda names: None):
         """The command as it ends by itself, or another command or input; the environment may depend on the files' names."""
         with (open(source or self.source, "rb") as file, tempfile.TemporaryFile() as out,
-              tempfile.TemporaryFile() as err, tempfile.TemporaryDirectory(dir=self.folder) as fresh):
+              tempfile.TemporaryFile() as err, tempfile.TemporaryDirectory(dir=self.folder) as fresh, Peer() as peer):
             words = list(command or self.command)
-            written = [Path(fresh) / name for name in self.outputs]
-            for name in written:
-                words[self.places[name.name]] = str(name)
+            for name in self.outputs:
+                words[self.places[name]] = peer.name() if name == PEER else str(Path(fresh) / name)
             names = {name: words[place] for name, place in self.places.items()}
-            try:
-                status = subprocess.run(words, stdin=file, stdout=out, stderr=err, timeout=TIME_LIMIT,
-                                        env=environment(names), check=False).returncode
-            except subprocess.TimeoutExpired:
-                status = None
+            with subprocess.Popen(words, stdin=file, stdout=out, stderr=err, env=environment(names)) as run:
+                status, taken = ended(run, peer if PEER in self.outputs else None)
             out.seek(0)
             err.seek(0)
+            written = {name: path.read_bytes() for name in self.outputs if (path := Path(fresh) / name).exists()}
             return Seen(status, out.read(), err.read(),
-                        tuple(name.read_bytes() if name.exists() else None for name in written))
+                        tuple(taken if name == PEER else written.get(name) for name in self.outputs))
 
     def beginning(self, name, length):
         """A file, open in a `with`, that holds so many bytes of the one named."""

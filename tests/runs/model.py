@@ -6,6 +6,7 @@ is what is said of it, and what the files hold.
 
 import hashlib
 from functools import lru_cache
+from itertools import accumulate
 from typing import NamedTuple
 
 from captures.model import Refused
@@ -130,6 +131,12 @@ def run(case, form=FILE):
     if replay.tail == "cut":
         return Outcome(f"{committed}, cut\n".encode(), b"", 2, files)
     return refused(f"capture: {replay.tail}, {committed}", files)
+
+
+def message_ends(case, form):
+    """How many bytes of messages are out behind each number of packets, from none on, while the run goes on."""
+    *closed, _ = done_of(case).told.closed()
+    return list(accumulate((len(spelled(each, form, case.address) or b"") for each in closed), initial=0))
 
 
 def online(case, count, form=FILE):
