@@ -1,7 +1,7 @@
 """Runs pfreplay with each of its allocations, reads and writes failing in turn, and judges how each run ends.
 
-Before that the judge of the command `run` is handed made-up endings, and some runs are asked for endings that are written
-out.
+Before that the judge of the command `run` is handed made-up endings, and some runs are asked for endings that are
+written out.
 """
 
 import sys
@@ -36,8 +36,8 @@ def bad_captures():
 
 
 def telling_capture():
-    """A capture of two batches whose states come, move on and go, so that messages of each kind close in both, and one at
-    the end."""
+    """A capture of two batches whose states come, move on and go, so that messages of each kind close in both, and one
+    at the end."""
     packets = [(second, make(second * FLOWS + place)) for second in range(SECONDS) for make in (flow, reply)
                for place in range(FLOWS)]
     ends = [(LATE, NOT_IPV4), (LATE, flow(0)), (LATE + 1, reply(0))]
@@ -45,8 +45,8 @@ def telling_capture():
 
 
 def run_ends_lawfully(program, capture, rules, messages=FILE):
-    """Whether the command `run` does, on the files of a capture and a ruleset, with its messages in a file, to a peer or
-    without them."""
+    """Whether the command `run` does, on the files of a capture and a ruleset, with its messages in a file, to a peer
+    or without them."""
     print(f"run {capture.name} {rules.name} {' '.join(messages)}".rstrip())
     outputs = [word for name in (*REQUIRED, *messages) for word in (f"--{name}", name)]
     return ends_lawfully("replay", [program, "run", capture, rules, *INTERFACE,

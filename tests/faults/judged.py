@@ -181,7 +181,7 @@ def wrong_messages(pieces, target):
     yield told("verdicts before messages", 0, first._replace(messages=b""))
     yield told("verdicts before messages, behind a batch", BATCH, second._replace(messages=first.messages))
     yield told("a part of the messages that failed", 0, pieces.online(0, messages=first.messages[:10]))
-    yield told("messages that are told to have failed and are there", BATCH, pieces.online(BATCH, messages=second.messages))
+    yield told("messages that are told to have failed and are there", BATCH, first._replace(messages=second.messages))
     yield told("a batch that isn't committed", BATCH, pieces.online(0, messages=first.messages))
     yield told("the last message failed and is there", COUNT, pieces.ended(counters=b"", states=b""))
     yield told("counters before the last message", COUNT, pieces.online(COUNT, counters=counters))
@@ -220,8 +220,8 @@ def is_allowed(trial, ending):
 
 
 def judged(trial, target):
-    """How many endings there are of a run, and those that are judged wrongly; with the target of its messages, if it has
-    any."""
+    """How many endings there are of a run, and those that are judged wrongly; with the target of its messages, if it
+    has any."""
     pieces = Pieces(trial)
     right, wrong = list(right_endings(pieces)), list(wrong_endings(pieces))
     if target:

@@ -1,8 +1,8 @@
 """Which endings of the command `run` are lawful under each fault.
 
-The words behind `run` are the capture, the ruleset and the flags, each with its value. The outputs are the files that the
-flags name, and what a peer gets. What is to stand in them is told by the run without a fault, and by the model how much of
-the messages is out behind each packet.
+The words behind `run` are the capture, the ruleset and the flags, each with its value. The outputs are the files that
+the flags name, and what a peer gets. What is to stand in them is told by the run without a fault, and by the model how
+much of the messages is out behind each packet.
 """
 
 import re
@@ -114,8 +114,9 @@ class Whole:
 
     def online(self, count):
         """What the files hold once so many packets are written, and the run goes on."""
-        return Files(self.files.verdicts[:self.lines_end[count]], self.files.packets[:self.packets_end[count]], b"", b"",
-                     self.files.messages[:self.messages_end[count]])
+        verdicts, packets, _, _, messages = self.files
+        return Files(verdicts[:self.lines_end[count]], packets[:self.packets_end[count]], b"", b"",
+                     messages[:self.messages_end[count]])
 
     def boundaries(self):
         """The numbers of packets at which a batch ends."""

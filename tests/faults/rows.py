@@ -1,4 +1,5 @@
-"""Runs with one fault whose ending is written out: a read that fails behind some packets, and each write that may fail."""
+"""Runs with one fault whose ending is written out: a read that fails behind some packets, and each write that may
+fail."""
 
 import tempfile
 from pathlib import Path
@@ -19,8 +20,8 @@ LAST_READ = 0
 
 
 class Left(NamedTuple):
-    """What the outputs hold: the lines of the texts, the bytes of the packets, and the sizes of the messages as a file has
-    them."""
+    """What the outputs hold: the lines of the texts, the bytes of the packets, and the sizes of the messages as a file
+    has them."""
     verdicts: int = 0
     packets: int = 0
     counters: int = 0
@@ -29,8 +30,8 @@ class Left(NamedTuple):
 
 
 class Row(NamedTuple):
-    """A run of packets by their seconds under `pass out`, with the output at which a call fails and its number, and what
-    is said and left then."""
+    """A run of packets by their seconds under `pass out`, with the output at which a call fails and its number, and
+    what is said and left then."""
     name: str
     records: list
     output: str
@@ -47,8 +48,8 @@ def read_rows():
 
 
 def write_rows():
-    """The connection of four packets, all in one batch: the capture's header, lines and packets, the one message, and the
-    two texts at the end. Then seven flows, of which six fill a message."""
+    """The connection of four packets, all in one batch: the capture's header, lines and packets, the one message, and
+    the two texts at the end. Then seven flows, of which six fill a message."""
     records = [(0, packet) for packet in (*OPENING, data(100))]
     octets = HEADER + 4 * (RECORD + 40) + 100
     for output, number, committed, left in (
@@ -90,7 +91,8 @@ class Tried:
         return replay.WRITES[self.output if row.output == "messages" else row.output]
 
     def seen(self, row):
-        self.capture.write_bytes(capture_header() + b"".join(record(second, 0, packet) for second, packet in row.records))
+        records = (record(second, 0, packet) for second, packet in row.records)
+        self.capture.write_bytes(capture_header() + b"".join(records))
         trial = Trial(self.command, self.source, self.folder, replay.places(self.command), replay.OUTPUTS)
         target = self.target(row)
         number = row.number or trial.counted(target)[1].calls

@@ -59,8 +59,8 @@ class Fault(NamedTuple):
 class Seen(NamedTuple):
     """How a run ended: a status below 0 is the signal that ended it, None the time limit.
 
-    `files` are the bytes of the files that the run was to write, None for one that isn't there. Those of a peer are what
-    it got, None where it wasn't called.
+    `files` are the bytes of the files that the run was to write, None for one that isn't there. Those of a peer are
+    what it got, None where it wasn't called.
     """
     status: int | None
     out: bytes

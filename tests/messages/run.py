@@ -35,8 +35,8 @@ class Told(NamedTuple):
         return queue.by_packet(self.origin, self.packets)
 
     def out(self, is_ended):
-        """Those that are out behind the last packet, where the run came to its end or was stopped there. Both ways have to
-        give the same."""
+        """Those that are out behind the last packet, where the run came to its end or was stopped there. Both ways have
+        to give the same."""
         *closed, last = self.closed()
         by_queue = [*chain.from_iterable(closed), *(last if is_ended else [])]
         by_cut = self.whole() if is_ended else self.online(len(self.packets))

@@ -7,7 +7,8 @@ from collections import Counter
 import captures.cases
 import captures.frame_cases
 import steps.cases
-from runs import cases, devices, filter_cases, filter_rows, lines, message_cases, message_rows, model, random_cases, rows
+from runs import (cases, devices, filter_cases, filter_rows, lines, message_cases, message_rows, model, random_cases,
+                  rows)
 from runs.case import EXAMPLES, INSIDE, PACKETS, Case, capture_of
 from runs.comparison import a_line
 from runs.model import FILE, NONE, OUTPUTS, PEER, Outcome
@@ -52,7 +53,7 @@ def compare_model(comparison):
 # The program beside the model
 
 def compare(comparison):
-    """All runs; the comparison keeps their number and what went wrong."""
+    """All runs but those of compare_messages; the comparison keeps their number and what went wrong."""
     every = [written.case for written in written_cases()]
     written_count = len(every)
     every += modelled_cases()
@@ -61,7 +62,6 @@ def compare(comparison):
         forms += [PEER] if number < written_count or number % PEER_STEP == 0 else []
         forms += [NONE] if number % NONE_STEP == 0 else []
         compare_case(comparison, case, forms, is_old=number % 3 == 0)
-    compare_messages(comparison)
     good_lines(comparison)
     bad_lines(comparison)
     devices.compare(comparison)

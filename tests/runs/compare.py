@@ -1,10 +1,12 @@
 """Runs pfreplay on many rulesets and captures and compares each run with the model.
 
 The model itself is compared with the outcomes that are written out. The commands that the documents show are run too.
+Runs of which much is to be told to a standby have a process of their own.
 """
 
 import sys
 import tempfile
+from concurrent.futures import ProcessPoolExecutor
 from pathlib import Path
 
 import building
@@ -33,11 +35,22 @@ def model_alone():
     end(comparison)
 
 
-def main():
+def messages_apart(program):
+    """How many runs there are of which much is to be told, and what went wrong in them."""
     with tempfile.TemporaryDirectory() as folder:
-        comparison = Comparison(building.pfreplay(), Path(folder))
+        comparison = Comparison(program, Path(folder))
+        command_run.compare_messages(comparison)
+        return comparison.count, comparison.wrong
+
+
+def main():
+    program = building.pfreplay()
+    with tempfile.TemporaryDirectory() as folder, ProcessPoolExecutor(1) as pool:
+        apart = pool.submit(messages_apart, program)
+        comparison = Comparison(program, Path(folder))
         compare_model(comparison)
         command_run.compare(comparison)
         command_check.compare(comparison)
         shown_commands.compare(comparison)
+        comparison.add(*apart.result())
     end(comparison)

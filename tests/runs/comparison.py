@@ -42,8 +42,8 @@ class Comparison:
         return Outcome(printed or b"", said, run.returncode, self.left() if peer is None else self.left(taken))
 
     def left(self, *taken):
-        """What stands in the files that a run writes, where those of messages may be what a peer has taken. One with its
-        old bytes is as it was."""
+        """What stands in the files that a run writes, where those of messages may be what a peer has taken. One with
+        its old bytes is as it was."""
         files = self.files[:-1] if taken else self.files
         texts = (name.read_bytes() if name.is_file() else None for name in files)
         return Files(*(None if text == OLD_BYTES else text for text in texts), *taken)
@@ -63,6 +63,11 @@ class Comparison:
         if seen != expected:
             self.wrong.append((name, expected, seen))
 
+    def add(self, count, wrong):
+        """Takes what went on in another comparison."""
+        self.count += count
+        self.wrong += wrong
+
     def command(self, case, form=FILE):
         """The words that replay a case, with the names of all files, and with its messages in a form."""
         files = self.files if form == FILE else self.files[:-1]
@@ -80,7 +85,7 @@ class Comparison:
 
 
 def flags_of(case, files):
-    """The flags of the command `run`, each with its value. A seed of zeros is left out, and so may be the last files."""
+    """The flags of the command `run`, each with its value. A seed of zeros is left out, and so may the last file be."""
     named = zip(OUTPUTS, files)
     seed = [] if case.seed == NO_SEED else ["--seed", case.seed]
     return ["--interface", case.interface, "--address", case.address, "--inside", case.inside, *seed,

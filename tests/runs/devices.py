@@ -188,7 +188,8 @@ def full_disk_of_messages(comparison):
     for title, records, committed in (
             ("closes in the first batch", at(0, flows(7)), 0),
             ("closes in the second batch", [*at(0, flows(6)), *at(0, silence), *later], BATCH),
-            ("closes at the end", at(0, flows(6)), 6), ("closes at the end of two batches", at(0, flows(1) + silence), 257)):
+            ("closes at the end", at(0, flows(6)), 6),
+            ("closes at the end of two batches", at(0, flows(1) + silence), 257)):
         case = Case(f"messages to a full disk, the first of which {title}", b"pass out\nblock in", INSIDE,
                     timed_capture(records))
         comparison.prepare(case)

@@ -83,7 +83,8 @@ def surplus_words():
     yield Line(run_line({**dict([PEER_FLAG]), **FLAGS}, "--messages=messages"), both)
     yield Line(run_line(FLAGS, "more"))
     yield Line(("run", "more", CAPTURE, RULES, *spelled(FLAGS)))
-    for word in ("--quiet", "-x", "--bits=24", "--batch=256", "--workers=0", "--message=messages", "--peers=192.0.2.9:9"):
+    for word in ("--quiet", "-x", "--bits=24", "--batch=256", "--workers=0", "--message=messages",
+                 "--peers=192.0.2.9:9"):
         yield Line(run_line(FLAGS, word))
     yield Line(run_line(FLAGS, "--batch", "256"))
     # words of no command
@@ -101,8 +102,8 @@ def bad():
 
 
 def good():
-    """Lines that fit and mean one run with its messages in a file, but for the inside networks and the seed: the words of
-    each, and both of these."""
+    """Lines that fit and mean one run with its messages in a file, but for the inside networks and the seed: the words
+    of each, and both of these."""
     flags, inside = (*spelled(FLAGS), *MESSAGES_FLAG), FLAGS["--inside"]
     for words in ((*flags, CAPTURE, RULES), (CAPTURE, *flags, RULES),
                   (*MESSAGES_FLAG, CAPTURE, RULES, *spelled(dict(reversed(FLAGS.items())))),

@@ -1,5 +1,5 @@
-"""Random runs of which much is to be told to a standby, in captures of every form: those of messages.random_runs, states
-that go as soon as they have moved on, and many states that come and go together.
+"""Random runs of which much is to be told to a standby, in captures of every form: those of messages.random_runs,
+states that go as soon as they have moved on, and many states that come and go together.
 
 A few captures end inside a record, or with one that is too long. Each thing that messages hang on has to come up often
 enough in all of them.
@@ -29,8 +29,8 @@ LATER_TIMEOUTS = ("udp.single", "udp.multiple", "tcp.opening", "tcp.established"
                   "other.single")
 TOGETHER, PAUSE = 4, 100
 MOST_REMOVED = next(count for count in range(MOST) if size({DEL_C: count + 1}) > MOST)
-COUNTED = (*KINDS, "INS that is gone again", "UPD_C that turns into DEL_C", "by size before INS", "by size before UPD_C",
-           "by size before DEL_C", "by clock", "not told of")
+COUNTED = (*KINDS, "INS that is gone again", "UPD_C that turns into DEL_C",
+           *(f"by size before {kind}" for kind in KINDS), "by clock", "not told of")
 
 
 class Moving(Bursts):

@@ -1,4 +1,5 @@
-"""Runs of which messages are written out, those of messages.rows, in both forms; and messages as packets of a capture."""
+"""Runs of which messages are written out, those of messages.rows, in both forms; and messages as packets of a
+capture."""
 
 import messages.rows
 from captures.packets import capture_header, record
@@ -65,6 +66,8 @@ def as_packets(streams):
     """The messages of files as the packets of a capture."""
     packets = [piece for stream in streams for piece in pieces(stream)]
     capture = capture_header() + b"".join(record(0, 0, packet) for packet in packets)
-    for rules, first, line in ((PACKET_RULES, PACKET_LINE, PACKET_LINE), (STATEFUL_RULES, *STATEFUL_LINES)):
-        lines = [(line if number > 1 else first).replace(b"%d", b"%d" % number) for number in range(1, len(packets) + 1)]
+    numbers = range(1, len(packets) + 1)
+    first, later = STATEFUL_LINES
+    for rules, lines in ((PACKET_RULES, [PACKET_LINE % number for number in numbers]),
+                         (STATEFUL_RULES, [first, *(later % number for number in numbers[1:])])):
         yield Case("messages as packets", rules, INSIDE, capture), b"".join(lines)

@@ -23,8 +23,8 @@ FILE, PEER, NONE = "a file of messages", "a peer", "no messages"
 
 
 class Files(NamedTuple):
-    """The bytes of the outputs, None where a file isn't there, or is left as it was. Those of the messages may be what a
-    peer got, None where it wasn't called."""
+    """The bytes of the outputs, None where a file isn't there, or is left as it was. Those of the messages may be what
+    a peer got, None where it wasn't called."""
     verdicts: bytes | None = None
     packets: bytes | None = None
     counters: bytes | None = None

@@ -3,6 +3,7 @@
 import steps.rows
 from captures.packets import SYN, capture_header, record, tcp
 from expansions.model import dotted
+from messages.rows import SYN_HEADER, SYN_PEERS
 from runs.case import EMPTIED, INSIDE, Case, Written, refused
 
 # a network of the inside that holds no packet's source, where a run has none at all
@@ -12,6 +13,11 @@ SYN_LINE = b"1 0 out pass rule r=0 t=- s=1\n"
 SYN_COUNTERS, NO_COUNTERS = b"filter 0 1 1 40\ntotal 1 1 0 0 0\n", b"filter 0 0 0 0\ntotal 0 0 0 0 0\n"
 SYN_STATE = (b"1 6 out 198.51.100.7:80,10.0.0.5:1000 198.51.100.7:80,10.0.0.5:1000 r=0 t=- 2/1000/1002/1000/- 0/0/1/1/- "
              b"0 120 1 40 0 0\n")
+SYN_KEY = "c6336407" + "00" * 12 + "0a000005" + "00" * 12 + "0050 03e8"
+SYN_MESSAGE = bytes.fromhex(
+    SYN_HEADER + "0500010e ab10bf95f429a88c5cd91a94f5b1b3e3 01000001 0000000000000001 656d30" + "00" * 13 + SYN_KEY * 2
+    + SYN_PEERS + "00" * 16 + "00000000 ffffffff ffffffff 00000000 00000078 0000000000000001 0000000000000000"
+    + "0000000000000028 0000000000000000 00000001 02 06 02 00000000 00 0000 0c000001")
 
 
 def case_of(run):
@@ -60,12 +66,13 @@ def cut_rows():
         out, status = (b"committed 0\n", 0) if length == 24 else (b"committed 0, cut\n", 2)
         yield Written(syn(f"a SYN cut at {length}", whole[:length]), {
             "out": out, "err": b"", "status": status, "verdicts": b"", "packets": whole[:24], "counters": NO_COUNTERS,
-            "states": b""})
+            "states": b"", "messages": b""})
     yield Written(syn("a SYN", whole), {"out": b"committed 1\n", "err": b"", "status": 0, **one_syn(whole)})
 
 
 def one_syn(packets):
-    return {"verdicts": SYN_LINE, "packets": packets, "counters": SYN_COUNTERS, "states": SYN_STATE}
+    return {"verdicts": SYN_LINE, "packets": packets, "counters": SYN_COUNTERS, "states": SYN_STATE,
+            "messages": SYN_MESSAGE}
 
 
 def length_rows():
