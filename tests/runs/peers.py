@@ -9,6 +9,8 @@ HOST = "127.0.0.1"
 TIME_LIMIT = 30
 # seconds between two looks at whether a program has ended that didn't call
 PAUSE = 0.005
+# bytes that are read at once at most
+PIECE = 1 << 16
 # bytes of a segment and of what is held back for one that doesn't read, so that little is on the way
 FEW_BYTES = 2048
 
@@ -61,14 +63,13 @@ class Peer:
             return self.read(connection)
 
     def read(self, connection):
-        pieces, length = [], 0
-        while self.most is None or length < self.most:
-            piece = connection.recv(1 << 16 if self.most is None else self.most - length)
+        taken = b""
+        while self.most is None or len(taken) < self.most:
+            piece = connection.recv(PIECE if self.most is None else min(PIECE, self.most - len(taken)))
             if not piece:
                 break
-            pieces.append(piece)
-            length += len(piece)
-        return b"".join(pieces)
+            taken += piece
+        return taken
 
 
 def nobody():
