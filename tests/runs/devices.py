@@ -209,6 +209,8 @@ def full_disk_of_messages(comparison):
 NO_NAME = "nobody.invalid"
 # bytes after which a peer hangs up
 HANGS_UP = (0, 1, 20, 1480, 1481, 10000, 100000)
+# more bytes than are sent
+EVERYTHING = 1 << 30
 # seconds for which a run is let wait
 PATIENCE = 2
 
@@ -246,6 +248,14 @@ def quitters(comparison, case, lawful):
         comparison.expect(f"a peer that hangs up after {most} bytes", seen if seen in allowed else allowed[0], seen)
 
 
+def narrow(comparison, case):
+    """A peer that has little room, so that the run waits now and then."""
+    comparison.prepare(case)
+    with Peer(EVERYTHING) as peer:
+        seen = comparison.execute([*comparison.command(case, NONE), "--peer", peer.name()], peer=peer)
+    comparison.expect("a peer with little room", model.run(case, PEER), seen)
+
+
 def waiting(comparison, case):
     """A peer that never reads: the run waits, and has written no more than belongs to its messages."""
     comparison.prepare(case)
@@ -275,4 +285,5 @@ def peers(comparison):
     few = case._replace(capture=timed_capture(at(0, flows(1))))
     quitters(comparison, few, endings(few))
     quitters(comparison, case, endings(case)[1:])
+    narrow(comparison, case)
     waiting(comparison, case)
