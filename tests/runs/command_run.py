@@ -119,7 +119,8 @@ def named(comparison, words):
     """The words with the names of files, and of the peer, for those that stand for them."""
     peer = comparison.peer
     places = {"capture": comparison.capture, "rules": comparison.rules, "missing": comparison.folder / "missing",
-              "peer": peer.name(), "--peer=peer": f"--peer={peer.name()}", "localhost:peer": f"localhost:{peer.port}",
+              "peer": peer.name(), "--peer=peer": f"--peer={peer.name()}",
+              **{f"{host}peer": f"{host}{peer.port}" for host in ("localhost:", "127.0.0.1:000", "127.000.0.01:")},
               **dict(zip(OUTPUTS, comparison.files)),
               **{f"--{name}={name}": f"--{name}={file}" for name, file in zip(OUTPUTS, comparison.files)}}
     return [places.get(word, word) for word in words]

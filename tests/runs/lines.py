@@ -118,9 +118,10 @@ def good():
 
 
 def peers():
-    """The words of lines that fit, with a peer by its address and by its name."""
+    """The words of lines that fit, with a peer by its address and by its name, and with zeros before its port."""
     flags = spelled(FLAGS)
     yield (CAPTURE, RULES, *flags, *PEER_FLAG)
     yield ("--peer=peer", CAPTURE, RULES, *flags)
     yield (*PEER_FLAG, *flags[:6], CAPTURE, *flags[6:], RULES)
-    yield (CAPTURE, RULES, *flags, "--peer", "localhost:peer")
+    for peer in ("localhost:peer", "127.0.0.1:000peer", "127.000.0.01:peer"):
+        yield (CAPTURE, RULES, *flags, "--peer", peer)
