@@ -129,6 +129,9 @@ def size_rows():
               last=({"UPD_C": list(range(1, 18))}, {"UPD_C": [18]}))
     yield row("130 flows that go", "pass out", [*flows(130), (60, NOT_IPV4)], [1500] * 21 + [1016, 1500, 156],
               last=({"DEL_C": list(range(1, 122))}, {"DEL_C": list(range(122, 131))}), states=[])
+    yield row("130 flows that go before another one", "pass out", [*flows(130), (60, flow(130))],
+              [1500] * 21 + [1016, 1500, 402],
+              last=({"DEL_C": list(range(1, 122))}, {"INS": [131], "DEL_C": list(range(122, 131))}))
     yield row("flows, more of them and replies", "pass out", flows(3) + at(1, flows(5, 3)) + at(1, replies(3)),
               [774, 1430, 132], last=({"INS": [4, 5, 6, 7, 8], "UPD_C": [1, 2]}, {"UPD_C": [3]}))
 
