@@ -1,0 +1,6 @@
+pub mod CountLemmas
+pub mod FindLemmas
+pub mod LeaveLemmas
+pub mod OrderLemmas
+pub mod PutLemmas
+pub mod SearchLemmas

@@ -1,0 +1,5 @@
+//! Hashes.
+
+/// A hash of a key.
+#[derive(Clone, Copy, Debug, PartialEq, Eq)]
+pub struct Hash(pub u32);

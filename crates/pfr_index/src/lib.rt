@@ -1,0 +1,11 @@
+//! The places of values by hashes of their keys.
+#![tactic(auto)]
+
+pub mod hash;
+pub mod index;
+mod search;
+mod slot;
+
+pub use hash::Hash;
+pub use index::Index;
+pub use pfr_places::Place;
