@@ -99,28 +99,24 @@ first_from (x ∷ xs) start = next_by (goes_before x start) start x xs refl (fir
 
 -- ---- what is due
 
-is_not : (b : Bool) → not b ≡ true → b ≡ false
-is_not b = not-true b
-
-answers : (clock : Clock) (states : List State) (dues : List State) → filter (λ state. not (lives clock state)) states ≡ dues → AnswersDue clock states (first_of dues)
-answers clock states [] is = λ state h. elim (cases_Bool (lives clock state)) [
-  | inl alive ↦ alive
-  | inr gone ↦ absurd (in_none state (subst (λ (xs : List State). Contains xs state) is (to_filter (λ state. not (lives clock state)) states state h (ap not gone))))
-]
-answers clock states (x ∷ xs) is =
+-- the first of states that are just those which are due
+pub answers : (clock : Clock) (states dues : List State) → ((state : State) → Contains dues state → Contains states state × (lives clock state ≡ false)) → ((state : State) → Contains states state → lives clock state ≡ false → Contains dues state) → AnswersDue clock states (first_of dues)
+answers clock states [] from to = λ state h. elim (cases_Bool (lives clock state)) [ inl alive ↦ alive | inr gone ↦ absurd (in_none state (to state h gone)) ]
+answers clock states (x ∷ xs) from to =
     let found = first_from xs x in
     let first = found.0 in
     let among : Contains (x ∷ xs) first = elim found.2.at [ inl same ↦ rw (← same) (here x xs) | inr later ↦ there x xs first later ] in
-    let from = from_filter (λ state. not (lives clock state)) states first (subst (λ (ys : List State). Contains ys first) (sym is) among) in
     let none : (other : State) → Contains (x ∷ xs) other → Before other first → ⊥ = λ other h before. elim (in_cons x xs other h) [
       | inl same ↦ found.2.not_start (subst (λ (s : State). Before s first) (sym same) before)
       | inr later ↦ found.2.none other later before
     ] in
     rw found.1 (record {
-      is_there = from.0;
-      is_due = not-true (lives clock first) from.1;
-      is_first = λ other h gone. not_before other first (none other (subst (λ (ys : List State). Contains ys other) is (to_filter (λ state. not (lives clock state)) states other h (ap not gone))));
+      is_there = (from first among).0;
+      is_due = (from first among).1;
+      is_first = λ other h gone. not_before other first (none other (to other h gone));
     })
 
 pub due_first : (states : List State) (clock : Clock) → AnswersDue clock states (due clock states)
-due_first states clock = answers clock states (filter (λ state. not (lives clock state)) states) refl
+due_first states clock = answers clock states (filter gone states) (λ state h. (let parts = from_filter gone states state h in (parts.0, not-true (lives clock state) parts.1))) (λ state h is_gone. to_filter gone states state h (ap not is_gone)) where
+  gone : State → Bool
+  gone state = not (lives clock state)

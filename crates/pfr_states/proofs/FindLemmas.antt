@@ -1,12 +1,12 @@
 -- What is found in a list of states of which one at most passes a test.
-use Rattle.std.proofs.Common.{◌≡◌, Bool, true, false, cond, not, nat_lt, List, [], ◌∷◌, Option, Some, None, sym, refl, ap, ◌∙◌, subst, inl, inr, arith}
+use Rattle.std.proofs.Common.{◌≡◌, Bool, true, false, not, nat_lt, List, [], ◌∷◌, Option, Some, None, sym, refl, ap, ◌∙◌, subst, inl, inr, arith}
 use Rattle.std.specs.List.{Contains, filter, find, list_all, list_any}
-use Rattle.std.proofs.lemmas.Bool.{and_parts, both_ways, cases_Bool, cases_order, cond-false, cond-true, eq-eqb, eqb-true, lt-ltb, ltb-true, ne_eqb, or_from, or_parts, true≢false}
+use Rattle.std.proofs.lemmas.Bool.{and_parts, both_ways, cases_Bool, cases_order, cond-false, cond-true, eq-eqb, lt-ltb, ltb-true, ne_eqb, or_from, or_parts, true≢false}
 use Rattle.pfr_track.specs.declared.state.State.{State}
 use Rattle.pfr_track.specs.declared.state.StateNumber.{StateNumber}
 use Rattle.pfr_states.specs.States.{are_above, is_number, rise, with_state, with_touched}
-use Rattle.pfr_states.proofs.Membership.{from_filter, here, in_cons, in_none, none_of, there, to_filter}
-use Rattle.pfr_states.proofs.PutLemmas.{with_before, with_behind, with_over}
+use Rattle.pfr_states.proofs.Membership.{from_filter, here, in_cons, in_none, none_of, there}
+use Rattle.pfr_states.proofs.PutLemmas.{with_behind, with_over}
 use Rattle.pfr_states.proofs.TouchLemmas.{untouched}
 
 -- ---- what an answer says
@@ -76,42 +76,16 @@ one_number (x ∷ xs) in_order a b ha hb same =
       ]
     ]
 
-pub one_of_number : (n : StateNumber) (xs : List State) → rise xs ≡ true → IsOne (is_number n) xs
-one_of_number n xs in_order = λ a b ha hb is_a is_b. one_number xs in_order a b ha hb (eqb-true a.number.0 n.0 is_a ∙ sym (eqb-true b.number.0 n.0 is_b))
-
 -- ---- without a state
 
 pub one_filter : {X : Type 0} (p q : X → Bool) (xs : List X) → IsOne p xs → IsOne p (filter q xs)
 one_filter p q xs one = λ a b ha hb. one a b (from_filter q xs a ha).0 (from_filter q xs b hb).0
-
-answer_out : {X : Type 0} (p q : X → Bool) (old : X) (xs : List X) (r : Option X) → p old ≡ false → ((a : X) → Contains xs a → q a ≡ false → a ≡ old) → Answer p xs r → Answer p (filter q xs) r
-answer_out p q old xs None not_it only none = λ a h. none a (from_filter q xs a h).0
-answer_out p q old xs (Some x) not_it only found =
-    let kept : q x ≡ true = elim (cases_Bool (q x)) [ inl is ↦ is | inr gone ↦ absurd (both_ways (p x) (ap p (only x found.0 gone) ∙ not_it) found.1) ] in
-    (to_filter q xs x found.0 kept, found.1)
-
-pub find_out : {X : Type 0} (p q : X → Bool) (old : X) (xs : List X) → IsOne p xs → Contains xs old → q old ≡ false → ((a : X) → Contains xs a → q a ≡ false → a ≡ old) → find p (filter q xs) ≡ cond (p old) None (find p xs)
-find_out p q old xs one has gone only = elim (cases_Bool (p old)) [
-  | inl it_is ↦
-      found p (filter q xs) None (one_filter p q xs one)
-      (λ a h. elim (cases_Bool (p a)) [
-        | inl passes ↦ absurd (both_ways (q a) (ap q (one a old (from_filter q xs a h).0 has passes it_is) ∙ gone) (from_filter q xs a h).1)
-        | inr other ↦ other
-      ])
-      ∙ sym (cond-true (p old) None (find p xs) it_is)
-  | inr not_it ↦ found p (filter q xs) (find p xs) (one_filter p q xs one) (answer_out p q old xs (find p xs) not_it only (answer p xs)) ∙ sym (cond-false (p old) None (find p xs) not_it)
-]
 
 abbrev pub without : StateNumber → List State → List State
 without number states = filter (λ state. not (is_number number state)) states
 
 is_gone : (n : StateNumber) (x : State) → x.number.0 ≡ n.0 → not (is_number n x) ≡ false
 is_gone n x same = ap not (eq-eqb x.number.0 n.0 same)
-
-pub find_without : (p : State → Bool) (old : State) (xs : List State) → rise xs ≡ true → IsOne p xs → Contains xs old → find p (without old.number xs) ≡ cond (p old) None (find p xs)
-find_without p old xs in_order one has =
-    find_out p (λ state. not (is_number old.number state)) old xs one has (is_gone old.number old refl)
-    (λ a h gone. elim (cases_Bool (is_number old.number a)) [ inl is ↦ one_number xs in_order a old h has (eqb-true a.number.0 old.number.0 is) | inr other ↦ absurd (both_ways (not (is_number old.number a)) gone (ap not other)) ])
 
 pub none_without : (n : StateNumber) (xs : List State) → list_any (is_number n) (without n xs) ≡ false
 none_without n xs = none_any (is_number n) (without n xs) (λ a h. elim (cases_Bool (is_number n a)) [
@@ -128,36 +102,10 @@ all_without n (x ∷ xs) none =
 
 -- ---- with a state
 
-turned_cond : {X : Type 0} (b c : Bool) (x y r : X) → (c ≡ true → b ≡ false) → cond b x (cond c y r) ≡ cond c y (cond b x r)
-turned_cond true true x y r apart = absurd (true≢false (apart refl))
-turned_cond true false x y r apart = refl
-turned_cond false true x y r apart = refl
-turned_cond false false x y r apart = refl
-
-pub find_with : (p : State → Bool) (s : State) (xs : List State) → list_any (is_number s.number) xs ≡ false → (p s ≡ true → list_any p xs ≡ false) → find p (with_state s xs) ≡ cond (p s) (Some s) (find p xs)
-find_with p s [] fresh free = refl
-find_with p s (x ∷ xs) fresh free =
-    let others = or_parts (is_number s.number x) (list_any (is_number s.number) xs) fresh in
-    elim (cases_order x.number.0 s.number.0) [
-      | inl same ↦ absurd (both_ways (is_number s.number x) others.0 (eq-eqb x.number.0 s.number.0 same))
-      | inr (inl behind) ↦
-          ap (find p) (with_behind s x xs behind)
-          ∙ ap (cond (p x) (Some x)) (find_with p s xs others.1 (λ it_is. (or_parts (p x) (list_any p xs) (free it_is)).1))
-          ∙ turned_cond (p x) (p s) (Some x) (Some s) (find p xs) (λ it_is. (or_parts (p x) (list_any p xs) (free it_is)).0)
-      | inr (inr before) ↦ ap (find p) (with_before s x xs before)
-    ]
-
 -- ---- with a state in the place of the one of its number
 
 pub none_above : (n : StateNumber) (x : State) (xs : List State) → n.0 ≡ x.number.0 → list_all (λ (other : State). nat_lt x.number.0 other.number.0) xs ≡ true → list_any (is_number n) xs ≡ false
 none_above n x xs is above = none_any (is_number n) xs (λ a h. (let over = ltb-true x.number.0 a.number.0 (above_all x.number x a xs above h) in ne_eqb a.number.0 n.0 (λ same. absurd (omega arith))))
-
-pub with_first : (s x : State) (xs : List State) → s.number.0 ≡ x.number.0 → list_all (λ (other : State). nat_lt x.number.0 other.number.0) xs ≡ true → with_state s xs ≡ s ∷ xs
-with_first s x [] is above = refl
-with_first s x (y ∷ ys) is above =
-    let parts = and_parts (nat_lt x.number.0 y.number.0) (list_all (λ (other : State). nat_lt x.number.0 other.number.0) ys) above in
-    let over = ltb-true x.number.0 y.number.0 parts.0 in
-    with_before s y ys (omega arith)
 
 abbrev pub IsPresent : State → List State → Type 0
 IsPresent s xs = list_any (is_number s.number) xs ≡ true
@@ -177,18 +125,5 @@ with_present s (x ∷ xs) in_order some =
       | inr (inl behind) ↦
           let other : is_number s.number x ≡ false = ne_eqb x.number.0 s.number.0 (λ same. absurd (omega arith)) in
           with_behind s x xs behind ∙ (rw other (ap (λ (states : List State). x ∷ states) (with_present s xs parts.1 (rw other at some))))
-      | inr (inr before) ↦ absurd (both_ways (list_any (is_number s.number) (x ∷ xs)) (none_over s x xs (lt-ltb s.number.0 x.number.0 before) parts.0) some)
-    ]
-
-pub touched_without : (s : State) (xs : List State) → rise xs ≡ true → IsPresent s xs → with_touched s xs ≡ with_state s (without s.number xs)
-touched_without s [] in_order some = absurd (true≢false (sym some))
-touched_without s (x ∷ xs) in_order some =
-    let parts = and_parts (are_above x xs) (rise xs) in_order in
-    elim (cases_order x.number.0 s.number.0) [
-      | inl same ↦
-          rw (eq-eqb x.number.0 s.number.0 same, untouched x.number.0 s xs same parts.0, all_without s.number xs (none_above s.number x xs (sym same) parts.0)) (sym (with_first s x xs (sym same) parts.0))
-      | inr (inl behind) ↦
-          let other : is_number s.number x ≡ false = ne_eqb x.number.0 s.number.0 (λ same. absurd (omega arith)) in
-          rw other (ap (λ (states : List State). x ∷ states) (touched_without s xs parts.1 (rw other at some)) ∙ sym (with_behind s x (without s.number xs) behind))
       | inr (inr before) ↦ absurd (both_ways (list_any (is_number s.number) (x ∷ xs)) (none_over s x xs (lt-ltb s.number.0 x.number.0 before) parts.0) some)
     ]

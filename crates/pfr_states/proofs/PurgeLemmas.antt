@@ -8,7 +8,7 @@ use Rattle.pfr_track.specs.declared.time.Clock.{Clock}
 use Rattle.pfr_states.specs.declared.change.Side.{Side}
 use Rattle.pfr_states.specs.Laws.{AnswersDue, IsFirstDue}
 use Rattle.pfr_states.specs.States.{at, due, have_own_keys, is_number, lives, purged, rise}
-use Rattle.pfr_states.proofs.ChangeLemmas.{has_key, one_key}
+use Rattle.pfr_states.proofs.OwnKeys.{has_key, one_key}
 use Rattle.pfr_states.proofs.DueLemmas.{due_first}
 use Rattle.pfr_states.proofs.FilterLemmas.{one_less}
 use Rattle.pfr_states.proofs.FindLemmas.{found, found_none, found_there, none_any, one_filter, one_number, some_any, without}

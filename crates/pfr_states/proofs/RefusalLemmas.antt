@@ -1,5 +1,5 @@
 -- Why a change is refused, and when it isn't.
-use Rattle.std.proofs.Common.{◌≡◌, ◌≤◌, ◌<◌, ◌&&◌, ℕ, true, false, not, List, length, Some, None, Result, Ok, Err, OnErr, refl}
+use Rattle.std.proofs.Common.{◌≡◌, ◌≤◌, ◌<◌, ◌&&◌, ℕ, true, false, not, List, length, Some, None, refl}
 use Rattle.std.specs.List.{list_any}
 use Rattle.std.proofs.lemmas.Bool.{lt-ltb, le-ltb}
 use Rattle.pfr_track.specs.declared.state.State.{State}
@@ -31,8 +31,3 @@ touched_fits s limit states free = rw free refl
 pub removed_fits : (number : StateNumber) (limit : ℕ) (states : List State) → refusal (Removed number) limit states ≡ None
 unfolding refusal
 removed_fits number limit states = refl
-
--- what holds in any case holds of a refusal
-pub on_err : {X E : Type 0} (r : Result X E) (P : Type 0) → P → OnErr r P
-on_err (Ok x) P h = tt
-on_err (Err e) P h = h

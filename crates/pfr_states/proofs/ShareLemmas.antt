@@ -10,7 +10,7 @@ use Rattle.pfr_states.specs.declared.change.Side.{Side}
 use Rattle.pfr_states.specs.declared.change.Side.TheVariants.{Wire, Stack}
 use Rattle.pfr_states.specs.Indexed.{number_at}
 use Rattle.pfr_states.specs.States.{at, have_own_keys, is_number, is_same_key, key_on, rise, shares_key, state_of, with_state, with_touched}
-use Rattle.pfr_states.proofs.ChangeLemmas.{IsFree, has_key, one_key, shares_side}
+use Rattle.pfr_states.proofs.OwnKeys.{IsFree, has_key, one_key, shares_side}
 use Rattle.pfr_states.proofs.FindLemmas.{Answer, answer, found_none, found_there, none_any, some_any, with_present}
 use Rattle.pfr_states.proofs.KeyLemmas.{key_turned}
 use Rattle.pfr_states.proofs.Membership.{here, none_of, there}

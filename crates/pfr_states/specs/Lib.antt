@@ -1,3 +1,7 @@
+pub mod Awaited
 pub mod Indexed
+pub mod KeyHash
+pub mod Keyed
 pub mod Laws
 pub mod States
+pub mod Waits

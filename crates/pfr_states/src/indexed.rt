@@ -1,43 +1,104 @@
 //! States in the order of their numbers, which are found by their keys and deadlines as well.
-ghost use Rattle.std.specs.Prelude.{◌≡◌, ◌&&◌, not, true, false, [], length, Some, None, IfOk, OnOk, OnErr};
-ghost use Rattle.std.specs.List.{filter, list_any};
+ghost use Rattle.std.specs.Prelude.{◌≡◌, ◌<◌, ◌&&◌, not, true, false, [], length, Some, None, IfOk, OnOk, OnErr};
+ghost use Rattle.std.specs.List.{Contains, filter, list_any};
 ghost use Rattle.std.specs.Option.{option_copied};
+ghost use Rattle.pfr_places.specs.Places.{at, value_of};
+ghost use Rattle.pfr_states.specs.Awaited as awaited;
 ghost use Rattle.pfr_states.specs.Indexed as index;
+ghost use Rattle.pfr_states.specs.Keyed.{AreStates};
 ghost use Rattle.pfr_states.specs.States as spec;
+ghost use Rattle.pfr_states.specs.Waits.{Wait};
 
 use crate::change::Side;
-use crate::indexes::{Indexes, put_off};
+use crate::deadlines::Deadlines;
+use crate::keyed::Keyed;
+use crate::stored::{Stored, Wait};
 use pfr_track::{Clock, Key, State, StateNumber};
 use std::alloc::{AllocError, Global};
-use std::collections::BTreeMap;
 use std::marker::Model;
-use std::ops::Bound;
 
 /// States by their numbers, no two of which share a key. Contracts see the list of states by rising number.
+///
+/// Each state waits by a deadline that isn't later than its own. Where its own moves later it stays there until that
+/// deadline comes up, and then waits by its own. So a deadline may be there by which no state waits any more.
 #[derive(Drop)]
 pub(crate) struct IndexedStates {
-    states: BTreeMap<StateNumber, State>,
-    indexes: Indexes,
+    keyed: Keyed,
+    deadlines: Deadlines,
 }
 
 impl Model for IndexedStates {
     ghost use Rattle.std.specs.Prelude.{List};
-    ghost use Rattle.std.specs.Map.{values_of};
     ghost use Rattle.pfr_track.specs.declared.state.State.{State};
-    ghost use Rattle.pfr_states.specs.Indexed.{IsIndexed, number_of, awaits};
+    ghost use Rattle.pfr_states.specs.Awaited.{AreAwaited};
+    ghost use Rattle.pfr_states.specs.Keyed.{states_of};
 
     ghost Value = { List State };
 
-    ghost view = { λ t. values_of t.states.entries };
+    ghost view = { λ t. states_of t.keyed };
 
-    ghost invariant = { λ t. IsIndexed t.states.entries (number_of t.indexes.wire) (number_of t.indexes.stack) (awaits t.indexes.deadlines) };
+    ghost invariant = { λ t. AreAwaited t.deadlines.waits t.keyed };
 }
 
-/// Whether two states have the same keys.
-fn have_same_keys(first: &State, second: &State) -> bool
-    ensures { result ≡ (spec.is_same_key first.now.wire second.now.wire && spec.is_same_key first.now.stack second.now.stack) }
+/// Whether two states have the same number and the same keys.
+#[inline]
+fn is_like(first: &State, second: &State) -> bool
+    ensures { result ≡ index.is_like first.now second.now }
 {
-    first.wire == second.wire && first.stack == second.stack
+    first.number == second.number && first.wire == second.wire && first.stack == second.stack
+}
+
+/// The state that waits by just this deadline, where its own has come.
+fn due_by(keyed: &Keyed, wait: Wait, clock: Clock) -> Option<&State>
+    ensures { option_copied result ≡ awaited.due_by clock keyed.now wait }
+{
+    if !wait.0.has_come(clock) {
+        return None;
+    }
+    let stored = keyed.kept_by(wait)?;
+    if stored.state.deadline.has_come(clock) {
+        Some(&stored.state)
+    } else {
+        None
+    }
+}
+
+/// The one of two states that is due first.
+fn sooner<'a>(first: Option<&'a State>, other: Option<&'a State>) -> Option<&'a State>
+    ensures { option_copied result ≡ awaited.sooner (option_copied first.entry) (option_copied other.entry) }
+{
+    let Some(other) = other else {
+        return first;
+    };
+    let Some(state) = first else {
+        return Some(other);
+    };
+    if goes_before(other, state) {
+        Some(other)
+    } else {
+        Some(state)
+    }
+}
+
+/// Whether a state is due before another one: by deadline, and of one deadline by number.
+fn goes_before(first: &State, second: &State) -> bool
+    ensures { result ≡ spec.goes_before first.now second.now }
+{
+    first.deadline < second.deadline
+        || first.deadline == second.deadline && first.number < second.number
+}
+
+/// Makes room for one more deadline.
+fn make_room(deadlines: &mut Deadlines, keyed: &Keyed) -> Result<(), AllocError>
+    ensures kept { (wait : Wait) → Contains deadlines.old.waits wait → awaited.is_kept_at wait keyed.now ≡ true → Contains deadlines.new.waits wait }
+    ensures room { OnOk result (0 < deadlines.new.room) }
+    ensures states { AreStates keyed.now }
+{
+    if deadlines.are_many(keyed.len()) {
+        deadlines.sweep(keyed);
+        return deadlines.reserve();
+    }
+    deadlines.reserve()
 }
 
 impl IndexedStates {
@@ -46,8 +107,8 @@ impl IndexedStates {
         ensures { result ≡ [] }
     {
         IndexedStates {
-            states: BTreeMap::new(alloc),
-            indexes: Indexes::new(alloc),
+            keyed: Keyed::new(alloc),
+            deadlines: Deadlines::new(alloc),
         }
     }
 
@@ -55,7 +116,7 @@ impl IndexedStates {
     pub(crate) fn len(&self) -> usize
         ensures { result ≡ length self.now }
     {
-        self.states.len()
+        self.keyed.len()
     }
 
     /// The state of a number.
@@ -63,7 +124,22 @@ impl IndexedStates {
         ensures state { option_copied result ≡ spec.state_of number self.now }
         ensures in_order { spec.rise self.now ≡ true }
     {
-        self.states.get(&number)
+        match self.keyed.of_number(number) {
+            Some(stored) => Some(&stored.state),
+            None => None,
+        }
+    }
+
+    /// The state with a key on a side.
+    #[inline]
+    pub(crate) fn at(&self, side: Side, key: &Key) -> Option<&State>
+        ensures state { option_copied result ≡ spec.at side key.now self.now }
+        ensures own_keys { spec.have_own_keys self.now ≡ true }
+    {
+        match self.keyed.at(side, key) {
+            Some(stored) => Some(&stored.state),
+            None => None,
+        }
     }
 
     /// The number of the state with a key on a side.
@@ -71,46 +147,98 @@ impl IndexedStates {
         ensures number { result ≡ index.number_at side key.now self.now }
         ensures own_keys { spec.have_own_keys self.now ≡ true }
     {
-        match side {
-            Side::Wire => self.indexes.wire.get(key).copied(),
-            Side::Stack => self.indexes.stack.get(key).copied(),
-        }
-    }
-
-    /// The state with a key on a side.
-    pub(crate) fn at(&self, side: Side, key: &Key) -> Option<&State>
-        ensures { option_copied result ≡ spec.at side key.now self.now }
-    {
-        match self.number_at(side, key) {
-            Some(number) => self.get(number),
+        match self.at(side, key) {
+            Some(state) => Some(state.number),
             None => None,
         }
     }
 
     /// Of the states whose deadline has come the one with the least deadline; of those the one with the least number.
+    ///
+    /// It is found at once where the first deadline by which a state waits is its own, as [`IndexedStates::settle`] leaves
+    /// it, and else by a look at all deadlines.
     pub(crate) fn due(&self, clock: Clock) -> Option<State>
         ensures state { result ≡ spec.due clock self.now }
         ensures in_order { spec.rise self.now ≡ true }
     {
-        match self.indexes.first_due() {
-            Some((deadline, number)) => {
-                if deadline.has_come(clock) {
-                    self.get(number).copied()
-                } else {
-                    None
-                }
+        // the places' numbers rise, and no two are one
+        let _ = self.keyed.len();
+        let Some(first) = self.deadlines.first() else {
+            return None;
+        };
+        if !first.0.has_come(clock) {
+            return None;
+        }
+        if let Some(stored) = self.keyed.kept_by(first) {
+            if stored.state.deadline == first.0 {
+                return Some(stored.state);
             }
-            None => None,
+        }
+        self.search_due(clock)
+    }
+
+    /// The same by a look at all deadlines.
+    #[cold]
+    fn search_due(&self, clock: Clock) -> Option<State>
+        ensures state { result ≡ spec.due clock self.now }
+        ensures in_order { spec.rise self.now ≡ true }
+    {
+        // the places' numbers rise, and no two are one
+        let _ = self.keyed.len();
+        let mut first = None;
+        for wait in self.deadlines.as_slice() {
+            first = sooner(first, due_by(&self.keyed, wait.0, clock));
+        }
+        first.copied()
+    }
+
+    /// Settles the first deadline where it has come and isn't a state's own: one by which no state waits goes, and a state
+    /// whose own has moved waits by that. It says whether it has.
+    fn settle_first(&mut self, clock: Clock) -> bool
+        ensures { self.new ≡ self.old }
+    {
+        let Some(first) = self.deadlines.first() else {
+            return false;
+        };
+        if !first.0.has_come(clock) {
+            return false;
+        }
+        let Some(&stored) = self.keyed.kept_by(first) else {
+            self.deadlines.drop_first();
+            return true;
+        };
+        let own = stored.state.deadline;
+        if own == first.0 {
+            return false;
+        }
+        self.deadlines.put_off(own);
+        self.keyed.write(
+            first.2,
+            Stored {
+                state: stored.state,
+                waits: own,
+            },
+        );
+        true
+    }
+
+    /// Settles the deadlines that have come, so that at this clock what is due is found at once.
+    pub(crate) fn settle(&mut self, clock: Clock)
+        ensures { self.new ≡ self.old }
+    {
+        for _turn in 0..self.deadlines.len() {
+            if !self.settle_first(clock) {
+                return;
+            }
         }
     }
 
     /// The state of the least number.
-    #[tactic(auto, using(crate::proofs::QuestionLemmas::first_some, crate::proofs::QuestionLemmas::first_none))]
     pub(crate) fn first(&self) -> Option<State>
         ensures { result ≡ spec.first self.now }
     {
-        match self.states.first_key_value() {
-            Some((_, state)) => Some(*state),
+        match self.keyed.first() {
+            Some(stored) => Some(stored.state),
             None => None,
         }
     }
@@ -119,11 +247,8 @@ impl IndexedStates {
     pub(crate) fn after(&self, number: StateNumber) -> Option<State>
         ensures { result ≡ spec.after number self.now }
     {
-        let mut above = self
-            .states
-            .range((Bound::Excluded(number), Bound::Unbounded));
-        match above.next() {
-            Some((_, state)) => Some(*state),
+        match self.keyed.after(number) {
+            Some(stored) => Some(stored.state),
             None => None,
         }
     }
@@ -161,26 +286,32 @@ impl IndexedStates {
         ensures done { OnOk result (self.new ≡ spec.with_state state self.old) }
         ensures kept { OnErr result (self.new ≡ self.old) }
     {
-        self.states.insert(state.number, state)?;
-        if let Err(refused) = self.indexes.add(&state) {
-            self.states.remove(&state.number);
-            return Err(refused);
-        }
+        make_room(&mut self.deadlines, &self.keyed)?;
+        let place = self.keyed.add(Stored {
+            state,
+            waits: state.deadline,
+        })?;
+        self.deadlines.add((state.deadline, state.number, place));
         Ok(())
     }
 
-    /// Puts a state in the place of the one of its number. Where memory is refused nothing changes.
-    fn replace(&mut self, old: &State, state: State) -> Result<(), AllocError>
-        requires number { spec.state_of state.number self.old ≡ Some old.now }
-        requires keys { spec.another_shares state self.old ≡ false }
+    /// Puts a state in the place of the one of its number, with other keys or not. Where memory is refused nothing changes.
+    fn replace(&mut self, state: State) -> Result<(), AllocError>
+        requires { spec.another_shares state self.old ≡ false }
         ensures done { OnOk result (self.new ≡ spec.with_touched state self.old) }
         ensures kept { OnErr result (self.new ≡ self.old) }
     {
-        self.indexes.replace(old, &state)?;
-        match self.states.insert(state.number, state) {
-            Ok(_) => Ok(()),
-            Err(_) => unreachable!(),
-        }
+        let Some(place) = self.keyed.place_of(state.number) else {
+            return Ok(());
+        };
+        let Some(&before) = self.keyed.get(place) else {
+            return Ok(());
+        };
+        make_room(&mut self.deadlines, &self.keyed)?;
+        let waits = state.deadline;
+        self.keyed.replace(place, &before, Stored { state, waits })?;
+        self.deadlines.add((waits, state.number, place));
+        Ok(())
     }
 
     /// Puts a state, whose keys no other one has, in its place by number; one of the same number goes. Where memory is
@@ -191,7 +322,7 @@ impl IndexedStates {
         ensures kept { OnErr result (self.new ≡ self.old) }
     {
         match self.get(state.number) {
-            Some(&old) => self.replace(&old, state),
+            Some(_) => self.replace(state),
             None => self.add(state),
         }
     }
@@ -203,33 +334,42 @@ impl IndexedStates {
         ensures done { OnOk result (self.new ≡ spec.with_touched state self.old) }
         ensures kept { OnErr result (self.new ≡ self.old) }
     {
-        match self.get(state.number) {
-            Some(&old) => self.replace(&old, state),
-            None => Ok(()),
-        }
+        self.replace(state)
     }
 
     /// Writes a state over the one of its number where that has the same keys, and says whether it did. Where memory is
     /// refused nothing changes.
+    #[inline]
     pub(crate) fn renew(&mut self, state: &State) -> Result<bool, AllocError>
         ensures done { IfOk result (λ is_done. is_done ≡ true → self.new ≡ spec.with_touched state.now self.old) }
         ensures free { IfOk result (λ is_done. is_done ≡ true → spec.another_shares state.now self.old ≡ false) }
         ensures same { IfOk result (λ is_done. is_done ≡ false → self.new ≡ self.old) }
         ensures kept { OnErr result (self.new ≡ self.old) }
     {
-        let Some(place) = self.states.get_mut(&state.number) else {
+        let Some(place) = self.keyed.place_at(Side::Wire, &state.wire) else {
             return Ok(false);
         };
-        if !have_same_keys(place, state) {
+        let Some(stored) = self.keyed.get(place) else {
+            return Ok(false);
+        };
+        if !is_like(&stored.state, state) {
             return Ok(false);
         }
-        put_off(
-            &mut self.indexes.deadlines,
-            place.deadline,
-            state.deadline,
-            state.number,
-        )?;
-        *place = *state;
+        let waits = stored.waits;
+        if waits <= state.deadline {
+            let state = *state;
+            self.keyed.write(place, Stored { state, waits });
+            return Ok(true);
+        }
+        make_room(&mut self.deadlines, &self.keyed)?;
+        self.deadlines.add((state.deadline, state.number, place));
+        self.keyed.write(
+            place,
+            Stored {
+                state: *state,
+                waits: state.deadline,
+            },
+        );
         Ok(true)
     }
 
@@ -237,16 +377,24 @@ impl IndexedStates {
     pub(crate) fn remove(&mut self, number: StateNumber)
         ensures { self.new ≡ filter (λ state. not (spec.is_number number state)) self.old }
     {
-        if let Some(state) = self.states.remove(&number) {
-            self.indexes.remove(&state);
-        }
+        self.keyed.remove(number);
+    }
+
+    /// What is due first, behind a settling.
+    fn next_due(&mut self, clock: Clock) -> Option<State>
+        ensures state { result ≡ spec.due clock self.old }
+        ensures in_order { spec.rise self.old ≡ true }
+        ensures same { self.new ≡ self.old }
+    {
+        self.settle(clock);
+        self.due(clock)
     }
 
     /// Takes the states out whose deadline has come, one after the other.
     pub(crate) fn purge(&mut self, clock: Clock)
         ensures { self.new ≡ spec.purged clock self.old }
     {
-        while let Some(state) = self.due(clock) {
+        while let Some(state) = self.next_due(clock) {
             self.remove(state.number);
         }
     }

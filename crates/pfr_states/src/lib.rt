@@ -3,9 +3,12 @@
 #![tactic(auto)]
 
 pub mod change;
+mod deadlines;
 mod indexed;
-mod indexes;
+mod key_hash;
+mod keyed;
 pub mod laws;
+mod stored;
 pub mod table;
 
 pub use change::{Side, TableChange, TableError};

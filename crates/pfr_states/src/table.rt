@@ -100,6 +100,17 @@ impl Table {
         self.states.get(number).copied()
     }
 
+    /// Settles the deadlines that have come at a clock, so that [`Table::due`] and [`Table::room`] answer at once for this
+    /// clock and for those before it. The states stay as they are. It takes no memory.
+    ///
+    /// A state whose deadline moves later isn't looked for among the deadlines at once: it is looked at again once the
+    /// deadline comes by which it waited. Without settling `due` looks at all deadlines where such a one comes first.
+    pub fn settle(&mut self, clock: Clock)
+        ensures { self.new ≡ self.old }
+    {
+        self.states.settle(clock);
+    }
+
     /// Takes out the states whose deadline has come.
     pub fn purge(&mut self, clock: Clock)
         ensures states { self.new.states ≡ spec.purged clock self.old.states }

@@ -26,12 +26,13 @@ pub struct Telling {
     pub closed: Vec<Message>,
 }
 
-/// Takes a state out of a table.
-fn remove(table: &mut Table, number: StateNumber)
+/// Takes a state out of a table, and settles what is due next at a clock.
+fn remove(table: &mut Table, number: StateNumber, clock: Clock)
     ensures { table.new ≡ record { states = with_change (Removed number) table.old.states; limit = table.old.limit } }
 {
     // no memory is asked for that
     let _ = table.apply(TableChange::Removed(number));
+    table.settle(clock);
 }
 
 /// Has a table take over what a packet changes.
@@ -126,7 +127,7 @@ impl Telling {
         let _ = table.len();
         while let Some(state) = table.due(clock) {
             self.tell(Change::Removed, &state, clock)?;
-            remove(table, state.number);
+            remove(table, state.number, clock);
         }
         Ok(())
     }

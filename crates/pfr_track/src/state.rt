@@ -44,26 +44,26 @@ impl Traffic {
     }
 }
 
-/// What is kept of one connection.
+/// What is kept of one connection. The fields stand in an order that leaves no gap between them.
 #[derive(Clone, Copy)]
 pub struct State {
     pub number: StateNumber,
-    /// The way of the packet that made it.
-    pub direction: Direction,
-    /// What its packets are on the wire, and what they are behind the firewall's translation. Both have the connection's
-    /// protocol.
-    pub wire: Key,
-    pub stack: Key,
-    pub rules: StateRules,
-    pub peers: Peers,
-    /// The clock when it was made.
-    pub made: Clock,
     /// From here on it is no more.
     pub deadline: Deadline,
-    /// The timeout of which the deadline is.
-    pub timeout: Timeout,
     /// What went the way of the packet that made it.
     pub forth: Traffic,
     /// What went the other way.
     pub back: Traffic,
+    pub rules: StateRules,
+    /// What its packets are on the wire, and what they are behind the firewall's translation. Both have the connection's
+    /// protocol.
+    pub wire: Key,
+    pub stack: Key,
+    pub peers: Peers,
+    /// The clock when it was made.
+    pub made: Clock,
+    /// The way of the packet that made it.
+    pub direction: Direction,
+    /// The timeout of which the deadline is.
+    pub timeout: Timeout,
 }

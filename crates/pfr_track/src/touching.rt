@@ -123,6 +123,7 @@ fn is_same_way(first: Direction, second: Direction) -> bool
 /// What a packet of its connection does to a state. One that is accepted is counted, and the state waits anew for the next
 /// one.
 #[tactic(auto, unfolding(crate::specs::Tracking::touched))]
+#[inline(never)]
 pub fn touch(
     state: &State,
     packet: &Packet,

@@ -4,8 +4,8 @@ use Rattle.pfr_track.specs.declared.state.State.{State}
 use Rattle.pfr_states.proofs.ShareLemmas.{number_free, others_free, with_is_touched}
 use Rattle.pfr_states.proofs.indexed.IndexedStates.put.Goals as goal
 
-pub replace-requires-clause-keys : goal.replace-requires-clause-keys
-replace-requires-clause-keys c = others_free c.args.state c.args.self.now c.requires
+pub replace-requires : goal.replace-requires
+replace-requires c = others_free c.args.state c.args.self.now c.requires
 
 pub add-requires-clause-number : goal.add-requires-clause-number
 add-requires-clause-number c = number_free c.args.state.number c.args.self.now (sym c.get.ensures.state ∙ ap option_copied c.in-None.is)

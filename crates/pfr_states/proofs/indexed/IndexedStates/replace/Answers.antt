@@ -1,42 +1,51 @@
-use Rattle.std.proofs.Common.{◌≡◌, ◌∙◌, ap, false, Some, is_some, Option, sym}
-use Rattle.std.specs.List.{list_any}
-use Rattle.std.specs.Map.{values_of}
-use Rattle.std.proofs.lemmas.Bool.{false≢true}
-use Rattle.pfr_track.specs.declared.state.State.{State}
-use Rattle.pfr_states.specs.States.{state_of}
-use Rattle.pfr_states.specs.declared.change.Side.TheVariants.{Wire, Stack}
-use Rattle.pfr_states.proofs.ChangeLemmas.{indexed_touched, state_there, values_touched}
-use Rattle.pfr_states.proofs.QuestionLemmas.{given_deadline, given_key}
-use Rattle.pfr_states.proofs.TouchLemmas.{other_shares}
+use Rattle.std.proofs.Common.{◌∙◌, List, ap, refl, subst, sym}
+use Rattle.std.specs.Option.{option_copied}
+use Rattle.std.proofs.lemmas.Bool.{eqb-true}
+use Rattle.pfr_places.specs.Places.{is_number}
+use Rattle.pfr_states.specs.Awaited.{AreAwaited}
+use Rattle.pfr_states.specs.Keyed.{states_of}
+use Rattle.pfr_states.specs.declared.stored.Stored.{Stored}
+use Rattle.pfr_states.proofs.AwaitedLemmas.{awaited_kept, awaited_written}
+use Rattle.pfr_states.proofs.IndexedLemmas.{state_absent}
+use Rattle.pfr_states.proofs.KeyedChanges.{states_value}
+use Rattle.pfr_states.proofs.KeyedLemmas.{Held, placed_there, standing}
+use Rattle.pfr_states.proofs.ShareLemmas.{absent_touched}
 use Rattle.pfr_states.proofs.indexed.IndexedStates.replace.Goals as goal
 
-pub replace-requires-clause-wire : goal.replace-requires-clause-wire
-replace-requires-clause-wire c =
-    let there : state_of c.args.state.number (values_of c.self.inside.states.entries) ≡ Some c.args.old.now = rw c.self.view_is c.requires.number in
-    c.self.invariant.by_wire c.args.old.now.wire ∙ given_key Wire c.args.state.number c.args.old.now (values_of c.self.inside.states.entries) c.self.invariant.own_keys there
+pub returns-in_default-clause-done : goal.returns-in_default-clause-done
+returns-in_default-clause-done c =
+    rw (← c.self.view_is) (absent_touched c.args.state (states_of c.self.inside.keyed) (state_absent c.args.state.number c.self.inside.keyed c.place_of.ensures.states.by_number (sym c.place_of.ensures.place ∙ c.in_default.is)))
 
-pub replace-requires-clause-stack : goal.replace-requires-clause-stack
-replace-requires-clause-stack c =
-    let there : state_of c.args.state.number (values_of c.self.inside.states.entries) ≡ Some c.args.old.now = rw c.self.view_is c.requires.number in
-    c.self.invariant.by_stack c.args.old.now.stack ∙ given_key Stack c.args.state.number c.args.old.now (values_of c.self.inside.states.entries) c.self.invariant.own_keys there
+pub returns-in_default-get-clause-done : goal.returns-in_default-get-clause-done
+returns-in_default-get-clause-done c =
+    absurd (placed_there c.self.inside.keyed c.place_of.ensures.states.own_places (is_number c.args.state.number.0) c.in-Some.place (sym c.place_of.ensures.place ∙ c.in-Some.is) (sym c.get.ensures.stored ∙ ap (λ r. option_copied r) c.in_default-get.is))
 
-pub replace-requires-clause-deadline : goal.replace-requires-clause-deadline
-replace-requires-clause-deadline c =
-    let there : state_of c.args.state.number (values_of c.self.inside.states.entries) ≡ Some c.args.old.now = rw c.self.view_is c.requires.number in
-    c.self.invariant.by_deadline (c.args.old.now.deadline, c.args.state.number) ∙ given_deadline c.args.state.number c.args.old.now (values_of c.self.inside.states.entries) c.self.invariant.in_order there
+pub invariant_of-self : goal.invariant_of-self
+invariant_of-self c = awaited_kept c.self.inside.keyed c.self.inside.deadlines.waits c.make_room.new.deadlines.waits c.make_room.ensures.states.own_places c.self.invariant c.make_room.ensures.kept
 
-pub unreachable-requires : goal.unreachable-requires
-unreachable-requires c =
-    let there : state_of c.args.state.number (values_of c.self.inside.states.entries) ≡ Some c.args.old.now = rw c.self.view_is c.requires.number in
-    false≢true (ap (λ (r : Option State). is_some r) (sym c.in-Err.ensures.absent ∙ state_there c.self.invariant c.args.state.number ∙ there))
+pub replace-requires-clause-number : goal.replace-requires-clause-number
+replace-requires-clause-number c =
+    let states = c.get.ensures.states in
+    let it = standing c.self.inside.keyed states.own_places (is_number c.args.state.number.0) c.in-Some.place c.in-Some-get.field-0.now (sym c.place_of.ensures.place ∙ c.in-Some.is) (sym c.get.ensures.stored ∙ ap (λ r. option_copied r) c.in-Some-get.is) in
+    ap (λ (v : Stored). v.state.number.0) (sym it.has_value) ∙ sym (states.by_number it.placed it.among) ∙ eqb-true it.placed.number c.args.state.number.0 it.is_it
+
+pub invariant_of-self-in_err-replace : goal.invariant_of-self-in_err-replace
+invariant_of-self-in_err-replace c =
+    subst (λ (xs : List Held). AreAwaited c.make_room.new.deadlines.waits xs) (sym c.in_err-replace.ensures.kept)
+    (awaited_kept c.self.inside.keyed c.self.inside.deadlines.waits c.make_room.new.deadlines.waits c.make_room.ensures.states.own_places c.self.invariant c.make_room.ensures.kept)
 
 pub invariant_of-self-2 : goal.invariant_of-self-2
 invariant_of-self-2 c =
-    let there : state_of c.args.state.number (values_of c.self.inside.states.entries) ≡ Some c.args.old.now = rw c.self.view_is c.requires.number in
-    let free : list_any (other_shares c.args.state) (values_of c.self.inside.states.entries) ≡ false = rw c.self.view_is c.requires.keys in
-    indexed_touched c.self.invariant c.args.state c.args.old.now there c.in-Ok.ensures.entries c.in_ok-replace.ensures.wire c.in_ok-replace.ensures.stack c.in_ok-replace.ensures.deadlines free
+    let states = c.make_room.ensures.states in
+    let stored : Stored = record { state = c.args.state; waits = c.args.state.deadline } in
+    let it = standing c.self.inside.keyed states.own_places (is_number c.args.state.number.0) c.in-Some.place c.in-Some-get.field-0.now (sym c.place_of.ensures.place ∙ c.in-Some.is) (sym c.get.ensures.stored ∙ ap (λ r. option_copied r) c.in-Some-get.is) in
+    let awaited = awaited_kept c.self.inside.keyed c.self.inside.deadlines.waits c.make_room.new.deadlines.waits states.own_places c.self.invariant c.make_room.ensures.kept in
+    subst (λ (xs : List Held). AreAwaited c.add.new.self.waits xs) (sym c.in_ok-replace.ensures.done)
+    (awaited_written c.self.inside.keyed c.make_room.new.deadlines.waits c.add.new.self.waits c.in-Some.place stored it.placed states.own_places it.there awaited refl c.add.ensures)
 
 pub returns-clause-done : goal.returns-clause-done
 returns-clause-done c =
-    let there : state_of c.args.state.number (values_of c.self.inside.states.entries) ≡ Some c.args.old.now = rw c.self.view_is c.requires.number in
-    rw (← c.self.view_is) (values_touched c.self.invariant c.args.state c.args.old.now there c.in-Ok.ensures.entries)
+    let states = c.make_room.ensures.states in
+    let stored : Stored = record { state = c.args.state; waits = c.args.state.deadline } in
+    let it = standing c.self.inside.keyed states.own_places (is_number c.args.state.number.0) c.in-Some.place c.in-Some-get.field-0.now (sym c.place_of.ensures.place ∙ c.in-Some.is) (sym c.get.ensures.stored ∙ ap (λ r. option_copied r) c.in-Some-get.is) in
+    rw (← c.self.view_is) (ap (λ (xs : List Held). states_of xs) c.in_ok-replace.ensures.done ∙ states_value c.in-Some.place stored c.self.inside.keyed it.placed states.by_number states.in_order states.own_places it.there (eqb-true it.placed.number c.args.state.number.0 it.is_it))

@@ -1,0 +1,68 @@
+-- States at their places, and what indexes of their keys hold.
+use Rattle.std.specs.Prelude.{◌≡◌, ◌<◌, ℕ, ◌+◌, Bool, true, false, List, [], ◌∷◌, map, Option, Some, None}
+use Rattle.std.specs.List.{Contains, find}
+use Rattle.pfr_index.specs.Index.{Entry, once, places}
+use Rattle.pfr_places.specs.Places.{Placed, at, have_own_places, rise}
+use Rattle.pfr_places.specs.declared.place.Place.{Place}
+use Rattle.pfr_track.specs.declared.key.Key.{Key}
+use Rattle.pfr_track.specs.declared.state.State.{State}
+use Rattle.pfr_states.specs.declared.change.Side.{Side}
+use Rattle.pfr_states.specs.declared.change.Side.TheVariants.{Wire, Stack}
+use Rattle.pfr_states.specs.declared.stored.Stored.{Stored}
+use Rattle.pfr_states.specs.KeyHash.{hash_of}
+use Rattle.pfr_states.specs.States.{have_own_keys, is_same_key, key_on}
+
+abbrev pub states_of : List (Placed Stored) → List State
+states_of all = map (λ placed. placed.value.state) all
+
+abbrev pub has_key : Side → Key → Placed Stored → Bool
+has_key side key placed = is_same_key (key_on side placed.value.state) key
+
+-- the one with this key
+abbrev pub keyed : Side → Key → List (Placed Stored) → Option (Placed Stored)
+keyed side key all = find (has_key side key) all
+
+abbrev pub has_key_by : Side → Key → Option (Placed Stored) → Bool
+has_key_by side key None = false
+has_key_by side key (Some placed) = has_key side key placed
+
+-- whether what stands at a place has this key
+abbrev pub has_key_at : Side → Key → Place → List (Placed Stored) → Bool
+has_key_at side key place all = has_key_by side key (at place all)
+
+-- ---- indexes
+
+abbrev pub entry_of : Side → Placed Stored → Entry
+entry_of side placed = record { hash = hash_of (key_on side placed.value.state); place = placed.place }
+
+-- how often an index of a side has an entry: once for each state
+abbrev pub times_on : Side → List (Placed Stored) → Entry → ℕ
+times_on side [] entry = 0
+times_on side (placed ∷ all) entry = once (entry_of side placed) entry + times_on side all entry
+
+-- a state with its own number, at a place
+abbrev pub held : Stored → Place → Placed Stored
+held stored place = record { number = stored.state.number.0; place = place; value = stored }
+
+-- a state has the number and the keys of another one
+pub record IsLike (old new : State) : Type 0 where
+  pub number : old.number.0 ≡ new.number.0
+  pub keys : (side : Side) → key_on side old ≡ key_on side new
+
+-- each stands under its own number
+abbrev pub AreNumbered : List (Placed Stored) → Type 0
+AreNumbered all = (placed : Placed Stored) → Contains all placed → placed.number ≡ placed.value.state.number.0
+
+-- states under their own numbers, each at a place of its own, no two of which share a key
+pub record AreStates (all : List (Placed Stored)) : Type 0 where
+  pub by_number : AreNumbered all
+  pub in_order : rise all ≡ true
+  pub own_places : have_own_places all ≡ true
+  pub within : (placed : Placed Stored) → Contains all placed → placed.place.0 < places
+  pub own_keys : have_own_keys (states_of all) ≡ true
+
+-- indexes have the place of each by its keys, and nothing else
+pub record AreKeyed (all : List (Placed Stored)) (wire stack : Entry → ℕ) : Type 0 where
+  pub states : AreStates all
+  pub by_wire : (entry : Entry) → wire entry ≡ times_on Wire all entry
+  pub by_stack : (entry : Entry) → stack entry ≡ times_on Stack all entry

@@ -1,0 +1,278 @@
+//! States at their places, which are found by their keys and by their numbers.
+ghost use Rattle.std.specs.Prelude.{◌≡◌, ◌<◌, ◌∷◌, [], length, None, Some, true, false, IfOk, IfSome, OnOk, OnErr};
+ghost use Rattle.std.specs.List.{list_any};
+ghost use Rattle.std.specs.Option.{option_copied};
+ghost use Rattle.pfr_index.specs.Index.{Entry, with_entry, without_entry};
+ghost use Rattle.pfr_places.specs.Places as slab;
+ghost use Rattle.pfr_states.specs.Keyed as spec;
+ghost use Rattle.pfr_states.specs.Awaited as awaited;
+ghost use Rattle.pfr_states.specs.KeyHash.{hash_of};
+ghost use Rattle.pfr_states.specs.States as states;
+
+use crate::change::Side;
+use crate::key_hash::hash_of;
+use crate::stored::{Stored, Wait};
+use pfr_index::Index;
+use pfr_places::{Place, Places};
+use pfr_track::{Key, State, StateNumber};
+use std::alloc::{AllocError, Global};
+use std::marker::Model;
+
+/// States under their numbers, no two of which share a key, each at a place of its own where it stays. Contracts see the
+/// list of them by rising number.
+#[derive(Drop)]
+pub(crate) struct Keyed {
+    places: Places<Stored>,
+    wire: Index,
+    stack: Index,
+}
+
+impl Model for Keyed {
+    ghost use Rattle.std.specs.Prelude.{List};
+    ghost use Rattle.pfr_places.specs.Places.{Placed};
+    ghost use Rattle.pfr_states.specs.declared.stored.Stored.{Stored};
+    ghost use Rattle.pfr_states.specs.Keyed.{AreKeyed};
+
+    ghost Value = { List (Placed Stored) };
+
+    ghost view = { λ k. k.places };
+
+    ghost invariant = { λ k. AreKeyed k.places k.wire.times k.stack.times };
+}
+
+/// The key of a state on a side.
+#[inline]
+fn key_on(state: &State, side: Side) -> &Key
+    ensures { result.now ≡ states.key_on side state.now }
+{
+    match side {
+        Side::Wire => &state.wire,
+        Side::Stack => &state.stack,
+    }
+}
+
+/// Whether what stands at a place has a key on a side.
+#[inline]
+fn has_key(places: &Places<Stored>, place: Place, side: Side, key: &Key) -> bool
+    ensures { result ≡ spec.has_key_at side key.now place places.now }
+{
+    match places.get(place) {
+        Some(stored) => key_on(&stored.state, side) == key,
+        None => false,
+    }
+}
+
+/// Whatever places are asked: their numbers rise, and no two are one.
+fn are_places(places: &Places<Stored>)
+    ensures in_order { slab.rise places.now ≡ true }
+    ensures own_places { slab.have_own_places places.now ≡ true }
+{
+    let _ = places.len();
+}
+
+/// Puts a place under another key in an index.
+fn move_place(index: &mut Index, from: &Key, to: &Key, place: Place)
+    requires room { 0 < index.old.room }
+    requires place { place.0 < 4294967294 }
+    ensures times { (entry : Entry) → index.new.times entry ≡ with_entry (record { hash = hash_of to.now; place = place }) (without_entry (record { hash = hash_of from.now; place = place }) index.old.times) entry }
+{
+    index.remove(hash_of(from), place);
+    index.insert(hash_of(to), place);
+}
+
+impl Keyed {
+    /// No states. It takes memory only once states are added.
+    pub(crate) fn new(alloc: Global) -> Keyed
+        ensures { result ≡ [] }
+    {
+        Keyed {
+            places: Places::new(alloc),
+            wire: Index::new(alloc),
+            stack: Index::new(alloc),
+        }
+    }
+
+    /// Which places stand under the hashes of the keys on a side.
+    #[inline]
+    fn index_on(&self, side: Side) -> &Index
+        ensures { (entry : Entry) → result.now.times entry ≡ spec.times_on side self.now entry }
+    {
+        match side {
+            Side::Wire => &self.wire,
+            Side::Stack => &self.stack,
+        }
+    }
+
+    /// How many there are.
+    #[inline]
+    pub(crate) fn len(&self) -> usize
+        ensures count { result ≡ length self.now }
+        ensures states { spec.AreStates self.now }
+    {
+        self.places.len()
+    }
+
+    /// What stands at a place.
+    #[inline]
+    pub(crate) fn get(&self, place: Place) -> Option<&Stored>
+        ensures stored { option_copied result ≡ slab.value_of (slab.at place self.now) }
+        ensures states { spec.AreStates self.now }
+    {
+        self.places.get(place)
+    }
+
+    /// Where the state with a key on a side stands.
+    #[inline]
+    pub(crate) fn place_at(&self, side: Side, key: &Key) -> Option<Place>
+        ensures place { result ≡ slab.place_of (spec.keyed side key.now self.now) }
+        ensures states { spec.AreStates self.now }
+    {
+        let places = &self.places;
+        let index = self.index_on(side);
+        let found = index.find(
+            hash_of(key),
+            |place| -> bool
+                ensures { result ≡ spec.has_key_at side key.entry.now place places.entry.now }
+            { has_key(places, place, side, key) },
+        );
+        let Some(place) = found else {
+            return None;
+        };
+        Some(place)
+    }
+
+    /// The state with a key on a side.
+    #[inline]
+    pub(crate) fn at(&self, side: Side, key: &Key) -> Option<&Stored>
+        ensures stored { option_copied result ≡ slab.value_of (spec.keyed side key.now self.now) }
+        ensures states { spec.AreStates self.now }
+    {
+        let place = self.place_at(side, key)?;
+        self.get(place)
+    }
+
+    /// Where the state of a number stands.
+    pub(crate) fn place_of(&self, number: StateNumber) -> Option<Place>
+        ensures place { result ≡ slab.place_of (slab.of_number number.0 self.now) }
+        ensures states { spec.AreStates self.now }
+    {
+        self.places.place_of(number.0)
+    }
+
+    /// The state of a number.
+    pub(crate) fn of_number(&self, number: StateNumber) -> Option<&Stored>
+        ensures stored { option_copied result ≡ slab.value_of (slab.of_number number.0 self.now) }
+        ensures states { spec.AreStates self.now }
+    {
+        let place = self.place_of(number)?;
+        self.get(place)
+    }
+
+    /// The state that waits by just this.
+    pub(crate) fn kept_by(&self, wait: Wait) -> Option<&Stored>
+        ensures stored { option_copied result ≡ awaited.kept_by wait (slab.value_of (slab.at wait.2 self.now)) }
+        ensures states { spec.AreStates self.now }
+    {
+        let stored = self.get(wait.2)?;
+        if stored.waits == wait.0 && stored.state.number == wait.1 {
+            Some(stored)
+        } else {
+            None
+        }
+    }
+
+    /// Whether a state waits by just this.
+    pub(crate) fn keeps(&self, wait: Wait) -> bool
+        ensures { result ≡ awaited.is_kept_at wait self.now }
+    {
+        self.kept_by(wait).is_some()
+    }
+
+    /// The state of the least number.
+    pub(crate) fn first(&self) -> Option<&Stored>
+        ensures { option_copied result ≡ slab.value_of (slab.first self.now) }
+    {
+        self.places.first()
+    }
+
+    /// The state of the least number above this one.
+    pub(crate) fn after(&self, number: StateNumber) -> Option<&Stored>
+        ensures stored { option_copied result ≡ slab.value_of (slab.after number.0 self.now) }
+        ensures states { spec.AreStates self.now }
+    {
+        self.places.after(number.0)
+    }
+
+    /// Adds a state of a new number with keys that no other one has. Where memory is refused nothing changes.
+    pub(crate) fn add(&mut self, stored: Stored) -> Result<Place, AllocError>
+        requires number { slab.of_number stored.state.number.0 self.old ≡ None }
+        requires keys { list_any (states.shares_key stored.state) (spec.states_of self.old) ≡ false }
+        ensures done { IfOk result (λ place. self.new ≡ slab.with_placed (spec.held stored place) self.old) }
+        ensures kept { OnErr result (self.new ≡ self.old) }
+    {
+        self.wire.reserve()?;
+        self.stack.reserve()?;
+        let place = self.places.insert(stored.state.number.0, stored)?;
+        // whatever places are asked, they are in order
+        are_places(&self.places);
+        self.wire.insert(hash_of(&stored.state.wire), place);
+        self.stack.insert(hash_of(&stored.state.stack), place);
+        Ok(place)
+    }
+
+    /// Writes over the state at a place another one of its number and its keys.
+    #[inline]
+    pub(crate) fn write(&mut self, place: Place, stored: Stored)
+        requires { IfSome (slab.at place self.old) (λ placed. spec.IsLike placed.value.state stored.state) }
+        ensures { self.new ≡ slab.with_value place stored self.old }
+    {
+        self.places.set(place, stored);
+        // whatever places are asked, they are in order
+        are_places(&self.places);
+    }
+
+    /// Writes over what stands at a place another state of its number, with keys that none of another number has. Where
+    /// memory is refused nothing changes.
+    pub(crate) fn replace(
+        &mut self,
+        place: Place,
+        before: &Stored,
+        stored: Stored,
+    ) -> Result<(), AllocError>
+        requires there { slab.value_of (slab.at place self.old) ≡ Some before.now }
+        requires number { before.now.state.number.0 ≡ stored.state.number.0 }
+        requires keys { states.another_shares stored.state (spec.states_of self.old) ≡ false }
+        ensures done { OnOk result (self.new ≡ slab.with_value place stored self.old) }
+        ensures kept { OnErr result (self.new ≡ self.old) }
+    {
+        self.wire.reserve()?;
+        self.stack.reserve()?;
+        let (from, to) = (&before.state, &stored.state);
+        move_place(&mut self.wire, &from.wire, &to.wire, place);
+        move_place(&mut self.stack, &from.stack, &to.stack, place);
+        self.places.set(place, stored);
+        // whatever places are asked, they are in order
+        are_places(&self.places);
+        Ok(())
+    }
+
+    /// Takes the state of a number out, if there is one.
+    pub(crate) fn remove(&mut self, number: StateNumber)
+        ensures states { self.new ≡ slab.without number.0 self.old }
+        ensures by_number { spec.AreNumbered self.old }
+    {
+        let Some(place) = self.places.place_of(number.0) else {
+            return;
+        };
+        let Some(stored) = self.places.get(place) else {
+            return;
+        };
+        let wire = hash_of(&stored.state.wire);
+        let stack = hash_of(&stored.state.stack);
+        self.wire.remove(wire, place);
+        self.stack.remove(stack, place);
+        self.places.remove(number.0);
+        // whatever places are asked, they are in order
+        are_places(&self.places);
+    }
+}

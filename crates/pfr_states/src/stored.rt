@@ -1,0 +1,13 @@
+//! States where they stand, and the deadlines by which they wait.
+use pfr_places::Place;
+use pfr_track::{Deadline, State, StateNumber};
+
+/// A state, with the deadline by which it waits: not a later one than its own.
+#[derive(Clone, Copy)]
+pub(crate) struct Stored {
+    pub(crate) state: State,
+    pub(crate) waits: Deadline,
+}
+
+/// A deadline, the number of the state that waits by it, and where that one stands.
+pub(crate) type Wait = (Deadline, StateNumber, Place);
