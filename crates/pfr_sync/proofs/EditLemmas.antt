@@ -1,11 +1,16 @@
--- Lists after an edit.
-use Rattle.std.proofs.Common.{◌≡◌, ℕ, suc, ◌+◌, ◌≤◌, ◌<◌, List, ◌++◌, length, take, drop, set, Option, Some, arith}
-use Rattle.std.specs.List.{cons_option}
+-- Entries after an edit.
+use Rattle.std.proofs.Common.{◌≡◌, ℕ, suc, ◌+◌, ◌≤◌, List, length, set, is_some, true, Option, Some, None, arith}
+use Rattle.std.proofs.lemmas.Bool.{false≢true}
 use Rattle.std.proofs.lemmas.List.{set_split}
+use Rattle.pfr_track.specs.declared.state.State.{State}
 use Rattle.pfr_sync.specs.declared.queue.Entry.{Entry}
+use Rattle.pfr_sync.specs.declared.queue.Told.{Told}
+use Rattle.pfr_sync.specs.Edits.{behind, edited}
 
-pub set_edit : (entries : List Entry) (from to : ℕ) (edited : Option Entry) (entry : Entry) → edited ≡ Some entry → from < to → to ≤ from + 1 → to ≤ length entries
-    → set entries from entry ≡ take from entries ++ cons_option edited (drop to entries)
-set_edit entries from to edited entry is order one within =
-    let next : to ≡ suc from = omega arith in
-    rw (is, next) (set_split entries from entry (omega arith))
+-- an entry that is written over
+pub set_edit : (entries : List Entry) (place : ℕ) (state : State) (old new : Option Told) (told : Told) → is_some old ≡ true → new ≡ Some told → behind place old ≤ length entries
+    → set entries place (record { told = told; state = state }) ≡ edited state (record { place = place; old = old; new = new }) entries
+set_edit entries place state None new told there is within = absurd (false≢true there)
+set_edit entries place state (Some old) new told there is within =
+    let next : place + 1 ≡ suc place = omega arith in
+    rw (is, next) (set_split entries place (record { told = told; state = state }) (omega arith))

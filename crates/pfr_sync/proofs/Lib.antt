@@ -1,3 +1,4 @@
+pub mod CountLemmas
 pub mod EditLemmas
 pub mod EntryLemmas
 pub mod FileLemmas
@@ -9,6 +10,7 @@ pub mod NumberLemmas
 pub mod OnceLemmas
 pub mod PacketLemmas
 pub mod PartLemmas
+pub mod PlaceLemmas
 pub mod QueueLemmas
 pub mod RiseLemmas
 pub mod SizeLemmas

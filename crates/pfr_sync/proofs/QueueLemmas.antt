@@ -1,9 +1,8 @@
 -- What every queue keeps.
-use Rattle.std.proofs.Common.{◌≡◌, ℕ, ◌+◌, ◌*◌, ◌-◌, ◌≤◌, ◌<◌, ◌==◌, Bool, true, false, nat_lt, take, drop, List, [], ◌∷◌, ◌++◌, length, Option, sym, refl, ap, ◌∙◌, subst, inl, inr, arith}
+use Rattle.std.proofs.Common.{◌≡◌, ℕ, ◌+◌, ◌*◌, ◌≤◌, ◌<◌, ◌==◌, true, false, nat_lt, List, [], ◌∷◌, length, sym, refl, ap, ◌∙◌, subst, inl, inr, arith}
 use Rattle.std.specs.List.{cons_option, filter}
 use Rattle.std.proofs.lemmas.Bool.{and_parts, and_from, cases_Bool, cases_order, lt-ltb, le-ltb, ltb-true, eqb-true, eq-eqb, ne_eqb, leb-true}
 use Rattle.std.proofs.Math.Nat.{mul-le-mul_right}
-use Rattle.std.proofs.lemmas.List.{take_rest}
 use Rattle.pfr_track.specs.declared.state.State.{State}
 use Rattle.pfr_track.specs.declared.time.Clock.{Clock}
 use Rattle.pfr_messages.specs.Fields.{name}
@@ -137,7 +136,7 @@ kinds_by Insert state xs rest = omega arith
 kinds_by Update state xs rest = omega arith
 kinds_by Delete state xs rest = omega arith
 
-kinds : (xs : List Entry) → length (filter is_insert xs) + (length (filter is_update xs) + length (filter is_delete xs)) ≡ length xs
+pub kinds : (xs : List Entry) → length (filter is_insert xs) + (length (filter is_update xs) + length (filter is_delete xs)) ≡ length xs
 kinds [] = refl
 kinds (x ∷ xs) = kinds_by x.told x.state xs (kinds xs)
 
@@ -172,39 +171,26 @@ pub record Adds (origin : Origin) (entries : List Entry) (event : Event) (new : 
   pub closes : closed ≡ closed_before (queued origin entries) event
   pub leaves : new ≡ after (queued origin entries) event
 
--- the answer whether there is room
-abbrev pub room_at : List Entry → ℕ → ℕ → Option Entry → Bool
-room_at entries from to edited = has_room (take from entries ++ cons_option edited (take (length entries - to) (drop to entries)))
-
-room_is : (entries : List Entry) (event : Event) (from to : ℕ) (edited : Option Entry) → with_entry event entries ≡ take from entries ++ cons_option edited (drop to entries)
-    → room_at entries from to edited ≡ has_room (with_entry event entries)
-room_is entries event from to edited is = rw (take_rest entries to) (ap has_room (sym is))
-
-pub adds_room : (origin : Origin) (entries : List Entry) (event : Event) (from to : ℕ) (edited : Option Entry) (new : List Entry)
+pub adds_room : (origin : Origin) (entries : List Entry) (event : Event) (new : List Entry)
     → IsQueue (queued origin entries)
-    → with_entry event entries ≡ take from entries ++ cons_option edited (drop to entries)
-    → room_at entries from to edited ≡ true
-    → new ≡ take from entries ++ cons_option edited (drop to entries)
+    → has_room (with_entry event entries) ≡ true
+    → new ≡ with_entry event entries
     → Adds origin entries event new []
-adds_room origin entries event from to edited new queue is room made =
-    let enough : has_room (with_entry event entries) ≡ true = sym (room_is entries event from to edited is) ∙ room in
-    let short : is_short origin event.clock (with_entry event entries) ≡ true = short_is origin event.clock (with_entry event entries) queue.interface queue.checksum ∙ enough in
-    let leaves : new ≡ with_entry event entries = made ∙ sym is in
+adds_room origin entries event new queue room leaves =
+    let short : is_short origin event.clock (with_entry event entries) ≡ true = short_is origin event.clock (with_entry event entries) queue.interface queue.checksum ∙ room in
     record {
-      keeps = rw leaves (queue_from origin (with_entry event entries) queue.interface queue.checksum (rise_with event entries queue.in_order) enough);
+      keeps = rw leaves (queue_from origin (with_entry event entries) queue.interface queue.checksum (rise_with event entries queue.in_order) room);
       closes = rw short refl;
       leaves = rw short leaves;
     }
 
-pub adds_full : (origin : Origin) (entries : List Entry) (event : Event) (from to : ℕ) (edited : Option Entry) (new : List Entry) (closed : List Content)
+pub adds_full : (origin : Origin) (entries : List Entry) (event : Event) (new : List Entry) (closed : List Content)
     → IsQueue (queued origin entries)
-    → with_entry event entries ≡ take from entries ++ cons_option edited (drop to entries)
-    → room_at entries from to edited ≡ false
+    → has_room (with_entry event entries) ≡ false
     → closed ≡ messages_by origin event.clock entries
     → new ≡ begun event ∷ []
     → Adds origin entries event new closed
-adds_full origin entries event from to edited new closed queue is room message made =
-    let full : has_room (with_entry event entries) ≡ false = sym (room_is entries event from to edited is) ∙ room in
+adds_full origin entries event new closed queue full message made =
     let long : is_short origin event.clock (with_entry event entries) ≡ false = short_is origin event.clock (with_entry event entries) queue.interface queue.checksum ∙ full in
     record {
       keeps = rw made (queue_one origin (begun event) queue.interface queue.checksum);

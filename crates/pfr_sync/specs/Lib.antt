@@ -1,3 +1,4 @@
+pub mod Edits
 pub mod Events
 pub mod Files
 pub mod Laws

@@ -1,7 +1,9 @@
 -- How many bytes a message of entries has.
-use Rattle.std.specs.Prelude.{ℕ, ◌+◌, ◌*◌, ◌==◌, Bool, nat_le, if◌then◌else◌, List, length}
+use Rattle.std.specs.Prelude.{◌≡◌, ℕ, ◌+◌, ◌-◌, ◌*◌, ◌==◌, Bool, nat_le, if◌then◌else◌, List, length, Option, Some, None}
 use Rattle.std.specs.List.{filter}
 use Rattle.pfr_sync.specs.declared.queue.Entry.{Entry}
+use Rattle.pfr_sync.specs.declared.queue.Told.{Told}
+use Rattle.pfr_sync.specs.declared.queue.Told.TheVariants.{Insert, Update, Delete}
 use Rattle.pfr_sync.specs.declared.sizes.Counts.{Counts}
 use Rattle.pfr_sync.specs.Messages.{is_delete, is_insert, is_update}
 
@@ -12,11 +14,25 @@ counts_of entries = record {
   deletions = length (filter is_delete entries);
 }
 
-abbrev pub both : Counts → Counts → Counts
-both a b = record {
-  insertions = a.insertions + b.insertions;
-  updates = a.updates + b.updates;
-  deletions = a.deletions + b.deletions;
+-- the count of what is told of one state
+abbrev pub one_of : Option Told → Counts
+one_of None = record { insertions = 0; updates = 0; deletions = 0 }
+one_of (Some Insert) = record { insertions = 1; updates = 0; deletions = 0 }
+one_of (Some Update) = record { insertions = 0; updates = 1; deletions = 0 }
+one_of (Some Delete) = record { insertions = 0; updates = 0; deletions = 1 }
+
+-- counts before and after what was told of a state gives way to what is told now
+pub record Exchanges (old new : Option Told) (before after : Counts) : Type 0 where
+  pub insertions : after.insertions + (one_of old).insertions ≡ before.insertions + (one_of new).insertions
+  pub updates : after.updates + (one_of old).updates ≡ before.updates + (one_of new).updates
+  pub deletions : after.deletions + (one_of old).deletions ≡ before.deletions + (one_of new).deletions
+
+-- those after, by those before
+abbrev pub exchanged : Counts → Option Told → Option Told → Counts
+exchanged before old new = record {
+  insertions = (before.insertions + (one_of new).insertions) - (one_of old).insertions;
+  updates = (before.updates + (one_of new).updates) - (one_of old).updates;
+  deletions = (before.deletions + (one_of new).deletions) - (one_of old).deletions;
 }
 
 -- a section has a header of four bytes and its records; there is none without records
@@ -27,5 +43,8 @@ section_size size count = if count == 0 then 0 else 4 + size * count
 abbrev pub size_of : Counts → ℕ
 size_of counts = 24 + (section_size 242 counts.insertions + (section_size 84 counts.updates + section_size 12 counts.deletions))
 
+abbrev pub fits : Counts → Bool
+fits counts = nat_le (size_of counts) 1480
+
 abbrev pub has_room : List Entry → Bool
-has_room entries = nat_le (size_of (counts_of entries)) 1480
+has_room entries = fits (counts_of entries)

@@ -1,30 +1,28 @@
 //! What an event does to the entries of the open message.
-ghost use Rattle.std.specs.Prelude.{◌≡◌, ◌+◌, ◌≤◌, ◌<◌, ◌++◌, take, drop, length, slice_index_or, vec_len, [], ◌∷◌, OnOk, OnErr, IfNone};
-ghost use Rattle.std.specs.List.{cons_option};
+ghost use Rattle.std.specs.Prelude.{◌≡◌, ◌+◌, ◌≤◌, ◌<◌, ◌++◌, true, take, drop, length, slice_index_or, vec_len, [], ◌∷◌, OnOk, OnErr, IfNone, IsSome};
+ghost use Rattle.pfr_sync.specs.Edits as edits;
 ghost use Rattle.pfr_sync.specs.Queues as spec;
+ghost use Rattle.pfr_sync.specs.Sizes as sizes;
 
 use crate::event::{Change, Event};
 use crate::queue::{Entry, Told};
+use pfr_track::State;
 use std::alloc::AllocError;
 
-/// The entry of a state of which nothing was told.
-pub fn begun(event: &Event) -> Entry
-    ensures { result ≡ spec.begun event.now }
+/// What is told of a state of which nothing was told.
+pub fn begun(event: &Event) -> Told
+    ensures { record { told = result; state = event.now.state } ≡ spec.begun event.now }
 {
-    let told = match event.change {
+    match event.change {
         Change::Made => Told::Insert,
         Change::Touched => Told::Update,
         Change::Removed => Told::Delete,
-    };
-    Entry {
-        told,
-        state: event.state,
     }
 }
 
-/// The entry of a state of which something was told.
-fn followed(told: Told, event: &Event) -> Option<Entry>
-    ensures { result ≡ spec.followed told event.now }
+/// What is told of a state of which something was told.
+fn followed(told: Told, event: &Event) -> Option<Told>
+    ensures { edits.entry_of event.now.state result ≡ spec.followed told event.now }
 {
     let told = match (told, event.change) {
         (Told::Insert, Change::Removed) => return None,
@@ -32,86 +30,114 @@ fn followed(told: Told, event: &Event) -> Option<Entry>
         (_, Change::Removed) => Told::Delete,
         _ => Told::Update,
     };
-    Some(Entry {
-        told,
-        state: event.state,
-    })
+    Some(told)
 }
 
-/// The entries from a place to another give way to one, or to none.
+/// At a place what was told of a state gives way to what is told now.
 #[derive(Clone, Copy)]
 pub struct Edit {
-    pub from: usize,
-    pub to: usize,
-    pub entry: Option<Entry>,
+    pub place: usize,
+    /// What the entry at the place tells. None where it is another state's: then the new one goes before it.
+    pub old: Option<Told>,
+    /// None where nothing is told any more.
+    pub new: Option<Told>,
 }
 
 /// The first place whose entry isn't of a lower number than the event's.
 fn place_of(entries: &[Entry], event: &Event) -> usize
+    requires { spec.rise entries.now ≡ true }
     ensures within { result ≤ length entries.now }
     ensures entries { spec.with_entry event.now entries.now ≡ take result entries.now ++ spec.with_entry event.now (drop result entries.now) }
     ensures above { result < length entries.now → event.now.state.number.0 ≤ spec.number_of (slice_index_or entries.now result (spec.begun event.now)) }
 {
-    let mut place = 0;
-    while place < entries.len() && entries[place].state.number.0 < event.state.number.0 {
-        place += 1;
-    }
-    place
+    let number = event.state.number.0;
+    entries.partition_point(|entry| entry.state.number.0 < number)
 }
 
 /// What an event does to the entries.
 pub fn edit_of(entries: &[Entry], event: &Event) -> Edit
-    ensures entries { spec.with_entry event.now entries.now ≡ take result.from entries.now ++ cons_option result.entry (drop result.to entries.now) }
-    ensures order { result.from ≤ result.to }
-    ensures one { result.to ≤ result.from + 1 }
-    ensures within { result.to ≤ length entries.now }
-    ensures gone { IfNone result.entry (result.from < result.to) }
+    requires { spec.rise entries.now ≡ true }
+    ensures entries { spec.with_entry event.now entries.now ≡ edits.edited event.now.state result entries.now }
+    ensures within { edits.behind result.place result.old ≤ length entries.now }
+    ensures gone { IfNone result.new (IsSome result.old) }
+    ensures counts { sizes.Exchanges result.old result.new (sizes.counts_of entries.now) (sizes.counts_of (edits.edited event.now.state result entries.now)) }
 {
-    let from = place_of(entries, event);
-    if from == entries.len() || event.state.number.0 < entries[from].state.number.0 {
+    let place = place_of(entries, event);
+    if place == entries.len() || event.state.number.0 < entries[place].state.number.0 {
         Edit {
-            from,
-            to: from,
-            entry: Some(begun(event)),
+            place,
+            old: None,
+            new: Some(begun(event)),
         }
     } else {
+        let told = entries[place].told;
         Edit {
-            from,
-            to: from + 1,
-            entry: followed(entries[from].told, event),
+            place,
+            old: Some(told),
+            new: followed(told, event),
         }
     }
 }
 
-/// Edits the entries. Where memory is refused nothing changes.
-pub fn apply(entries: &mut Vec<Entry>, edit: &Edit) -> Result<(), AllocError>
-    requires order { edit.now.from ≤ edit.now.to }
-    requires one { edit.now.to ≤ edit.now.from + 1 }
-    requires within { edit.now.to ≤ length entries.old.items }
-    requires gone { IfNone edit.now.entry (edit.now.from < edit.now.to) }
-    ensures entries { OnOk result (entries.new.items ≡ take edit.now.from entries.old.items ++ cons_option edit.now.entry (drop edit.now.to entries.old.items)) }
+/// Puts an entry before those from a place on. Where memory is refused nothing changes.
+// It has large locals, which a call that only writes an entry over needn't pay for.
+#[inline(never)]
+fn put(entries: &mut Vec<Entry>, place: usize, told: Told, state: &State) -> Result<(), AllocError>
+    requires { place ≤ length entries.old.items }
+    ensures entries { OnOk result (entries.new.items ≡ take place entries.old.items ++ record { told = told; state = state.now } ∷ drop place entries.old.items) }
     ensures kept { OnErr result (entries.new.items ≡ entries.old.items) }
 {
-    match edit.entry {
+    entries.insert(
+        place,
+        Entry {
+            told,
+            state: *state,
+        },
+    )?;
+    Ok(())
+}
+
+/// Takes an entry out.
+// As with one that is put in.
+#[inline(never)]
+fn take_out(entries: &mut Vec<Entry>, place: usize)
+    requires { place < length entries.old.items }
+    ensures { entries.new.items ≡ take place entries.old.items ++ drop (place + 1) entries.old.items }
+{
+    entries.remove(place);
+}
+
+/// Edits the entries. Where memory is refused nothing changes.
+pub fn apply(entries: &mut Vec<Entry>, edit: Edit, state: &State) -> Result<(), AllocError>
+    requires within { edits.behind edit.place edit.old ≤ length entries.old.items }
+    requires gone { IfNone edit.new (IsSome edit.old) }
+    ensures entries { OnOk result (entries.new.items ≡ edits.edited state.now edit entries.old.items) }
+    ensures kept { OnErr result (entries.new.items ≡ entries.old.items) }
+{
+    match edit.new {
         None => {
-            entries.remove(edit.from);
+            take_out(entries, edit.place);
         }
-        Some(entry) => {
-            if edit.from < edit.to {
-                entries[edit.from] = entry;
+        Some(told) => {
+            if edit.old.is_some() {
+                let entry = &mut entries[edit.place];
+                entry.told = told;
+                entry.state = *state;
             } else {
-                entries.insert(edit.from, entry)?;
+                put(entries, edit.place, told, state)?;
             }
         }
     }
     Ok(())
 }
 
-/// Leaves one entry alone, in the place of the first.
-pub fn start(entries: &mut Vec<Entry>, entry: Entry)
+/// Leaves the entry of an event alone, in the place of the first.
+pub fn start(entries: &mut Vec<Entry>, told: Told, state: &State)
     requires { 0 < vec_len entries.old }
-    ensures { entries.new.items ≡ entry ∷ [] }
+    ensures { entries.new.items ≡ record { told = told; state = state.now } ∷ [] }
 {
     entries.truncate(1);
-    entries[0] = entry;
+    let entry = &mut entries[0];
+    entry.told = told;
+    entry.state = *state;
 }

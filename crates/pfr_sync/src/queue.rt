@@ -12,7 +12,7 @@ use crate::edit::{apply, begun, edit_of, start};
 use crate::event::Event;
 use crate::names::plain_name;
 use crate::origin::Origin;
-use crate::sizes::has_room;
+use crate::sizes::{Counts, exchanged, has_room, one_of};
 use crate::telling::message_of;
 use pfr_messages::Message;
 use pfr_net::IfName;
@@ -32,10 +32,11 @@ pub enum Told {
 }
 
 /// What the open message tells of a state.
+// The state stands first, where copies of it are aligned as it is itself.
 #[derive(Clone, Copy)]
 pub struct Entry {
-    pub told: Told,
     pub state: State,
+    pub told: Told,
 }
 
 /// What the open message tells so far, an entry a state. Contracts see the entries by rising number, and whose they are.
@@ -46,16 +47,20 @@ pub struct Queue {
     alloc: Global,
     origin: Origin,
     entries: Vec<Entry>,
+    /// How many entries there are of each kind.
+    counts: Counts,
 }
 
 impl Model for Queue {
+    ghost use Rattle.std.specs.Prelude.{◌≡◌};
     ghost use Rattle.pfr_sync.specs.Queues.{IsQueue, Queued};
+    ghost use Rattle.pfr_sync.specs.Sizes.{counts_of};
 
     ghost Value = { Queued };
 
     ghost view = { λ q. record { origin = q.origin; entries = q.entries.items } };
 
-    ghost invariant = { λ q. IsQueue (record { origin = q.origin; entries = q.entries.items }) };
+    ghost invariant = { λ q. IsQueue (record { origin = q.origin; entries = q.entries.items }) × (q.counts ≡ counts_of q.entries.items) };
 }
 
 impl Queue {
@@ -71,6 +76,7 @@ impl Queue {
                 creator,
             },
             entries: Vec::new(alloc),
+            counts: one_of(None),
         }
     }
 
@@ -98,12 +104,16 @@ impl Queue {
     {
         let entries = self.entries.as_slice();
         let edit = edit_of(entries, event);
-        if has_room(&entries[..edit.from], edit.entry, &entries[edit.to..]) {
-            apply(&mut self.entries, &edit)?;
+        let counts = exchanged(self.counts, edit.old, edit.new);
+        if has_room(counts) {
+            apply(&mut self.entries, edit, &event.state)?;
+            self.counts = counts;
             return Ok(None);
         }
         let message = message_of(self.alloc, &self.origin, event.clock, entries)?;
-        start(&mut self.entries, begun(event));
+        let told = begun(event);
+        start(&mut self.entries, told, &event.state);
+        self.counts = one_of(Some(told));
         Ok(message)
     }
 
@@ -123,6 +133,7 @@ impl Queue {
     {
         let message = message_of(self.alloc, &self.origin, clock, &self.entries)?;
         self.entries.clear();
+        self.counts = one_of(None);
         Ok(message)
     }
 }

@@ -1,9 +1,8 @@
 //! How many bytes a message has.
-ghost use Rattle.std.specs.Prelude.{◌≡◌, ◌+◌, ◌≤◌, ◌++◌, length, nat_le};
-ghost use Rattle.std.specs.List.{cons_option};
+ghost use Rattle.std.specs.Prelude.{◌≡◌, ◌+◌, ◌≤◌};
 ghost use Rattle.pfr_sync.specs.Sizes as spec;
 
-use crate::queue::{Entry, Told};
+use crate::queue::Told;
 
 /// How many records of each kind a message has.
 #[derive(Clone, Copy)]
@@ -13,48 +12,52 @@ pub struct Counts {
     pub deletions: usize,
 }
 
-fn counts_of(entries: &[Entry]) -> Counts
-    requires { length entries.now ≤ 1000 }
-    ensures counts { result ≡ spec.counts_of entries.now }
-    ensures total { result.insertions + (result.updates + result.deletions) ≡ length entries.now }
+/// The count of what is told of one state.
+pub fn one_of(told: Option<Told>) -> Counts
+    ensures counts { result ≡ spec.one_of told }
+    ensures one { result.insertions + (result.updates + result.deletions) ≤ 1 }
 {
-    let mut counts = Counts {
-        insertions: 0,
-        updates: 0,
-        deletions: 0,
+    let (insertions, updates, deletions) = match told {
+        None => (0, 0, 0),
+        Some(Told::Insert) => (1, 0, 0),
+        Some(Told::Update) => (0, 1, 0),
+        Some(Told::Delete) => (0, 0, 1),
     };
-    for entry in entries {
-        match entry.told {
-            Told::Insert => counts.insertions += 1,
-            Told::Update => counts.updates += 1,
-            Told::Delete => counts.deletions += 1,
-        }
+    Counts {
+        insertions,
+        updates,
+        deletions,
     }
-    counts
 }
 
-fn both(a: Counts, b: Counts) -> Counts
-    requires few { a.insertions + (a.updates + a.deletions) ≤ 2000 }
-    requires few_more { b.insertions + (b.updates + b.deletions) ≤ 1000 }
-    ensures { result ≡ spec.both a b }
+/// The counts where what was told of a state gives way to what is told now.
+pub fn exchanged(counts: Counts, old: Option<Told>, new: Option<Told>) -> Counts
+    requires few { counts.insertions + (counts.updates + counts.deletions) ≤ 1000 }
+    requires insertions { (spec.one_of old).insertions ≤ counts.insertions + (spec.one_of new).insertions }
+    requires updates { (spec.one_of old).updates ≤ counts.updates + (spec.one_of new).updates }
+    requires deletions { (spec.one_of old).deletions ≤ counts.deletions + (spec.one_of new).deletions }
+    ensures counts { result ≡ spec.exchanged counts old new }
+    ensures few { result.insertions + (result.updates + result.deletions) ≤ 1001 }
 {
+    let gone = one_of(old);
+    let come = one_of(new);
     Counts {
-        insertions: a.insertions + b.insertions,
-        updates: a.updates + b.updates,
-        deletions: a.deletions + b.deletions,
+        insertions: counts.insertions + come.insertions - gone.insertions,
+        updates: counts.updates + come.updates - gone.updates,
+        deletions: counts.deletions + come.deletions - gone.deletions,
     }
 }
 
 fn section_size(size: usize, count: usize) -> usize
     requires size { size ≤ 242 }
-    requires count { count ≤ 3000 }
+    requires count { count ≤ 1001 }
     ensures { result ≡ spec.section_size size count }
 {
     if count == 0 { 0 } else { 4 + size * count }
 }
 
 fn size_of(counts: Counts) -> usize
-    requires { counts.insertions + (counts.updates + counts.deletions) ≤ 3000 }
+    requires { counts.insertions + (counts.updates + counts.deletions) ≤ 1001 }
     ensures { result ≡ spec.size_of counts }
 {
     24 + section_size(242, counts.insertions)
@@ -62,16 +65,10 @@ fn size_of(counts: Counts) -> usize
         + section_size(12, counts.deletions)
 }
 
-/// Whether one message has room for entries: those before a place, one more or none, and those behind.
-pub fn has_room(before: &[Entry], entry: Option<Entry>, behind: &[Entry]) -> bool
-    requires few { length before.now ≤ 1000 }
-    requires few_more { length behind.now ≤ 1000 }
-    ensures { result ≡ spec.has_room (before.now ++ cons_option entry behind.now) }
+/// Whether one message has room for records of these counts.
+pub fn has_room(counts: Counts) -> bool
+    requires { counts.insertions + (counts.updates + counts.deletions) ≤ 1001 }
+    ensures { result ≡ spec.fits counts }
 {
-    let others = both(counts_of(before), counts_of(behind));
-    let counts = match entry {
-        None => others,
-        Some(entry) => both(others, counts_of(&[entry])),
-    };
     size_of(counts) <= 1480
 }

@@ -1,6 +1,8 @@
+use Rattle.std.proofs.Common.{sym, ◌∙◌}
 use Rattle.pfr_sync.proofs.EditLemmas.{set_edit}
 use Rattle.pfr_sync.proofs.edit.apply.Goals as goal
 
-pub returns-then-edit-clause-entries : goal.returns-then-edit-clause-entries
-returns-then-edit-clause-entries c =
-    set_edit c.args.entries.now.items c.args.edit.now.from c.args.edit.now.to c.args.edit.now.entry c.in-Some.entry c.in-Some.is c.if-edit.true c.requires.one c.requires.within
+pub returns-then-is_some-clause-entries : goal.returns-then-is_some-clause-entries
+returns-then-is_some-clause-entries c =
+    let edit = c.args.edit in
+    set_edit c.args.entries.now.items edit.place c.args.state.now edit.old edit.new c.in-Some.told (sym c.is_some.ensures ∙ c.if-is_some.true) c.in-Some.is c.requires.within

@@ -1,108 +1,91 @@
-use Rattle.std.proofs.Common.{◌-◌, drop, length, ap, sym, arith, ◌∙◌}
-use Rattle.std.proofs.lemmas.List.{length-take, length-drop}
+use Rattle.std.proofs.Common.{sym, ◌∙◌}
+use Rattle.pfr_sync.proofs.CountLemmas.{enters_full, enters_room, few_counted}
 use Rattle.pfr_sync.proofs.PartLemmas.{adds_events}
-use Rattle.pfr_sync.proofs.QueueLemmas.{adds_full, adds_room, few_entries}
 use Rattle.pfr_sync.proofs.queue.Queue.add.Goals as goal
 
-pub has_room-requires-clause-few : goal.has_room-requires-clause-few
-has_room-requires-clause-few c =
-    let few = few_entries _ c.self.invariant in
-    let same = ap length c.as_slice-entries.ensures.value in
-    let front = length-take c.edit_of-edit.result.from c.as_slice-entries.result.now in
-    omega arith
-
-pub has_room-requires-clause-few_more : goal.has_room-requires-clause-few_more
-has_room-requires-clause-few_more c =
-    let entries = c.as_slice-entries.result.now in
-    let to = c.edit_of-edit.result.to in
-    let few = few_entries _ c.self.invariant in
-    let same = ap length c.as_slice-entries.ensures.value in
-    let part = length-take (length entries - to) (drop to entries) in
-    let behind = length-drop to entries in
-    omega arith
+pub exchanged-counts-requires-clause-few : goal.exchanged-counts-requires-clause-few
+exchanged-counts-requires-clause-few c = few_counted c.self.inside.origin c.self.inside.entries.items c.self.inside.counts c.self.invariant
 
 pub invariant_of-self-then-has_room : goal.invariant_of-self-then-has_room
 invariant_of-self-then-has_room c =
     let s = c.self.inside in
-    let edit = c.edit_of-edit.result in
     let same = c.as_slice-entries.ensures.value in
     let is = rw same at c.edit_of-edit.ensures.entries in
-    let room = rw same at (sym c.has_room.ensures ∙ c.if-has_room.true) in
-    (adds_room s.origin s.entries.items c.args.event.now edit.from edit.to edit.entry c.apply.new.entries.items c.self.invariant is room c.in_ok-apply.ensures.entries).keeps
+    let exchanges = rw same at c.edit_of-edit.ensures.counts in
+    let room = sym c.has_room.ensures ∙ c.if-has_room.true in
+    let enters = enters_room s.origin s.entries.items c.args.event.now c.edit_of-edit.result s.counts c.exchanged-counts.result c.apply.new.entries.items c.self.invariant is exchanges c.exchanged-counts.ensures.counts room c.in_ok-apply.ensures.entries in
+    (enters.adds.keeps, enters.counted)
 
 pub returns-then-has_room-clause-message : goal.returns-then-has_room-clause-message
 returns-then-has_room-clause-message c =
     let s = c.self.inside in
-    let edit = c.edit_of-edit.result in
     let same = c.as_slice-entries.ensures.value in
     let is = rw same at c.edit_of-edit.ensures.entries in
-    let room = rw same at (sym c.has_room.ensures ∙ c.if-has_room.true) in
-    rw (← c.self.view_is) (adds_room s.origin s.entries.items c.args.event.now edit.from edit.to edit.entry c.apply.new.entries.items c.self.invariant is room c.in_ok-apply.ensures.entries).closes
+    let exchanges = rw same at c.edit_of-edit.ensures.counts in
+    let room = sym c.has_room.ensures ∙ c.if-has_room.true in
+    let enters = enters_room s.origin s.entries.items c.args.event.now c.edit_of-edit.result s.counts c.exchanged-counts.result c.apply.new.entries.items c.self.invariant is exchanges c.exchanged-counts.ensures.counts room c.in_ok-apply.ensures.entries in
+    rw (← c.self.view_is) enters.adds.closes
 
 pub returns-then-has_room-clause-entries : goal.returns-then-has_room-clause-entries
 returns-then-has_room-clause-entries c =
     let s = c.self.inside in
-    let edit = c.edit_of-edit.result in
     let same = c.as_slice-entries.ensures.value in
     let is = rw same at c.edit_of-edit.ensures.entries in
-    let room = rw same at (sym c.has_room.ensures ∙ c.if-has_room.true) in
-    rw (← c.self.view_is) (adds_room s.origin s.entries.items c.args.event.now edit.from edit.to edit.entry c.apply.new.entries.items c.self.invariant is room c.in_ok-apply.ensures.entries).leaves
+    let exchanges = rw same at c.edit_of-edit.ensures.counts in
+    let room = sym c.has_room.ensures ∙ c.if-has_room.true in
+    let enters = enters_room s.origin s.entries.items c.args.event.now c.edit_of-edit.result s.counts c.exchanged-counts.result c.apply.new.entries.items c.self.invariant is exchanges c.exchanged-counts.ensures.counts room c.in_ok-apply.ensures.entries in
+    rw (← c.self.view_is) enters.adds.leaves
 
 pub invariant_of-self-2 : goal.invariant_of-self-2
 invariant_of-self-2 c =
     let s = c.self.inside in
-    let edit = c.edit_of-edit.result in
     let same = c.as_slice-entries.ensures.value in
     let is = rw same at c.edit_of-edit.ensures.entries in
-    let room = rw same at (sym c.has_room.ensures ∙ c.if-has_room.false) in
+    let exchanges = rw same at c.edit_of-edit.ensures.counts in
+    let full = sym c.has_room.ensures ∙ c.if-has_room.false in
     let message = rw same at c.in_ok-message.ensures in
-    let made = rw c.begun.ensures at c.start.ensures in
-    (adds_full s.origin s.entries.items c.args.event.now edit.from edit.to edit.entry c.start.new.entries.items _ c.self.invariant is room message made).keeps
+    let enters = enters_full s.origin s.entries.items c.args.event.now c.edit_of-edit.result s.counts c.exchanged-counts.result c.start.new.entries.items _ c.begun-told.result c.self.invariant is exchanges c.exchanged-counts.ensures.counts full message c.begun-told.ensures c.start.ensures in
+    rw c.one_of-self-inside.ensures.counts (enters.adds.keeps, enters.counted)
 
 pub returns-clause-message : goal.returns-clause-message
 returns-clause-message c =
     let s = c.self.inside in
-    let edit = c.edit_of-edit.result in
     let same = c.as_slice-entries.ensures.value in
     let is = rw same at c.edit_of-edit.ensures.entries in
-    let room = rw same at (sym c.has_room.ensures ∙ c.if-has_room.false) in
+    let exchanges = rw same at c.edit_of-edit.ensures.counts in
+    let full = sym c.has_room.ensures ∙ c.if-has_room.false in
     let message = rw same at c.in_ok-message.ensures in
-    let made = rw c.begun.ensures at c.start.ensures in
-    rw (← c.self.view_is) (adds_full s.origin s.entries.items c.args.event.now edit.from edit.to edit.entry c.start.new.entries.items _ c.self.invariant is room message made).closes
+    let enters = enters_full s.origin s.entries.items c.args.event.now c.edit_of-edit.result s.counts c.exchanged-counts.result c.start.new.entries.items _ c.begun-told.result c.self.invariant is exchanges c.exchanged-counts.ensures.counts full message c.begun-told.ensures c.start.ensures in
+    rw (← c.self.view_is) enters.adds.closes
 
 pub returns-clause-entries : goal.returns-clause-entries
 returns-clause-entries c =
     let s = c.self.inside in
-    let edit = c.edit_of-edit.result in
     let same = c.as_slice-entries.ensures.value in
     let is = rw same at c.edit_of-edit.ensures.entries in
-    let room = rw same at (sym c.has_room.ensures ∙ c.if-has_room.false) in
+    let exchanges = rw same at c.edit_of-edit.ensures.counts in
+    let full = sym c.has_room.ensures ∙ c.if-has_room.false in
     let message = rw same at c.in_ok-message.ensures in
-    let made = rw c.begun.ensures at c.start.ensures in
-    rw (← c.self.view_is) (adds_full s.origin s.entries.items c.args.event.now edit.from edit.to edit.entry c.start.new.entries.items _ c.self.invariant is room message made).leaves
+    let enters = enters_full s.origin s.entries.items c.args.event.now c.edit_of-edit.result s.counts c.exchanged-counts.result c.start.new.entries.items _ c.begun-told.result c.self.invariant is exchanges c.exchanged-counts.ensures.counts full message c.begun-told.ensures c.start.ensures in
+    rw (← c.self.view_is) enters.adds.leaves
 
 pub returns-then-has_room-clause-events : goal.returns-then-has_room-clause-events
 returns-then-has_room-clause-events c =
     let s = c.self.inside in
-    let e = c.args.event.now in
-    let edit = c.edit_of-edit.result in
-    let new = c.apply.new.entries.items in
     let same = c.as_slice-entries.ensures.value in
     let is = rw same at c.edit_of-edit.ensures.entries in
-    let room = rw same at (sym c.has_room.ensures ∙ c.if-has_room.true) in
-    let adds = adds_room s.origin s.entries.items e edit.from edit.to edit.entry new c.self.invariant is room c.in_ok-apply.ensures.entries in
-    rw (← c.self.view_is) (adds_events s.origin s.entries.items e new _ c.self.invariant adds)
+    let exchanges = rw same at c.edit_of-edit.ensures.counts in
+    let room = sym c.has_room.ensures ∙ c.if-has_room.true in
+    let enters = enters_room s.origin s.entries.items c.args.event.now c.edit_of-edit.result s.counts c.exchanged-counts.result c.apply.new.entries.items c.self.invariant is exchanges c.exchanged-counts.ensures.counts room c.in_ok-apply.ensures.entries in
+    rw (← c.self.view_is) (adds_events s.origin s.entries.items c.args.event.now c.apply.new.entries.items _ c.self.invariant.0 enters.adds)
 
 pub returns-clause-events : goal.returns-clause-events
 returns-clause-events c =
     let s = c.self.inside in
-    let e = c.args.event.now in
-    let edit = c.edit_of-edit.result in
-    let new = c.start.new.entries.items in
     let same = c.as_slice-entries.ensures.value in
     let is = rw same at c.edit_of-edit.ensures.entries in
-    let room = rw same at (sym c.has_room.ensures ∙ c.if-has_room.false) in
+    let exchanges = rw same at c.edit_of-edit.ensures.counts in
+    let full = sym c.has_room.ensures ∙ c.if-has_room.false in
     let message = rw same at c.in_ok-message.ensures in
-    let made = rw c.begun.ensures at c.start.ensures in
-    let adds = adds_full s.origin s.entries.items e edit.from edit.to edit.entry new _ c.self.invariant is room message made in
-    rw (← c.self.view_is) (adds_events s.origin s.entries.items e new _ c.self.invariant adds)
+    let enters = enters_full s.origin s.entries.items c.args.event.now c.edit_of-edit.result s.counts c.exchanged-counts.result c.start.new.entries.items _ c.begun-told.result c.self.invariant is exchanges c.exchanged-counts.ensures.counts full message c.begun-told.ensures c.start.ensures in
+    rw (← c.self.view_is) (adds_events s.origin s.entries.items c.args.event.now c.start.new.entries.items _ c.self.invariant.0 enters.adds)

@@ -8,4 +8,4 @@ pub returns-clause-few : goal.returns-clause-few
 returns-clause-few c =
     let queue : Queued = record { origin = c.self.inside.origin; entries = c.self.inside.entries.items } in
     let count : c.len.result ≡ length c.self.inside.entries.items = search rules in
-    subst (λ (n : ℕ). n ≤ 121) (sym count) (few queue c.self.invariant)
+    subst (λ (n : ℕ). n ≤ 121) (sym count) (few queue c.self.invariant.0)
