@@ -1,5 +1,5 @@
 -- What a book knows of an outcome.
-use Rattle.std.proofs.Common.{◌≡◌, Option, Some, None, IfSome, refl}
+use Rattle.std.proofs.Common.{◌≡◌, Option, Some, None, IfSome, Result, Ok, Err, OnErr, refl}
 use Rattle.pfr_commit.specs.declared.book.Book.{Book}
 use Rattle.pfr_commit.specs.Books.{job_of}
 
@@ -10,3 +10,8 @@ same_job book other is = rw is refl
 pub if_some : {X : Type 0} (P : X → Type 0) (o : Option X) → ((x : X) → o ≡ Some x → P x) → IfSome o P
 if_some P None h = tt
 if_some P (Some x) h = h x refl
+
+-- what holds in any case holds of a refusal
+pub on_err : {X E : Type 0} (r : Result X E) (P : Type 0) → P → OnErr r P
+on_err (Ok x) P h = tt
+on_err (Err e) P h = h

@@ -2,14 +2,12 @@
 ghost use Rattle.std.specs.Prelude.{◌≡◌, ◌<◌, ◌≤◌, ◌+◌, ◌^◌, false, true, max, IfOk, IfSome, IsSome, ◌↔◌, OnOk, OnErr, None};
 ghost use Rattle.std.specs.Arc.{arc_value};
 ghost use Rattle.std.specs.Option.{option_to_list};
-ghost use Rattle.std.specs.String.{string_bytes};
 ghost use Rattle.pfr_headers.specs.declared.packet.View.TheVariants.{Ipv4};
 ghost use Rattle.pfr_headers.specs.View.{view_of};
 ghost use Rattle.pfr_states.specs.States.{purged, refusal};
 ghost use Rattle.pfr_packet.specs.Steps.{step_of};
 ghost use Rattle.pfr_commit.specs.Emissions.{frame_of, texts_of};
 ghost use Rattle.pfr_commit.specs.Endings.{counters_text, states_text};
-ghost use Rattle.pfr_commit.specs.Lines.{verdict_line};
 ghost use Rattle.pfr_packet.specs.Laws.{IsOwnChange};
 ghost use Rattle.pfr_commit.specs.World.{World};
 ghost use Rattle.pfr_commit.specs.World as spec;
@@ -17,7 +15,6 @@ ghost use Rattle.pfr_commit.specs.World as spec;
 use crate::counters::Counters;
 use crate::emitted::Emitted;
 use crate::ending::Ending;
-use crate::verdict_line::VerdictLine;
 use pfr_capture::Record;
 use pfr_headers::View;
 use pfr_packet::laws::{
@@ -30,7 +27,6 @@ use pfr_sync::checksum;
 use pfr_telling::Telling;
 use pfr_track::Clock;
 use std::alloc::{AllocError, Global};
-use std::fmt::Write;
 use std::sync::Arc;
 
 /// Takes the packets of a run in the order of the capture, one after the other, with what was found out about them before
@@ -51,8 +47,6 @@ pub struct Book {
     pub(crate) telling: Telling,
     /// Whether memory was refused.
     pub(crate) is_over: bool,
-    /// The line of the packet that is taken.
-    line: String,
     ghost few: { own ≤ count },
 }
 
@@ -61,24 +55,6 @@ fn later(clock: Clock, seconds: u32) -> Clock
     ensures { result.0 ≡ max clock.0 seconds }
 {
     Clock(clock.0.max(seconds))
-}
-
-/// The line of a packet, in a text that is kept.
-fn put_line(
-    number: u64,
-    clock: Clock,
-    outcome: &Outcome,
-    text: &mut String,
-) -> Result<(), AllocError>
-    ensures { OnOk result (string_bytes text.new ≡ verdict_line number clock outcome.now) }
-{
-    let line = VerdictLine {
-        number,
-        clock,
-        outcome,
-    };
-    text.clear();
-    write!(text, "{line}")
 }
 
 impl Book {
@@ -111,7 +87,6 @@ impl Book {
             counters,
             telling,
             is_over: false,
-            line: String::new(alloc),
         })
     }
 
@@ -219,13 +194,7 @@ impl Book {
         self.telling.begin(self.clock, clock)?;
         self.telling.purge(&mut self.table, clock)?;
         self.telling.change(&mut self.table, clock, outcome.change)?;
-        put_line(number, clock, outcome, &mut self.line)?;
-        out.put(
-            self.line.as_str(),
-            packet,
-            outcome,
-            &mut self.telling.closed,
-        )?;
+        out.put(number, clock, packet, outcome, &mut self.telling.closed)?;
         self.counters.count(view, outcome);
         self.count = number;
         self.clock = clock;
@@ -256,6 +225,8 @@ impl Book {
         self.is_over = true;
         let number = self.count + 1;
         let clock = later(self.clock, packet.seconds);
+        // what is asked of the table at this clock is answered at once then
+        self.table.settle(clock);
         let (outcome, evaluated) = self.outcome_of(number, clock, view, speculation)?;
         // what `take_outcome` asks of an outcome is so of each that an evaluation has
         no_change_is_refused();

@@ -3,12 +3,15 @@ ghost use Rattle.std.specs.Prelude.{◌≡◌, ◌≤◌, ◌+◌, ◌++◌, len
 ghost use Rattle.pfr_headers.specs.declared.packet.View.TheVariants.{Ipv4};
 ghost use Rattle.pfr_headers.specs.View.{view_of};
 ghost use Rattle.pfr_commit.specs.Emissions.{frame_of, texts_of};
+ghost use Rattle.pfr_commit.specs.Lines.{verdict_line};
 ghost use Rattle.pfr_commit.specs.World as spec;
 
+use crate::verdict_line::VerdictLine;
 use pfr_capture::Record;
 use pfr_headers::{Change, rewrite};
 use pfr_packet::Outcome;
 use pfr_sync::Message;
+use pfr_track::Clock;
 use std::alloc::{AllocError, Global};
 
 /// What packets add to the outputs: their verdict lines, the records of those that aren't blocked, and the messages to a standby
@@ -90,14 +93,18 @@ impl Emitted {
     }
 
     /// Puts a line and messages behind all else, and takes the messages. Where memory is refused nothing changes.
-    fn put_texts(&mut self, line: &str, messages: &mut Vec<Message>) -> Result<(), AllocError>
-        ensures verdicts { OnOk result (self.new.verdicts.items ≡ self.old.verdicts.items ++ line.now) }
+    fn put_texts(
+        &mut self,
+        line: &VerdictLine<'_>,
+        messages: &mut Vec<Message>,
+    ) -> Result<(), AllocError>
+        ensures verdicts { OnOk result (self.new.verdicts.items ≡ self.old.verdicts.items ++ verdict_line line.now.number line.now.clock line.now.outcome.now) }
         ensures messages { OnOk result (self.new.messages.items ≡ self.old.messages.items ++ messages.old.items) }
         ensures kept { OnErr result (texts_of self.new ≡ texts_of self.old) }
         ensures packets { self.new.packets ≡ self.old.packets }
     {
         let start = self.verdicts.len();
-        self.verdicts.extend_from_slice(line.as_bytes())?;
+        line.put(&mut self.verdicts)?;
         if let Err(refused) = self.messages.append(messages) {
             self.verdicts.truncate(start);
             return Err(refused);
@@ -109,20 +116,26 @@ impl Emitted {
     /// memory is refused nothing changes.
     pub(crate) fn put(
         &mut self,
-        line: &str,
+        number: u64,
+        clock: Clock,
         packet: &Record,
         outcome: &Outcome,
         messages: &mut Vec<Message>,
     ) -> Result<(), AllocError>
         requires { IfSome outcome.now.bytes (λ change. view_of packet.now.link packet.now.bytes.items ≡ Ipv4 change.packet) }
-        ensures verdicts { OnOk result (self.new.verdicts.items ≡ self.old.verdicts.items ++ line.now) }
+        ensures verdicts { OnOk result (self.new.verdicts.items ≡ self.old.verdicts.items ++ verdict_line number clock outcome.now) }
         ensures packets { OnOk result (self.new.packets.items ≡ self.old.packets.items ++ spec.packet_text (frame_of packet.now) outcome.now) }
         ensures messages { OnOk result (self.new.messages.items ≡ self.old.messages.items ++ messages.old.items) }
         ensures kept { OnErr result (texts_of self.new ≡ texts_of self.old) }
     {
+        let line = VerdictLine {
+            number,
+            clock,
+            outcome,
+        };
         let start = self.packets.len();
         put_packet(&mut self.packets, packet, outcome)?;
-        if let Err(refused) = self.put_texts(line, messages) {
+        if let Err(refused) = self.put_texts(&line, messages) {
             self.packets.truncate(start);
             return Err(refused);
         }

@@ -1,10 +1,15 @@
 //! The lines of the verdicts.
-ghost use Rattle.std.specs.Prelude.{◌≡◌, Some};
+ghost use Rattle.std.specs.Prelude.{◌≡◌, ◌+◌, ◌≤◌, ◌++◌, Some, length, codes, OnOk, OnErr};
+ghost use Rattle.pfr_packet.specs.Verdicts.{reason_text, verdict_text};
 ghost use Rattle.pfr_commit.specs.Lines as spec;
+ghost use Rattle.pfr_commit.specs.Texts.{direction_text, rule_text, state_text};
 
 use crate::texts::{Rule, StateOrNone, Way};
-use pfr_packet::Outcome;
-use pfr_track::Clock;
+use pfr_digits::Tail;
+use pfr_net::{Direction, RuleNumber};
+use pfr_packet::{Outcome, Reason, Verdict};
+use pfr_track::{Clock, StateNumber};
+use std::alloc::AllocError;
 use std::fmt;
 
 /// One line of the verdicts: `N CLOCK DIR VERDICT REASON r=R t=T s=S` and a newline.
@@ -33,5 +38,127 @@ impl fmt::Display for VerdictLine<'_> {
             f,
             "{number} {clock} {way} {verdict} {reason} r={rule} t={translation} s={state}"
         )
+    }
+}
+
+/// Puts a direction before the rest of a line.
+fn put_direction(line: &mut Tail, direction: Option<Direction>)
+    requires room { length line.old + 3 ≤ 128 }
+    ensures text { line.new ≡ direction_text direction ++ line.old }
+    ensures long { length line.new ≤ length line.old + 3 }
+{
+    match direction {
+        Some(Direction::In) => line.put_word(b"in"),
+        Some(Direction::Out) => line.put_word(b"out"),
+        None => line.put_word(b"-"),
+    }
+}
+
+/// Puts the word for a verdict before the rest of a line.
+fn put_verdict(line: &mut Tail, verdict: Verdict)
+    requires room { length line.old + 6 ≤ 128 }
+    ensures text { line.new ≡ verdict_text verdict ++ line.old }
+    ensures long { length line.new ≤ length line.old + 6 }
+{
+    match verdict {
+        Verdict::Pass => line.put_word(b"pass"),
+        Verdict::Block => line.put_word(b"block"),
+        Verdict::Return => line.put_word(b"return"),
+        Verdict::Skip => line.put_word(b"skip"),
+    }
+}
+
+/// Puts the word for a reason before the rest of a line.
+fn put_reason(line: &mut Tail, reason: Reason)
+    requires room { length line.old + 14 ≤ 128 }
+    ensures text { line.new ≡ reason_text reason ++ line.old }
+    ensures long { length line.new ≤ length line.old + 14 }
+{
+    match reason {
+        Reason::Rule => line.put_word(b"rule"),
+        Reason::Default => line.put_word(b"default"),
+        Reason::NotIp => line.put_word(b"not-ip"),
+        Reason::SkipOn => line.put_word(b"skip-on"),
+        Reason::Short => line.put_word(b"short"),
+        Reason::IpOption => line.put_word(b"ip-option"),
+        Reason::State => line.put_word(b"state"),
+        Reason::StateError => line.put_word(b"state-error"),
+        Reason::StateMismatch => line.put_word(b"state-mismatch"),
+        Reason::StateInsert => line.put_word(b"state-insert"),
+        Reason::StateLimit => line.put_word(b"state-limit"),
+        Reason::NatExhausted => line.put_word(b"nat-exhausted"),
+        Reason::NatPass => line.put_word(b"nat-pass"),
+    }
+}
+
+/// Puts a rule's number before the rest of a line.
+fn put_rule(line: &mut Tail, rule: Option<RuleNumber>)
+    requires room { length line.old + 20 ≤ 128 }
+    ensures text { line.new ≡ rule_text rule ++ line.old }
+    ensures long { length line.new ≤ length line.old + 20 }
+{
+    match rule {
+        Some(RuleNumber(number)) => line.put_number(number as u64),
+        None => line.put_word(b"-"),
+    }
+}
+
+/// Puts a state's number before the rest of a line.
+fn put_state(line: &mut Tail, state: Option<StateNumber>)
+    requires room { length line.old + 20 ≤ 128 }
+    ensures text { line.new ≡ state_text state ++ line.old }
+    ensures long { length line.new ≤ length line.old + 20 }
+{
+    match state {
+        Some(StateNumber(number)) => line.put_number(number),
+        None => line.put_word(b"-"),
+    }
+}
+
+/// Puts what a line names before the rest of it: ` r=R t=T s=S`.
+fn put_named(line: &mut Tail, outcome: &Outcome)
+    requires room { length line.old + 69 ≤ 128 }
+    ensures text { line.new ≡ codes " r=" ++ (rule_text outcome.now.rule ++ (codes " t=" ++ (rule_text outcome.now.translation ++ (codes " s=" ++ (state_text outcome.now.state ++ line.old))))) }
+    ensures long { length line.new ≤ length line.old + 69 }
+{
+    put_state(line, outcome.state);
+    line.put_word(b" s=");
+    put_rule(line, outcome.translation);
+    line.put_word(b" t=");
+    put_rule(line, outcome.rule);
+    line.put_word(b" r=");
+}
+
+/// Puts the words of a line before the rest of it: ` DIR VERDICT REASON`.
+fn put_words(line: &mut Tail, outcome: &Outcome)
+    requires room { length line.old + 26 ≤ 128 }
+    ensures text { line.new ≡ codes " " ++ (direction_text outcome.now.direction ++ (codes " " ++ (verdict_text outcome.now.verdict ++ (codes " " ++ (reason_text outcome.now.reason ++ line.old))))) }
+    ensures long { length line.new ≤ length line.old + 26 }
+{
+    put_reason(line, outcome.reason);
+    line.put_word(b" ");
+    put_verdict(line, outcome.verdict);
+    line.put_word(b" ");
+    put_direction(line, outcome.direction);
+    line.put_word(b" ");
+}
+
+impl VerdictLine<'_> {
+    /// Puts the line behind a text. Where memory is refused nothing changes.
+    ///
+    /// So does each packet's line come into the outputs, and nothing is formatted: it is written from its end.
+    #[tactic(auto, unfolding(crate::specs::Lines::verdict_line))]
+    pub(crate) fn put(&self, text: &mut Vec<u8>) -> Result<(), AllocError>
+        ensures done { OnOk result (text.new.items ≡ text.old.items ++ spec.verdict_line self.now.number self.now.clock self.now.outcome.now) }
+        ensures kept { OnErr result (text.new.items ≡ text.old.items) }
+    {
+        let mut line = Tail::new();
+        line.put_word(b"\n");
+        put_named(&mut line, self.outcome);
+        put_words(&mut line, self.outcome);
+        line.put_number(u64::from(self.clock.0));
+        line.put_word(b" ");
+        line.put_number(self.number);
+        text.extend_from_slice(line.as_slice())
     }
 }

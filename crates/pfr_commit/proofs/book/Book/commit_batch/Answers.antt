@@ -2,14 +2,13 @@ use Rattle.std.proofs.Common.{◌≡◌, ◌+◌, ◌<◌, ◌∙◌, ℕ, List,
 use Rattle.std.specs.List.{find}
 use Rattle.std.proofs.Math.Seq.{take-length}
 use Rattle.pfr_headers.specs.declared.packet.View.{View}
-use Rattle.pfr_states.proofs.RefusalLemmas.{on_err}
 use Rattle.pfr_capture.specs.declared.capture.Record.{Record}
 use Rattle.pfr_commit.specs.Books.{LeadsTo, job_of, untold, world_with, written}
 use Rattle.pfr_commit.specs.Emissions.{frame_of}
 use Rattle.pfr_commit.specs.Results.{is_of}
 use Rattle.pfr_commit.specs.World.{Texts, world_after}
 use Rattle.pfr_commit.proofs.BatchLemmas.{rises_by, rises_next}
-use Rattle.pfr_commit.proofs.BookLemmas.{same_job}
+use Rattle.pfr_commit.proofs.BookLemmas.{on_err, same_job}
 use Rattle.pfr_commit.proofs.StandLemmas.{leads_next, leads_none, leaves_none, leaves_part}
 use Rattle.pfr_commit.proofs.WorldLemmas.{batch_next, nothing_taken, part_taken, world_none}
 use Rattle.pfr_commit.proofs.book.Book.commit_batch.Goals as goal

@@ -1,8 +1,11 @@
-use Rattle.std.proofs.Common.{◌∙◌, ap, refl, sym, rules}
+use Rattle.std.proofs.Common.{◌+◌, ◌∙◌, ap, refl, sym, rules}
 use Rattle.pfr_headers.specs.declared.change.Change.{Change}
+use Rattle.pfr_states.specs.States.{StateTable}
+use Rattle.pfr_packet.specs.Steps.{step_of}
 use Rattle.pfr_packet.specs.declared.outcome.Outcome.{Outcome}
-use Rattle.pfr_commit.specs.Books.{job_of, untold, world_with}
+use Rattle.pfr_commit.specs.Books.{job_of, untold, world_in, world_with}
 use Rattle.pfr_commit.specs.Emissions.{frame_of}
+use Rattle.pfr_commit.specs.World.{with_outcome}
 use Rattle.pfr_commit.proofs.BookLemmas.{if_some}
 use Rattle.pfr_commit.proofs.StandLemmas.{taken_leads}
 use Rattle.pfr_commit.proofs.WorldLemmas.{after_is}
@@ -15,14 +18,23 @@ take_outcome-requires-clause-bytes c =
 
 pub returns-clause-world : goal.returns-clause-world
 returns-clause-world c =
-    c.in_ok-take_outcome.ensures.world
-    ∙ ap untold (after_is (job_of c.args.self.now) (world_with c.args.self.now c.args.out.now) (frame_of c.args.packet.now) c.later-clock.result c.args.view.now c.in_ok-outcome.outcome
-    c.later-clock.ensures c.requires.view c.in_ok-outcome.ensures.outcome)
+    let before = world_with c.args.self.now c.args.out.now in
+    let frame = frame_of c.args.packet.now in
+    let clock = c.later-clock.result in
+    let view = c.args.view.now in
+    let outcome = c.in_ok-outcome.outcome in
+    let settled = ap (λ (t : StateTable). untold (with_outcome (record before { table = t }) frame clock outcome)) c.settle.ensures in
+    let outcome_is = c.in_ok-outcome.ensures.outcome ∙ ap (λ (t : StateTable). step_of (job_of c.args.self.now) (c.args.self.now.count + 1) clock view t) c.settle.ensures in
+    c.in_ok-take_outcome.ensures.world ∙ settled ∙ ap untold (after_is (job_of c.args.self.now) before frame clock view outcome c.later-clock.ensures c.requires.view outcome_is)
 
 pub returns-clause-told : goal.returns-clause-told
 returns-clause-told c =
-    taken_leads c.args.self.now _ c.take_outcome.new.self _ c.args.out.now c.take_outcome.new.out (frame_of c.args.packet.now) c.later-clock.result c.args.view.now c.in_ok-outcome.outcome
-    refl refl refl refl refl refl c.later-clock.ensures c.requires.view c.in_ok-outcome.ensures.outcome c.in_ok-take_outcome.ensures.told
+    let clock = c.later-clock.result in
+    let view = c.args.view.now in
+    let settled = ap (λ (t : StateTable). record (world_in c.args.self.now) { table = t }) c.settle.ensures in
+    let outcome_is = c.in_ok-outcome.ensures.outcome ∙ ap (λ (t : StateTable). step_of (job_of c.args.self.now) (c.args.self.now.count + 1) clock view t) c.settle.ensures in
+    taken_leads c.args.self.now _ c.take_outcome.new.self _ c.args.out.now c.take_outcome.new.out (frame_of c.args.packet.now) clock view c.in_ok-outcome.outcome
+    settled refl refl refl refl refl c.later-clock.ensures c.requires.view outcome_is c.in_ok-take_outcome.ensures.told
 
 pub returns-clause-used : goal.returns-clause-used
 returns-clause-used c = search rules

@@ -1,4 +1,4 @@
-use Rattle.std.proofs.Common.{◌++◌, ◌∙◌, List, ℕ, ap, refl}
+use Rattle.std.proofs.Common.{◌∙◌, refl}
 use Rattle.pfr_packet.specs.Plan.{purged_at}
 use Rattle.pfr_commit.specs.Books.{world_with}
 use Rattle.pfr_commit.specs.Emissions.{frame_of}
@@ -11,8 +11,7 @@ unfolding purged_at
 returns-clause-world c =
     outcome_taken (world_with c.args.self.now c.args.out.now) (frame_of c.args.packet.now) c.args.clock c.args.view.now c.args.outcome.now c.purge.new.table _ _ _ _
     c.requires.view c.in_ok-purge.ensures.table c.in_ok-change.ensures.table c.count.ensures
-    (c.in_ok-put.ensures.verdicts ∙ ap (λ (t : List ℕ). c.args.out.now.verdicts.items ++ t) (c.as_str.ensures.value ∙ c.in_ok-put_line.ensures))
-    c.in_ok-put.ensures.packets
+    c.in_ok-put.ensures.verdicts c.in_ok-put.ensures.packets
 
 pub returns-clause-told : goal.returns-clause-told
 unfolding purged_at
