@@ -1,6 +1,6 @@
 -- Lists of bytes, as devices and readers move them.
 use Rattle.std.proofs.Common.{◌≡◌, ℕ, ◌+◌, ◌≤◌, List, ◌++◌, length, take, drop, refl, sym, ◌∙◌, ap, arith}
-use Rattle.std.proofs.lemmas.List.{append_assoc, take_all, take_at, take-take, drop-drop, take-append-drop, take-append-le, length-take-le, length-drop}
+use Rattle.std.proofs.lemmas.List.{append_assoc, take_at, take-take, drop-drop, take-append-drop, take-append-le, length-take-le, length-drop}
 use Rattle.std.proofs.Math.Seq.{take-append-add}
 
 -- the next n items of xs from place p, once they stand at the front of a buffer, and what follows them
@@ -11,19 +11,8 @@ next_piece xs ys rest p n within copied =
     let front : take n (ys ++ rest) ≡ take n (drop p xs) = take_at ys rest n long ∙ copied in
     rw (front, ← drop-drop n p xs) (sym (take-append-drop n (drop p xs)))
 
--- what a buffer held stands at its front once it is made longer
-pub longer_front : (now xs zeros : List ℕ) (held n : ℕ) → now ≡ take (held + n) xs ++ zeros → length xs ≡ held → take held now ≡ xs
-longer_front now xs zeros held n longer long =
-    let all : take (held + n) xs ≡ xs = take_all (held + n) xs (omega arith) in
-    rw (longer, all) (take_at xs zeros held long)
-
--- a buffer with xs at its front was read into behind xs, and is cut to what came
+-- a buffer with xs at its front was read into behind xs: its front, up to the last byte that came
 pub read_behind : (now xs ys post more : List ℕ) (held n whole : ℕ) → take held now ≡ xs → length xs ≡ held → n ≤ length ys → held + n ≤ whole → take (held + n) (take whole ((take held now ++ (ys ++ post)) ++ more)) ≡ xs ++ take n ys
 read_behind now xs ys post more held n whole front long within below =
     let cut : take n ((ys ++ post) ++ more) ≡ take n ys = rw append_assoc (take-append-le n ys (post ++ more) within) in
     rw (take-take (held + n) whole ((take held now ++ (ys ++ post)) ++ more) below, front, append_assoc, ← long, take-append-add xs ((ys ++ post) ++ more) n, cut) refl
-
--- the same where the read failed
-pub none_behind : (now xs ys post more : List ℕ) (held whole : ℕ) → take held now ≡ xs → length xs ≡ held → held ≤ whole → take held (take whole ((take held now ++ (ys ++ post)) ++ more)) ≡ xs
-none_behind now xs ys post more held whole front long below =
-    rw (take-take held whole ((take held now ++ (ys ++ post)) ++ more) below, front, append_assoc) (take_at xs ((ys ++ post) ++ more) held long)

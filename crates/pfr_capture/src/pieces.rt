@@ -1,32 +1,36 @@
 //! Bytes that are read ahead of a source, in pieces.
-ghost use Rattle.std.specs.Prelude.{◌≡◌, ◌≤◌, ◌<◌, ◌+◌, true, false, [], length, drop, IsTrue, IfOk, OnOk, OnErr, IfErr};
+ghost use Rattle.std.specs.Prelude.{◌≡◌, ◌≤◌, ◌<◌, ◌+◌, ◌-◌, true, false, [], length, take, drop, IsTrue, IfOk, OnOk, OnErr, IfErr};
 ghost use Rattle.pfr_capture.specs.Ahead.{CameBehind, Extends, FailsBy};
-ghost use Rattle.pfr_capture.specs.Device.{moved};
+ghost use Rattle.pfr_capture.specs.Device.{Rose, moved};
+ghost use Rattle.pfr_capture.specs.declared.capture.CaptureError.TheVariants.{Read};
 
 use crate::capture::CaptureError;
 use crate::device::Source;
-use std::alloc::Global;
+use std::alloc::{AllocError, Global};
 use std::marker::Model;
 
 /// How many bytes one call asks of the source, and the most by which the buffer grows before they came.
 const PIECE: usize = 65536;
 
-/// The bytes that came from a source and were not taken yet.
+/// The bytes that came from a source and were not taken yet. The buffer is longer than they reach: what is
+/// behind them is room for the next piece, which is cleared as the buffer grows, and not before each read.
 #[derive(Drop)]
 pub struct Pieces {
     buffer: Vec<u8>,
     /// Where in the buffer they begin.
     start: usize,
+    /// Where they end.
+    end: usize,
 }
 
 impl Model for Pieces {
-    ghost use Rattle.std.specs.Prelude.{◌≤◌, List, ℕ, length, drop};
+    ghost use Rattle.std.specs.Prelude.{◌≤◌, List, ℕ, length, drop, take};
 
     ghost Value = { List ℕ };
 
-    ghost view = { λ p. drop p.start p.buffer.items };
+    ghost view = { λ p. drop p.start (take p.end p.buffer.items) };
 
-    ghost invariant = { λ p. p.start ≤ length p.buffer.items };
+    ghost invariant = { λ p. (p.start ≤ p.end) × (p.end ≤ length p.buffer.items) };
 }
 
 impl Pieces {
@@ -36,14 +40,16 @@ impl Pieces {
         Pieces {
             buffer: Vec::new(alloc),
             start: 0,
+            end: 0,
         }
     }
 
     #[inline]
+    #[tactic(auto, using(std::proofs::lemmas::Slice::between_is))]
     pub fn bytes(&self) -> &[u8]
         ensures { result.now ≡ self.now }
     {
-        &self.buffer[self.start..]
+        &self.buffer[self.start..self.end]
     }
 
     /// Takes bytes from the front.
@@ -56,7 +62,9 @@ impl Pieces {
     }
 
     /// Reads one more piece, behind what is there, and answers whether any byte came: none does at the
-    /// source's end. An error changes nothing.
+    /// source's end. An error changes nothing. It is called once for many records, and stays out of the way
+    /// of a call to `fill` that finds its bytes there.
+    #[inline(never)]
     pub fn read_on<S: Source>(&mut self, source: &mut S) -> Result<bool, CaptureError>
         ensures told { S.told source.new ≡ S.told source.old }
         ensures extends { Extends self.old self.new }
@@ -67,14 +75,18 @@ impl Pieces {
         ensures ok { OnOk result (S.failures source.new ≡ S.failures source.old) }
         ensures failed { IfErr result (λ e. FailsBy e (S.failures source.old) (S.failures source.new)) }
     {
-        move_to_front(&mut self.buffer, self.start);
+        move_to_front(&mut self.buffer, self.start, self.end);
+        self.end -= self.start;
         self.start = 0;
-        let came = read_behind(&mut self.buffer, source)?;
+        make_room(&mut self.buffer, self.end)?;
+        let came = read_behind(&mut self.buffer, self.end, source)?;
+        self.end += came;
         Ok(came > 0)
     }
 
     /// Reads on until so many bytes are there, and answers whether they are: they aren't where the source
     /// ended.
+    #[inline]
     pub fn fill<S: Source>(&mut self, source: &mut S, wanted: usize) -> Result<bool, CaptureError>
         ensures told { S.told source.new ≡ S.told source.old }
         ensures extends { Extends self.old self.new }
@@ -94,40 +106,51 @@ impl Pieces {
     }
 }
 
-/// Drops what stands before a place.
-fn move_to_front(buffer: &mut Vec<u8>, start: usize)
-    requires { start ≤ length buffer.old.items }
-    ensures { buffer.new.items ≡ drop start buffer.old.items }
+/// Moves what stands between two places to the front.
+fn move_to_front(buffer: &mut Vec<u8>, start: usize, end: usize)
+    requires { (start ≤ end) × (end ≤ length buffer.old.items) }
+    ensures length { length buffer.new.items ≡ length buffer.old.items }
+    ensures moved { take (end - start) buffer.new.items ≡ drop start (take end buffer.old.items) }
 {
     if start == 0 {
         return;
     }
-    let left = buffer.len() - start;
-    buffer.copy_within(start.., 0);
-    buffer.truncate(left);
+    buffer.copy_within(start..end, 0);
 }
 
-/// Reads one piece to the buffer's end.
-fn read_behind<S: Source>(buffer: &mut Vec<u8>, source: &mut S) -> Result<usize, CaptureError>
-    ensures told { S.told source.new ≡ S.told source.old }
-    ensures extends { Extends buffer.old.items buffer.new.items }
-    ensures came { IsTrue (S.told source.old) → CameBehind buffer.old.items buffer.new.items (S.unread source.old) (S.unread source.new) }
-    ensures length { IfOk result (λ came. length buffer.new.items ≡ length buffer.old.items + came) }
-    ensures end { IfOk result (λ came. came ≡ 0 → IsTrue (S.told source.old) → S.unread source.new ≡ []) }
-    ensures err { OnErr result (buffer.new.items ≡ buffer.old.items) }
-    ensures ok { OnOk result (S.failures source.new ≡ S.failures source.old) }
-    ensures failed { IfErr result (λ e. FailsBy e (S.failures source.old) (S.failures source.new)) }
+/// Sees that a piece has room behind so many bytes, which stay.
+fn make_room(buffer: &mut Vec<u8>, held: usize) -> Result<(), AllocError>
+    requires { held ≤ length buffer.old.items }
+    ensures held { take held buffer.new.items ≡ take held buffer.old.items }
+    ensures longer { length buffer.old.items ≤ length buffer.new.items }
+    ensures room { OnOk result (held + 65536 ≤ length buffer.new.items) }
 {
-    let held = buffer.len();
-    buffer.resize(held + PIECE, 0)?;
-    match source.read(&mut buffer[held..]) {
-        Ok(came) => {
-            buffer.truncate(held + came);
-            Ok(came)
-        }
-        Err(_) => {
-            buffer.truncate(held);
-            Err(CaptureError::Read)
-        }
+    if buffer.len() - held < PIECE {
+        buffer.resize(held + PIECE, 0)?;
+    }
+    Ok(())
+}
+
+/// Reads one piece behind so many bytes, which stay, and answers how many came.
+fn read_behind<S: Source>(
+    buffer: &mut Vec<u8>,
+    held: usize,
+    source: &mut S,
+) -> Result<usize, CaptureError>
+    requires { held + 65536 ≤ length buffer.old.items }
+    ensures told { S.told source.new ≡ S.told source.old }
+    ensures length { length buffer.new.items ≡ length buffer.old.items }
+    ensures within { IfOk result (λ came. held + came ≤ length buffer.new.items) }
+    ensures extends { IfOk result (λ came. Extends (take held buffer.old.items) (take (held + came) buffer.new.items)) }
+    ensures came { IfOk result (λ came. IsTrue (S.told source.old) → CameBehind (take held buffer.old.items) (take (held + came) buffer.new.items) (S.unread source.old) (S.unread source.new)) }
+    ensures end { IfOk result (λ came. came ≡ 0 → IsTrue (S.told source.old) → S.unread source.new ≡ []) }
+    ensures kept { OnErr result (take held buffer.new.items ≡ take held buffer.old.items) }
+    ensures none { OnErr result (IsTrue (S.told source.old) → S.unread source.new ≡ S.unread source.old) }
+    ensures ok { OnOk result (S.failures source.new ≡ S.failures source.old) }
+    ensures failed { IfErr result (λ e. (e ≡ Read) × Rose (S.failures source.old) (S.failures source.new)) }
+{
+    match source.read(&mut buffer[held..held + PIECE]) {
+        Ok(came) => Ok(came),
+        Err(_) => Err(CaptureError::Read),
     }
 }
