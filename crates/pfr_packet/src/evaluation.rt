@@ -24,6 +24,9 @@ use pfr_track::{Clock, Key, State, StateNumber, StateRules, make, touch};
 use std::alloc::{AllocError, Global};
 
 /// An IPv4 packet that is evaluated.
+///
+/// The ways that few packets go are calls of their own. Inlined, they would burden the way of a packet whose state is found: an
+/// outcome is large, and is copied part by part where ways meet.
 #[derive(Clone, Copy)]
 struct Arrival<'a> {
     alloc: Global,
@@ -62,6 +65,7 @@ impl Judged {
 
 impl Arrival<'_> {
     /// What it comes to by the filter alone.
+    #[inline(never)]
     fn filtered(&self) -> Result<Outcome, AllocError>
         ensures { IfOk result (λ outcome. outcome ≡ spec.alone self.now.job.now self.now.packet.now self.now.direction) }
     {
@@ -70,6 +74,7 @@ impl Arrival<'_> {
     }
 
     /// What it comes to as an ICMP error, by the connection of the packet that it embeds.
+    #[inline(never)]
     fn by_embedded<A: Answers>(&self, key: &Key, answers: &mut A) -> Result<Outcome, AllocError>
         ensures seen { A.seen answers.new ≡ A.seen answers.old }
         ensures goes { IfOk result (λ outcome. Goes (A.seen answers.old) (spec.embedded_plan self.now key.now) outcome (A.asked answers.new)) }
@@ -82,6 +87,7 @@ impl Arrival<'_> {
     }
 
     /// What it does to the state of its connection, and comes to.
+    #[inline(always)]
     fn by_state(&self, state: &State) -> Outcome
         ensures { result ≡ spec.following self.now.job.now self.now.clock self.now.packet.now self.now.direction state.now }
     {
@@ -206,6 +212,7 @@ impl Arrival<'_> {
     }
 
     /// What it comes to as the first packet of a connection.
+    #[inline(never)]
     fn open<A: Answers>(&self, key: &Key, answers: &mut A) -> Result<Outcome, AllocError>
         ensures seen { A.seen answers.new ≡ A.seen answers.old }
         ensures goes { IfOk result (λ outcome. Goes (A.seen answers.old) (spec.opening_plan self.now key.now) outcome (A.asked answers.new)) }
@@ -214,39 +221,13 @@ impl Arrival<'_> {
         let (hit, visits) = translate(self.alloc, self.job.rules(), self.packet, self.direction)?;
         self.by_hit(key, hit, visits, answers)
     }
-
-    /// What it comes to by its connection.
-    fn by_connection<A: Answers>(&self, key: &Key, answers: &mut A) -> Result<Outcome, AllocError>
-        ensures seen { A.seen answers.new ≡ A.seen answers.old }
-        ensures goes { IfOk result (λ outcome. Goes (A.seen answers.old) (spec.connection_plan self.now key.now) outcome (A.asked answers.new)) }
-        ensures kept { (question : Question) → A.asked answers.old question → A.asked answers.new question }
-    {
-        match answers.at(side_of(self.direction), key)? {
-            Some(state) => Ok(self.by_state(&state)),
-            None => self.open(key, answers),
-        }
-    }
-
-    /// What it comes to.
-    #[tactic(auto, unfolding(crate::specs::Steps::packet_plan))]
-    fn outcome<A: Answers>(&self, answers: &mut A) -> Result<Outcome, AllocError>
-        ensures seen { A.seen answers.new ≡ A.seen answers.old }
-        ensures goes { IfOk result (λ outcome. Goes (A.seen answers.old) (spec.arrival_plan self.now) outcome (A.asked answers.new)) }
-        ensures kept { (question : Question) → A.asked answers.old question → A.asked answers.new question }
-    {
-        match subject_of(self.direction, self.packet) {
-            Subject::Alone => self.filtered(),
-            Subject::Embedded(key) => self.by_embedded(&key, answers),
-            Subject::Connection(key) => self.by_connection(&key, answers),
-        }
-    }
 }
 
 /// What packet `number` of a run comes to at a clock, by what a table of states answers: its verdict and why, the rules and
 /// the state that are named, the rules that were visited, and what it changes in its own bytes and in the table.
 ///
 /// All that the outcome rests on was asked: over every table that answers these questions so, it is the same.
-#[tactic(auto, unfolding(crate::specs::Steps::plan))]
+#[tactic(auto, unfolding(crate::specs::Steps::plan, crate::specs::Steps::packet_plan))]
 pub fn step<A: Answers>(
     alloc: Global,
     job: &Job,
@@ -259,22 +240,32 @@ pub fn step<A: Answers>(
     ensures goes { IfOk result (λ outcome. Goes (A.seen answers.old) (spec.plan job.now number clock view.now) outcome (A.asked answers.new)) }
     ensures kept { (question : Question) → A.asked answers.old question → A.asked answers.new question }
 {
-    match view {
-        View::Skip => Ok(Outcome::unseen(alloc, Verdict::Skip, Reason::NotIp)),
+    let packet = match view {
+        View::Skip => return Ok(Outcome::unseen(alloc, Verdict::Skip, Reason::NotIp)),
         View::Short if !job.is_skipped() => {
-            Ok(Outcome::unseen(alloc, Verdict::Block, Reason::Short))
+            return Ok(Outcome::unseen(alloc, Verdict::Block, Reason::Short));
         }
-        View::Ipv4(packet) if !job.is_skipped() => {
-            let arrival = Arrival {
-                alloc,
-                job,
-                number,
-                clock,
-                packet,
-                direction: direction_of(packet, job.inside()),
-            };
-            arrival.outcome(answers)
+        View::Ipv4(packet) if !job.is_skipped() => packet,
+        View::Short | View::Ipv4(_) => {
+            return Ok(Outcome::unseen(alloc, Verdict::Pass, Reason::SkipOn));
         }
-        View::Short | View::Ipv4(_) => Ok(Outcome::unseen(alloc, Verdict::Pass, Reason::SkipOn)),
-    }
+    };
+    let direction = direction_of(packet, job.inside());
+    let arrival = Arrival {
+        alloc,
+        job,
+        number,
+        clock,
+        packet,
+        direction,
+    };
+    let key = match subject_of(direction, packet) {
+        Subject::Alone => return arrival.filtered(),
+        Subject::Embedded(key) => return arrival.by_embedded(&key, answers),
+        Subject::Connection(key) => key,
+    };
+    let Some(state) = answers.at(side_of(direction), &key)? else {
+        return arrival.open(&key, answers);
+    };
+    Ok(arrival.by_state(&state))
 }

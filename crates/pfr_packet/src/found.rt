@@ -1,9 +1,13 @@
 //! Packets whose state is found.
-ghost use Rattle.std.specs.Prelude.{◌≡◌};
+ghost use Rattle.std.specs.Prelude.{◌≡◌, Some};
+ghost use Rattle.pfr_states.specs.declared.change.TableChange.TheVariants.{Removed};
+ghost use Rattle.pfr_packet.specs.declared.verdict.Reason.TheVariants.{StateMismatch};
+ghost use Rattle.pfr_packet.specs.declared.verdict.Verdict.TheVariants.{Block};
 ghost use Rattle.pfr_packet.specs.Found as spec;
+ghost use Rattle.pfr_packet.specs.Outcomes.{by_state};
 
 use crate::keys::written_by;
-use crate::outcome::Outcome;
+use crate::outcome::{Outcome, VisitedRules};
 use crate::verdict::{Reason, Verdict};
 use pfr_headers::Packet;
 use pfr_net::Direction;
@@ -12,6 +16,7 @@ use pfr_track::{State, Touch};
 use std::alloc::Global;
 
 /// What a packet of a state's connection comes to that passes by the state.
+#[inline(always)]
 fn passed(
     alloc: Global,
     direction: Direction,
@@ -22,11 +27,20 @@ fn passed(
 ) -> Outcome
     ensures { result ≡ spec.passed direction packet.now state.now reason change }
 {
-    let mut outcome = Outcome::by_state(alloc, direction, state, Verdict::Pass, reason);
-    outcome.bytes = written_by(direction, packet, &state.wire, &state.stack);
-    outcome.change = change;
-    outcome.ask_leave(packet, state.rules.allows_options);
-    outcome
+    if packet.has_options() && !state.rules.allows_options {
+        return Outcome::by_state(alloc, direction, state, Verdict::Block, Reason::IpOption);
+    }
+    Outcome {
+        direction: Some(direction),
+        verdict: Verdict::Pass,
+        reason,
+        rule: state.rules.filter,
+        translation: state.rules.translation,
+        state: Some(state.number),
+        visited: VisitedRules::none(alloc),
+        bytes: written_by(direction, packet, &state.wire, &state.stack),
+        change,
+    }
 }
 
 /// What an ICMP error comes to that embeds a packet of a state's connection: it passes, and the state stays as it is.
@@ -41,7 +55,20 @@ pub(crate) fn embedded(
     passed(alloc, direction, packet, state, Reason::StateError, None)
 }
 
+/// What a packet comes to that begins a new connection over one that has ended: it is blocked, and the state is no more.
+#[cold]
+#[inline(never)]
+fn removed(alloc: Global, direction: Direction, state: &State) -> Outcome
+    ensures { result ≡ record (by_state direction state.now Block StateMismatch) { change = Some (Removed state.now.number) } }
+{
+    let verdict = Verdict::Block;
+    let mut outcome = Outcome::by_state(alloc, direction, state, verdict, Reason::StateMismatch);
+    outcome.change = Some(TableChange::Removed(state.number));
+    outcome
+}
+
 /// What a packet comes to that has a state's key, by what it does to the state.
+#[inline(always)]
 pub(crate) fn tracked(
     alloc: Global,
     direction: Direction,
@@ -51,32 +78,19 @@ pub(crate) fn tracked(
 ) -> Outcome
     ensures { result ≡ spec.tracked direction packet.now state.now touch }
 {
-    match touch {
-        Touch::Touched(touched) => passed(
-            alloc,
-            direction,
-            packet,
-            state,
-            Reason::State,
-            Some(TableChange::Touched(touched)),
-        ),
-        Touch::Mismatch => Outcome::by_state(
-            alloc,
-            direction,
-            state,
-            Verdict::Block,
-            Reason::StateMismatch,
-        ),
-        Touch::Removed => {
-            let mut outcome = Outcome::by_state(
+    let touched = match touch {
+        Touch::Touched(touched) => touched,
+        Touch::Mismatch => {
+            return Outcome::by_state(
                 alloc,
                 direction,
                 state,
                 Verdict::Block,
                 Reason::StateMismatch,
             );
-            outcome.change = Some(TableChange::Removed(state.number));
-            outcome
         }
-    }
+        Touch::Removed => return removed(alloc, direction, state),
+    };
+    let change = Some(TableChange::Touched(touched));
+    passed(alloc, direction, packet, state, Reason::State, change)
 }

@@ -40,7 +40,7 @@ pub struct Outcome {
 }
 
 impl VisitedRules {
-    fn none(alloc: Global) -> VisitedRules
+    pub(crate) fn none(alloc: Global) -> VisitedRules
         ensures { result ≡ spec.none_visited }
     {
         VisitedRules {
@@ -79,7 +79,10 @@ impl Outcome {
         }
     }
 
-    /// What a packet comes to whose state is found: the state's rules are named, and nothing changes.
+    /// What a packet comes to whose state is found: the state's rules are named, and nothing changes. Few packets of a state come
+    /// to that.
+    #[cold]
+    #[inline(never)]
     pub(crate) fn by_state(
         alloc: Global,
         direction: Direction,
