@@ -1,7 +1,7 @@
 """Compares the program that calls a table of states with its model, and refuses it each allocation in turn.
 
-Compared are the answers to random lists of calls, and to the list for which memory is refused. Where it is, a change that
-isn't taken leaves every answer as it was, and is taken when it is asked again.
+Compared are the answers to random lists of calls, to lists of some kinds, and to the list for which memory is refused.
+Where it is, a change that isn't taken leaves every answer as it was, and is taken when it is asked again.
 """
 
 import subprocess
@@ -10,11 +10,16 @@ from collections import Counter
 
 import building
 from faults.command import ends_lawfully
-from table import model
+from table.kinds import all_kinds
 from table.lists import random_lists, refusals
 
-LISTS = 40
+LISTS = 24
 CALLS = 2500
+# the calls that are told, with their answers
+CALLS_TOLD = (("make", "done"), ("make", "key taken"), ("make", "full"), ("touch", "done"), ("touch", "key taken"),
+              ("settle", "done"), ("purge", "done"))
+# for one list, so that a program without an end is told
+TIME_LIMIT = 60
 # how many lists that differ are shown
 SHOWN = 5
 
@@ -34,28 +39,44 @@ def difference(lines, expected, seen):
     return next((f"a line too many: {line}" for line in seen), None)
 
 
+def differing(command, lines, expected):
+    """What differs in the answers of the program to a list, in words; None where nothing does."""
+    try:
+        done = subprocess.run(command, input=text_of(lines), stdout=subprocess.PIPE, timeout=TIME_LIMIT, check=False)
+    except subprocess.TimeoutExpired:
+        return f"no answer in {TIME_LIMIT} seconds"
+    differs = difference(lines, expected, done.stdout.decode().splitlines())
+    return f"status {done.returncode}; {differs}" if done.returncode else differs
+
+
+def named_lists():
+    """All lists, each with the name of its kind."""
+    yield "of refusals", refusals()
+    for writer in random_lists(LISTS, CALLS):
+        yield "random", writer
+    yield from all_kinds()
+
+
 def compare(command):
     """How many lists differ."""
     count = 0
-    kinds = Counter()
-    lists = [refusals(), *random_lists(LISTS, CALLS)]
-    for place, lines in enumerate(lists):
-        expected = model.answers(lines)
-        done = subprocess.run(command, input=text_of(lines), stdout=subprocess.PIPE, check=True)
-        differs = difference(lines, expected, done.stdout.decode().splitlines())
-        kinds.update((call.split()[0], answer[0]) for call, answer in zip(lines[1:], expected))
+    kinds, calls = Counter(), Counter()
+    for place, (kind, writer) in enumerate(named_lists()):
+        lines, expected = writer.lines, writer.answers
+        differs = differing(command, lines, expected)
+        kinds[kind] += 1
+        calls.update((call.split()[0], answer[0]) for call, answer in zip(lines[1:], expected))
         if differs:
             count += 1
             if count <= SHOWN:
-                print(f"list {place}, limit {lines[0]}: {differs}")
-    changes = ", ".join(f"{kinds[kind]} {' '.join(kind)}" for kind in
-                        (("make", "done"), ("make", "key taken"), ("make", "full"), ("touch", "done"),
-                         ("touch", "key taken")))
-    print(f"{len(lists)} lists of calls to the table: {count} differ; of {kinds.total()} calls {changes}")
+                print(f"list {place}, {kind}, limit {lines[0]}: {differs}")
+    changes = ", ".join(f"{calls[call]} {' '.join(call)}" for call in CALLS_TOLD)
+    print(f"{kinds.total()} lists of calls to the table: {count} differ; of {calls.total()} calls {changes}")
+    print(", ".join(f"{number} {kind}" for kind, number in kinds.items()))
     return count
 
 
 def main():
     command = building.answers("table")
     wrong = compare(command)
-    sys.exit(not ends_lawfully("table", command, text_of(refusals())) or bool(wrong))
+    sys.exit(not ends_lawfully("table", command, text_of(refusals().lines)) or bool(wrong))

@@ -4,6 +4,7 @@ A list is of the lines that `answers table` reads: the limit, and then the calls
 """
 
 import random
+from itertools import accumulate
 from typing import NamedTuple
 
 from table.model import State, Table, answer
@@ -13,12 +14,16 @@ LIMITS = (1, 2, 3, 100000)
 MANY_KEYS = 20000
 MANY_NUMBERS = 20000
 GREATEST_CLOCK = 2**32 - 1
+SIDES = ("wire", "stack")
 KEY = (6, 167772165, 1000, 3325256711, 80)
 # keys that differ in one part each, and one that is turned round
 NEAR_KEYS = [KEY, (17, *KEY[1:]), (6, 167772166, *KEY[2:]), (6, 167772165, 1001, *KEY[3:]), (*KEY[:3], 3325256712, 80),
              (*KEY[:4], 81), (6, *KEY[3:], *KEY[1:3]), (0, 0, 0, 0, 0), (255, 2**32 - 1, 65535, 2**32 - 1, 65535)]
 FEW_NUMBERS = [0, 1, 2, 3, 4, 255, 256, 2**32, 2**64 - 1]
-WEIGHTS = {"make": 30, "touch": 26, "remove": 6, "purge": 3, "at": 16, "room": 4, "due": 5, "after": 5, "len": 1, "list": 2}
+WEIGHTS = {"make": 30, "touch": 26, "remove": 6, "settle": 3, "purge": 3, "at": 16, "room": 4, "due": 5, "after": 5,
+           "len": 1, "list": 2}
+WORDS = tuple(WEIGHTS)
+WEIGHTS_SO_FAR = tuple(accumulate(WEIGHTS.values()))
 
 
 class Pool(NamedTuple):
@@ -44,19 +49,36 @@ def words(*parts):
 
 
 class Writer:
-    """Writes random calls, along the model of the table."""
+    """Writes calls, along the model of the table."""
 
-    def __init__(self, seed, limit, has_many):
+    def __init__(self, seed, limit):
         self.source = random.Random(seed)
-        self.pool = pool_of(self.source, has_many)
         self.table = Table(limit)
         self.clock = 0
         self.lines = [str(limit)]
+        # for each call the lines that answer it
+        self.answers = []
 
     def add(self, *parts):
         call = words(*parts)
         self.lines.append(call)
-        return answer(self.table, call)
+        self.answers.append(answer(self.table, call))
+        return self.answers[-1]
+
+    def add_state(self, word, number, wire, stack, deadline):
+        """Makes or touches a state, which counts other bytes than all others."""
+        return self.add(word, State(number, wire, stack, deadline, len(self.lines)).text())
+
+    def any_state(self):
+        return self.source.choice(list(self.table.states.values()))
+
+
+class RandomWriter(Writer):
+    """Writes random calls."""
+
+    def __init__(self, seed, limit, has_many):
+        super().__init__(seed, limit)
+        self.pool = pool_of(self.source, has_many)
 
     def key(self):
         return self.source.choice(self.pool.keys)
@@ -64,7 +86,7 @@ class Writer:
     def kept(self):
         """One of the states, but now and then none."""
         if self.table.states and self.source.randrange(4):
-            return self.source.choice(list(self.table.states.values()))
+            return self.any_state()
         return None
 
     def number(self):
@@ -72,7 +94,7 @@ class Writer:
         return kept.number if kept else self.source.choice(self.pool.numbers)
 
     def side_and_key(self):
-        side, kept = self.source.choice(("wire", "stack")), self.kept()
+        side, kept = self.source.choice(SIDES), self.kept()
         return side, *((kept.wire if side == "wire" else kept.stack) if kept else self.key())
 
     def deadline(self):
@@ -86,35 +108,46 @@ class Writer:
             return self.clock
         return self.source.choice((0, max(0, self.clock - 1), self.clock + self.pool.spread // 2, GREATEST_CLOCK))
 
-    def state(self, word):
-        """A state to be made or touched; most of those that are touched differ little from one that is there."""
+    def add_change(self, word):
+        """Makes or touches a state; most of those that are touched differ little from one that is there."""
         number, wire, stack = self.source.choice(self.pool.numbers), self.key(), self.key()
         kept = self.kept() if word == "touch" else None
         if kept:
             number = kept.number
             wire, stack = self.source.choice(((kept.wire, kept.stack), (kept.wire, kept.stack), (kept.wire, stack),
                                               (wire, kept.stack), (wire, stack)))
-        return State(number, wire, stack, self.deadline(), len(self.lines))
+        self.add_state(word, number, wire, stack, self.deadline())
+
+    def add_at_clock(self, word):
+        """A call at a clock, every second time behind a settling, mostly at the same one."""
+        clock = self.any_clock()
+        if self.source.randrange(2):
+            self.add("settle", clock if self.source.randrange(4) else self.any_clock())
+        self.add(word, clock)
 
     def step(self):
-        """One call."""
+        """One call, or two with a settling."""
         self.clock += self.source.choice((0, 0, 0, 1, 1, 2))
-        word, = self.source.choices(list(WEIGHTS), list(WEIGHTS.values()))
+        word, = self.source.choices(WORDS, cum_weights=WEIGHTS_SO_FAR)
         match word:
             case "make" | "touch":
-                self.add(word, self.state(word).text())
+                self.add_change(word)
             case "remove" | "after":
                 self.add(word, self.number())
             case "at":
                 self.add(word, *self.side_and_key(), self.any_clock())
-            case "purge" | "room" | "due":
+            case "settle":
                 self.add(word, self.any_clock())
+            case "purge" | "room" | "due":
+                self.add_at_clock(word)
             case _:
                 self.add(word)
 
     def drain(self):
         """Takes out what is due, one after the other, as long as something is."""
         for _ in range(len(self.table.states)):
+            if self.source.randrange(2):
+                self.add("settle", GREATEST_CLOCK)
             due, = self.add("due", GREATEST_CLOCK)
             if due == "none":
                 break
@@ -123,38 +156,50 @@ class Writer:
 
 
 def random_lists(count, calls):
-    """So many lists of so many calls and what drains the table then."""
+    """So many lists of so many calls, the settlings before others not counted, and what drains the table then."""
     for place in range(count):
         limit = LIMITS[place % len(LIMITS)]
-        writer = Writer(place, limit, limit == LIMITS[-1] and place // len(LIMITS) % 2 == 1)
+        writer = RandomWriter(place, limit, limit == LIMITS[-1] and place // len(LIMITS) % 2 == 1)
         for _ in range(calls):
             writer.step()
         writer.drain()
-        yield writer.lines
+        yield writer
 
 
 class Refusals(Writer):
-    """Writes the list for memory that is refused, of states whose keys are those of two places in a list."""
+    """Writes the list for memory that is refused, of states whose keys are mostly those of two places in a list."""
 
     def __init__(self):
-        super().__init__(0, LIMITS[-1], False)
+        super().__init__(0, LIMITS[-1])
         self.keys = [far_key(self.source) for _ in range(34)]
+
+    def look_at_keys(self, *keys):
+        for key in keys:
+            for side in SIDES:
+                self.add("at", side, *key, 0)
 
     def look(self):
         """Questions that see the table, but of the order of deadlines its beginning alone."""
         self.add("list")
-        for key in self.keys:
-            for side in ("wire", "stack"):
-                self.add("at", side, *key, 0)
+        self.look_at_keys(*self.keys)
         for clock in (0, 1000, GREATEST_CLOCK):
             self.add("due", clock)
             self.add("room", clock)
 
     def twice(self, *parts):
-        """A change, and the same change once more."""
+        """A change, and the same change once more. What that one does to the keys is seen behind the next change."""
+        self.add(*parts)
+        self.look()
+        self.add(*parts)
+        self.add("list")
+
+    def change_twice(self, word, number, wire, stack, deadline):
+        """A change of a state, and the same change once more. This state alone is seen, and what is due first."""
         for _ in range(2):
-            self.add(*parts)
-            self.look()
+            self.add_state(word, number, wire, stack, deadline)
+            self.look_at_keys(wire, stack)
+            self.add("due", GREATEST_CLOCK)
+            self.add("after", max(0, number - 1))
 
     def text(self, number, wire, stack, deadline):
         return State(number, self.keys[wire], self.keys[stack], deadline, len(self.lines)).text()
@@ -164,14 +209,55 @@ class Refusals(Writer):
         for number in range(1, 31):
             self.twice("make", self.text(number, number, 31 - number, 1000 + number * 7 % 30))
         for number in range(1, 31, 3):
-            self.twice("touch", self.text(number, number, 31 - number, 2000 + number * 11 % 30))
+            # deadlines that move later take no memory
+            self.add("touch", self.text(number, number, 31 - number, 2000 + number * 11 % 30))
         for number in range(2, 31, 9):
             # no state has the keys 0, 31, 32 and 33
             self.twice("touch", self.text(number, number, 0, 1500))
             self.twice("touch", self.text(number, 31, 32, 1500 + number))
-            self.twice("remove", number)
+            self.add("remove", number)
         self.twice("make", self.text(1, 33, 33, 3000))
         self.twice("touch", self.text(99, 32, 32, 3000))
+        self.look()
+
+    def touch_earlier(self):
+        """Moves deadlines of states earlier, until there are so many by which none waits any more that those are
+        dropped. Now and then one moves later."""
+        for turn in range(120):
+            state = self.any_state()
+            earlier = state.deadline - 1 - turn % 3
+            self.change_twice("touch", state.number, state.wire, state.stack, earlier)
+            if turn % 7 == 0:
+                self.add_state("touch", state.number, state.wire, state.stack, earlier + 50)
+            if turn % 30 == 0:
+                self.look()
+
+    def touch_with_new_keys(self):
+        """Gives states new keys over and over, on one side or both, until the indexes of keys are made anew."""
+        for turn in range(60):
+            state, new = self.any_state(), far_key(self.source)
+            wire, stack = ((new, state.stack), (state.wire, new), (new, new))[turn % 3]
+            self.change_twice("touch", state.number, wire, stack, state.deadline + turn % 5 - 2)
+        self.look()
+
+    def make_in_places(self):
+        """Makes states in the places of others, until their numbers are dropped, and more states than before."""
+        for number in range(100, 160):
+            if number % 5:
+                self.add("remove", self.any_state().number)
+            key = far_key(self.source)
+            # they don't rise
+            self.change_twice("make", number ^ 3, key, key, 1000 + number * 7 % 30)
+        self.look()
+
+    def purge_one_by_one(self, clocks):
+        """Purges at clocks, so that the whole order of deadlines is seen."""
+        for clock in sorted(clocks):
+            if clock % 2:
+                self.add("settle", clock)
+            self.add("due", clock)
+            self.add("purge", clock)
+            self.add("list")
 
     def grow_and_purge(self, count):
         """Makes so many states, touches most of them, and purges them one after the other: so the whole order of
@@ -186,17 +272,17 @@ class Refusals(Writer):
             wire = 33 if number == 2 else number
             self.add("touch", self.text(number, wire, number, deadlines[-number]))
         self.look()
-        for clock in sorted(deadlines):
-            self.add("due", clock)
-            self.add("purge", clock)
-            self.add("list")
+        self.purge_one_by_one(deadlines)
 
 
 def refusals():
     """The list for memory that is refused."""
     writer = Refusals()
     writer.grow()
-    writer.add("purge", GREATEST_CLOCK)
-    for count in (1, 2, 3, 5, 8, 12, 20, 32):
+    writer.touch_earlier()
+    writer.touch_with_new_keys()
+    writer.make_in_places()
+    writer.purge_one_by_one({state.deadline for state in writer.table.states.values()})
+    for count in (1, 2, 5, 12, 32):
         writer.grow_and_purge(count)
-    return writer.lines
+    return writer

@@ -112,6 +112,9 @@ def answer(table, call):
             return [table.touch(state_of(numbers))]
         case "remove":
             return [table.remove(*numbers)]
+        case "settle":
+            # nothing that is asked later changes
+            return ["done"]
         case "purge":
             return [table.purge(*numbers)]
         case "room":
@@ -125,12 +128,6 @@ def answer(table, call):
         case "list":
             return listed(table)
     raise ValueError(call)
-
-
-def answers(lines):
-    """The answers to a list of calls, whose first line is the limit: for each call its lines."""
-    table = Table(int(lines[0]))
-    return [answer(table, call) for call in lines[1:]]
 
 
 def refused(lines, seen):

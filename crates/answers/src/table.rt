@@ -5,6 +5,7 @@
 //!     make NUMBER WIRE STACK DEADLINE BYTES      a state comes
 //!     touch NUMBER WIRE STACK DEADLINE BYTES     a packet leaves a state like this
 //!     remove NUMBER
+//!     settle CLOCK
 //!     purge CLOCK
 //!     at SIDE KEY CLOCK                          SIDE is the word `wire` or `stack`
 //!     room CLOCK
@@ -141,6 +142,10 @@ fn put_answer(
             table,
             TableChange::Removed(StateNumber(words.number()?)),
         ),
+        "settle" => {
+            table.settle(Clock(words.number()?));
+            out.push_str("done\n")
+        }
         "purge" => {
             table.purge(Clock(words.number()?));
             out.push_str("done\n")
