@@ -1,65 +1,23 @@
-//! The program of `main.rattle` in plain Rust, over a table of states of the same shape: states by number, numbers by the keys of
-//! either side, and numbers in the order of deadlines. It takes the same words and prints the same lines. A third word
-//! names the hash of the keys: `std` is the standard library's, `fold` the one that Rattle's maps have.
+//! The program of `main.rattle` in plain Rust, over a table of states of the same structure. States stand in a slab, their
+//! numbers in order, their places under hashes of the keys of either side, and their deadlines in a heap. It takes the
+//! same words and prints the same lines.
 
-use std::collections::{BTreeMap, BTreeSet, HashMap};
-use std::hash::{BuildHasher, BuildHasherDefault, Hasher, RandomState};
+use std::cmp::Reverse;
+use std::collections::BinaryHeap;
 use std::io::Read;
 use std::time::Instant;
 
 const LIMIT: usize = 4_000_000_000;
 const FIRST_DEADLINE: u64 = 1001;
 
-/// Multiplies to 128 bits, and joins the halves.
-#[derive(Clone, Copy)]
-struct FoldHasher(u64);
-
-impl Default for FoldHasher {
-    fn default() -> FoldHasher {
-        FoldHasher(0x243f_6a88_85a3_08d3)
-    }
-}
-
-impl FoldHasher {
-    fn fold(&mut self, value: u64, bytes: u64) {
-        let factor = 0x9e37_79b9_7f4a_7c15 ^ (2 * bytes);
-        let product = u128::from(self.0 ^ value) * u128::from(factor);
-        self.0 = product as u64 ^ (product >> 64) as u64;
-    }
-}
-
-impl Hasher for FoldHasher {
-    fn finish(&self) -> u64 {
-        self.0
-    }
-
-    fn write(&mut self, bytes: &[u8]) {
-        for byte in bytes {
-            self.write_u8(*byte);
-        }
-    }
-
-    fn write_u8(&mut self, value: u8) {
-        self.fold(u64::from(value), 1);
-    }
-
-    fn write_u16(&mut self, value: u16) {
-        self.fold(u64::from(value), 2);
-    }
-
-    fn write_u32(&mut self, value: u32) {
-        self.fold(u64::from(value), 4);
-    }
-}
-
-#[derive(Clone, Copy, PartialEq, Eq, Hash)]
+#[derive(Clone, Copy, PartialEq, Eq)]
 #[repr(C)]
 struct Endpoint {
     address: u32,
     port: u16,
 }
 
-#[derive(Clone, Copy, PartialEq, Eq, Hash)]
+#[derive(Clone, Copy, PartialEq, Eq)]
 #[repr(C)]
 struct Key {
     protocol: u8,
@@ -70,8 +28,8 @@ struct Key {
 #[derive(Clone, Copy)]
 #[repr(C)]
 struct StateRules {
-    filter: Option<u32>,
-    translation: Option<u32>,
+    filter: Option<usize>,
+    translation: Option<usize>,
     is_synchronised: bool,
     allows_options: bool,
 }
@@ -109,16 +67,16 @@ struct Traffic {
 #[repr(C)]
 struct State {
     number: u64,
-    direction: u8,
-    wire: Key,
-    stack: Key,
-    rules: StateRules,
-    peers: Peers,
-    made: u32,
     deadline: u64,
-    timeout: u8,
     forth: Traffic,
     back: Traffic,
+    rules: StateRules,
+    wire: Key,
+    stack: Key,
+    peers: Peers,
+    made: u32,
+    direction: u8,
+    timeout: u8,
 }
 
 #[derive(Clone, Copy)]
@@ -127,92 +85,359 @@ enum Side {
     Stack,
 }
 
-/// The table: all indexes hold the numbers of the states.
-struct Table<H> {
-    states: BTreeMap<u64, State>,
-    wire: HashMap<Key, u64, H>,
-    stack: HashMap<Key, u64, H>,
-    deadlines: BTreeSet<(u64, u64)>,
+impl State {
+    fn key_on(&self, side: Side) -> &Key {
+        match side {
+            Side::Wire => &self.wire,
+            Side::Stack => &self.stack,
+        }
+    }
+
+    fn is_like(&self, other: &State) -> bool {
+        self.number == other.number && self.wire == other.wire && self.stack == other.stack
+    }
+
+    fn has_come(&self, clock: u32) -> bool {
+        self.deadline <= u64::from(clock)
+    }
+}
+
+fn hash_of(key: &Key) -> u32 {
+    let beside = |high: u32, low: u32| u64::from(high) << 32 | u64::from(low);
+    let ports = u32::from(key.outside.port) << 16 | u32::from(key.inside.port);
+    let spread =
+        beside(key.outside.address, key.inside.address).wrapping_mul(0x9e37_79b9_7f4a_7c15);
+    let joined = spread
+        .wrapping_add(spread >> 32)
+        .wrapping_add(beside(u32::from(key.protocol), ports))
+        .wrapping_mul(0xd1b5_4a32_d192_ed03);
+    (joined >> 32) as u32
+}
+
+/// Stands for a place where nothing stood so far.
+const FREE: u32 = u32::MAX;
+
+/// Stands for a place where something stood and left.
+const LEFT: u32 = u32::MAX - 1;
+
+#[derive(Clone, Copy)]
+struct Slot {
+    hash: u32,
+    place: u32,
+}
+
+/// Places by hashes of keys: slots in which they are looked for one after the other.
+#[derive(Default)]
+struct Index {
+    slots: Vec<Slot>,
+    held: usize,
+    free: usize,
+}
+
+impl Index {
+    fn home(&self, hash: u32) -> usize {
+        (u64::from(hash) * self.slots.len() as u64 >> 32) as usize
+    }
+
+    /// The slot behind this one; there are a power of two.
+    fn next(&self, at: usize) -> usize {
+        (at + 1) & (self.slots.len() - 1)
+    }
+
+    fn find(&self, hash: u32, is_it: impl Fn(u32) -> bool) -> Option<u32> {
+        if self.slots.is_empty() {
+            return None;
+        }
+        let mut at = self.home(hash);
+        loop {
+            let slot = self.slots[at];
+            if slot.place == FREE {
+                return None;
+            }
+            if slot.hash == hash && slot.place != LEFT && is_it(slot.place) {
+                return Some(slot.place);
+            }
+            at = self.next(at);
+        }
+    }
+
+    fn insert(&mut self, hash: u32, place: u32) {
+        let mut at = self.home(hash);
+        while self.slots[at].place < LEFT {
+            at = self.next(at);
+        }
+        self.free -= usize::from(self.slots[at].place == FREE);
+        self.held += 1;
+        self.slots[at] = Slot { hash, place };
+    }
+
+    fn remove(&mut self, hash: u32, place: u32) {
+        let mut at = self.home(hash);
+        while self.slots[at].place != place {
+            if self.slots[at].place == FREE {
+                return;
+            }
+            at = self.next(at);
+        }
+        self.held -= 1;
+        self.slots[at].place = LEFT;
+    }
+
+    /// Makes room for one more.
+    fn reserve(&mut self) {
+        if self.free > self.slots.len() / 4 {
+            return;
+        }
+        let count = ((self.held + 1) * 2).next_power_of_two().max(8);
+        let free = Slot {
+            hash: 0,
+            place: FREE,
+        };
+        let before = std::mem::replace(&mut self.slots, vec![free; count]);
+        self.held = 0;
+        self.free = count;
+        for slot in before {
+            if slot.place < LEFT {
+                self.insert(slot.hash, slot.place);
+            }
+        }
+    }
+}
+
+/// A state, with the deadline by which it waits: not a later one than its own.
+#[derive(Clone, Copy)]
+struct Stored {
+    state: State,
+    waits: u64,
+}
+
+/// A deadline, the number of the state that waits by it, and where that one stands.
+type Wait = (u64, u64, u32);
+
+#[derive(Default)]
+struct Table {
+    states: Vec<Option<Stored>>,
+    vacant: Vec<u32>,
+    /// Numbers in rising order with their places; one whose state is gone has none until the list is swept.
+    order: Vec<(u64, Option<u32>)>,
+    count: usize,
+    wire: Index,
+    stack: Index,
+    deadlines: BinaryHeap<Reverse<Wait>>,
+    /// How many deadlines were left when those were dropped last by which no state waited.
+    kept: usize,
     limit: usize,
 }
 
-impl<H: BuildHasher + Default> Table<H> {
-    fn new(limit: usize) -> Table<H> {
+fn get(states: &[Option<Stored>], place: u32) -> Option<&Stored> {
+    states.get(place as usize)?.as_ref()
+}
+
+/// The state that waits by just this.
+fn kept_by(states: &[Option<Stored>], wait: Wait) -> Option<&Stored> {
+    get(states, wait.2).filter(|stored| stored.waits == wait.0 && stored.state.number == wait.1)
+}
+
+impl Table {
+    fn new(limit: usize) -> Table {
         Table {
-            states: BTreeMap::new(),
-            wire: HashMap::default(),
-            stack: HashMap::default(),
-            deadlines: BTreeSet::new(),
             limit,
+            ..Table::default()
         }
+    }
+
+    fn index_on(&self, side: Side) -> &Index {
+        match side {
+            Side::Wire => &self.wire,
+            Side::Stack => &self.stack,
+        }
+    }
+
+    fn place_at(&self, side: Side, key: &Key) -> Option<u32> {
+        self.index_on(side).find(hash_of(key), |place| {
+            get(&self.states, place).is_some_and(|stored| stored.state.key_on(side) == key)
+        })
     }
 
     fn at(&self, side: Side, key: &Key, clock: u32) -> Option<State> {
-        let number = match side {
-            Side::Wire => self.wire.get(key)?,
-            Side::Stack => self.stack.get(key)?,
-        };
-        let state = self.states.get(number)?;
-        (u64::from(clock) < state.deadline).then_some(*state)
+        let stored = get(&self.states, self.place_at(side, key)?)?;
+        (!stored.state.has_come(clock)).then_some(stored.state)
     }
 
-    fn put(&mut self, state: State) {
-        self.wire.insert(state.wire, state.number);
-        self.stack.insert(state.stack, state.number);
-        self.deadlines.insert((state.deadline, state.number));
-        self.states.insert(state.number, state);
+    /// Where a number stands in the order, or where it belongs.
+    fn search(&self, number: u64) -> Result<usize, usize> {
+        // new numbers are mostly the greatest so far
+        if self.order.last().is_none_or(|last| last.0 < number) {
+            return Err(self.order.len());
+        }
+        self.order.binary_search_by_key(&number, |entry| entry.0)
+    }
+
+    fn place_of(&self, number: u64) -> Option<u32> {
+        self.order[self.search(number).ok()?].1
+    }
+
+    /// Drops the deadlines by which no state waits any more once they are many.
+    fn sweep_deadlines(&mut self) {
+        if self.deadlines.len() / 2 > self.kept.max(self.count).max(64) {
+            let states = &self.states;
+            self.deadlines
+                .retain(|wait| kept_by(states, wait.0).is_some());
+            self.kept = self.deadlines.len();
+        }
+    }
+
+    /// Drops the numbers whose states are gone once the list is full and at least half of it is gone.
+    fn sweep_numbers(&mut self) {
+        if self.order.len() == self.order.capacity() && self.count <= self.order.len() / 2 {
+            self.order.retain(|entry| entry.1.is_some());
+        }
+    }
+
+    fn add(&mut self, state: State) {
+        self.sweep_deadlines();
+        self.sweep_numbers();
+        self.wire.reserve();
+        self.stack.reserve();
+        let waits = state.deadline;
+        let stored = Some(Stored { state, waits });
+        let place = match self.vacant.pop() {
+            Some(place) => {
+                self.states[place as usize] = stored;
+                place
+            }
+            None => {
+                self.states.push(stored);
+                // so that a removal takes no memory
+                self.vacant.reserve(self.states.len());
+                (self.states.len() - 1) as u32
+            }
+        };
+        match self.search(state.number) {
+            Ok(at) => self.order[at].1 = Some(place),
+            Err(at) => self.order.insert(at, (state.number, Some(place))),
+        }
+        self.count += 1;
+        self.wire.insert(hash_of(&state.wire), place);
+        self.stack.insert(hash_of(&state.stack), place);
+        self.deadlines.push(Reverse((waits, state.number, place)));
+    }
+
+    /// Writes a state over the one at a place, which has other keys.
+    fn replace(&mut self, place: u32, state: State) {
+        let Some(before) = self.states[place as usize] else {
+            return;
+        };
+        self.sweep_deadlines();
+        self.wire.reserve();
+        self.stack.reserve();
+        self.wire.remove(hash_of(&before.state.wire), place);
+        self.wire.insert(hash_of(&state.wire), place);
+        self.stack.remove(hash_of(&before.state.stack), place);
+        self.stack.insert(hash_of(&state.stack), place);
+        let waits = state.deadline;
+        self.states[place as usize] = Some(Stored { state, waits });
+        self.deadlines.push(Reverse((waits, state.number, place)));
     }
 
     fn make(&mut self, state: State) -> bool {
-        if self.wire.contains_key(&state.wire) || self.stack.contains_key(&state.stack) {
+        if self.place_at(Side::Wire, &state.wire).is_some()
+            || self.place_at(Side::Stack, &state.stack).is_some()
+            || self.count >= self.limit
+        {
             return false;
         }
-        if self.states.len() >= self.limit {
-            return false;
+        match self.place_of(state.number) {
+            Some(place) => self.replace(place, state),
+            None => self.add(state),
         }
-        self.remove(state.number);
-        self.put(state);
         true
     }
 
     fn touch(&mut self, state: State) -> bool {
-        let is_other = |number: Option<&u64>| number.is_some_and(|number| *number != state.number);
-        if is_other(self.wire.get(&state.wire)) || is_other(self.stack.get(&state.stack)) {
+        let wire = self.place_at(Side::Wire, &state.wire);
+        if let Some(place) = wire {
+            if let Some(Some(stored)) = self.states.get_mut(place as usize) {
+                if stored.state.is_like(&state) {
+                    stored.state = state;
+                    if state.deadline < stored.waits {
+                        stored.waits = state.deadline;
+                        self.sweep_deadlines();
+                        self.deadlines
+                            .push(Reverse((state.deadline, state.number, place)));
+                    }
+                    return true;
+                }
+            }
+        }
+        let own = self.place_of(state.number);
+        let stack = self.place_at(Side::Stack, &state.stack);
+        if wire.is_some() && wire != own || stack.is_some() && stack != own {
             return false;
         }
-        let Some(kept) = self.states.get_mut(&state.number) else {
-            return true;
-        };
-        let before = std::mem::replace(kept, state);
-        if before.deadline != state.deadline {
-            self.deadlines.remove(&(before.deadline, before.number));
-            self.deadlines.insert((state.deadline, state.number));
-        }
-        if before.wire != state.wire {
-            self.wire.remove(&before.wire);
-            self.wire.insert(state.wire, state.number);
-        }
-        if before.stack != state.stack {
-            self.stack.remove(&before.stack);
-            self.stack.insert(state.stack, state.number);
+        if let Some(place) = own {
+            self.replace(place, state);
         }
         true
     }
 
     fn remove(&mut self, number: u64) {
-        if let Some(state) = self.states.remove(&number) {
-            self.wire.remove(&state.wire);
-            self.stack.remove(&state.stack);
-            self.deadlines.remove(&(state.deadline, number));
+        let Ok(at) = self.search(number) else {
+            return;
+        };
+        let Some(place) = self.order[at].1.take() else {
+            return;
+        };
+        if let Some(stored) = self.states[place as usize].take() {
+            self.wire.remove(hash_of(&stored.state.wire), place);
+            self.stack.remove(hash_of(&stored.state.stack), place);
+        }
+        self.vacant.push(place);
+        self.count -= 1;
+    }
+
+    /// Settles the deadlines that have come, so that `due` answers at once.
+    fn settle(&mut self, clock: u32) {
+        while let Some(&Reverse(first)) = self.deadlines.peek() {
+            if u64::from(clock) < first.0 {
+                return;
+            }
+            let own = kept_by(&self.states, first).map(|stored| stored.state.deadline);
+            if own == Some(first.0) {
+                return;
+            }
+            self.deadlines.pop();
+            let Some(own) = own else {
+                continue;
+            };
+            self.deadlines.push(Reverse((own, first.1, first.2)));
+            if let Some(stored) = &mut self.states[first.2 as usize] {
+                stored.waits = own;
+            }
         }
     }
 
+    /// Of the states whose deadline has come the one with the least deadline; of those the one with the least number.
+    fn due(&self, clock: u32) -> Option<State> {
+        let &Reverse(first) = self.deadlines.peek()?;
+        if u64::from(clock) < first.0 {
+            return None;
+        }
+        let kept = |wait: Wait| kept_by(&self.states, wait).map(|stored| stored.state);
+        kept(first)
+            .filter(|state| state.deadline == first.0)
+            .or_else(|| {
+                let all = self.deadlines.iter().filter_map(|wait| kept(wait.0));
+                all.filter(|state| state.has_come(clock))
+                    .min_by_key(|state| (state.deadline, state.number))
+            })
+    }
+
     fn purge(&mut self, clock: u32) {
-        while let Some(&(deadline, number)) = self.deadlines.first() {
-            if u64::from(clock) < deadline {
-                break;
-            }
-            self.remove(number);
+        self.settle(clock);
+        while let Some(state) = self.due(clock) {
+            self.remove(state.number);
+            self.settle(clock);
         }
     }
 }
@@ -228,6 +453,11 @@ impl Count {
     fn success(&mut self, sum: u64) {
         self.successes += 1;
         self.sum = self.sum.wrapping_add(sum);
+    }
+
+    /// Takes the time of a call over where it is the longest so far.
+    fn longest(&mut self, start: Instant) {
+        self.nanoseconds = self.nanoseconds.max(start.elapsed().as_nanos() as u64);
     }
 }
 
@@ -290,82 +520,113 @@ fn index_at(turn: u64, size: u64) -> u64 {
     turn.wrapping_mul(611_953) % size.max(1)
 }
 
-fn make_all<H: BuildHasher + Default>(table: &mut Table<H>, size: u64, count: &mut Count) {
-    for index in 0..size {
-        if table.make(state(index, 0)) {
-            count.success(index);
-        }
+fn make(table: &mut Table, index: u64, count: &mut Count) {
+    if table.make(state(index, 0)) {
+        count.success(index);
     }
 }
 
-fn find_all<H: BuildHasher + Default>(table: &Table<H>, first: u64, size: u64, count: &mut Count) {
-    for turn in 0..size {
-        let side = if turn % 2 == 0 {
-            Side::Wire
-        } else {
-            Side::Stack
-        };
-        let index = first + index_at(turn, size);
-        if let Some(found) = table.at(side, &key_on(side, index), 0) {
-            count.success(found.number ^ found.deadline ^ found.forth.bytes);
-        }
+fn find(table: &Table, first: u64, turn: u64, size: u64, count: &mut Count) {
+    let side = if turn % 2 == 0 {
+        Side::Wire
+    } else {
+        Side::Stack
+    };
+    let index = first + index_at(turn, size);
+    if let Some(found) = table.at(side, &key_on(side, index), 0) {
+        count.success(found.number ^ found.deadline ^ found.forth.bytes);
     }
 }
 
-fn touch_all<H: BuildHasher + Default>(table: &mut Table<H>, size: u64, count: &mut Count) {
-    for turn in 0..size {
-        let index = index_at(turn, size);
-        if table.touch(state(index, 1000)) {
-            count.success(index);
-        }
+fn touch(table: &mut Table, turn: u64, size: u64, count: &mut Count) {
+    let index = index_at(turn, size);
+    if table.touch(state(index, 1000)) {
+        count.success(index);
     }
 }
 
-fn purge_all<H: BuildHasher + Default>(table: &mut Table<H>, count: &mut Count) {
-    let before = table.states.len();
+fn purge_all(table: &mut Table, count: &mut Count) {
+    let before = table.count;
     for clock in 2000..3001 {
         table.purge(clock);
-        count.sum += table.states.len() as u64;
+        count.sum += table.count as u64;
     }
-    count.successes += (before - table.states.len()) as u64;
+    count.successes += (before - table.count) as u64;
 }
 
-fn hold<H: BuildHasher + Default>(size: u64) {
-    let mut table = Table::<H>::new(LIMIT);
-    make_all(&mut table, size, &mut Count::default());
-    println!("{}", table.states.len());
+fn hold(size: u64) {
+    let mut table = Table::new(LIMIT);
+    for turn in 0..size {
+        make(&mut table, turn, &mut Count::default());
+    }
+    println!("{}", table.count);
     let _ = std::io::stdin().read(&mut [0]);
-    println!("{}", table.states.len());
+    println!("{}", table.count);
 }
 
-fn measure_rounds<H: BuildHasher + Default>(size: u64, rounds: u64) {
-    let mut counts = [Count::default(); 5];
-    for _ in 0..rounds {
-        let mut table = Table::<H>::new(LIMIT);
-        for (place, count) in counts.iter_mut().enumerate() {
-            let start = Instant::now();
-            match place {
-                0 => make_all(&mut table, size, count),
-                1 => find_all(&table, 0, size, count),
-                2 => find_all(&table, size, size, count),
-                3 => touch_all(&mut table, size, count),
-                _ => purge_all(&mut table, count),
-            }
-            count.nanoseconds += start.elapsed().as_nanos() as u64;
-        }
-    }
+fn show(counts: [Count; 5]) {
     println!("{}", size_of::<State>());
     for count in counts {
         println!("{} {} {}", count.nanoseconds, count.successes, count.sum);
     }
 }
 
-fn run<H: BuildHasher + Default>(size: u64, rounds: u64) {
-    if rounds == 0 {
-        hold::<H>(size)
-    } else {
-        measure_rounds::<H>(size, rounds)
+fn measure_rounds(size: u64, rounds: u64) {
+    let mut counts = [Count::default(); 5];
+    for _ in 0..rounds {
+        let mut table = Table::new(LIMIT);
+        for (place, count) in counts.iter_mut().enumerate() {
+            let start = Instant::now();
+            match place {
+                0 => (0..size).for_each(|turn| make(&mut table, turn, count)),
+                1 => (0..size).for_each(|turn| find(&table, 0, turn, size, count)),
+                2 => (0..size).for_each(|turn| find(&table, size, turn, size, count)),
+                3 => (0..size).for_each(|turn| touch(&mut table, turn, size, count)),
+                _ => purge_all(&mut table, count),
+            }
+            count.nanoseconds += start.elapsed().as_nanos() as u64;
+        }
     }
+    show(counts);
+}
+
+fn purge_each(table: &mut Table, count: &mut Count) {
+    for clock in 1001..3001 {
+        loop {
+            let start = Instant::now();
+            table.settle(clock);
+            count.longest(start);
+            let start = Instant::now();
+            let due = table.due(clock);
+            count.longest(start);
+            let Some(state) = due else {
+                break;
+            };
+            let start = Instant::now();
+            table.remove(state.number);
+            count.longest(start);
+            count.success(state.number);
+        }
+    }
+}
+
+fn measure_calls(size: u64) {
+    let mut counts = [Count::default(); 5];
+    let mut table = Table::new(LIMIT);
+    for (place, count) in counts[..4].iter_mut().enumerate() {
+        for turn in 0..size {
+            let start = Instant::now();
+            match place {
+                0 => make(&mut table, turn, count),
+                1 => find(&table, 0, turn, size, count),
+                2 => find(&table, size, turn, size, count),
+                _ => touch(&mut table, turn, size, count),
+            }
+            count.longest(start);
+        }
+    }
+    purge_each(&mut table, &mut counts[4]);
+    show(counts);
 }
 
 fn main() {
@@ -376,8 +637,9 @@ fn main() {
             .and_then(|word| word.parse().ok())
             .unwrap_or(0)
     };
-    match words.get(3).map(String::as_str) {
-        Some("fold") => run::<BuildHasherDefault<FoldHasher>>(number(1), number(2)),
-        _ => run::<RandomState>(number(1), number(2)),
+    match words.get(1).map(String::as_str) {
+        Some("hold") => hold(number(2)),
+        Some("calls") => measure_calls(number(2)),
+        _ => measure_rounds(number(2), number(3)),
     }
 }

@@ -1,13 +1,13 @@
 #!/usr/bin/env python3
-"""Measures the table of states beside one of the same shape in plain Rust, in one run.
+"""Measures the table of states beside one of the same structure in plain Rust, in one run.
 
     run.py [SIZE ..]
 
-Builds the program beside it in a temporary folder, and `main.rs` by `rustc -O`; crates that aren't built are built first, in
-their own folders. For each size (1000, 100000 and 1000000 where none is given) it
-prints a row for each kind of work: how many a second, and that as a multiple of the Rust program's, once with the standard
-library's hash of the keys and once (`fold`) with the one that Rattle's maps have. The last two rows are bytes of memory for each
-state, of the full table and of the most on the way there.
+Builds the program beside it in a temporary folder, and `main.rs` by `rustc -O`; crates that aren't built are built
+first, in their own folders. For each size (1000, 100000 and 1000000 where none is given) it prints a row for each kind
+of work: how many a second, and that as a multiple of the Rust program's. Five more rows are the milliseconds of the
+longest call of each kind, from runs of their own in which the clock is read around each call. The last two rows are
+bytes of memory for each state, of the full table and of the most on the way there.
 """
 
 import subprocess
@@ -28,6 +28,7 @@ SIZES = (1000, 100000, 1000000)
 LEAST = 1000000
 RUNS = 5
 WORKS = ("makes", "hits", "misses", "touches", "purges")
+CALLS = ("longest make, ms", "longest hit, ms", "longest miss, ms", "longest touch, ms", "longest purge, ms")
 # the files and lines below /proc/PID that tell of a process's memory, in KiB: what it holds, and the most that it held
 MEMORY = {"bytes a state": ("smaps_rollup", "Rss"), "bytes at most": ("status", "VmHWM")}
 
@@ -38,32 +39,43 @@ def build_rust(folder):
     return program
 
 
-def measured(command, size):
-    """The nanoseconds of one of each kind of work, and what else the program prints, which is to be the same in all."""
-    words = [*command[:1], str(size), str(max(1, LEAST // size)), *command[1:]]
-    done = subprocess.run(words, stdout=subprocess.PIPE, check=True, text=True)
+def counts(program, words):
+    """The nanoseconds of each kind of work, and what else a program prints, which is to be the same in both."""
+    done = subprocess.run([program, *map(str, words)], stdout=subprocess.PIPE, check=True, text=True)
     state_bytes, *rows = done.stdout.splitlines()
-    counts = [tuple(map(int, row.split())) for row in rows]
-    times = [nanoseconds / (max(1, LEAST // size) * size) for nanoseconds, _, _ in counts]
-    return times, (state_bytes, [count[1:] for count in counts])
+    rows = [tuple(map(int, row.split())) for row in rows]
+    return [nanoseconds for nanoseconds, _, _ in rows], (state_bytes, [row[1:] for row in rows])
 
 
-def best(commands, size):
-    """The best times of each command, which run in turn."""
-    times = [[] for _ in commands]
+def best(programs, words, each):
+    """The least times of each program; they run in turn. All of the work is to be done, each kind so often."""
+    times = [[] for _ in programs]
     seen = []
     for _ in range(RUNS):
-        for place, command in enumerate(commands):
-            each, other = measured(command, size)
-            times[place].append(each)
+        for place, program in enumerate(programs):
+            nanoseconds, other = counts(program, words)
+            times[place].append(nanoseconds)
             seen.append(other)
     for other in seen:
         if other != seen[0]:
             raise SystemExit(f"the programs find other states:\n{seen[0]}\n{other}")
     made, hit, missed, touched, purged = (successes for successes, _ in seen[0][1])
-    if missed or {made, hit, touched, purged} != {max(1, LEAST // size) * size}:
+    if missed or {made, hit, touched, purged} != {each}:
         raise SystemExit(f"not all of the work was done: {seen[0]}")
-    return [[min(each) for each in zip(*rows)] for rows in times]
+    return [[min(row) for row in zip(*rows)] for rows in times]
+
+
+def rates(programs, size):
+    """How many of each kind of work each program does in a second."""
+    rounds = max(1, LEAST // size)
+    each = rounds * size
+    rows = best(programs, ("rounds", size, rounds), each)
+    return [[each * 1e9 / nanoseconds for nanoseconds in row] for row in rows]
+
+
+def longest(programs, size):
+    """The milliseconds of the longest call of each kind of work of each program."""
+    return [[nanoseconds / 1e6 for nanoseconds in row] for row in best(programs, ("calls", size), size)]
 
 
 def kibibytes(process, file, wanted):
@@ -74,40 +86,38 @@ def kibibytes(process, file, wanted):
     raise SystemExit(f"/proc has no {wanted}")
 
 
-def memory(command, size):
+def memory(program, size):
     """The bytes of a program that holds a table of this size."""
-    words = [*command[:1], str(size), "0", *command[1:]]
+    words = [program, "hold", str(size)]
     with subprocess.Popen(words, stdin=subprocess.PIPE, stdout=subprocess.PIPE, text=True) as process:
         made = process.stdout.readline()
         held = [kibibytes(process, *place) * 1024 for place in MEMORY.values()]
         rest, _ = process.communicate()
     if process.returncode or {made, rest} != {f"{size}\n"}:
-        raise SystemExit(f"{command[0]}: not all states were made")
+        raise SystemExit(f"{program}: not all states were made")
     return held
 
 
-def bytes_a_state(command, size):
+def bytes_a_state(program, size):
     """What a full table takes beyond an empty one."""
-    return [(full - empty) / size for full, empty in zip(memory(command, size), memory(command, 0))]
+    return [(full - empty) / size for full, empty in zip(memory(program, size), memory(program, 0))]
 
 
-def show(size, work, values, unit):
-    """A row: the values, and the first as a multiple of each of the others."""
-    ratios = " ".join(f"{values[0] / value:9.2f}x" for value in values[1:])
-    print(f"{size:8} {work:>14} " + " ".join(f"{value:{unit}}" for value in values) + f" {ratios}", flush=True)
+def show(size, names, rows, unit):
+    """A row for each name: Rattle's value, Rust's, and the first as a multiple of the second."""
+    for name, rattle, rust in zip(names, *rows):
+        print(f"{size:8} {name:>18} {rattle:{unit}} {rust:{unit}} {rattle / rust:9.2f}x", flush=True)
 
 
 def main():
     sizes = [int(word) for word in sys.argv[1:]] or SIZES
     with tempfile.TemporaryDirectory() as name:
-        rust = build_rust(Path(name))
-        commands = [[build(Path(name), PROGRAM)], [rust, "std"], [rust, "fold"]]
-        print(f"{'states':>8} {'a second':>14} {'Rattle':>12} {'Rust':>12} {'Rust, fold':>12} {'/ Rust':>10} {'/ fold':>10}")
+        programs = [build(Path(name), PROGRAM), build_rust(Path(name))]
+        print(f"{'states':>8} {'a second':>18} {'Rattle':>12} {'Rust':>12} {'/ Rust':>10}")
         for size in sizes:
-            for work, times in zip(WORKS, zip(*best(commands, size))):
-                show(size, work, [1e9 / nanoseconds for nanoseconds in times], "12,.0f")
-            for work, values in zip(MEMORY, zip(*(bytes_a_state(command, size) for command in commands))):
-                show(size, work, values, "12,.0f")
+            show(size, WORKS, rates(programs, size), "12,.0f")
+            show(size, CALLS, longest(programs, size), "12,.3f")
+            show(size, MEMORY, [bytes_a_state(program, size) for program in programs], "12,.0f")
 
 
 if __name__ == "__main__":
