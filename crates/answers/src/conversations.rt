@@ -9,8 +9,8 @@
 //! header the sequence number (4), the acknowledged one (4), the flags (1), the window (2), the shift (1, 255 for none)
 //! and the length of the payload (2).
 use crate::given::Given;
+use crate::printing::put_state;
 use bitflags::Flags;
-use pfr_commit::StateLine;
 use pfr_headers::{
     IcmpHeader, IcmpMessage, IcmpType, Inner, Packet, TcpFlags, TcpHeader, Transport, UdpHeader,
 };
@@ -18,7 +18,7 @@ use pfr_net::{Direction, Endpoint, Ipv4Address, Port, Protocol};
 use pfr_track::{
     Clock, Key, RuleNumber, State, StateNumber, StateRules, Timeouts, Touch, make, touch,
 };
-use std::alloc::AllocError;
+use std::alloc::{AllocError, Global};
 
 /// What all packets of a conversation share.
 #[derive(Clone, Copy)]
@@ -214,6 +214,7 @@ fn touched(conversation: &Conversation, state: &State, arrival: &Arrival) -> Tou
 
 /// What a packet makes of a state, if there is one, with the line of it.
 fn follow(
+    alloc: Global,
     out: &mut String,
     conversation: &Conversation,
     kept: Option<State>,
@@ -221,12 +222,13 @@ fn follow(
 ) -> Result<Option<State>, AllocError> {
     let Some(state) = kept else {
         let state = made(conversation, arrival);
-        write!(out, "{}", StateLine { state: &state })?;
+        put_state(alloc, out, &state)?;
         return Ok(Some(state));
     };
     match touched(conversation, &state, arrival) {
         Touch::Touched(after) => {
-            write!(out, "touched {}", StateLine { state: &after })?;
+            out.push_str("touched ")?;
+            put_state(alloc, out, &after)?;
             Ok(Some(after))
         }
         Touch::Removed => {
@@ -240,12 +242,16 @@ fn follow(
     }
 }
 
-pub(crate) fn put_answer(out: &mut String, given: &mut Given<'_>) -> Result<(), AllocError> {
+pub(crate) fn put_answer(
+    alloc: Global,
+    out: &mut String,
+    given: &mut Given<'_>,
+) -> Result<(), AllocError> {
     let conversation = Conversation::read(given);
     let mut kept = None;
     for _packet in 0..given.number() {
         let arrival = Arrival::read(given);
-        kept = follow(out, &conversation, kept, &arrival)?;
+        kept = follow(alloc, out, &conversation, kept, &arrival)?;
     }
     Ok(())
 }

@@ -44,7 +44,7 @@ fn put_answer(
     match asked {
         Asked::Rulesets => rulesets::put_answer(alloc, out, given),
         Asked::Expansions => expansions::put_answer(alloc, out, given),
-        Asked::Conversations => conversations::put_answer(out, given),
+        Asked::Conversations => conversations::put_answer(alloc, out, given),
         Asked::Steps => steps::put_answer(alloc, out, given),
     }
 }

@@ -1,6 +1,8 @@
 //! What several answers print.
+use pfr_commit::StateLine;
 use pfr_conf::ConfError;
-use std::alloc::AllocError;
+use pfr_track::State;
+use std::alloc::{AllocError, Global};
 
 /// Bytes as text, but for zeros.
 pub(crate) fn put_bytes(out: &mut String, bytes: &[u8]) -> Result<(), AllocError> {
@@ -10,6 +12,13 @@ pub(crate) fn put_bytes(out: &mut String, bytes: &[u8]) -> Result<(), AllocError
         }
     }
     Ok(())
+}
+
+/// The line of a state.
+pub(crate) fn put_state(alloc: Global, out: &mut String, state: &State) -> Result<(), AllocError> {
+    let mut line = Vec::new(alloc);
+    StateLine { state }.put(&mut line)?;
+    put_bytes(out, line.as_slice())
 }
 
 /// An address, as `192.0.2.1`.

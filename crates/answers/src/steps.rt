@@ -10,8 +10,8 @@
 //! text of the ruleset with its length before it in four bytes, a byte, which is each of the seed's, how many records there are
 //! (4), and these. A record holds the link type (2), the seconds (4), and the captured bytes with their length before them (4).
 use crate::given::Given;
-use crate::printing::{put_address, put_fault};
-use pfr_commit::{StateLine, VerdictLine};
+use crate::printing::{put_address, put_bytes, put_fault, put_state};
+use pfr_commit::VerdictLine;
 use pfr_conf::ConfError;
 use pfr_headers::{Change, End, view};
 use pfr_net::{Ipv4Address, Net};
@@ -67,22 +67,27 @@ fn put_visits(alloc: Global, out: &mut String, visits: &Visits) -> Result<(), Al
 }
 
 /// A word and a state.
-fn put_state(out: &mut String, word: &str, state: &State) -> Result<(), AllocError> {
-    write!(out, "{word} {}", StateLine { state })?;
+fn put_left(alloc: Global, out: &mut String, word: &str, state: &State) -> Result<(), AllocError> {
+    out.push_str(word)?;
+    put_state(alloc, out, state)?;
     let _newline = out.pop();
     Ok(())
 }
 
-fn put_change(out: &mut String, change: Option<TableChange>) -> Result<(), AllocError> {
+fn put_change(
+    alloc: Global,
+    out: &mut String,
+    change: Option<TableChange>,
+) -> Result<(), AllocError> {
     match change {
-        Some(TableChange::Made(state)) => put_state(out, "made", &state),
-        Some(TableChange::Touched(state)) => put_state(out, "touched", &state),
+        Some(TableChange::Made(state)) => put_left(alloc, out, "made ", &state),
+        Some(TableChange::Touched(state)) => put_left(alloc, out, "touched ", &state),
         Some(TableChange::Removed(StateNumber(number))) => write!(out, "removed {number}"),
         None => out.push('-'),
     }
 }
 
-fn put_bytes(out: &mut String, bytes: Option<Change>) -> Result<(), AllocError> {
+fn put_written(out: &mut String, bytes: Option<Change>) -> Result<(), AllocError> {
     let Some(change) = bytes else {
         return out.push('-');
     };
@@ -96,16 +101,18 @@ fn put_bytes(out: &mut String, bytes: Option<Change>) -> Result<(), AllocError> 
 
 /// The line of a packet, without a newline.
 fn put_outcome(alloc: Global, out: &mut String, line: VerdictLine<'_>) -> Result<(), AllocError> {
-    write!(out, "{line}")?;
+    let mut text = Vec::new(alloc);
+    line.put(&mut text)?;
+    put_bytes(out, text.as_slice())?;
     let _newline = out.pop();
     out.push_str("; ")?;
     put_visits(alloc, out, &line.outcome.visited.filter)?;
     out.push(' ')?;
     put_visits(alloc, out, &line.outcome.visited.translation)?;
     out.push_str("; ")?;
-    put_change(out, line.outcome.change)?;
+    put_change(alloc, out, line.outcome.change)?;
     out.push_str("; ")?;
-    put_bytes(out, line.outcome.bytes)
+    put_written(out, line.outcome.bytes)
 }
 
 /// Lets the states go whose deadline has come, and takes a packet's change over.
@@ -127,13 +134,13 @@ fn take(
 }
 
 /// The states that are left.
-fn put_states(out: &mut String, table: &Table) -> Result<(), AllocError> {
+fn put_states(alloc: Global, out: &mut String, table: &Table) -> Result<(), AllocError> {
     let mut number = StateNumber(0);
     for _turn in 0..u64::MAX {
         let Some(state) = table.after(number) else {
             break;
         };
-        write!(out, "{}", StateLine { state: &state })?;
+        put_state(alloc, out, &state)?;
         number = state.number;
     }
     Ok(())
@@ -168,7 +175,7 @@ fn replay(
         put_outcome(alloc, out, line)?;
         take(out, &mut table, clock, &outcome)?;
     }
-    put_states(out, &table)
+    put_states(alloc, out, &table)
 }
 
 /// Steps over so many records.

@@ -20,7 +20,7 @@ use pfr_headers::View;
 use pfr_packet::laws::{
     every_change_is_of_the_named_state, no_change_is_refused, what_is_written_is_of_the_packet,
 };
-use pfr_packet::{Direct, Job, Outcome, step};
+use pfr_packet::{Direct, Job, Outcome, step_into};
 use pfr_record::Speculation;
 use pfr_states::Table;
 use pfr_sync::checksum;
@@ -119,6 +119,7 @@ impl Book {
     }
 
     /// The outcome of a speculation that may be used for a packet.
+    #[inline]
     fn usable_outcome(
         &self,
         number: u64,
@@ -137,34 +138,57 @@ impl Book {
         }
     }
 
-    /// Evaluates a packet.
+    /// Evaluates a packet, and writes what it comes to over an outcome.
     #[tactic(auto, unfolding(pfr_packet::specs::Steps::step_of))]
-    fn run(&self, number: u64, clock: Clock, view: &View) -> Result<Outcome, AllocError>
-        ensures { IfOk result (λ outcome. outcome ≡ step_of (job_of self.now) number clock view.now self.now.table) }
+    fn run(
+        &self,
+        number: u64,
+        clock: Clock,
+        view: &View,
+        outcome: &mut Outcome,
+    ) -> Result<(), AllocError>
+        ensures { OnOk result (outcome.new ≡ step_of (job_of self.now) number clock view.now self.now.table) }
     {
         let mut answers = Direct {
             table: &self.table,
             clock,
         };
-        step(self.alloc, &self.job, number, clock, view, &mut answers)
+        step_into(
+            self.alloc,
+            &self.job,
+            number,
+            clock,
+            view,
+            &mut answers,
+            outcome,
+        )
     }
 
-    /// What a packet comes to, by its speculation or evaluated here, and how many were evaluated: none or one.
-    fn outcome_of(
+    /// Writes what a packet comes to over an outcome, by its speculation or evaluated here, and answers how many were evaluated:
+    /// none or one.
+    #[inline]
+    fn evaluate(
         &self,
         number: u64,
         clock: Clock,
         view: &View,
         speculation: Option<Speculation>,
-    ) -> Result<(Outcome, u64), AllocError>
-        ensures outcome { IfOk result (λ found. found.0 ≡ step_of (job_of self.now) number clock view.now self.now.table) }
-        ensures used { IfOk result (λ found. MayUse speculation (job_of self.now) number clock view.now self.now.table → found.1 ≡ 0) }
-        ensures evaluated { IfOk result (λ found. (MayUse speculation (job_of self.now) number clock view.now self.now.table → ⊥) → found.1 ≡ 1) }
-        ensures few { IfOk result (λ found. found.1 ≤ 1) }
+        outcome: &mut Outcome,
+    ) -> Result<u64, AllocError>
+        ensures outcome { OnOk result (outcome.new ≡ step_of (job_of self.now) number clock view.now self.now.table) }
+        ensures used { IfOk result (λ evaluated. MayUse speculation (job_of self.now) number clock view.now self.now.table → evaluated ≡ 0) }
+        ensures evaluated { IfOk result (λ evaluated. (MayUse speculation (job_of self.now) number clock view.now self.now.table → ⊥) → evaluated ≡ 1) }
+        ensures few { IfOk result (λ evaluated. evaluated ≤ 1) }
     {
         match self.usable_outcome(number, clock, view, speculation) {
-            Some(outcome) => Ok((outcome, 0)),
-            None => Ok((self.run(number, clock, view)?, 1)),
+            Some(found) => {
+                *outcome = found;
+                Ok(0)
+            }
+            None => {
+                self.run(number, clock, view, outcome)?;
+                Ok(1)
+            }
         }
     }
 
@@ -193,7 +217,8 @@ impl Book {
         let number = self.count + 1;
         self.telling.begin(self.clock, clock)?;
         self.telling.purge(&mut self.table, clock)?;
-        self.telling.change(&mut self.table, clock, outcome.change)?;
+        self.telling
+            .change(&mut self.table, clock, &outcome.change)?;
         out.put(number, clock, packet, outcome, &mut self.telling.closed)?;
         self.counters.count(view, outcome);
         self.count = number;
@@ -227,7 +252,8 @@ impl Book {
         let clock = later(self.clock, packet.seconds);
         // what is asked of the table at this clock is answered at once then
         self.table.settle(clock);
-        let (outcome, evaluated) = self.outcome_of(number, clock, view, speculation)?;
+        let mut outcome = Outcome::new(self.alloc);
+        let evaluated = self.evaluate(number, clock, view, speculation, &mut outcome)?;
         // what `take_outcome` asks of an outcome is so of each that an evaluation has
         no_change_is_refused();
         every_change_is_of_the_named_state();

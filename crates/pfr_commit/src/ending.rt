@@ -1,16 +1,12 @@
 //! What is written at the end of a run.
-ghost use Rattle.std.specs.Prelude.{◌≡◌, ◌++◌, IfOk, OnOk};
-ghost use Rattle.std.specs.String.{string_bytes};
+ghost use Rattle.std.specs.Prelude.{◌≡◌, IfOk};
 ghost use Rattle.pfr_commit.specs.Endings as spec;
-ghost use Rattle.pfr_commit.specs.Lines.{state_line};
 
 use crate::counters::Counters;
 use crate::state_line::StateLine;
 use pfr_states::Table;
 use pfr_sync::Message;
-use pfr_track::State;
 use std::alloc::{AllocError, Global};
-use std::fmt::Write;
 
 /// What is written at the end of a run.
 #[derive(Drop)]
@@ -32,28 +28,21 @@ fn counters_text(alloc: Global, records: u64, counters: &Counters) -> Result<Vec
     Ok(text.into_bytes())
 }
 
-/// The line of a state, behind others.
-fn put_state(state: &State, text: &mut String) -> Result<(), AllocError>
-    ensures { OnOk result (string_bytes text.new ≡ string_bytes text.old ++ state_line state.now) }
-{
-    let line = StateLine { state };
-    write!(text, "{line}")
-}
-
 /// The text of a table's states.
 #[tactic(auto, unfolding(crate::specs::Endings::states_text), using(crate::proofs::EndingLemmas::none_written, crate::proofs::EndingLemmas::next_written, crate::proofs::EndingLemmas::one_is_next, crate::proofs::EndingLemmas::all_written))]
 fn states_text(alloc: Global, table: &Table) -> Result<Vec<u8>, AllocError>
     ensures { IfOk result (λ text. text.items ≡ spec.states_text table.now.states) }
 {
-    let mut text = String::new(alloc);
+    let mut text = Vec::new(alloc);
     let mut next = table.first();
     for _turn in 0..table.len() {
         if let Some(state) = next {
-            put_state(&state, &mut text)?;
+            let line = StateLine { state: &state };
+            line.put(&mut text)?;
             next = table.after(state.number);
         }
     }
-    Ok(text.into_bytes())
+    Ok(text)
 }
 
 impl Ending {

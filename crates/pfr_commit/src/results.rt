@@ -75,6 +75,7 @@ pub(crate) fn in_places(
 }
 
 /// Takes out what is at a place.
+#[inline]
 pub(crate) fn take_at(places: &mut Places, place: usize) -> Option<Speculation>
     ensures taken { result ≡ get_or places.old.items place None }
     ensures others { (other : ℕ) → place < other → get_or places.new.items other None ≡ get_or places.old.items other None }

@@ -1,26 +1,13 @@
 //! The lines of the states.
-ghost use Rattle.std.specs.Prelude.{◌≡◌, Some};
+ghost use Rattle.std.specs.Prelude.{◌≡◌, ◌+◌, ◌≤◌, ◌∷◌, ◌++◌, [], Some, codes, length, OnOk};
+ghost use Rattle.std.specs.Fmt.{decimal};
 ghost use Rattle.pfr_commit.specs.Lines as spec;
+ghost use Rattle.pfr_commit.specs.Texts.{direction_text, key_text, rule_text, traffic_text};
 
-use crate::texts::{KeyText, Rule, TrafficText, Way};
+use crate::texts::{put_byte, put_direction, put_key, put_rule, put_traffic};
+use pfr_digits::Tail;
 use pfr_track::{DatagramPeer, Peers, State, TcpPeer};
-use std::fmt;
-
-/// The shift of an end's windows: `-` where it offered none.
-#[derive(Clone, Copy)]
-struct Offer(Option<u8>);
-
-/// One end of a TCP connection: `code/low/high/window/offer`.
-#[derive(Clone, Copy)]
-struct TcpEnd(TcpPeer);
-
-/// One end of another connection: `code/0/0/0/-`.
-#[derive(Clone, Copy)]
-struct DatagramEnd(DatagramPeer);
-
-/// Both ends of a connection, the maker's first.
-#[derive(Clone, Copy)]
-struct Ends(Peers);
+use std::alloc::AllocError;
 
 /// One line of the states: `N PROTO DIR WIRE STACK r=R t=T PEER PEER MADE DEADLINE P0 B0 P1 B1` and a newline.
 #[derive(Clone, Copy)]
@@ -28,81 +15,124 @@ pub struct StateLine<'a> {
     pub state: &'a State,
 }
 
-impl fmt::Display for Offer {
-    ghost output = { λ o. Some (spec.offer_text o.0) };
+/// Puts the shift of an end's windows before the rest of a line: `-` where it offered none.
+fn put_offer(line: &mut Tail, offer: Option<u8>)
+    requires room { length line.old + 20 ≤ 128 }
+    ensures text { line.new ≡ spec.offer_text offer ++ line.old }
+    ensures long { length line.new ≤ length line.old + 3 }
+{
+    match offer {
+        Some(shift) => put_byte(line, shift),
+        None => line.put_word(b"-"),
+    }
+}
 
-    fn fmt<W: fmt::Write>(&self, f: &mut fmt::Formatter<W>) -> fmt::Result {
-        match self.0 {
-            Some(shift) => write!(f, "{shift}"),
-            None => write!(f, "-"),
+/// Puts one end of a TCP connection before the rest of a line: `code/low/high/window/offer`.
+#[tactic(auto, unfolding(crate::specs::Lines::tcp_end_text))]
+fn put_tcp_end(line: &mut Tail, end: TcpPeer)
+    requires room { length line.old + 52 ≤ 128 }
+    ensures text { line.new ≡ spec.tcp_end_text end ++ line.old }
+    ensures long { length line.new ≤ length line.old + 35 }
+{
+    put_offer(line, end.scale);
+    line.put_word(b"/");
+    line.put_number(u64::from(end.greatest_window));
+    line.put_word(b"/");
+    line.put_number(u64::from(end.high.0));
+    line.put_word(b"/");
+    line.put_number(u64::from(end.low.0));
+    line.put_word(b"/");
+    put_byte(line, end.state.code());
+}
+
+/// Puts one end of another connection before the rest of a line: `code/0/0/0/-`.
+#[tactic(auto, unfolding(crate::specs::Lines::datagram_end_text))]
+fn put_datagram_end(line: &mut Tail, end: DatagramPeer)
+    requires room { length line.old + 28 ≤ 128 }
+    ensures text { line.new ≡ spec.datagram_end_text end ++ line.old }
+    ensures long { length line.new ≤ length line.old + 11 }
+{
+    line.put_word(b"/0/0/0/-");
+    put_byte(line, end.code());
+}
+
+/// Puts both ends of a connection before the rest of a line, the maker's first.
+fn put_ends(line: &mut Tail, peers: &Peers)
+    requires room { length line.old + 88 ≤ 128 }
+    ensures text { line.new ≡ spec.ends_text peers.now ++ line.old }
+    ensures long { length line.new ≤ length line.old + 71 }
+{
+    match *peers {
+        Peers::Tcp(maker, other) => {
+            put_tcp_end(line, other);
+            line.put_word(b" ");
+            put_tcp_end(line, maker);
         }
-    }
-}
-
-impl fmt::Display for TcpEnd {
-    ghost output = { λ e. Some (spec.tcp_end_text e.0) };
-
-    #[tactic(auto, unfolding(crate::specs::Lines::tcp_end_text))]
-    fn fmt<W: fmt::Write>(&self, f: &mut fmt::Formatter<W>) -> fmt::Result {
-        let code = self.0.state.code();
-        let low = self.0.low.0;
-        let high = self.0.high.0;
-        let window = self.0.greatest_window;
-        let offer = Offer(self.0.scale);
-        write!(f, "{code}/{low}/{high}/{window}/{offer}")
-    }
-}
-
-impl fmt::Display for DatagramEnd {
-    ghost output = { λ e. Some (spec.datagram_end_text e.0) };
-
-    #[tactic(auto, unfolding(crate::specs::Lines::datagram_end_text))]
-    fn fmt<W: fmt::Write>(&self, f: &mut fmt::Formatter<W>) -> fmt::Result {
-        let code = self.0.code();
-        write!(f, "{code}/0/0/0/-")
-    }
-}
-
-impl fmt::Display for Ends {
-    ghost output = { λ e. Some (spec.ends_text e.0) };
-
-    fn fmt<W: fmt::Write>(&self, f: &mut fmt::Formatter<W>) -> fmt::Result {
-        match self.0 {
-            Peers::Tcp(maker, other) => {
-                let maker = TcpEnd(maker);
-                let other = TcpEnd(other);
-                write!(f, "{maker} {other}")
-            }
-            Peers::Udp(maker, other) | Peers::Other(maker, other) => {
-                let maker = DatagramEnd(maker);
-                let other = DatagramEnd(other);
-                write!(f, "{maker} {other}")
-            }
-            Peers::Icmp => write!(f, "0/0/0/0/- 0/0/0/0/-"),
+        Peers::Udp(maker, other) | Peers::Other(maker, other) => {
+            put_datagram_end(line, other);
+            line.put_word(b" ");
+            put_datagram_end(line, maker);
         }
+        Peers::Icmp => line.put_word(b"0/0/0/0/- 0/0/0/0/-"),
     }
 }
 
-impl fmt::Display for StateLine<'_> {
-    ghost output = { λ l. Some (spec.state_line l.state.now) };
+/// How a line begins: `N PROTO DIR WIRE STACK`.
+fn keys_of(state: &State) -> Tail
+    ensures { result ≡ decimal state.now.number.0 ++ (codes " " ++ (decimal state.now.wire.protocol.0 ++ (codes " " ++ (direction_text (Some state.now.direction) ++ (codes " " ++ (key_text state.now.wire ++ (codes " " ++ key_text state.now.stack))))))) }
+{
+    let mut line = Tail::new();
+    put_key(&mut line, &state.stack);
+    line.put_word(b" ");
+    put_key(&mut line, &state.wire);
+    line.put_word(b" ");
+    put_direction(&mut line, Some(state.direction));
+    line.put_word(b" ");
+    put_byte(&mut line, state.wire.protocol.0);
+    line.put_word(b" ");
+    line.put_number(state.number.0);
+    line
+}
 
+/// How it goes on: ` r=R t=T PEER PEER`.
+fn ends_of(state: &State) -> Tail
+    ensures { result ≡ codes " r=" ++ (rule_text state.now.rules.filter ++ (codes " t=" ++ (rule_text state.now.rules.translation ++ (codes " " ++ spec.ends_text state.now.peers)))) }
+{
+    let mut line = Tail::new();
+    put_ends(&mut line, &state.peers);
+    line.put_word(b" ");
+    put_rule(&mut line, state.rules.translation);
+    line.put_word(b" t=");
+    put_rule(&mut line, state.rules.filter);
+    line.put_word(b" r=");
+    line
+}
+
+/// How it ends: ` MADE DEADLINE P0 B0 P1 B1` and a newline.
+fn traffic_of(state: &State) -> Tail
+    ensures { result ≡ codes " " ++ (decimal state.now.made.0 ++ (codes " " ++ (decimal state.now.deadline.0 ++ (codes " " ++ (traffic_text state.now.forth ++ (codes " " ++ (traffic_text state.now.back ++ 10 ∷ []))))))) }
+{
+    let mut line = Tail::new();
+    line.put_word(b"\n");
+    put_traffic(&mut line, state.back);
+    line.put_word(b" ");
+    put_traffic(&mut line, state.forth);
+    line.put_word(b" ");
+    line.put_number(state.deadline.0);
+    line.put_word(b" ");
+    line.put_number(u64::from(state.made.0));
+    line.put_word(b" ");
+    line
+}
+
+impl StateLine<'_> {
+    /// Puts the line behind a text. Nothing is formatted: each of its three parts is written from its end.
     #[tactic(auto, unfolding(crate::specs::Lines::state_line))]
-    fn fmt<W: fmt::Write>(&self, f: &mut fmt::Formatter<W>) -> fmt::Result {
-        let number = self.state.number.0;
-        let protocol = self.state.wire.protocol.0;
-        let way = Way(Some(self.state.direction));
-        let wire = KeyText(self.state.wire);
-        let stack = KeyText(self.state.stack);
-        let rule = Rule(self.state.rules.filter);
-        let translation = Rule(self.state.rules.translation);
-        let ends = Ends(self.state.peers);
-        let made = self.state.made.0;
-        let deadline = self.state.deadline.0;
-        let forth = TrafficText(self.state.forth);
-        let back = TrafficText(self.state.back);
-        writeln!(
-            f,
-            "{number} {protocol} {way} {wire} {stack} r={rule} t={translation} {ends} {made} {deadline} {forth} {back}"
-        )
+    pub fn put(&self, text: &mut Vec<u8>) -> Result<(), AllocError>
+        ensures { OnOk result (text.new.items ≡ text.old.items ++ spec.state_line self.now.state.now) }
+    {
+        text.extend_from_slice(keys_of(self.state).as_slice())?;
+        text.extend_from_slice(ends_of(self.state).as_slice())?;
+        text.extend_from_slice(traffic_of(self.state).as_slice())
     }
 }

@@ -1,116 +1,107 @@
-//! Parts of lines.
-ghost use Rattle.std.specs.Prelude.{◌≡◌, Some};
+//! Parts of lines, each put before the rest of its line.
+ghost use Rattle.std.specs.Prelude.{◌≡◌, ◌+◌, ◌≤◌, ◌++◌, length};
+ghost use Rattle.std.specs.Fmt.{decimal};
 ghost use Rattle.pfr_commit.specs.Texts as spec;
 
+use pfr_digits::Tail;
 use pfr_net::{Direction, Endpoint, Ipv4Address, RuleNumber};
 use pfr_track::{Key, StateNumber, Traffic};
-use std::fmt;
 
-/// A direction: `in`, `out`, or `-` where there is none.
-#[derive(Clone, Copy)]
-pub(crate) struct Way(pub(crate) Option<Direction>);
-
-/// A rule's number: `-` where there is no rule.
-#[derive(Clone, Copy)]
-pub(crate) struct Rule(pub(crate) Option<RuleNumber>);
-
-/// A state's number: `-` where there is no state.
-#[derive(Clone, Copy)]
-pub(crate) struct StateOrNone(pub(crate) Option<StateNumber>);
-
-/// An address: `a.b.c.d`.
-#[derive(Clone, Copy)]
-pub(crate) struct Address(pub(crate) Ipv4Address);
-
-/// One end of a connection: `a.b.c.d:port`.
-#[derive(Clone, Copy)]
-pub(crate) struct EndText(pub(crate) Endpoint);
-
-/// A key: its ends, the one outside first, with a comma between.
-#[derive(Clone, Copy)]
-pub(crate) struct KeyText(pub(crate) Key);
-
-/// Packets and bytes.
-#[derive(Clone, Copy)]
-pub(crate) struct TrafficText(pub(crate) Traffic);
-
-impl fmt::Display for Way {
-    ghost output = { λ w. Some (spec.direction_text w.0) };
-
-    fn fmt<W: fmt::Write>(&self, f: &mut fmt::Formatter<W>) -> fmt::Result {
-        match self.0 {
-            Some(Direction::In) => write!(f, "in"),
-            Some(Direction::Out) => write!(f, "out"),
-            None => write!(f, "-"),
-        }
+/// Puts a direction: `in`, `out`, or `-` where there is none.
+pub(crate) fn put_direction(line: &mut Tail, direction: Option<Direction>)
+    requires room { length line.old + 3 ≤ 128 }
+    ensures text { line.new ≡ spec.direction_text direction ++ line.old }
+    ensures long { length line.new ≤ length line.old + 3 }
+{
+    match direction {
+        Some(Direction::In) => line.put_word(b"in"),
+        Some(Direction::Out) => line.put_word(b"out"),
+        None => line.put_word(b"-"),
     }
 }
 
-impl fmt::Display for Rule {
-    ghost output = { λ r. Some (spec.rule_text r.0) };
-
-    fn fmt<W: fmt::Write>(&self, f: &mut fmt::Formatter<W>) -> fmt::Result {
-        match self.0 {
-            Some(RuleNumber(number)) => write!(f, "{number}"),
-            None => write!(f, "-"),
-        }
+/// Puts a rule's number: `-` where there is no rule.
+pub(crate) fn put_rule(line: &mut Tail, rule: Option<RuleNumber>)
+    requires room { length line.old + 20 ≤ 128 }
+    ensures text { line.new ≡ spec.rule_text rule ++ line.old }
+    ensures long { length line.new ≤ length line.old + 20 }
+{
+    match rule {
+        Some(RuleNumber(number)) => line.put_number(number as u64),
+        None => line.put_word(b"-"),
     }
 }
 
-impl fmt::Display for StateOrNone {
-    ghost output = { λ s. Some (spec.state_text s.0) };
-
-    fn fmt<W: fmt::Write>(&self, f: &mut fmt::Formatter<W>) -> fmt::Result {
-        match self.0 {
-            Some(StateNumber(number)) => write!(f, "{number}"),
-            None => write!(f, "-"),
-        }
+/// Puts a state's number: `-` where there is no state.
+pub(crate) fn put_state(line: &mut Tail, state: Option<StateNumber>)
+    requires room { length line.old + 20 ≤ 128 }
+    ensures text { line.new ≡ spec.state_text state ++ line.old }
+    ensures long { length line.new ≤ length line.old + 20 }
+{
+    match state {
+        Some(StateNumber(number)) => line.put_number(number),
+        None => line.put_word(b"-"),
     }
 }
 
-impl fmt::Display for Address {
-    ghost output = { λ a. Some (spec.address_text a.0) };
-
-    #[tactic(auto, unfolding(crate::specs::Texts::address_text))]
-    fn fmt<W: fmt::Write>(&self, f: &mut fmt::Formatter<W>) -> fmt::Result {
-        let address = self.0.0;
-        let a = address / 16777216;
-        let b = address / 65536 % 256;
-        let c = address / 256 % 256;
-        let d = address % 256;
-        write!(f, "{a}.{b}.{c}.{d}")
-    }
+/// Puts a number of 8 bits.
+pub(crate) fn put_byte(line: &mut Tail, byte: u8)
+    requires room { length line.old + 20 ≤ 128 }
+    ensures text { line.new ≡ decimal byte ++ line.old }
+    ensures long { length line.new ≤ length line.old + 3 }
+{
+    line.put_number(u64::from(byte));
 }
 
-impl fmt::Display for EndText {
-    ghost output = { λ e. Some (spec.end_text e.0) };
-
-    #[tactic(auto, unfolding(crate::specs::Texts::end_text))]
-    fn fmt<W: fmt::Write>(&self, f: &mut fmt::Formatter<W>) -> fmt::Result {
-        let address = Address(self.0.address);
-        let port = self.0.port.0;
-        write!(f, "{address}:{port}")
-    }
+/// Puts an address: `a.b.c.d`.
+#[tactic(auto, unfolding(crate::specs::Texts::address_text))]
+fn put_address(line: &mut Tail, address: Ipv4Address)
+    requires room { length line.old + 32 ≤ 128 }
+    ensures text { line.new ≡ spec.address_text address ++ line.old }
+    ensures long { length line.new ≤ length line.old + 15 }
+{
+    let address = address.0;
+    line.put_number(u64::from(address % 256));
+    line.put_word(b".");
+    line.put_number(u64::from(address / 256 % 256));
+    line.put_word(b".");
+    line.put_number(u64::from(address / 65536 % 256));
+    line.put_word(b".");
+    line.put_number(u64::from(address / 16777216));
 }
 
-impl fmt::Display for KeyText {
-    ghost output = { λ k. Some (spec.key_text k.0) };
-
-    #[tactic(auto, unfolding(crate::specs::Texts::key_text))]
-    fn fmt<W: fmt::Write>(&self, f: &mut fmt::Formatter<W>) -> fmt::Result {
-        let outside = EndText(self.0.outside);
-        let inside = EndText(self.0.inside);
-        write!(f, "{outside},{inside}")
-    }
+/// Puts one end of a connection: `a.b.c.d:port`.
+#[tactic(auto, unfolding(crate::specs::Texts::end_text))]
+fn put_end(line: &mut Tail, end: Endpoint)
+    requires room { length line.old + 38 ≤ 128 }
+    ensures text { line.new ≡ spec.end_text end ++ line.old }
+    ensures long { length line.new ≤ length line.old + 21 }
+{
+    line.put_number(u64::from(end.port.0));
+    line.put_word(b":");
+    put_address(line, end.address);
 }
 
-impl fmt::Display for TrafficText {
-    ghost output = { λ t. Some (spec.traffic_text t.0) };
+/// Puts a key: its ends, the one outside first, with a comma between.
+#[tactic(auto, unfolding(crate::specs::Texts::key_text))]
+pub(crate) fn put_key(line: &mut Tail, key: &Key)
+    requires room { length line.old + 60 ≤ 128 }
+    ensures text { line.new ≡ spec.key_text key.now ++ line.old }
+    ensures long { length line.new ≤ length line.old + 43 }
+{
+    put_end(line, key.inside);
+    line.put_word(b",");
+    put_end(line, key.outside);
+}
 
-    #[tactic(auto, unfolding(crate::specs::Texts::traffic_text))]
-    fn fmt<W: fmt::Write>(&self, f: &mut fmt::Formatter<W>) -> fmt::Result {
-        let packets = self.0.packets;
-        let bytes = self.0.bytes;
-        write!(f, "{packets} {bytes}")
-    }
+/// Puts packets and bytes.
+#[tactic(auto, unfolding(crate::specs::Texts::traffic_text))]
+pub(crate) fn put_traffic(line: &mut Tail, traffic: Traffic)
+    requires room { length line.old + 41 ≤ 128 }
+    ensures text { line.new ≡ spec.traffic_text traffic ++ line.old }
+    ensures long { length line.new ≤ length line.old + 41 }
+{
+    line.put_number(traffic.bytes);
+    line.put_word(b" ");
+    line.put_number(traffic.packets);
 }

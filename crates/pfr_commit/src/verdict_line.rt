@@ -1,16 +1,14 @@
 //! The lines of the verdicts.
-ghost use Rattle.std.specs.Prelude.{◌≡◌, ◌+◌, ◌≤◌, ◌++◌, Some, length, codes, OnOk, OnErr};
+ghost use Rattle.std.specs.Prelude.{◌≡◌, ◌+◌, ◌≤◌, ◌++◌, length, codes, OnOk, OnErr};
 ghost use Rattle.pfr_packet.specs.Verdicts.{reason_text, verdict_text};
 ghost use Rattle.pfr_commit.specs.Lines as spec;
 ghost use Rattle.pfr_commit.specs.Texts.{direction_text, rule_text, state_text};
 
-use crate::texts::{Rule, StateOrNone, Way};
+use crate::texts::{put_direction, put_rule, put_state};
 use pfr_digits::Tail;
-use pfr_net::{Direction, RuleNumber};
 use pfr_packet::{Outcome, Reason, Verdict};
-use pfr_track::{Clock, StateNumber};
+use pfr_track::Clock;
 use std::alloc::AllocError;
-use std::fmt;
 
 /// One line of the verdicts: `N CLOCK DIR VERDICT REASON r=R t=T s=S` and a newline.
 #[derive(Clone, Copy)]
@@ -19,39 +17,6 @@ pub struct VerdictLine<'a> {
     pub number: u64,
     pub clock: Clock,
     pub outcome: &'a Outcome,
-}
-
-impl fmt::Display for VerdictLine<'_> {
-    ghost output = { λ l. Some (spec.verdict_line l.number l.clock l.outcome.now) };
-
-    #[tactic(auto, unfolding(crate::specs::Lines::verdict_line))]
-    fn fmt<W: fmt::Write>(&self, f: &mut fmt::Formatter<W>) -> fmt::Result {
-        let number = self.number;
-        let clock = self.clock.0;
-        let way = Way(self.outcome.direction);
-        let verdict = self.outcome.verdict;
-        let reason = self.outcome.reason;
-        let rule = Rule(self.outcome.rule);
-        let translation = Rule(self.outcome.translation);
-        let state = StateOrNone(self.outcome.state);
-        writeln!(
-            f,
-            "{number} {clock} {way} {verdict} {reason} r={rule} t={translation} s={state}"
-        )
-    }
-}
-
-/// Puts a direction before the rest of a line.
-fn put_direction(line: &mut Tail, direction: Option<Direction>)
-    requires room { length line.old + 3 ≤ 128 }
-    ensures text { line.new ≡ direction_text direction ++ line.old }
-    ensures long { length line.new ≤ length line.old + 3 }
-{
-    match direction {
-        Some(Direction::In) => line.put_word(b"in"),
-        Some(Direction::Out) => line.put_word(b"out"),
-        None => line.put_word(b"-"),
-    }
 }
 
 /// Puts the word for a verdict before the rest of a line.
@@ -91,30 +56,6 @@ fn put_reason(line: &mut Tail, reason: Reason)
     }
 }
 
-/// Puts a rule's number before the rest of a line.
-fn put_rule(line: &mut Tail, rule: Option<RuleNumber>)
-    requires room { length line.old + 20 ≤ 128 }
-    ensures text { line.new ≡ rule_text rule ++ line.old }
-    ensures long { length line.new ≤ length line.old + 20 }
-{
-    match rule {
-        Some(RuleNumber(number)) => line.put_number(number as u64),
-        None => line.put_word(b"-"),
-    }
-}
-
-/// Puts a state's number before the rest of a line.
-fn put_state(line: &mut Tail, state: Option<StateNumber>)
-    requires room { length line.old + 20 ≤ 128 }
-    ensures text { line.new ≡ state_text state ++ line.old }
-    ensures long { length line.new ≤ length line.old + 20 }
-{
-    match state {
-        Some(StateNumber(number)) => line.put_number(number),
-        None => line.put_word(b"-"),
-    }
-}
-
 /// Puts what a line names before the rest of it: ` r=R t=T s=S`.
 fn put_named(line: &mut Tail, outcome: &Outcome)
     requires room { length line.old + 69 ≤ 128 }
@@ -146,9 +87,9 @@ fn put_words(line: &mut Tail, outcome: &Outcome)
 impl VerdictLine<'_> {
     /// Puts the line behind a text. Where memory is refused nothing changes.
     ///
-    /// So does each packet's line come into the outputs, and nothing is formatted: it is written from its end.
+    /// Nothing is formatted: the line is written from its end.
     #[tactic(auto, unfolding(crate::specs::Lines::verdict_line))]
-    pub(crate) fn put(&self, text: &mut Vec<u8>) -> Result<(), AllocError>
+    pub fn put(&self, text: &mut Vec<u8>) -> Result<(), AllocError>
         ensures done { OnOk result (text.new.items ≡ text.old.items ++ spec.verdict_line self.now.number self.now.clock self.now.outcome.now) }
         ensures kept { OnErr result (text.new.items ≡ text.old.items) }
     {

@@ -65,8 +65,10 @@ impl Tail {
         requires room { 20 + length self.old ≤ 128 }
         ensures text { self.new ≡ decimal number ++ self.old }
         ensures long { length self.new ≤ 20 + length self.old }
-        // as each number of 32 bits
+        // as each number of 32, of 16 and of 8 bits
         ensures short { number < 10 ^ 10 → length self.new ≤ 10 + length self.old }
+        ensures shorter { number < 10 ^ 5 → length self.new ≤ 5 + length self.old }
+        ensures shortest { number < 10 ^ 3 → length self.new ≤ 3 + length self.old }
     {
         self.start = write_digits(number, &mut self.bytes, self.start);
     }

@@ -119,8 +119,8 @@ subject_plan job number clock packet direction (Connection key) = asking_connect
 unfoldable pub packet_plan : RunJob → ℕ → Clock → Packet → Direction → Plan
 packet_plan job number clock packet direction = subject_plan job number clock packet direction (subject_of direction packet)
 
--- the plans of a packet that arrives: as an error, as the first packet of a connection that goes through by a passage, by a
--- translation rule, and in all, by its connection, and as it comes
+-- the plans of a packet that arrives: as an error, and as the first packet of a connection that goes through by a passage, by
+-- a translation rule, and in all
 abbrev pub embedded_plan : Arrival → Key → Plan
 embedded_plan arrival key = asking_embedded arrival.job.now arrival.packet.now arrival.direction key
 
@@ -153,12 +153,6 @@ hit_plan arrival visits key hit = by_hit arrival.job.now arrival.number arrival.
 
 abbrev pub opening_plan : Arrival → Key → Plan
 opening_plan arrival key = opening arrival.job.now arrival.number arrival.clock arrival.packet.now arrival.direction key
-
-abbrev pub connection_plan : Arrival → Key → Plan
-connection_plan arrival key = asking_connection arrival.job.now arrival.number arrival.clock arrival.packet.now arrival.direction key
-
-abbrev pub arrival_plan : Arrival → Plan
-arrival_plan arrival = packet_plan arrival.job.now arrival.number arrival.clock arrival.packet.now arrival.direction
 
 -- ---- a frame
 

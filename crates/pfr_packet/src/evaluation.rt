@@ -1,5 +1,5 @@
 //! The evaluation of one packet.
-ghost use Rattle.std.specs.Prelude.{◌≡◌, IfOk};
+ghost use Rattle.std.specs.Prelude.{◌≡◌, IfOk, OnOk};
 ghost use Rattle.pfr_packet.specs.declared.answers.Question.{Question};
 ghost use Rattle.pfr_packet.specs.Job.{timeouts_of};
 ghost use Rattle.pfr_packet.specs.Passages.{by_way, kept_by_way};
@@ -8,7 +8,7 @@ ghost use Rattle.pfr_packet.specs.Steps as spec;
 
 use crate::answers::Answers;
 use crate::filtering::Filtered;
-use crate::found::{embedded, tracked};
+use crate::found::{embedded, track};
 use crate::job::Job;
 use crate::keys::{Subject, side_of, subject_of};
 use crate::making::make_state;
@@ -86,14 +86,21 @@ impl Arrival<'_> {
         }
     }
 
-    /// What it does to the state of its connection, and comes to.
+    /// What it does to the state of its connection, and comes to, written over an outcome.
     #[inline(always)]
-    fn by_state(&self, state: &State) -> Outcome
-        ensures { result ≡ spec.following self.now.job.now self.now.clock self.now.packet.now self.now.direction state.now }
+    fn by_state(&self, state: &State, outcome: &mut Outcome)
+        ensures { outcome.new ≡ spec.following self.now.job.now self.now.clock self.now.packet.now self.now.direction state.now }
     {
+        *outcome = Outcome::by_state(
+            self.alloc,
+            self.direction,
+            state,
+            Verdict::Block,
+            Reason::StateMismatch,
+        );
         let timeouts = self.job.timeouts();
         let touch = touch(state, self.packet, self.direction, self.clock, timeouts);
-        tracked(self.alloc, self.direction, self.packet, state, touch)
+        track(outcome, self.direction, self.packet, state, &touch);
     }
 
     /// What becomes of it behind a passage, before a state is made for it. These translation rules were visited.
@@ -227,7 +234,6 @@ impl Arrival<'_> {
 /// the state that are named, the rules that were visited, and what it changes in its own bytes and in the table.
 ///
 /// All that the outcome rests on was asked: over every table that answers these questions so, it is the same.
-#[tactic(auto, unfolding(crate::specs::Steps::plan, crate::specs::Steps::packet_plan))]
 pub fn step<A: Answers>(
     alloc: Global,
     job: &Job,
@@ -240,14 +246,39 @@ pub fn step<A: Answers>(
     ensures goes { IfOk result (λ outcome. Goes (A.seen answers.old) (spec.plan job.now number clock view.now) outcome (A.asked answers.new)) }
     ensures kept { (question : Question) → A.asked answers.old question → A.asked answers.new question }
 {
+    let mut outcome = Outcome::new(alloc);
+    step_into(alloc, job, number, clock, view, answers, &mut outcome)?;
+    Ok(outcome)
+}
+
+/// What [`step`] answers, written over an outcome, which is large. Where memory is refused it says nothing of the packet.
+#[tactic(auto, unfolding(crate::specs::Steps::plan, crate::specs::Steps::packet_plan))]
+pub fn step_into<A: Answers>(
+    alloc: Global,
+    job: &Job,
+    number: u64,
+    clock: Clock,
+    view: &View,
+    answers: &mut A,
+    outcome: &mut Outcome,
+) -> Result<(), AllocError>
+    ensures seen { A.seen answers.new ≡ A.seen answers.old }
+    ensures goes { OnOk result (Goes (A.seen answers.old) (spec.plan job.now number clock view.now) outcome.new (A.asked answers.new)) }
+    ensures kept { (question : Question) → A.asked answers.old question → A.asked answers.new question }
+{
     let packet = match view {
-        View::Skip => return Ok(Outcome::unseen(alloc, Verdict::Skip, Reason::NotIp)),
+        View::Skip => {
+            *outcome = Outcome::unseen(alloc, Verdict::Skip, Reason::NotIp);
+            return Ok(());
+        }
         View::Short if !job.is_skipped() => {
-            return Ok(Outcome::unseen(alloc, Verdict::Block, Reason::Short));
+            *outcome = Outcome::unseen(alloc, Verdict::Block, Reason::Short);
+            return Ok(());
         }
         View::Ipv4(packet) if !job.is_skipped() => packet,
         View::Short | View::Ipv4(_) => {
-            return Ok(Outcome::unseen(alloc, Verdict::Pass, Reason::SkipOn));
+            *outcome = Outcome::unseen(alloc, Verdict::Pass, Reason::SkipOn);
+            return Ok(());
         }
     };
     let direction = direction_of(packet, job.inside());
@@ -260,12 +291,20 @@ pub fn step<A: Answers>(
         direction,
     };
     let key = match subject_of(direction, packet) {
-        Subject::Alone => return arrival.filtered(),
-        Subject::Embedded(key) => return arrival.by_embedded(&key, answers),
+        Subject::Alone => {
+            *outcome = arrival.filtered()?;
+            return Ok(());
+        }
+        Subject::Embedded(key) => {
+            *outcome = arrival.by_embedded(&key, answers)?;
+            return Ok(());
+        }
         Subject::Connection(key) => key,
     };
     let Some(state) = answers.at(side_of(direction), &key)? else {
-        return arrival.open(&key, answers);
+        *outcome = arrival.open(&key, answers)?;
+        return Ok(());
     };
-    Ok(arrival.by_state(&state))
+    arrival.by_state(&state, outcome);
+    Ok(())
 }

@@ -1,13 +1,12 @@
 //! Packets whose state is found.
-ghost use Rattle.std.specs.Prelude.{◌≡◌, Some};
-ghost use Rattle.pfr_states.specs.declared.change.TableChange.TheVariants.{Removed};
+ghost use Rattle.std.specs.Prelude.{◌≡◌};
 ghost use Rattle.pfr_packet.specs.declared.verdict.Reason.TheVariants.{StateMismatch};
 ghost use Rattle.pfr_packet.specs.declared.verdict.Verdict.TheVariants.{Block};
 ghost use Rattle.pfr_packet.specs.Found as spec;
 ghost use Rattle.pfr_packet.specs.Outcomes.{by_state};
 
 use crate::keys::written_by;
-use crate::outcome::{Outcome, VisitedRules};
+use crate::outcome::Outcome;
 use crate::verdict::{Reason, Verdict};
 use pfr_headers::Packet;
 use pfr_net::Direction;
@@ -16,7 +15,6 @@ use pfr_track::{State, Touch};
 use std::alloc::Global;
 
 /// What a packet of a state's connection comes to that passes by the state.
-#[inline(always)]
 fn passed(
     alloc: Global,
     direction: Direction,
@@ -27,20 +25,11 @@ fn passed(
 ) -> Outcome
     ensures { result ≡ spec.passed direction packet.now state.now reason change }
 {
-    if packet.has_options() && !state.rules.allows_options {
-        return Outcome::by_state(alloc, direction, state, Verdict::Block, Reason::IpOption);
-    }
-    Outcome {
-        direction: Some(direction),
-        verdict: Verdict::Pass,
-        reason,
-        rule: state.rules.filter,
-        translation: state.rules.translation,
-        state: Some(state.number),
-        visited: VisitedRules::none(alloc),
-        bytes: written_by(direction, packet, &state.wire, &state.stack),
-        change,
-    }
+    let mut outcome = Outcome::by_state(alloc, direction, state, Verdict::Pass, reason);
+    outcome.bytes = written_by(direction, packet, &state.wire, &state.stack);
+    outcome.change = change;
+    outcome.ask_leave(packet, state.rules.allows_options);
+    outcome
 }
 
 /// What an ICMP error comes to that embeds a packet of a state's connection: it passes, and the state stays as it is.
@@ -55,42 +44,31 @@ pub(crate) fn embedded(
     passed(alloc, direction, packet, state, Reason::StateError, None)
 }
 
-/// What a packet comes to that begins a new connection over one that has ended: it is blocked, and the state is no more.
-#[cold]
+/// Makes what a packet with a state's key comes to by what it does to the state, out of what it comes to where it doesn't fit. An
+/// outcome is large, so it is changed in its place.
 #[inline(never)]
-fn removed(alloc: Global, direction: Direction, state: &State) -> Outcome
-    ensures { result ≡ record (by_state direction state.now Block StateMismatch) { change = Some (Removed state.now.number) } }
-{
-    let verdict = Verdict::Block;
-    let mut outcome = Outcome::by_state(alloc, direction, state, verdict, Reason::StateMismatch);
-    outcome.change = Some(TableChange::Removed(state.number));
-    outcome
-}
-
-/// What a packet comes to that has a state's key, by what it does to the state.
-#[inline(always)]
-pub(crate) fn tracked(
-    alloc: Global,
+pub(crate) fn track(
+    outcome: &mut Outcome,
     direction: Direction,
     packet: &Packet,
     state: &State,
-    touch: Touch,
-) -> Outcome
-    ensures { result ≡ spec.tracked direction packet.now state.now touch }
+    touch: &Touch,
+)
+    requires { outcome.old ≡ by_state direction state.now Block StateMismatch }
+    ensures { outcome.new ≡ spec.tracked direction packet.now state.now touch.now }
 {
-    let touched = match touch {
-        Touch::Touched(touched) => touched,
-        Touch::Mismatch => {
-            return Outcome::by_state(
-                alloc,
-                direction,
-                state,
-                Verdict::Block,
-                Reason::StateMismatch,
-            );
+    match touch {
+        Touch::Mismatch => {}
+        Touch::Removed => outcome.change = Some(TableChange::Removed(state.number)),
+        Touch::Touched(touched) => {
+            if packet.has_options() && !state.rules.allows_options {
+                outcome.reason = Reason::IpOption;
+            } else {
+                outcome.verdict = Verdict::Pass;
+                outcome.reason = Reason::State;
+                outcome.bytes = written_by(direction, packet, &state.wire, &state.stack);
+                outcome.change = Some(TableChange::Touched(*touched));
+            }
         }
-        Touch::Removed => return removed(alloc, direction, state),
-    };
-    let change = Some(TableChange::Touched(touched));
-    passed(alloc, direction, packet, state, Reason::State, change)
+    }
 }

@@ -19,7 +19,7 @@ pub mod picks;
 pub mod verdict;
 
 pub use answers::{Answers, Direct, Question};
-pub use evaluation::step;
+pub use evaluation::{step, step_into};
 pub use job::Job;
 pub use outcome::{Outcome, VisitedRules};
 pub use verdict::{Reason, Verdict};

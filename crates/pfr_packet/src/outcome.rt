@@ -1,5 +1,7 @@
 //! What a packet comes to.
 ghost use Rattle.std.specs.Prelude.{◌≡◌, []};
+ghost use Rattle.pfr_packet.specs.declared.verdict.Reason.TheVariants.{NotIp};
+ghost use Rattle.pfr_packet.specs.declared.verdict.Verdict.TheVariants.{Skip};
 ghost use Rattle.pfr_packet.specs.Outcomes as spec;
 ghost use Rattle.pfr_packet.specs.Passages.{exhausted, unfiltered};
 
@@ -40,7 +42,7 @@ pub struct Outcome {
 }
 
 impl VisitedRules {
-    pub(crate) fn none(alloc: Global) -> VisitedRules
+    fn none(alloc: Global) -> VisitedRules
         ensures { result ≡ spec.none_visited }
     {
         VisitedRules {
@@ -62,6 +64,13 @@ impl VisitedRules {
 }
 
 impl Outcome {
+    /// An outcome of no packet yet, to be written over.
+    pub fn new(alloc: Global) -> Outcome
+        ensures { result ≡ spec.unseen Skip NotIp }
+    {
+        Outcome::unseen(alloc, Verdict::Skip, Reason::NotIp)
+    }
+
     /// What a packet comes to that isn't looked at.
     pub(crate) fn unseen(alloc: Global, verdict: Verdict, reason: Reason) -> Outcome
         ensures { result ≡ spec.unseen verdict reason }
@@ -79,10 +88,7 @@ impl Outcome {
         }
     }
 
-    /// What a packet comes to whose state is found: the state's rules are named, and nothing changes. Few packets of a state come
-    /// to that.
-    #[cold]
-    #[inline(never)]
+    /// What a packet comes to whose state is found: the state's rules are named, and nothing changes.
     pub(crate) fn by_state(
         alloc: Global,
         direction: Direction,

@@ -131,7 +131,7 @@ impl IndexedStates {
     }
 
     /// The state with a key on a side.
-    #[inline]
+    #[inline(always)]
     pub(crate) fn at(&self, side: Side, key: &Key) -> Option<&State>
         ensures state { option_copied result ≡ spec.at side key.now self.now }
         ensures own_keys { spec.have_own_keys self.now ≡ true }
@@ -280,25 +280,26 @@ impl IndexedStates {
     }
 
     /// Adds a state of a new number with keys that no other one has. Where memory is refused nothing changes.
-    fn add(&mut self, state: State) -> Result<(), AllocError>
-        requires number { list_any (spec.is_number state.number) self.old ≡ false }
-        requires keys { list_any (spec.shares_key state) self.old ≡ false }
-        ensures done { OnOk result (self.new ≡ spec.with_state state self.old) }
+    fn add(&mut self, state: &State) -> Result<(), AllocError>
+        requires number { list_any (spec.is_number state.now.number) self.old ≡ false }
+        requires keys { list_any (spec.shares_key state.now) self.old ≡ false }
+        ensures done { OnOk result (self.new ≡ spec.with_state state.now self.old) }
         ensures kept { OnErr result (self.new ≡ self.old) }
     {
         make_room(&mut self.deadlines, &self.keyed)?;
         let place = self.keyed.add(Stored {
-            state,
+            state: *state,
             waits: state.deadline,
         })?;
         self.deadlines.add((state.deadline, state.number, place));
         Ok(())
     }
 
-    /// Puts a state in the place of the one of its number, with other keys or not. Where memory is refused nothing changes.
-    fn replace(&mut self, state: State) -> Result<(), AllocError>
-        requires { spec.another_shares state self.old ≡ false }
-        ensures done { OnOk result (self.new ≡ spec.with_touched state self.old) }
+    /// Puts a state, whose keys none of another number has, in the place of the one of its number, with other keys or not;
+    /// where there is none, nothing changes. Where memory is refused nothing changes.
+    pub(crate) fn replace(&mut self, state: &State) -> Result<(), AllocError>
+        requires { spec.another_shares state.now self.old ≡ false }
+        ensures done { OnOk result (self.new ≡ spec.with_touched state.now self.old) }
         ensures kept { OnErr result (self.new ≡ self.old) }
     {
         let Some(place) = self.keyed.place_of(state.number) else {
@@ -309,32 +310,29 @@ impl IndexedStates {
         };
         make_room(&mut self.deadlines, &self.keyed)?;
         let waits = state.deadline;
-        self.keyed.replace(place, &before, Stored { state, waits })?;
+        self.keyed.replace(
+            place,
+            &before,
+            Stored {
+                state: *state,
+                waits,
+            },
+        )?;
         self.deadlines.add((waits, state.number, place));
         Ok(())
     }
 
     /// Puts a state, whose keys no other one has, in its place by number; one of the same number goes. Where memory is
     /// refused nothing changes.
-    pub(crate) fn put(&mut self, state: State) -> Result<(), AllocError>
-        requires { list_any (spec.shares_key state) self.old ≡ false }
-        ensures done { OnOk result (self.new ≡ spec.with_state state self.old) }
+    pub(crate) fn put(&mut self, state: &State) -> Result<(), AllocError>
+        requires { list_any (spec.shares_key state.now) self.old ≡ false }
+        ensures done { OnOk result (self.new ≡ spec.with_state state.now self.old) }
         ensures kept { OnErr result (self.new ≡ self.old) }
     {
         match self.get(state.number) {
             Some(_) => self.replace(state),
             None => self.add(state),
         }
-    }
-
-    /// Puts a state, whose keys none of another number has, in the place of the one of its number; where there is none,
-    /// nothing changes. Where memory is refused nothing changes.
-    pub(crate) fn touch(&mut self, state: State) -> Result<(), AllocError>
-        requires { spec.another_shares state self.old ≡ false }
-        ensures done { OnOk result (self.new ≡ spec.with_touched state self.old) }
-        ensures kept { OnErr result (self.new ≡ self.old) }
-    {
-        self.replace(state)
     }
 
     /// Writes a state over the one of its number where that has the same keys, and says whether it did. Where memory is

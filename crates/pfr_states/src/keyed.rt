@@ -122,7 +122,7 @@ impl Keyed {
     }
 
     /// Where the state with a key on a side stands.
-    #[inline]
+    #[inline(always)]
     pub(crate) fn place_at(&self, side: Side, key: &Key) -> Option<Place>
         ensures place { result ≡ slab.place_of (spec.keyed side key.now self.now) }
         ensures states { spec.AreStates self.now }
@@ -142,7 +142,7 @@ impl Keyed {
     }
 
     /// The state with a key on a side.
-    #[inline]
+    #[inline(always)]
     pub(crate) fn at(&self, side: Side, key: &Key) -> Option<&Stored>
         ensures stored { option_copied result ≡ slab.value_of (spec.keyed side key.now self.now) }
         ensures states { spec.AreStates self.now }

@@ -50,6 +50,7 @@ impl Table {
     }
 
     /// The state with this key on a side. One whose deadline has come isn't answered, purged or not.
+    #[inline(always)]
     pub fn at(&self, side: Side, key: &Key, clock: Clock) -> Option<State>
         ensures { result ≡ spec.at side key.now (spec.purged clock self.now.states) }
     {
@@ -120,14 +121,14 @@ impl Table {
     }
 
     /// Takes a new state over.
-    fn make(&mut self, state: State) -> Result<(), TableError>
-        ensures done { OnOk result (self.new.states ≡ spec.with_change (Made state) self.old.states) }
-        ensures allowed { OnOk result (spec.refusal (Made state) self.old.limit self.old.states ≡ None) }
-        ensures refused { IfErr result (λ e. e ≢ Memory → spec.refusal (Made state) self.old.limit self.old.states ≡ Some e) }
+    fn make(&mut self, state: &State) -> Result<(), TableError>
+        ensures done { OnOk result (self.new.states ≡ spec.with_change (Made state.now) self.old.states) }
+        ensures allowed { OnOk result (spec.refusal (Made state.now) self.old.limit self.old.states ≡ None) }
+        ensures refused { IfErr result (λ e. e ≢ Memory → spec.refusal (Made state.now) self.old.limit self.old.states ≡ Some e) }
         ensures kept { OnErr result (self.new ≡ self.old) }
         ensures limit { self.new.limit ≡ self.old.limit }
     {
-        if self.states.shares_key(&state) {
+        if self.states.shares_key(state) {
             return Err(TableError::KeyTaken);
         }
         if self.len() >= self.limit {
@@ -138,29 +139,29 @@ impl Table {
     }
 
     /// Takes a state over as a packet leaves it, with other keys than it had or not.
-    fn move_state(&mut self, state: State) -> Result<(), TableError>
-        ensures done { OnOk result (self.new.states ≡ spec.with_change (Touched state) self.old.states) }
-        ensures allowed { OnOk result (spec.refusal (Touched state) self.old.limit self.old.states ≡ None) }
-        ensures refused { IfErr result (λ e. e ≢ Memory → spec.refusal (Touched state) self.old.limit self.old.states ≡ Some e) }
+    fn move_state(&mut self, state: &State) -> Result<(), TableError>
+        ensures done { OnOk result (self.new.states ≡ spec.with_change (Touched state.now) self.old.states) }
+        ensures allowed { OnOk result (spec.refusal (Touched state.now) self.old.limit self.old.states ≡ None) }
+        ensures refused { IfErr result (λ e. e ≢ Memory → spec.refusal (Touched state.now) self.old.limit self.old.states ≡ Some e) }
         ensures kept { OnErr result (self.new ≡ self.old) }
         ensures limit { self.new.limit ≡ self.old.limit }
     {
-        if self.states.another_shares_key(&state) {
+        if self.states.another_shares_key(state) {
             return Err(TableError::KeyTaken);
         }
-        self.states.touch(state)?;
+        self.states.replace(state)?;
         Ok(())
     }
 
     /// Takes a state over as a packet leaves it.
-    fn touch(&mut self, state: State) -> Result<(), TableError>
-        ensures done { OnOk result (self.new.states ≡ spec.with_change (Touched state) self.old.states) }
-        ensures allowed { OnOk result (spec.refusal (Touched state) self.old.limit self.old.states ≡ None) }
-        ensures refused { IfErr result (λ e. e ≢ Memory → spec.refusal (Touched state) self.old.limit self.old.states ≡ Some e) }
+    fn touch(&mut self, state: &State) -> Result<(), TableError>
+        ensures done { OnOk result (self.new.states ≡ spec.with_change (Touched state.now) self.old.states) }
+        ensures allowed { OnOk result (spec.refusal (Touched state.now) self.old.limit self.old.states ≡ None) }
+        ensures refused { IfErr result (λ e. e ≢ Memory → spec.refusal (Touched state.now) self.old.limit self.old.states ≡ Some e) }
         ensures kept { OnErr result (self.new ≡ self.old) }
         ensures limit { self.new.limit ≡ self.old.limit }
     {
-        if self.states.renew(&state)? {
+        if self.states.renew(state)? {
             return Ok(());
         }
         self.move_state(state)
@@ -186,11 +187,23 @@ impl Table {
         ensures limit { self.new.limit ≡ self.old.limit }
         ensures removes { (number : StateNumber) → change ≡ Removed number → IsOk result }
     {
+        self.take_over(&change)
+    }
+
+    /// What [`Table::apply`] does, with a change that stays where it is: a state is large.
+    pub fn take_over(&mut self, change: &TableChange) -> Result<(), TableError>
+        ensures done { OnOk result (self.new.states ≡ spec.with_change change.now self.old.states) }
+        ensures allowed { OnOk result (spec.refusal change.now self.old.limit self.old.states ≡ None) }
+        ensures refused { IfErr result (λ e. e ≢ Memory → spec.refusal change.now self.old.limit self.old.states ≡ Some e) }
+        ensures kept { OnErr result (self.new ≡ self.old) }
+        ensures limit { self.new.limit ≡ self.old.limit }
+        ensures removes { (number : StateNumber) → change.now ≡ Removed number → IsOk result }
+    {
         match change {
             TableChange::Made(state) => self.make(state),
             TableChange::Touched(state) => self.touch(state),
             TableChange::Removed(number) => {
-                self.remove(number);
+                self.remove(*number);
                 Ok(())
             }
         }

@@ -36,11 +36,11 @@ fn remove(table: &mut Table, number: StateNumber, clock: Clock)
 }
 
 /// Has a table take over what a packet changes.
-fn apply(table: &mut Table, change: TableChange) -> Result<(), AllocError>
-    requires { refusal change table.old.limit table.old.states ≡ None }
-    ensures { OnOk result (table.new ≡ record { states = with_change change table.old.states; limit = table.old.limit }) }
+fn apply(table: &mut Table, change: &TableChange) -> Result<(), AllocError>
+    requires { refusal change.now table.old.limit table.old.states ≡ None }
+    ensures { OnOk result (table.new ≡ record { states = with_change change.now table.old.states; limit = table.old.limit }) }
 {
-    match table.apply(change) {
+    match table.take_over(change) {
         Ok(()) => Ok(()),
         Err(TableError::Memory) => Err(AllocError),
         Err(TableError::KeyTaken) => unreachable!(),
@@ -158,18 +158,18 @@ impl Telling {
         &mut self,
         table: &mut Table,
         clock: Clock,
-        change: Option<TableChange>,
+        change: &Option<TableChange>,
     ) -> Result<(), AllocError>
-        requires { IfSome change (λ change. refusal change table.old.limit table.old.states ≡ None) }
-        ensures table { OnOk result (table.new ≡ spec.changed change table.old) }
+        requires { IfSome change.now (λ change. refusal change table.old.limit table.old.states ≡ None) }
+        ensures table { OnOk result (table.new ≡ spec.changed change.now table.old) }
         ensures told { OnOk result ((before : List Content) (events : List E) (count : ℕ) → HasTold before self.old clock events → AreTold count clock table.old.states events
-            → IfSome change (λ change. IsNextChange count table.old.states change) → HasTold before self.new clock (events ++ spec.events_of_change clock change table.old.states)) }
+            → IfSome change.now (λ change. IsNextChange count table.old.states change) → HasTold before self.new clock (events ++ spec.events_of_change clock change.now table.old.states)) }
         ensures origin { self.new.queue.origin ≡ self.old.queue.origin }
     {
         let Some(change) = change else {
             return Ok(());
         };
-        self.tell_change(table, clock, &change)?;
+        self.tell_change(table, clock, change)?;
         apply(table, change)
     }
 

@@ -1,6 +1,5 @@
-use Rattle.std.specs.String.{string_bytes}
 use Rattle.pfr_commit.proofs.EndingLemmas.{IsWritten}
 use Rattle.pfr_commit.proofs.ending.states_text.Given as goal
 
 abbrev pub invariant-loop-turn : goal.invariant-loop-turn
-invariant-loop-turn l = IsWritten l.table.states l._turn l.next (string_bytes l.text)
+invariant-loop-turn l = IsWritten l.table.states l._turn l.next l.text.items

@@ -1,8 +1,7 @@
-use Rattle.std.proofs.lemmas.Result.{IfOk-weaker}
-use Rattle.pfr_packet.specs.declared.outcome.Outcome.{Outcome}
+use Rattle.std.proofs.lemmas.Result.{on_ok_weaker}
 use Rattle.pfr_packet.specs.Steps.{step_of}
 use Rattle.pfr_commit.proofs.book.Book.run.Goals as goal
 
 pub returns : goal.returns
 unfolding step_of
-returns c = IfOk-weaker c.step.result _ _ (λ (o : Outcome) went. rw c.deref.ensures at went.outcome_is) c.step.ensures.goes
+returns c = on_ok_weaker c.step_into.result (λ went. rw c.deref.ensures at went.outcome_is) c.step_into.ensures.goes

@@ -13,8 +13,8 @@ use Rattle.pfr_commit.proofs.book.Book.take.Goals as goal
 
 pub take_outcome-requires-clause-bytes : goal.take_outcome-requires-clause-bytes
 take_outcome-requires-clause-bytes c =
-    if_some _ c.in_ok-outcome.outcome.bytes (λ (change : Change) is.
-    sym c.requires.view ∙ c.what_is_written_is_of_the_packet.ensures _ _ _ c.args.view.now _ change (ap (λ (o : Outcome). o.bytes) (sym c.in_ok-outcome.ensures.outcome) ∙ is))
+    if_some _ c.evaluate.new.outcome.bytes (λ (change : Change) is.
+    sym c.requires.view ∙ c.what_is_written_is_of_the_packet.ensures _ _ _ c.args.view.now _ change (ap (λ (o : Outcome). o.bytes) (sym c.in_ok-evaluated.ensures.outcome) ∙ is))
 
 pub returns-clause-world : goal.returns-clause-world
 returns-clause-world c =
@@ -22,9 +22,9 @@ returns-clause-world c =
     let frame = frame_of c.args.packet.now in
     let clock = c.later-clock.result in
     let view = c.args.view.now in
-    let outcome = c.in_ok-outcome.outcome in
+    let outcome = c.evaluate.new.outcome in
     let settled = ap (λ (t : StateTable). untold (with_outcome (record before { table = t }) frame clock outcome)) c.settle.ensures in
-    let outcome_is = c.in_ok-outcome.ensures.outcome ∙ ap (λ (t : StateTable). step_of (job_of c.args.self.now) (c.args.self.now.count + 1) clock view t) c.settle.ensures in
+    let outcome_is = c.in_ok-evaluated.ensures.outcome ∙ ap (λ (t : StateTable). step_of (job_of c.args.self.now) (c.args.self.now.count + 1) clock view t) c.settle.ensures in
     c.in_ok-take_outcome.ensures.world ∙ settled ∙ ap untold (after_is (job_of c.args.self.now) before frame clock view outcome c.later-clock.ensures c.requires.view outcome_is)
 
 pub returns-clause-told : goal.returns-clause-told
@@ -32,8 +32,8 @@ returns-clause-told c =
     let clock = c.later-clock.result in
     let view = c.args.view.now in
     let settled = ap (λ (t : StateTable). record (world_in c.args.self.now) { table = t }) c.settle.ensures in
-    let outcome_is = c.in_ok-outcome.ensures.outcome ∙ ap (λ (t : StateTable). step_of (job_of c.args.self.now) (c.args.self.now.count + 1) clock view t) c.settle.ensures in
-    taken_leads c.args.self.now _ c.take_outcome.new.self _ c.args.out.now c.take_outcome.new.out (frame_of c.args.packet.now) clock view c.in_ok-outcome.outcome
+    let outcome_is = c.in_ok-evaluated.ensures.outcome ∙ ap (λ (t : StateTable). step_of (job_of c.args.self.now) (c.args.self.now.count + 1) clock view t) c.settle.ensures in
+    taken_leads c.args.self.now _ c.take_outcome.new.self _ c.args.out.now c.take_outcome.new.out (frame_of c.args.packet.now) clock view c.evaluate.new.outcome
     settled refl refl refl refl refl c.later-clock.ensures c.requires.view outcome_is c.in_ok-take_outcome.ensures.told
 
 pub returns-clause-used : goal.returns-clause-used

@@ -27,3 +27,19 @@ returns-clause-short c small =
     let made = length_joined (drop w.result w.new.text) (decimal c.args.number) (drop c.self.inside.start c.self.inside.bytes) w.ensures.written in
     let same = ap length c.self.view_is in
     omega (arith, long, made, same)
+
+pub returns-clause-shorter : goal.returns-clause-shorter
+returns-clause-shorter c small =
+    let long = length-decimal-le 5 c.args.number (omega arith) small c.ranges.number.fits in
+    let w = c.write_digits-self-inside in
+    let made = length_joined (drop w.result w.new.text) (decimal c.args.number) (drop c.self.inside.start c.self.inside.bytes) w.ensures.written in
+    let same = ap length c.self.view_is in
+    omega (arith, long, made, same)
+
+pub returns-clause-shortest : goal.returns-clause-shortest
+returns-clause-shortest c small =
+    let long = length-decimal-le 3 c.args.number (omega arith) small c.ranges.number.fits in
+    let w = c.write_digits-self-inside in
+    let made = length_joined (drop w.result w.new.text) (decimal c.args.number) (drop c.self.inside.start c.self.inside.bytes) w.ensures.written in
+    let same = ap length c.self.view_is in
+    omega (arith, long, made, same)

@@ -5,11 +5,11 @@ use Rattle.pfr_states.proofs.ShareLemmas.{number_free, others_free, with_is_touc
 use Rattle.pfr_states.proofs.indexed.IndexedStates.put.Goals as goal
 
 pub replace-requires : goal.replace-requires
-replace-requires c = others_free c.args.state c.args.self.now c.requires
+replace-requires c = others_free c.args.state.now c.args.self.now c.requires
 
 pub add-requires-clause-number : goal.add-requires-clause-number
-add-requires-clause-number c = number_free c.args.state.number c.args.self.now (sym c.get.ensures.state ∙ ap option_copied c.in-None.is)
+add-requires-clause-number c = number_free c.args.state.now.number c.args.self.now (sym c.get.ensures.state ∙ ap option_copied c.in-None.is)
 
 pub returns-in-Some-clause-done : goal.returns-in-Some-clause-done
 returns-in-Some-clause-done c =
-    subst (λ (states : List State). OnOk c.replace.result (c.replace.new.self ≡ states)) (with_is_touched c.args.state c.in-Some.field-0.now c.args.self.now c.get.ensures.in_order (sym c.get.ensures.state ∙ ap option_copied c.in-Some.is)) c.replace.ensures.done
+    subst (λ (states : List State). OnOk c.replace.result (c.replace.new.self ≡ states)) (with_is_touched c.args.state.now c.in-Some.field-0.now c.args.self.now c.get.ensures.in_order (sym c.get.ensures.state ∙ ap option_copied c.in-Some.is)) c.replace.ensures.done
