@@ -6,7 +6,7 @@ ghost use Rattle.pfr_commit.specs.World as spec;
 
 use crate::book::Book;
 use crate::emitted::Emitted;
-use crate::results::{in_places, take_at};
+use crate::results::in_places;
 use pfr_capture::Record;
 use pfr_headers::View;
 use pfr_record::Speculation;
@@ -51,7 +51,7 @@ impl Book {
         };
         for index in 0..packets.len() {
             let (record, view) = &packets[index];
-            self.take(record, view, take_at(&mut places, index), out)?;
+            self.take(record, view, &mut places, index, out)?;
         }
         Ok(())
     }

@@ -1,10 +1,11 @@
 //! The committer.
-ghost use Rattle.std.specs.Prelude.{◌≡◌, ◌<◌, ◌≤◌, ◌+◌, ◌^◌, false, true, max, IfOk, IfSome, IsSome, ◌↔◌, OnOk, OnErr, None};
+ghost use Rattle.std.specs.Prelude.{◌≡◌, ◌<◌, ◌≤◌, ◌+◌, ◌^◌, ℕ, false, true, max, get_or, IfOk, IfSome, IsSome, ◌↔◌, OnOk, OnErr, None};
 ghost use Rattle.std.specs.Arc.{arc_value};
 ghost use Rattle.std.specs.Option.{option_to_list};
 ghost use Rattle.pfr_headers.specs.declared.packet.View.TheVariants.{Ipv4};
 ghost use Rattle.pfr_headers.specs.View.{view_of};
 ghost use Rattle.pfr_states.specs.States.{purged, refusal};
+ghost use Rattle.pfr_packet.specs.Outcomes.{fresh};
 ghost use Rattle.pfr_packet.specs.Steps.{step_of};
 ghost use Rattle.pfr_commit.specs.Emissions.{frame_of, texts_of};
 ghost use Rattle.pfr_commit.specs.Endings.{counters_text, states_text};
@@ -15,6 +16,7 @@ ghost use Rattle.pfr_commit.specs.World as spec;
 use crate::counters::Counters;
 use crate::emitted::Emitted;
 use crate::ending::Ending;
+use crate::results::{Places, is_taken, of_one, take_at};
 use pfr_capture::Record;
 use pfr_headers::View;
 use pfr_packet::laws::{
@@ -119,7 +121,6 @@ impl Book {
     }
 
     /// The outcome of a speculation that may be used for a packet.
-    #[inline]
     fn usable_outcome(
         &self,
         number: u64,
@@ -138,7 +139,7 @@ impl Book {
         }
     }
 
-    /// Evaluates a packet, and writes what it comes to over an outcome.
+    /// Evaluates a packet, and writes what it comes to over a fresh outcome.
     #[tactic(auto, unfolding(pfr_packet::specs::Steps::step_of))]
     fn run(
         &self,
@@ -147,6 +148,7 @@ impl Book {
         view: &View,
         outcome: &mut Outcome,
     ) -> Result<(), AllocError>
+        requires { outcome.old ≡ fresh }
         ensures { OnOk result (outcome.new ≡ step_of (job_of self.now) number clock view.now self.now.table) }
     {
         let mut answers = Direct {
@@ -164,32 +166,32 @@ impl Book {
         )
     }
 
-    /// Writes what a packet comes to over an outcome, by its speculation or evaluated here, and answers how many were evaluated:
-    /// none or one.
-    #[inline]
+    /// Writes what a packet comes to over a fresh outcome, by the speculation at a place or evaluated here, and answers how many
+    /// were evaluated: none or one. The speculation is taken out. Where there is none, no place for one is cleared or copied.
     fn evaluate(
         &self,
         number: u64,
         clock: Clock,
         view: &View,
-        speculation: Option<Speculation>,
+        results: &mut Places,
+        place: usize,
         outcome: &mut Outcome,
     ) -> Result<u64, AllocError>
+        requires { outcome.old ≡ fresh }
         ensures outcome { OnOk result (outcome.new ≡ step_of (job_of self.now) number clock view.now self.now.table) }
-        ensures used { IfOk result (λ evaluated. MayUse speculation (job_of self.now) number clock view.now self.now.table → evaluated ≡ 0) }
-        ensures evaluated { IfOk result (λ evaluated. (MayUse speculation (job_of self.now) number clock view.now self.now.table → ⊥) → evaluated ≡ 1) }
+        ensures used { IfOk result (λ evaluated. MayUse (get_or results.old.items place None) (job_of self.now) number clock view.now self.now.table → evaluated ≡ 0) }
+        ensures evaluated { IfOk result (λ evaluated. (MayUse (get_or results.old.items place None) (job_of self.now) number clock view.now self.now.table → ⊥) → evaluated ≡ 1) }
         ensures few { IfOk result (λ evaluated. evaluated ≤ 1) }
+        ensures others { (other : ℕ) → place < other → get_or results.new.items other None ≡ get_or results.old.items other None }
     {
-        match self.usable_outcome(number, clock, view, speculation) {
-            Some(found) => {
+        if is_taken(results, place) {
+            if let Some(found) = self.usable_outcome(number, clock, view, take_at(results, place)) {
                 *outcome = found;
-                Ok(0)
-            }
-            None => {
-                self.run(number, clock, view, outcome)?;
-                Ok(1)
+                return Ok(0);
             }
         }
+        self.run(number, clock, view, outcome)?;
+        Ok(1)
     }
 
     /// Takes over what the next packet came to at a clock, and puts what it adds behind what was emitted. Where memory is
@@ -226,12 +228,14 @@ impl Book {
         Ok(())
     }
 
-    /// Takes the next packet, and puts what it adds behind what was emitted. Where memory is refused that stays as it was.
+    /// Takes the next packet, with the speculation at a place, and puts what it adds behind what was emitted. Where memory is
+    /// refused that stays as it was.
     pub(crate) fn take(
         &mut self,
         packet: &Record,
         view: &View,
-        speculation: Option<Speculation>,
+        results: &mut Places,
+        place: usize,
         out: &mut Emitted,
     ) -> Result<(), AllocError>
         requires view { view.now ≡ view_of packet.now.link packet.now.bytes.items }
@@ -242,8 +246,9 @@ impl Book {
         ensures job { self.new.job ≡ self.old.job }
         ensures counted { OnOk result (self.new.count ≡ self.old.count + 1) }
         ensures kept { OnErr result ((self.new.count ≡ self.old.count) × (texts_of out.new ≡ texts_of out.old)) }
-        ensures used { OnOk result (MayUseNext speculation self.old packet.now view.now → self.new.own ≡ self.old.own) }
-        ensures evaluated { OnOk result ((MayUseNext speculation self.old packet.now view.now → ⊥) → self.new.own ≡ self.old.own + 1) }
+        ensures used { OnOk result (MayUseNext (get_or results.old.items place None) self.old packet.now view.now → self.new.own ≡ self.old.own) }
+        ensures evaluated { OnOk result ((MayUseNext (get_or results.old.items place None) self.old packet.now view.now → ⊥) → self.new.own ≡ self.old.own + 1) }
+        ensures others { (other : ℕ) → place < other → get_or results.new.items other None ≡ get_or results.old.items other None }
         ensures ok { OnOk result (self.new.is_over ≡ false) }
         ensures err { OnErr result (self.new.is_over ≡ true) }
     {
@@ -253,7 +258,7 @@ impl Book {
         // what is asked of the table at this clock is answered at once then
         self.table.settle(clock);
         let mut outcome = Outcome::new(self.alloc);
-        let evaluated = self.evaluate(number, clock, view, speculation, &mut outcome)?;
+        let evaluated = self.evaluate(number, clock, view, results, place, &mut outcome)?;
         // what `take_outcome` asks of an outcome is so of each that an evaluation has
         no_change_is_refused();
         every_change_is_of_the_named_state();
@@ -292,8 +297,15 @@ impl Book {
         if self.is_over {
             return Err(AllocError);
         }
+        let mut results = match of_one(self.alloc, speculation) {
+            Ok(results) => results,
+            Err(refused) => {
+                self.is_over = true;
+                return Err(refused);
+            }
+        };
         let mut out = Emitted::new(self.alloc);
-        self.take(packet, &view, speculation, &mut out)?;
+        self.take(packet, &view, &mut results, 0, &mut out)?;
         Ok(out)
     }
 

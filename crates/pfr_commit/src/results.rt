@@ -1,12 +1,12 @@
 //! What was found out ahead about the packets of a batch, each at its packet's place.
-ghost use Rattle.std.specs.Prelude.{◌≡◌, ◌<◌, ℕ, None, IfOk, get_or, length, replicate};
+ghost use Rattle.std.specs.Prelude.{◌≡◌, ◌<◌, ℕ, false, None, IfOk, get_or, length, replicate};
 ghost use Rattle.pfr_commit.specs.Results as spec;
 
 use pfr_record::Speculation;
 use std::alloc::{AllocError, Global};
 
 /// A place for each packet of a batch, with what was found out about it.
-type Places = Vec<Option<Speculation>>;
+pub(crate) type Places = Vec<Option<Speculation>>;
 
 /// So many places, with nothing in them.
 fn empty_places(alloc: Global, count: usize) -> Result<Places, AllocError>
@@ -74,8 +74,29 @@ pub(crate) fn in_places(
     }
 }
 
-/// Takes out what is at a place.
+/// A place with a result, or none where there is no result.
+pub(crate) fn of_one(alloc: Global, found: Option<Speculation>) -> Result<Places, AllocError>
+    ensures { IfOk result (λ places. get_or places.items 0 None ≡ found) }
+{
+    let mut places = Vec::new(alloc);
+    if found.is_some() {
+        places.push(found)?;
+    }
+    Ok(places)
+}
+
+/// Whether there is something at a place.
 #[inline]
+pub(crate) fn is_taken(places: &Places, place: usize) -> bool
+    ensures { result ≡ false → get_or places.now.items place None ≡ None }
+{
+    match places.get(place) {
+        Some(held) => held.is_some(),
+        None => false,
+    }
+}
+
+/// Takes out what is at a place.
 pub(crate) fn take_at(places: &mut Places, place: usize) -> Option<Speculation>
     ensures taken { result ≡ get_or places.old.items place None }
     ensures others { (other : ℕ) → place < other → get_or places.new.items other None ≡ get_or places.old.items other None }

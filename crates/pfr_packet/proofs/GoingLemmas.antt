@@ -1,6 +1,5 @@
 -- Plans that are gone part by part.
-use Rattle.std.proofs.Common.{◌≡◌, Option, List, [], ◌∷◌, ◌++◌, refl, sym, ap, ◌∙◌}
-use Rattle.std.specs.List.{All}
+use Rattle.std.proofs.Common.{◌≡◌, Option, [], ◌∷◌, ◌++◌, refl, sym, ap, ◌∙◌}
 use Rattle.std.proofs.lemmas.List.{append_assoc}
 use Rattle.std.proofs.lemmas.List.Elements.{All-append, All-cons, All-nil, All-weaker}
 use Rattle.pfr_track.specs.declared.key.Key.{Key}
@@ -10,7 +9,7 @@ use Rattle.pfr_states.specs.States.{StateTable}
 use Rattle.pfr_packet.specs.declared.answers.Question.{Question}
 use Rattle.pfr_packet.specs.declared.answers.Question.TheVariants.{At}
 use Rattle.pfr_packet.specs.declared.outcome.Outcome.{Outcome}
-use Rattle.pfr_packet.specs.Plan.{Goes, GoesUpTo, Plan, ask_at, found_in, outcome_of, questions_of}
+use Rattle.pfr_packet.specs.Plan.{Goes, GoesUpTo, Plan, ask_at, found_in, questions_of}
 
 -- what was asked stays asked
 abbrev pub Keeps : (Question → Type 0) → (Question → Type 0) → Type 0

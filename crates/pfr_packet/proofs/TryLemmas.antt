@@ -1,5 +1,5 @@
 -- The order in which ports are tried, and which of them is picked.
-use Rattle.std.proofs.Common.{◌≡◌, ◌≢◌, ◌↔◌, ◌⊎◌, inl, inr, ◌==◌, ◌<◌, ◌≤◌, ◌-◌, ◌+◌, ◌%◌, ℕ, zero, suc, true, false, cond, nat_le, Option, Some, None, List, [], ◌∷◌, ◌++◌, refl, sym, ap, ◌∙◌, arith}
+use Rattle.std.proofs.Common.{◌≡◌, ◌≢◌, ◌⊎◌, inl, inr, ◌==◌, ◌<◌, ◌≤◌, ◌-◌, ◌+◌, ℕ, zero, suc, true, false, cond, nat_le, Option, Some, None, List, [], ◌∷◌, ◌++◌, refl, sym, ap, ◌∙◌, arith}
 use Rattle.std.specs.List.{All, find}
 use Rattle.std.specs.Option.{option_map}
 use Rattle.std.proofs.lemmas.Bool.{cases_Bool, eq-eqb, eqb-true, leb-false, leb-true, ne_eqb}
@@ -10,7 +10,6 @@ use Rattle.pfr_track.specs.declared.key.Key.{Key}
 use Rattle.pfr_track.specs.declared.state.State.{State}
 use Rattle.pfr_states.specs.declared.change.Side.TheVariants.{Wire}
 use Rattle.pfr_states.specs.States.{StateTable}
-use Rattle.pfr_packet.specs.declared.answers.Question.{Question}
 use Rattle.pfr_packet.specs.declared.answers.Question.TheVariants.{At}
 use Rattle.pfr_packet.specs.Laws.{times}
 use Rattle.pfr_packet.specs.Picks.{cut_of, falling, is_free, is_free_in, picked, picking, rising, try_list}

@@ -5,7 +5,6 @@ use Rattle.std.proofs.lemmas.Bool.{not-false}
 use Rattle.pfr_net.specs.declared.direction.Direction.{Direction}
 use Rattle.pfr_net.specs.declared.rule_number.RuleNumber.{RuleNumber}
 use Rattle.pfr_ruleset.specs.declared.flat.FlatRule.{FlatRule}
-use Rattle.pfr_headers.specs.declared.change.Change.{Change}
 use Rattle.pfr_headers.specs.declared.packet.Packet.{Packet}
 use Rattle.pfr_headers.specs.declared.packet.View.{View}
 use Rattle.pfr_headers.specs.declared.packet.View.TheVariants.{Ipv4, Skip, Short}

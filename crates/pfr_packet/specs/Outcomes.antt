@@ -7,9 +7,9 @@ use Rattle.pfr_track.specs.declared.state.State.{State}
 use Rattle.pfr_packet.specs.declared.outcome.Outcome.{Outcome}
 use Rattle.pfr_packet.specs.declared.outcome.VisitedRules.{VisitedRules}
 use Rattle.pfr_packet.specs.declared.verdict.Reason.{Reason}
-use Rattle.pfr_packet.specs.declared.verdict.Reason.TheVariants.{IpOption}
+use Rattle.pfr_packet.specs.declared.verdict.Reason.TheVariants.{IpOption, NotIp}
 use Rattle.pfr_packet.specs.declared.verdict.Verdict.{Verdict}
-use Rattle.pfr_packet.specs.declared.verdict.Verdict.TheVariants.{Block}
+use Rattle.pfr_packet.specs.declared.verdict.Verdict.TheVariants.{Block, Skip}
 use Rattle.pfr_packet.specs.Verdicts.{lets_pass}
 
 abbrev pub none_visited : VisitedRules
@@ -28,6 +28,10 @@ unseen verdict reason = record {
   bytes = None;
   change = None;
 }
+
+-- no packet yet: an outcome to be written over
+abbrev pub fresh : Outcome
+fresh = unseen Skip NotIp
 
 -- one whose state is found: no rule is visited, the state's are named
 abbrev pub by_state : Direction → State → Verdict → Reason → Outcome

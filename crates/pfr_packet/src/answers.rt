@@ -53,7 +53,11 @@ impl Answers for Direct<'_> {
 
     #[tactic(auto, unfolding(crate::specs::Plan::found_in, crate::specs::Plan::purged_at))]
     fn at(&mut self, side: Side, key: &Key) -> Result<Option<State>, AllocError> {
-        Ok(self.table.at(side, key, self.clock))
+        // each way ends for itself: where ways meet, a state is copied once more
+        match self.table.look_up(side, key, self.clock) {
+            Some(state) => return Ok(Some(*state)),
+            None => return Ok(None),
+        }
     }
 
     #[tactic(auto, unfolding(crate::specs::Plan::has_room_in, crate::specs::Plan::purged_at))]

@@ -2,6 +2,7 @@
 ghost use Rattle.std.specs.Prelude.{◌≡◌, IfOk, OnOk};
 ghost use Rattle.pfr_packet.specs.declared.answers.Question.{Question};
 ghost use Rattle.pfr_packet.specs.Job.{timeouts_of};
+ghost use Rattle.pfr_packet.specs.Outcomes.{fresh};
 ghost use Rattle.pfr_packet.specs.Passages.{by_way, kept_by_way};
 ghost use Rattle.pfr_packet.specs.Plan.{Goes};
 ghost use Rattle.pfr_packet.specs.Steps as spec;
@@ -86,21 +87,21 @@ impl Arrival<'_> {
         }
     }
 
-    /// What it does to the state of its connection, and comes to, written over an outcome.
+    /// What it does to the state of its connection, and comes to, written over a fresh outcome.
     #[inline(always)]
     fn by_state(&self, state: &State, outcome: &mut Outcome)
+        requires { outcome.old ≡ fresh }
         ensures { outcome.new ≡ spec.following self.now.job.now self.now.clock self.now.packet.now self.now.direction state.now }
     {
-        *outcome = Outcome::by_state(
-            self.alloc,
-            self.direction,
-            state,
-            Verdict::Block,
-            Reason::StateMismatch,
-        );
+        outcome.find_state(self.direction, state);
         let timeouts = self.job.timeouts();
-        let touch = touch(state, self.packet, self.direction, self.clock, timeouts);
-        track(outcome, self.direction, self.packet, state, &touch);
+        track(
+            outcome,
+            self.direction,
+            self.packet,
+            state,
+            &touch(state, self.packet, self.direction, self.clock, timeouts),
+        );
     }
 
     /// What becomes of it behind a passage, before a state is made for it. These translation rules were visited.
@@ -251,7 +252,7 @@ pub fn step<A: Answers>(
     Ok(outcome)
 }
 
-/// What [`step`] answers, written over an outcome, which is large. Where memory is refused it says nothing of the packet.
+/// What [`step`] answers, written over a fresh outcome, which is large. Where memory is refused it says nothing of the packet.
 #[tactic(auto, unfolding(crate::specs::Steps::plan, crate::specs::Steps::packet_plan))]
 pub fn step_into<A: Answers>(
     alloc: Global,
@@ -262,6 +263,7 @@ pub fn step_into<A: Answers>(
     answers: &mut A,
     outcome: &mut Outcome,
 ) -> Result<(), AllocError>
+    requires { outcome.old ≡ fresh }
     ensures seen { A.seen answers.new ≡ A.seen answers.old }
     ensures goes { OnOk result (Goes (A.seen answers.old) (spec.plan job.now number clock view.now) outcome.new (A.asked answers.new)) }
     ensures kept { (question : Question) → A.asked answers.old question → A.asked answers.new question }

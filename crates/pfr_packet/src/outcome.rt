@@ -1,7 +1,7 @@
 //! What a packet comes to.
 ghost use Rattle.std.specs.Prelude.{◌≡◌, []};
-ghost use Rattle.pfr_packet.specs.declared.verdict.Reason.TheVariants.{NotIp};
-ghost use Rattle.pfr_packet.specs.declared.verdict.Verdict.TheVariants.{Skip};
+ghost use Rattle.pfr_packet.specs.declared.verdict.Reason.TheVariants.{StateMismatch};
+ghost use Rattle.pfr_packet.specs.declared.verdict.Verdict.TheVariants.{Block};
 ghost use Rattle.pfr_packet.specs.Outcomes as spec;
 ghost use Rattle.pfr_packet.specs.Passages.{exhausted, unfiltered};
 
@@ -65,8 +65,9 @@ impl VisitedRules {
 
 impl Outcome {
     /// An outcome of no packet yet, to be written over.
+    #[inline]
     pub fn new(alloc: Global) -> Outcome
-        ensures { result ≡ spec.unseen Skip NotIp }
+        ensures { result ≡ spec.fresh }
     {
         Outcome::unseen(alloc, Verdict::Skip, Reason::NotIp)
     }
@@ -109,6 +110,20 @@ impl Outcome {
             bytes: None,
             change: None,
         }
+    }
+
+    /// Makes a fresh outcome what a packet comes to whose state is found and which doesn't fit.
+    #[inline(always)]
+    pub(crate) fn find_state(&mut self, direction: Direction, state: &State)
+        requires { self.old ≡ spec.fresh }
+        ensures { self.new ≡ spec.by_state direction state.now Block StateMismatch }
+    {
+        self.direction = Some(direction);
+        self.verdict = Verdict::Block;
+        self.reason = Reason::StateMismatch;
+        self.rule = state.rules.filter;
+        self.translation = state.rules.translation;
+        self.state = Some(state.number);
     }
 
     /// What a packet comes to that a translation rule with `pass` translates: it isn't filtered, and passes unless it has IP

@@ -1,5 +1,6 @@
 //! The table of states.
 ghost use Rattle.std.specs.Prelude.{◌≡◌, ◌≢◌, length, Some, None, OnOk, OnErr, IfErr, IsOk};
+ghost use Rattle.std.specs.Option.{option_copied};
 ghost use Rattle.pfr_track.specs.declared.state.StateNumber.{StateNumber};
 ghost use Rattle.pfr_states.specs.declared.change.TableError.TheVariants.{Memory};
 ghost use Rattle.pfr_states.specs.declared.change.TableChange.TheVariants.{Made, Touched, Removed};
@@ -50,16 +51,23 @@ impl Table {
     }
 
     /// The state with this key on a side. One whose deadline has come isn't answered, purged or not.
-    #[inline(always)]
     pub fn at(&self, side: Side, key: &Key, clock: Clock) -> Option<State>
         ensures { result ≡ spec.at side key.now (spec.purged clock self.now.states) }
+    {
+        self.look_up(side, key, clock).copied()
+    }
+
+    /// What [`Table::at`] answers, where it stands: a state is large.
+    #[inline(always)]
+    pub fn look_up(&self, side: Side, key: &Key, clock: Clock) -> Option<&State>
+        ensures { option_copied result ≡ spec.at side key.now (spec.purged clock self.now.states) }
     {
         match self.states.at(side, key) {
             Some(state) => {
                 if state.deadline.has_come(clock) {
                     None
                 } else {
-                    Some(*state)
+                    Some(state)
                 }
             }
             None => None,

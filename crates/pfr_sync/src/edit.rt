@@ -87,13 +87,18 @@ fn put(entries: &mut Vec<Entry>, place: usize, told: Told, state: &State) -> Res
     ensures entries { OnOk result (entries.new.items ≡ take place entries.old.items ++ record { told = told; state = state.now } ∷ drop place entries.old.items) }
     ensures kept { OnErr result (entries.new.items ≡ entries.old.items) }
 {
-    entries.insert(
-        place,
-        Entry {
-            told,
-            state: *state,
-        },
-    )?;
+    let last = entries.len();
+    let entry = Entry {
+        told,
+        state: *state,
+    };
+    entries.push(entry)?;
+    // Mostly it belongs behind all others.
+    if place == last {
+        return Ok(());
+    }
+    entries.copy_within(place..last, place + 1);
+    entries[place] = entry;
     Ok(())
 }
 

@@ -110,7 +110,7 @@ impl Queue {
             self.counts = counts;
             return Ok(None);
         }
-        let message = message_of(self.alloc, &self.origin, event.clock, entries)?;
+        let message = message_of(self.alloc, &self.origin, event.clock, entries, self.counts)?;
         let told = begun(event);
         start(&mut self.entries, told, &event.state);
         self.counts = one_of(Some(told));
@@ -131,7 +131,7 @@ impl Queue {
         ensures last { (events : List E) → spec.Tells self.old clock events
             → IfOk result (λ message. messages.messages_of self.old.origin events ≡ messages.closed_at self.old.origin clock events ++ option_to_list message) }
     {
-        let message = message_of(self.alloc, &self.origin, clock, &self.entries)?;
+        let message = message_of(self.alloc, &self.origin, clock, &self.entries, self.counts)?;
         self.entries.clear();
         self.counts = one_of(None);
         Ok(message)

@@ -11,21 +11,24 @@ ghost use Rattle.pfr_sync.specs.Queues.{IsQueue};
 use crate::origin::Origin;
 use crate::queue::{Entry, Told};
 use crate::records::{deletion_of, insertion_of, update_of};
+use crate::sizes::Counts;
 use pfr_messages::{Deletion, Insertion, Message, Update};
 use pfr_track::Clock;
 use std::alloc::{AllocError, Global};
 
+/// The insertions. The count is how many to make room for at once.
 fn insertions_of(
     alloc: Global,
     origin: &Origin,
     clock: Clock,
     entries: &[Entry],
+    count: usize,
 ) -> Result<Vec<Insertion>, AllocError>
     requires { name.fits origin.now.interface ≡ true }
     ensures records { IfOk result (λ v. v.items ≡ map (λ entry. events.insertion_of origin.now clock entry.state) (filter messages.is_insert entries.now)) }
     ensures fits { IfOk result (λ v. list_all records.insertion.fits v.items ≡ true) }
 {
-    let mut found = Vec::new(alloc);
+    let mut found = Vec::with_capacity(alloc, count)?;
     for entry in entries {
         if let Told::Insert = entry.told {
             found.push(insertion_of(*origin, clock, entry.state))?;
@@ -34,16 +37,18 @@ fn insertions_of(
     Ok(found)
 }
 
+/// The updates. The count is how many to make room for at once.
 fn updates_of(
     alloc: Global,
     origin: &Origin,
     clock: Clock,
     entries: &[Entry],
+    count: usize,
 ) -> Result<Vec<Update>, AllocError>
     ensures records { IfOk result (λ v. v.items ≡ map (λ entry. events.update_of origin.now clock entry.state) (filter messages.is_update entries.now)) }
     ensures fits { IfOk result (λ v. list_all records.update.fits v.items ≡ true) }
 {
-    let mut found = Vec::new(alloc);
+    let mut found = Vec::with_capacity(alloc, count)?;
     for entry in entries {
         if let Told::Update = entry.told {
             found.push(update_of(*origin, clock, entry.state))?;
@@ -52,15 +57,17 @@ fn updates_of(
     Ok(found)
 }
 
+/// The deletions. The count is how many to make room for at once.
 fn deletions_of(
     alloc: Global,
     origin: &Origin,
     entries: &[Entry],
+    count: usize,
 ) -> Result<Vec<Deletion>, AllocError>
     ensures records { IfOk result (λ v. v.items ≡ map (λ entry. events.deletion_of origin.now entry.state) (filter messages.is_delete entries.now)) }
     ensures fits { IfOk result (λ v. list_all records.deletion.fits v.items ≡ true) }
 {
-    let mut found = Vec::new(alloc);
+    let mut found = Vec::with_capacity(alloc, count)?;
     for entry in entries {
         if let Told::Delete = entry.told {
             found.push(deletion_of(*origin, entry.state))?;
@@ -69,12 +76,14 @@ fn deletions_of(
     Ok(found)
 }
 
-/// The message that tells entries at a clock; none where there are none.
+/// The message that tells entries at a clock; none where there are none. The counts say how many records to make room
+/// for at once.
 pub fn message_of(
     alloc: Global,
     origin: &Origin,
     clock: Clock,
     entries: &[Entry],
+    counts: Counts,
 ) -> Result<Option<Message>, AllocError>
     requires { IsQueue (record { origin = origin.now; entries = entries.now }) }
     ensures { IfOk result (λ message. option_to_list message ≡ messages.messages_by origin.now clock entries.now) }
@@ -82,8 +91,8 @@ pub fn message_of(
     if entries.is_empty() {
         return Ok(None);
     }
-    let insertions = insertions_of(alloc, origin, clock, entries)?;
-    let updates = updates_of(alloc, origin, clock, entries)?;
-    let deletions = deletions_of(alloc, origin, entries)?;
+    let insertions = insertions_of(alloc, origin, clock, entries, counts.insertions)?;
+    let updates = updates_of(alloc, origin, clock, entries, counts.updates)?;
+    let deletions = deletions_of(alloc, origin, entries, counts.deletions)?;
     Ok(Some(Message::new(origin.checksum, insertions, updates, deletions)))
 }

@@ -1,4 +1,4 @@
-use Rattle.std.proofs.Common.{◌≡◌, ◌+◌, ◌<◌, ◌∙◌, ℕ, List, [], refl, sym, ap, subst, length, map, take, rules, arith}
+use Rattle.std.proofs.Common.{◌≡◌, ◌+◌, ◌<◌, ◌∙◌, ℕ, List, [], None, get_or, refl, sym, ap, subst, length, map, take, rules, arith}
 use Rattle.std.specs.List.{find}
 use Rattle.std.proofs.Math.Seq.{take-length}
 use Rattle.pfr_headers.specs.declared.packet.View.{View}
@@ -63,12 +63,12 @@ loop-index-preserved c =
       is_open = c.in_ok-take.ensures.ok;
       own =
           let number : c.args.self.now.count + 1 + c.loop-index.index ≡ c.loop-index.self.count + 1 = omega arith in
-          let held = c.take_at.ensures.taken ∙ i.tried c.loop-index.index (omega arith) below ∙ ap (λ (n : ℕ). find (is_of n) c.args.results.items) number in
+          let held = i.tried c.loop-index.index (omega arith) below ∙ ap (λ (n : ℕ). find (is_of n) c.args.results.items) number in
           rises_next (job_of c.args.self.now) (world_with c.args.self.now c.args.out.now) c.args.results.items c.args.packets.now c.loop-index.index c.index-packets-index.result
           c.args.self.now.own c.loop-index.self.own c.take.new.self.own below i.own
-          (rises_by (job_of c.args.self.now) (job_of c.loop-index.self) _ (world_with c.loop-index.self c.loop-index.out) c.args.results.items c.index-packets-index.result _ c.take_at.result
+          (rises_by (job_of c.args.self.now) (job_of c.loop-index.self) _ (world_with c.loop-index.self c.loop-index.out) c.args.results.items c.index-packets-index.result _ (get_or c.loop-index.places.items c.loop-index.index None)
           c.loop-index.self.own c.take.new.self.own job_is i.world c.index-packets-index.is held c.in_ok-take.ensures.used c.in_ok-take.ensures.evaluated);
-      tried = λ place from within. c.take_at.ensures.others place (omega arith) ∙ i.tried place (omega arith) within;
+      tried = λ place from within. c.take.ensures.others place (omega arith) ∙ i.tried place (omega arith) within;
       world = c.in_ok-take.ensures.world
           ∙ batch_next (job_of c.args.self.now) (job_of c.loop-index.self) (world_with c.args.self.now c.args.out.now) (world_with c.loop-index.self c.loop-index.out) (λ packet. frame_of packet.0) c.args.packets.now c.loop-index.index
           c.index-packets-index.result c.index-packets-index.result job_is i.world c.index-packets-index.is below;

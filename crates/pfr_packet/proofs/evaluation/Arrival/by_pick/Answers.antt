@@ -1,8 +1,7 @@
-use Rattle.std.proofs.Common.{None, refl}
+use Rattle.std.proofs.Common.{None}
 use Rattle.std.proofs.lemmas.List.Elements.{All-nil}
 use Rattle.pfr_packet.specs.declared.outcome.Outcome.{Outcome}
 use Rattle.pfr_packet.specs.Passages.{picked_passage}
-use Rattle.pfr_packet.specs.Picks.{picking, ports_for, tries, wire_with, word_of}
 use Rattle.pfr_packet.specs.Plan.{Goes}
 use Rattle.pfr_packet.specs.Steps.{by_pick, going, going_plan, pick_plan}
 use Rattle.pfr_packet.proofs.GoingLemmas.{to_the_end}

@@ -1,5 +1,5 @@
 use Rattle.std.proofs.Common.{◌∙◌, ap, not, arith}
-use Rattle.pfr_packet.specs.Picks.{key_with, picking, falling}
+use Rattle.pfr_packet.specs.Picks.{key_with}
 use Rattle.pfr_packet.proofs.PickLemmas.{falling_free, falling_taken}
 use Rattle.pfr_packet.proofs.picks.Pick.falling.Goals as goal
 

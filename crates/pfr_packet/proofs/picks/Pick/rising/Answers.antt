@@ -1,5 +1,5 @@
 use Rattle.std.proofs.Common.{◌∙◌, ap, not}
-use Rattle.pfr_packet.specs.Picks.{key_with, picking, rising}
+use Rattle.pfr_packet.specs.Picks.{key_with}
 use Rattle.pfr_packet.proofs.PickLemmas.{rising_free, rising_taken}
 use Rattle.pfr_packet.proofs.picks.Pick.rising.Goals as goal
 

@@ -1,7 +1,7 @@
 use Rattle.std.proofs.Common.{◌∙◌, ap, sym}
 use Rattle.std.specs.Option.{option_copied}
 use Rattle.pfr_states.proofs.PurgeLemmas.{at_alive, at_gone, at_none}
-use Rattle.pfr_states.proofs.table.Table.at.Goals as goal
+use Rattle.pfr_states.proofs.table.Table.look_up.Goals as goal
 
 pub returns-then-has_come : goal.returns-then-has_come
 returns-then-has_come c =
