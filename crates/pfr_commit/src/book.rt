@@ -1,5 +1,5 @@
 //! The committer.
-ghost use Rattle.std.specs.Prelude.{◌≡◌, ◌<◌, ◌≤◌, ◌+◌, ◌^◌, ℕ, false, true, max, get_or, IfOk, IfSome, IsSome, ◌↔◌, OnOk, OnErr, None};
+ghost use Rattle.std.specs.Prelude.{◌≡◌, ◌<◌, ◌≤◌, ◌+◌, ◌^◌, ℕ, false, true, max, get_or, IfOk, IfSome, IsSome, IsTrue, ◌↔◌, OnOk, OnErr, None};
 ghost use Rattle.std.specs.Arc.{arc_value};
 ghost use Rattle.std.specs.Option.{option_to_list};
 ghost use Rattle.pfr_headers.specs.declared.packet.View.TheVariants.{Ipv4};
@@ -139,6 +139,33 @@ impl Book {
         }
     }
 
+    /// Takes the speculation at a place out, and writes its outcome over another where it may be used for a packet. It says whether
+    /// it did.
+    // A call of its own: its locals are large, and cleared where they join a way that has none.
+    #[inline(never)]
+    fn use_result(
+        &self,
+        number: u64,
+        clock: Clock,
+        view: &View,
+        results: &mut Places,
+        place: usize,
+        outcome: &mut Outcome,
+    ) -> bool
+        ensures used { IsTrue result ↔ MayUse (get_or results.old.items place None) (job_of self.now) number clock view.now self.now.table }
+        ensures outcome { IsTrue result → outcome.new ≡ step_of (job_of self.now) number clock view.now self.now.table }
+        ensures same { result ≡ false → outcome.new ≡ outcome.old }
+        ensures others { (other : ℕ) → place < other → get_or results.new.items other None ≡ get_or results.old.items other None }
+    {
+        match self.usable_outcome(number, clock, view, take_at(results, place)) {
+            Some(found) => {
+                *outcome = found;
+                true
+            }
+            None => false,
+        }
+    }
+
     /// Evaluates a packet, and writes what it comes to over a fresh outcome.
     #[tactic(auto, unfolding(pfr_packet::specs::Steps::step_of))]
     fn run(
@@ -184,11 +211,10 @@ impl Book {
         ensures few { IfOk result (λ evaluated. evaluated ≤ 1) }
         ensures others { (other : ℕ) → place < other → get_or results.new.items other None ≡ get_or results.old.items other None }
     {
-        if is_taken(results, place) {
-            if let Some(found) = self.usable_outcome(number, clock, view, take_at(results, place)) {
-                *outcome = found;
-                return Ok(0);
-            }
+        if is_taken(results, place)
+            && self.use_result(number, clock, view, results, place, outcome)
+        {
+            return Ok(0);
         }
         self.run(number, clock, view, outcome)?;
         Ok(1)
