@@ -26,8 +26,9 @@ use std::alloc::{AllocError, Global};
 
 /// An IPv4 packet that is evaluated.
 ///
-/// The ways that few packets go are calls of their own. Inlined, they would burden the way of a packet whose state is found: an
-/// outcome is large, and is copied part by part where ways meet.
+/// The ways that few packets go are calls of their own, which answer no outcome but write one over. They would burden the way of
+/// a packet whose state is found: an outcome is large, is copied part by part where ways meet, and room for one that is answered
+/// is cleared beforehand.
 #[derive(Clone, Copy)]
 struct Arrival<'a> {
     alloc: Global,
@@ -66,7 +67,6 @@ impl Judged {
 
 impl Arrival<'_> {
     /// What it comes to by the filter alone.
-    #[inline(never)]
     fn filtered(&self) -> Result<Outcome, AllocError>
         ensures { IfOk result (λ outcome. outcome ≡ spec.alone self.now.job.now self.now.packet.now self.now.direction) }
     {
@@ -74,8 +74,16 @@ impl Arrival<'_> {
         Ok(filtered.outcome)
     }
 
-    /// What it comes to as an ICMP error, by the connection of the packet that it embeds.
+    /// The same, written over an outcome.
     #[inline(never)]
+    fn write_filtered(&self, outcome: &mut Outcome) -> Result<(), AllocError>
+        ensures { OnOk result (outcome.new ≡ spec.alone self.now.job.now self.now.packet.now self.now.direction) }
+    {
+        *outcome = self.filtered()?;
+        Ok(())
+    }
+
+    /// What it comes to as an ICMP error, by the connection of the packet that it embeds.
     fn by_embedded<A: Answers>(&self, key: &Key, answers: &mut A) -> Result<Outcome, AllocError>
         ensures seen { A.seen answers.new ≡ A.seen answers.old }
         ensures goes { IfOk result (λ outcome. Goes (A.seen answers.old) (spec.embedded_plan self.now key.now) outcome (A.asked answers.new)) }
@@ -85,6 +93,22 @@ impl Arrival<'_> {
             Some(state) => Ok(embedded(self.alloc, self.direction, self.packet, &state)),
             None => self.filtered(),
         }
+    }
+
+    /// The same, written over an outcome.
+    #[inline(never)]
+    fn write_embedded<A: Answers>(
+        &self,
+        key: &Key,
+        answers: &mut A,
+        outcome: &mut Outcome,
+    ) -> Result<(), AllocError>
+        ensures seen { A.seen answers.new ≡ A.seen answers.old }
+        ensures goes { OnOk result (Goes (A.seen answers.old) (spec.embedded_plan self.now key.now) outcome.new (A.asked answers.new)) }
+        ensures kept { (question : Question) → A.asked answers.old question → A.asked answers.new question }
+    {
+        *outcome = self.by_embedded(key, answers)?;
+        Ok(())
     }
 
     /// What it does to the state of its connection, and comes to, written over a fresh outcome.
@@ -220,7 +244,6 @@ impl Arrival<'_> {
     }
 
     /// What it comes to as the first packet of a connection.
-    #[inline(never)]
     fn open<A: Answers>(&self, key: &Key, answers: &mut A) -> Result<Outcome, AllocError>
         ensures seen { A.seen answers.new ≡ A.seen answers.old }
         ensures goes { IfOk result (λ outcome. Goes (A.seen answers.old) (spec.opening_plan self.now key.now) outcome (A.asked answers.new)) }
@@ -228,6 +251,22 @@ impl Arrival<'_> {
     {
         let (hit, visits) = translate(self.alloc, self.job.rules(), self.packet, self.direction)?;
         self.by_hit(key, hit, visits, answers)
+    }
+
+    /// The same, written over an outcome.
+    #[inline(never)]
+    fn write_opened<A: Answers>(
+        &self,
+        key: &Key,
+        answers: &mut A,
+        outcome: &mut Outcome,
+    ) -> Result<(), AllocError>
+        ensures seen { A.seen answers.new ≡ A.seen answers.old }
+        ensures goes { OnOk result (Goes (A.seen answers.old) (spec.opening_plan self.now key.now) outcome.new (A.asked answers.new)) }
+        ensures kept { (question : Question) → A.asked answers.old question → A.asked answers.new question }
+    {
+        *outcome = self.open(key, answers)?;
+        Ok(())
     }
 }
 
@@ -293,19 +332,12 @@ pub fn step_into<A: Answers>(
         direction,
     };
     let key = match subject_of(direction, packet) {
-        Subject::Alone => {
-            *outcome = arrival.filtered()?;
-            return Ok(());
-        }
-        Subject::Embedded(key) => {
-            *outcome = arrival.by_embedded(&key, answers)?;
-            return Ok(());
-        }
+        Subject::Alone => return arrival.write_filtered(outcome),
+        Subject::Embedded(key) => return arrival.write_embedded(&key, answers, outcome),
         Subject::Connection(key) => key,
     };
     let Some(state) = answers.at(side_of(direction), &key)? else {
-        *outcome = arrival.open(&key, answers)?;
-        return Ok(());
+        return arrival.write_opened(&key, answers, outcome);
     };
     arrival.by_state(&state, outcome);
     Ok(())
