@@ -21,7 +21,7 @@ use pfr_headers::{Packet, View, direction_of};
 use pfr_net::Direction;
 use pfr_rules::{Hit, NewEnd, Visits, translate};
 use pfr_ruleset::NatAddress;
-use pfr_track::{Clock, Key, State, StateNumber, StateRules, make, touch};
+use pfr_track::{Clock, Key, State, StateNumber, StateRules, make};
 use std::alloc::{AllocError, Global};
 
 /// An IPv4 packet that is evaluated.
@@ -111,11 +111,12 @@ impl Arrival<'_> {
         Ok(())
     }
 
-    /// What it does to the state of its connection, and comes to, written over a fresh outcome.
+    /// What it does to the state of its connection, and comes to, written over a fresh outcome. The state becomes what it is from
+    /// then on.
     #[inline(always)]
-    fn by_state(&self, state: &State, outcome: &mut Outcome)
+    fn by_state(&self, state: &mut State, outcome: &mut Outcome)
         requires { outcome.old ≡ fresh }
-        ensures { outcome.new ≡ spec.following self.now.job.now self.now.clock self.now.packet.now self.now.direction state.now }
+        ensures { outcome.new ≡ spec.following self.now.job.now self.now.clock self.now.packet.now self.now.direction state.old }
     {
         outcome.find_state(self.direction, state);
         let timeouts = self.job.timeouts();
@@ -124,7 +125,8 @@ impl Arrival<'_> {
             self.direction,
             self.packet,
             state,
-            &touch(state, self.packet, self.direction, self.clock, timeouts),
+            self.clock,
+            timeouts,
         );
     }
 
@@ -336,9 +338,9 @@ pub fn step_into<A: Answers>(
         Subject::Embedded(key) => return arrival.write_embedded(&key, answers, outcome),
         Subject::Connection(key) => key,
     };
-    let Some(state) = answers.at(side_of(direction), &key)? else {
+    let Some(mut state) = answers.at(side_of(direction), &key)? else {
         return arrival.write_opened(&key, answers, outcome);
     };
-    arrival.by_state(&state, outcome);
+    arrival.by_state(&mut state, outcome);
     Ok(())
 }

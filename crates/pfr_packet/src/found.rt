@@ -1,5 +1,6 @@
 //! Packets whose state is found.
 ghost use Rattle.std.specs.Prelude.{◌≡◌};
+ghost use Rattle.pfr_track.specs.Tracking.{touched};
 ghost use Rattle.pfr_packet.specs.declared.verdict.Reason.TheVariants.{StateMismatch};
 ghost use Rattle.pfr_packet.specs.declared.verdict.Verdict.TheVariants.{Block};
 ghost use Rattle.pfr_packet.specs.Found as spec;
@@ -9,9 +10,9 @@ use crate::keys::written_by;
 use crate::outcome::Outcome;
 use crate::verdict::{Reason, Verdict};
 use pfr_headers::Packet;
-use pfr_net::Direction;
+use pfr_net::{Direction, Timeouts};
 use pfr_states::TableChange;
-use pfr_track::{State, Touch};
+use pfr_track::{Advance, Clock, State, advance};
 use std::alloc::Global;
 
 /// What a packet of a state's connection comes to that passes by the state.
@@ -44,30 +45,31 @@ pub(crate) fn embedded(
     passed(alloc, direction, packet, state, Reason::StateError, None)
 }
 
-/// Makes what a packet with a state's key comes to by what it does to the state, out of what it comes to where it doesn't fit. An
-/// outcome is large, so it is changed in its place.
-#[inline(never)]
+/// Makes what a packet with a state's key comes to, out of what it comes to where it doesn't fit. The state becomes what it is
+/// from then on. Both are large, so they are changed in their places.
+#[inline(always)]
 pub(crate) fn track(
     outcome: &mut Outcome,
     direction: Direction,
     packet: &Packet,
-    state: &State,
-    touch: &Touch,
+    state: &mut State,
+    clock: Clock,
+    timeouts: &Timeouts,
 )
-    requires { outcome.old ≡ by_state direction state.now Block StateMismatch }
-    ensures { outcome.new ≡ spec.tracked direction packet.now state.now touch.now }
+    requires { outcome.old ≡ by_state direction state.old Block StateMismatch }
+    ensures { outcome.new ≡ spec.tracked direction packet.now state.old (touched state.old packet.now direction clock timeouts.now) }
 {
-    match touch {
-        Touch::Mismatch => {}
-        Touch::Removed => outcome.change = Some(TableChange::Removed(state.number)),
-        Touch::Touched(touched) => {
+    match advance(state, packet, direction, clock, timeouts) {
+        Advance::Mismatch => {}
+        Advance::Removed => outcome.change = Some(TableChange::Removed(state.number)),
+        Advance::Accepted => {
             if packet.has_options() && !state.rules.allows_options {
                 outcome.reason = Reason::IpOption;
             } else {
                 outcome.verdict = Verdict::Pass;
                 outcome.reason = Reason::State;
                 outcome.bytes = written_by(direction, packet, &state.wire, &state.stack);
-                outcome.change = Some(TableChange::Touched(*touched));
+                outcome.change = Some(TableChange::Touched(*state));
             }
         }
     }

@@ -1,19 +1,23 @@
 //! What an event does to the entries of the open message.
 ghost use Rattle.std.specs.Prelude.{◌≡◌, ◌+◌, ◌≤◌, ◌<◌, ◌++◌, true, take, drop, length, slice_index_or, vec_len, [], ◌∷◌, OnOk, OnErr, IfNone, IsSome};
+ghost use Rattle.pfr_track.specs.declared.state.State.{State as S};
+ghost use Rattle.pfr_track.specs.declared.time.Clock.{Clock as C};
+ghost use Rattle.pfr_sync.specs.declared.event.Event.{Event as E};
+ghost use Rattle.pfr_sync.specs.declared.queue.Entry.{Entry as N};
 ghost use Rattle.pfr_sync.specs.Edits as edits;
 ghost use Rattle.pfr_sync.specs.Queues as spec;
 ghost use Rattle.pfr_sync.specs.Sizes as sizes;
 
-use crate::event::{Change, Event};
+use crate::event::Change;
 use crate::queue::{Entry, Told};
-use pfr_track::State;
+use pfr_track::{State, StateNumber};
 use std::alloc::AllocError;
 
 /// What is told of a state of which nothing was told.
-pub fn begun(event: &Event) -> Told
-    ensures { record { told = result; state = event.now.state } ≡ spec.begun event.now }
+pub fn begun(change: Change) -> Told
+    ensures { (state : S) (clock : C) → record { told = result; state = state } ≡ spec.begun (record { change = change; state = state; clock = clock }) }
 {
-    match event.change {
+    match change {
         Change::Made => Told::Insert,
         Change::Touched => Told::Update,
         Change::Removed => Told::Delete,
@@ -21,10 +25,10 @@ pub fn begun(event: &Event) -> Told
 }
 
 /// What is told of a state of which something was told.
-fn followed(told: Told, event: &Event) -> Option<Told>
-    ensures { edits.entry_of event.now.state result ≡ spec.followed told event.now }
+fn followed(told: Told, change: Change) -> Option<Told>
+    ensures { (state : S) (clock : C) → edits.entry_of state result ≡ spec.followed told (record { change = change; state = state; clock = clock }) }
 {
-    let told = match (told, event.change) {
+    let told = match (told, change) {
         (Told::Insert, Change::Removed) => return None,
         (Told::Insert, _) => Told::Insert,
         (_, Change::Removed) => Told::Delete,
@@ -43,38 +47,38 @@ pub struct Edit {
     pub new: Option<Told>,
 }
 
-/// The first place whose entry isn't of a lower number than the event's.
-fn place_of(entries: &[Entry], event: &Event) -> usize
+/// The first place whose entry isn't of a lower number than this.
+fn place_of(entries: &[Entry], number: StateNumber) -> usize
     requires { spec.rise entries.now ≡ true }
     ensures within { result ≤ length entries.now }
-    ensures entries { spec.with_entry event.now entries.now ≡ take result entries.now ++ spec.with_entry event.now (drop result entries.now) }
-    ensures above { result < length entries.now → event.now.state.number.0 ≤ spec.number_of (slice_index_or entries.now result (spec.begun event.now)) }
+    ensures entries { (event : E) → event.state.number ≡ number → spec.with_entry event entries.now ≡ take result entries.now ++ spec.with_entry event (drop result entries.now) }
+    ensures above { (other : N) → result < length entries.now → number.0 ≤ spec.number_of (slice_index_or entries.now result other) }
 {
-    let number = event.state.number.0;
+    let number = number.0;
     entries.partition_point(|entry| entry.state.number.0 < number)
 }
 
-/// What an event does to the entries.
-pub fn edit_of(entries: &[Entry], event: &Event) -> Edit
+/// What an event does to the entries, at whatever clock.
+pub fn edit_of(entries: &[Entry], change: Change, state: &State) -> Edit
     requires { spec.rise entries.now ≡ true }
-    ensures entries { spec.with_entry event.now entries.now ≡ edits.edited event.now.state result entries.now }
+    ensures entries { (clock : C) → spec.with_entry (record { change = change; state = state.now; clock = clock }) entries.now ≡ edits.edited state.now result entries.now }
     ensures within { edits.behind result.place result.old ≤ length entries.now }
     ensures gone { IfNone result.new (IsSome result.old) }
-    ensures counts { sizes.Exchanges result.old result.new (sizes.counts_of entries.now) (sizes.counts_of (edits.edited event.now.state result entries.now)) }
+    ensures counts { sizes.Exchanges result.old result.new (sizes.counts_of entries.now) (sizes.counts_of (edits.edited state.now result entries.now)) }
 {
-    let place = place_of(entries, event);
-    if place == entries.len() || event.state.number.0 < entries[place].state.number.0 {
+    let place = place_of(entries, state.number);
+    if place == entries.len() || state.number.0 < entries[place].state.number.0 {
         Edit {
             place,
             old: None,
-            new: Some(begun(event)),
+            new: Some(begun(change)),
         }
     } else {
         let told = entries[place].told;
         Edit {
             place,
             old: Some(told),
-            new: followed(told, event),
+            new: followed(told, change),
         }
     }
 }
@@ -87,18 +91,21 @@ fn put(entries: &mut Vec<Entry>, place: usize, told: Told, state: &State) -> Res
     ensures entries { OnOk result (entries.new.items ≡ take place entries.old.items ++ record { told = told; state = state.now } ∷ drop place entries.old.items) }
     ensures kept { OnErr result (entries.new.items ≡ entries.old.items) }
 {
-    let last = entries.len();
-    let entry = Entry {
-        told,
-        state: *state,
-    };
-    entries.push(entry)?;
     // Mostly it belongs behind all others.
-    if place == last {
+    if place == entries.len() {
+        entries.push(Entry {
+            told,
+            state: *state,
+        })?;
         return Ok(());
     }
+    let last = entries.len() - 1;
+    let moved = entries[last];
+    entries.push(moved)?;
     entries.copy_within(place..last, place + 1);
-    entries[place] = entry;
+    let entry = &mut entries[place];
+    entry.told = told;
+    entry.state = *state;
     Ok(())
 }
 

@@ -9,7 +9,7 @@ ghost use Rattle.pfr_sync.specs.Messages as messages;
 ghost use Rattle.pfr_sync.specs.Queues as spec;
 
 use crate::edit::{apply, begun, edit_of, start};
-use crate::event::Event;
+use crate::event::{Change, Event};
 use crate::names::plain_name;
 use crate::origin::Origin;
 use crate::sizes::{Counts, exchanged, has_room, one_of};
@@ -102,17 +102,37 @@ impl Queue {
             → IfOk result (λ message. spec.Tells self.new event.now.clock (events ++ event.now ∷ [])
             × (messages.closed_at self.old.origin event.now.clock (events ++ event.now ∷ []) ≡ messages.closed_at self.old.origin event.now.clock events ++ option_to_list message)) }
     {
+        self.tell(event.change, &event.state, event.clock)
+    }
+
+    /// What [`Queue::add`] does, by the parts of an event: a state is large, and stays where it is.
+    pub fn tell(
+        &mut self,
+        change: Change,
+        state: &State,
+        clock: Clock,
+    ) -> Result<Option<Message>, AllocError>
+        // what the message says, and what is told then
+        ensures message { IfOk result (λ message. option_to_list message ≡ spec.closed_before self.old (record { change = change; state = state.now; clock = clock })) }
+        ensures entries { OnOk result (self.new.entries ≡ spec.after self.old (record { change = change; state = state.now; clock = clock })) }
+        ensures origin { self.new.origin ≡ self.old.origin }
+        ensures kept { OnErr result (self.new ≡ self.old) }
+        // for every list of events of whose open part the queue has the entries, as above
+        ensures events { (events : List E) → let event : E = record { change = change; state = state.now; clock = clock } in spec.Tells self.old clock events → MayCome events event
+            → IfOk result (λ message. spec.Tells self.new clock (events ++ event ∷ [])
+            × (messages.closed_at self.old.origin clock (events ++ event ∷ []) ≡ messages.closed_at self.old.origin clock events ++ option_to_list message)) }
+    {
         let entries = self.entries.as_slice();
-        let edit = edit_of(entries, event);
+        let edit = edit_of(entries, change, state);
         let counts = exchanged(self.counts, edit.old, edit.new);
         if has_room(counts) {
-            apply(&mut self.entries, edit, &event.state)?;
+            apply(&mut self.entries, edit, state)?;
             self.counts = counts;
             return Ok(None);
         }
-        let message = message_of(self.alloc, &self.origin, event.clock, entries, self.counts)?;
-        let told = begun(event);
-        start(&mut self.entries, told, &event.state);
+        let message = message_of(self.alloc, &self.origin, clock, entries, self.counts)?;
+        let told = begun(change);
+        start(&mut self.entries, told, state);
         self.counts = one_of(Some(told));
         Ok(message)
     }

@@ -14,7 +14,7 @@ ghost use Rattle.pfr_telling.specs.Telling as spec;
 use pfr_net::IfName;
 use pfr_states::laws::{a_purge_goes_state_by_state, due_is_the_first};
 use pfr_states::{Table, TableChange, TableError};
-use pfr_sync::{Change, Event, Message, Queue};
+use pfr_sync::{Change, Message, Queue};
 use pfr_track::{Clock, State, StateNumber};
 use std::alloc::{AllocError, Global};
 
@@ -72,17 +72,6 @@ impl Telling {
         self.close_before(clock, later)
     }
 
-    /// Takes an event over.
-    fn put(&mut self, event: &Event) -> Result<(), AllocError>
-        ensures told { OnOk result ((before : List Content) (events : List E) → HasTold before self.old event.now.clock events → MayCome events event.now → HasTold before self.new event.now.clock (events ++ event.now ∷ [])) }
-        ensures origin { self.new.queue.origin ≡ self.old.queue.origin }
-    {
-        if let Some(message) = self.queue.add(event)? {
-            self.closed.push(message)?;
-        }
-        Ok(())
-    }
-
     /// Tells what became of a state at a clock, unless its rule says `no-sync`.
     fn tell(&mut self, change: Change, state: &State, clock: Clock) -> Result<(), AllocError>
         ensures told { OnOk result ((before : List Content) (events : List E) → HasTold before self.old clock events → MayCome events (record { change = change; state = state.now; clock = clock })
@@ -92,11 +81,10 @@ impl Telling {
         if !state.rules.is_synchronised {
             return Ok(());
         }
-        self.put(&Event {
-            change,
-            state: *state,
-            clock,
-        })
+        if let Some(message) = self.queue.tell(change, state, clock)? {
+            self.closed.push(message)?;
+        }
+        Ok(())
     }
 
     /// Closes the open message at its clock, where a later one comes.

@@ -25,6 +25,8 @@ use Rattle.pfr_track.specs.declared.state.Traffic.{Traffic}
 use Rattle.pfr_track.specs.declared.tcp.TcpPeer.{TcpPeer}
 use Rattle.pfr_track.specs.declared.time.Clock.{Clock}
 use Rattle.pfr_track.specs.declared.time.Deadline.{Deadline}
+use Rattle.pfr_track.specs.declared.outcome.Advance.{Advance}
+use Rattle.pfr_track.specs.declared.outcome.Advance.TheVariants as advances
 use Rattle.pfr_track.specs.declared.outcome.Followed.{Followed}
 use Rattle.pfr_track.specs.declared.outcome.Followed.TheVariants as follow
 use Rattle.pfr_track.specs.declared.outcome.Touch.{Touch}
@@ -137,3 +139,9 @@ with_track state packet is_forth clock timeouts (tracks.Accepted ends timeout) =
 unfoldable pub touched : State → Packet → Direction → Clock → Timeouts → Touch
 touched state packet direction clock timeouts =
     with_track state packet (is_same_way direction state.direction) clock timeouts (track state.peers packet.transport (is_same_way direction state.direction))
+
+-- the same of a state that became in its place what it is from then on
+abbrev pub as_touch : Advance → State → Touch
+as_touch advances.Accepted state = Touched state
+as_touch advances.Removed state = Removed
+as_touch advances.Mismatch state = Mismatch

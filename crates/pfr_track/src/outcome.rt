@@ -15,6 +15,17 @@ pub enum Touch {
     Mismatch,
 }
 
+/// What a packet does to a state that becomes in its place what it is from then on.
+#[derive(Clone, Copy, Debug, PartialEq, Eq)]
+pub enum Advance {
+    /// The packet is accepted.
+    Accepted,
+    /// As with [`Touch::Removed`]: the state is left as it was.
+    Removed,
+    /// As with [`Touch::Mismatch`].
+    Mismatch,
+}
+
 /// What a packet does to both ends of a connection.
 #[derive(Clone, Copy)]
 pub(crate) enum Track {

@@ -4,7 +4,7 @@ ghost use Rattle.pfr_track.specs.Tcp as tcp;
 ghost use Rattle.pfr_track.specs.Tracking as spec;
 
 use crate::datagram::{DatagramPeer, timeout_by as datagram_timeout};
-use crate::outcome::{Followed, Touch, Track};
+use crate::outcome::{Advance, Followed, Touch, Track};
 use crate::peers::Peers;
 use crate::segment::{Exchange, is_ack, is_syn};
 use crate::state::State;
@@ -122,8 +122,6 @@ fn is_same_way(first: Direction, second: Direction) -> bool
 
 /// What a packet of its connection does to a state. One that is accepted is counted, and the state waits anew for the next
 /// one.
-#[tactic(auto, unfolding(crate::specs::Tracking::touched))]
-#[inline(never)]
 pub fn touch(
     state: &State,
     packet: &Packet,
@@ -133,20 +131,42 @@ pub fn touch(
 ) -> Touch
     ensures { result ≡ spec.touched state.now packet.now direction clock timeouts.now }
 {
+    let mut touched = *state;
+    match advance(&mut touched, packet, direction, clock, timeouts) {
+        Advance::Accepted => Touch::Touched(touched),
+        Advance::Removed => Touch::Removed,
+        Advance::Mismatch => Touch::Mismatch,
+    }
+}
+
+/// What [`touch`] says, of a state that becomes in its place what it is from then on: a state is large. One whose packet isn't
+/// accepted stays as it was.
+#[tactic(auto, unfolding(crate::specs::Tracking::touched))]
+#[inline(never)]
+pub fn advance(
+    state: &mut State,
+    packet: &Packet,
+    direction: Direction,
+    clock: Clock,
+    timeouts: &Timeouts,
+) -> Advance
+    ensures touch { spec.as_touch result state.new ≡ spec.touched state.old packet.now direction clock timeouts.now }
+    ensures same_rules { (state.new.number ≡ state.old.number) × (state.new.rules ≡ state.old.rules) }
+    ensures same_keys { (state.new.wire ≡ state.old.wire) × (state.new.stack ≡ state.old.stack) }
+{
     let is_forth = is_same_way(direction, state.direction);
     let (peers, timeout) = match track(&state.peers, &packet.transport, is_forth) {
         Track::Accepted(peers, timeout) => (peers, timeout),
-        Track::Removed => return Touch::Removed,
-        Track::Refused => return Touch::Mismatch,
+        Track::Removed => return Advance::Removed,
+        Track::Refused => return Advance::Mismatch,
     };
-    let mut touched = *state;
-    touched.peers = peers;
-    touched.timeout = timeout;
-    touched.deadline = Deadline::after(clock, timeouts.of(timeout));
+    state.peers = peers;
+    state.deadline = Deadline::after(clock, timeouts.of(timeout));
+    state.timeout = timeout;
     if is_forth {
-        touched.forth = state.forth.with(packet);
+        state.forth = state.forth.with(packet);
     } else {
-        touched.back = state.back.with(packet);
+        state.back = state.back.with(packet);
     }
-    Touch::Touched(touched)
+    Advance::Accepted
 }

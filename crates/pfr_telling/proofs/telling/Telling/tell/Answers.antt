@@ -1,14 +1,21 @@
-use Rattle.std.proofs.Common.{List, ◌++◌, sym}
-use Rattle.std.proofs.Common.{subst}
-use Rattle.std.proofs.lemmas.Result.{on_ok_weaker}
+use Rattle.std.proofs.Common.{List, Option, ◌++◌, ap, sym, subst, ◌∙◌}
+use Rattle.std.specs.Option.{option_to_list}
+use Rattle.std.proofs.lemmas.List.{append-nil}
 use Rattle.pfr_messages.specs.Messages.{Content}
 use Rattle.pfr_sync.specs.declared.event.Event.{Event}
+use Rattle.pfr_sync.specs.Messages.{closed_at}
+use Rattle.pfr_telling.specs.declared.telling.Telling.{Telling}
 use Rattle.pfr_telling.specs.Telling.{HasTold}
 use Rattle.pfr_telling.proofs.ToldLemmas.{told_is}
 use Rattle.pfr_telling.proofs.telling.Telling.tell.Goals as goal
 
-pub returns-clause-told : goal.returns-clause-told
-returns-clause-told c =
-    on_ok_weaker c.put.result (λ went (before : List Content) (events : List Event) told may.
-    subst (λ (more : List Event). HasTold before c.put.new.self c.args.clock (events ++ more))
-    (sym (told_is c.args.change c.args.clock c.args.state.now c.if-not-state.false)) (went before events told may)) c.put.ensures.told
+pub returns-in_default-clause-told : goal.returns-in_default-clause-told
+returns-in_default-clause-told c = λ (before : List Content) (events : List Event) told may.
+    let self = c.args.self.now in
+    let new : Telling = record { queue = c.tell.new.self; closed = self.closed } in
+    let closed_before = closed_at self.queue.origin c.args.clock events in
+    let went = c.in_ok-message.ensures.events events told.tells may in
+    let closed = went.1 ∙ ap (λ (message : Option Content). closed_before ++ option_to_list message) c.in_default.is ∙ append-nil closed_before ∙ told.closed in
+    subst (λ (more : List Event). HasTold before new c.args.clock (events ++ more))
+    (sym (told_is c.args.change c.args.clock c.args.state.now c.if-not-state.false))
+    (record { tells = went.0; closed = rw c.in_ok-message.ensures.origin closed })

@@ -1,6 +1,6 @@
 use Rattle.std.proofs.Common.{rules}
 use Rattle.pfr_track.specs.Tracking as spec
-use Rattle.pfr_track.proofs.touching.touch.Goals as goal
+use Rattle.pfr_track.proofs.touching.advance.Goals as goal
 
 pub returns-then-is_forth : goal.returns-then-is_forth
 unfolding spec.touched
