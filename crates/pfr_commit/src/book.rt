@@ -24,7 +24,7 @@ use pfr_packet::laws::{
 };
 use pfr_packet::{Direct, Job, Outcome, step_into};
 use pfr_record::Speculation;
-use pfr_states::Table;
+use pfr_states::{Place, Table};
 use pfr_sync::checksum;
 use pfr_telling::Telling;
 use pfr_track::Clock;
@@ -166,7 +166,7 @@ impl Book {
         }
     }
 
-    /// Evaluates a packet, and writes what it comes to over a fresh outcome.
+    /// Evaluates a packet, and writes what it comes to over a fresh outcome. It answers where a state was found for it, if one was.
     #[tactic(auto, unfolding(pfr_packet::specs::Steps::step_of))]
     fn run(
         &self,
@@ -174,13 +174,14 @@ impl Book {
         clock: Clock,
         view: &View,
         outcome: &mut Outcome,
-    ) -> Result<(), AllocError>
+    ) -> Result<Option<Place>, AllocError>
         requires { outcome.old ≡ fresh }
         ensures { OnOk result (outcome.new ≡ step_of (job_of self.now) number clock view.now self.now.table) }
     {
         let mut answers = Direct {
             table: &self.table,
             clock,
+            found: None,
         };
         step_into(
             self.alloc,
@@ -190,11 +191,13 @@ impl Book {
             view,
             &mut answers,
             outcome,
-        )
+        )?;
+        Ok(answers.found)
     }
 
-    /// Writes what a packet comes to over a fresh outcome, by the speculation at a place or evaluated here, and answers how many
-    /// were evaluated: none or one. The speculation is taken out. Where there is none, no place for one is cleared or copied.
+    /// Writes what a packet comes to over a fresh outcome, by the speculation at a place or evaluated here. It answers how many
+    /// were evaluated, none or one, and where a state was found for it then. The speculation is taken out. Where there is none,
+    /// no room for one is cleared or copied.
     fn evaluate(
         &self,
         number: u64,
@@ -203,31 +206,31 @@ impl Book {
         results: &mut Places,
         place: usize,
         outcome: &mut Outcome,
-    ) -> Result<u64, AllocError>
+    ) -> Result<(u64, Option<Place>), AllocError>
         requires { outcome.old ≡ fresh }
         ensures outcome { OnOk result (outcome.new ≡ step_of (job_of self.now) number clock view.now self.now.table) }
-        ensures used { IfOk result (λ evaluated. MayUse (get_or results.old.items place None) (job_of self.now) number clock view.now self.now.table → evaluated ≡ 0) }
-        ensures evaluated { IfOk result (λ evaluated. (MayUse (get_or results.old.items place None) (job_of self.now) number clock view.now self.now.table → ⊥) → evaluated ≡ 1) }
-        ensures few { IfOk result (λ evaluated. evaluated ≤ 1) }
+        ensures used { IfOk result (λ evaluated. MayUse (get_or results.old.items place None) (job_of self.now) number clock view.now self.now.table → evaluated.0 ≡ 0) }
+        ensures evaluated { IfOk result (λ evaluated. (MayUse (get_or results.old.items place None) (job_of self.now) number clock view.now self.now.table → ⊥) → evaluated.0 ≡ 1) }
+        ensures few { IfOk result (λ evaluated. evaluated.0 ≤ 1) }
         ensures others { (other : ℕ) → place < other → get_or results.new.items other None ≡ get_or results.old.items other None }
     {
         if is_taken(results, place)
             && self.use_result(number, clock, view, results, place, outcome)
         {
-            return Ok(0);
+            return Ok((0, None));
         }
-        self.run(number, clock, view, outcome)?;
-        Ok(1)
+        Ok((1, self.run(number, clock, view, outcome)?))
     }
 
     /// Takes over what the next packet came to at a clock, and puts what it adds behind what was emitted. Where memory is
-    /// refused that stays as it was.
+    /// refused that stays as it was. The state that it touches may stand at a place that is named.
     fn take_outcome(
         &mut self,
         clock: Clock,
         packet: &Record,
         view: &View,
         outcome: &Outcome,
+        place: Option<Place>,
         out: &mut Emitted,
     ) -> Result<(), AllocError>
         requires view { view.now ≡ view_of packet.now.link packet.now.bytes.items }
@@ -246,7 +249,7 @@ impl Book {
         self.telling.begin(self.clock, clock)?;
         self.telling.purge(&mut self.table, clock)?;
         self.telling
-            .change(&mut self.table, clock, &outcome.change)?;
+            .change(&mut self.table, clock, &outcome.change, place)?;
         out.put(number, clock, packet, outcome, &mut self.telling.closed)?;
         self.counters.count(view, outcome);
         self.count = number;
@@ -284,14 +287,14 @@ impl Book {
         // what is asked of the table at this clock is answered at once then
         self.table.settle(clock);
         let mut outcome = Outcome::new(self.alloc);
-        let evaluated = self.evaluate(number, clock, view, results, place, &mut outcome)?;
+        let (evaluated, found) = self.evaluate(number, clock, view, results, place, &mut outcome)?;
         // what `take_outcome` asks of an outcome is so of each that an evaluation has
         no_change_is_refused();
         every_change_is_of_the_named_state();
         what_is_written_is_of_the_packet();
         // whatever the table is asked, its states are those of a table
         let _ = self.table.len();
-        self.take_outcome(clock, packet, view, &outcome, out)?;
+        self.take_outcome(clock, packet, view, &outcome, found, out)?;
         self.own += evaluated;
         self.is_over = false;
         Ok(())

@@ -5,7 +5,7 @@ ghost use Rattle.pfr_packet.specs.declared.answers.Question.{Question};
 ghost use Rattle.pfr_packet.specs.declared.answers.Question.TheVariants.{At, Room};
 ghost use Rattle.pfr_packet.specs.Plan.{found_in, has_room_in, purged_at};
 
-use pfr_states::{Side, Table};
+use pfr_states::{Place, Side, Table};
 use pfr_track::{Clock, Key, State};
 use std::alloc::AllocError;
 
@@ -44,6 +44,8 @@ pub trait Answers {
 pub struct Direct<'a> {
     pub table: &'a Table,
     pub clock: Clock,
+    /// Where the state stood that was found last, if one was.
+    pub found: Option<Place>,
 }
 
 impl Answers for Direct<'_> {
@@ -54,9 +56,15 @@ impl Answers for Direct<'_> {
     #[tactic(auto, unfolding(crate::specs::Plan::found_in, crate::specs::Plan::purged_at))]
     fn at(&mut self, side: Side, key: &Key) -> Result<Option<State>, AllocError> {
         // each way ends for itself: where ways meet, a state is copied once more
-        match self.table.look_up(side, key, self.clock) {
-            Some(state) => return Ok(Some(*state)),
-            None => return Ok(None),
+        match self.table.find(side, key, self.clock) {
+            Some(found) => {
+                self.found = Some(found.place);
+                return Ok(Some(*found.state));
+            }
+            None => {
+                self.found = None;
+                return Ok(None);
+            }
         }
     }
 

@@ -32,6 +32,14 @@ number_answer n all result numbers is = ap (λ (r : Option Stored). state_in r) 
 pub key_answer : (side : Side) (key : Key) (all : List Held) (result : Option Stored) → result ≡ value_of (keyed side key all) → state_in result ≡ at_key side key (states_of all)
 key_answer side key all result is = ap (λ (r : Option Stored). state_in r) is ∙ in_value (keyed side key all) ∙ sym (find_states (has_key side key) all)
 
+-- where no place is found, no state is
+pub key_none : (side : Side) (key : Key) (all : List Held) → place_of (keyed side key all) ≡ None → None ≡ at_key side key (states_of all)
+key_none side key all is = key_answer side key all None (no_value (keyed side key all) is)
+  where
+    no_value : (r : Option Held) → place_of r ≡ None → None ≡ value_of r
+    no_value None found = refl
+    no_value (Some p) found = absurd cc
+
 pub after_answer : (n : StateNumber) (all : List Held) (result : Option Stored) → AreNumbered all → result ≡ value_of (after_placed n.0 all) → state_in result ≡ after n (states_of all)
 after_answer n all result numbers is = ap (λ (r : Option Stored). state_in r) is ∙ in_value (after_placed n.0 all) ∙ sym (after_found n all numbers)
 

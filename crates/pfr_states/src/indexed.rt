@@ -1,7 +1,7 @@
 //! States in the order of their numbers, which are found by their keys and deadlines as well.
 ghost use Rattle.std.specs.Prelude.{◌≡◌, ◌<◌, ◌&&◌, not, true, false, [], length, Some, None, IfOk, OnOk, OnErr};
 ghost use Rattle.std.specs.List.{Contains, filter, list_any};
-ghost use Rattle.std.specs.Option.{option_copied};
+ghost use Rattle.std.specs.Option.{option_copied, option_map};
 ghost use Rattle.pfr_places.specs.Places.{at, value_of};
 ghost use Rattle.pfr_states.specs.Awaited as awaited;
 ghost use Rattle.pfr_states.specs.Indexed as index;
@@ -12,7 +12,8 @@ ghost use Rattle.pfr_states.specs.Waits.{Wait};
 use crate::change::Side;
 use crate::deadlines::Deadlines;
 use crate::keyed::Keyed;
-use crate::stored::{Stored, Wait};
+use crate::stored::{Found, Stored, Wait};
+use pfr_places::Place;
 use pfr_track::{Clock, Key, State, StateNumber};
 use std::alloc::{AllocError, Global};
 use std::marker::Model;
@@ -130,14 +131,36 @@ impl IndexedStates {
         }
     }
 
-    /// The state with a key on a side.
+    /// Where the state with a key on a side stands, if there is one.
+    pub(crate) fn place_at(&self, side: Side, key: &Key) -> Option<Place> {
+        self.keyed.place_at(side, key)
+    }
+
+    /// The state with a key on a side, with its place.
     #[inline(always)]
+    pub(crate) fn find(&self, side: Side, key: &Key) -> Option<Found<'_>>
+        ensures state { option_map (λ found. found.state.now) result ≡ spec.at side key.now self.now }
+        ensures own_keys { spec.have_own_keys self.now ≡ true }
+    {
+        match self.keyed.place_at(side, key) {
+            Some(place) => match self.keyed.get(place) {
+                Some(stored) => Some(Found {
+                    state: &stored.state,
+                    place,
+                }),
+                None => None,
+            },
+            None => None,
+        }
+    }
+
+    /// The state with a key on a side.
     pub(crate) fn at(&self, side: Side, key: &Key) -> Option<&State>
         ensures state { option_copied result ≡ spec.at side key.now self.now }
         ensures own_keys { spec.have_own_keys self.now ≡ true }
     {
-        match self.keyed.at(side, key) {
-            Some(stored) => Some(&stored.state),
+        match self.find(side, key) {
+            Some(found) => Some(found.state),
             None => None,
         }
     }
@@ -335,18 +358,15 @@ impl IndexedStates {
         }
     }
 
-    /// Writes a state over the one of its number where that has the same keys, and says whether it did. Where memory is
+    /// Writes a state over the one at a place where that has its number and its keys, and says whether it did. Where memory is
     /// refused nothing changes.
     #[inline]
-    pub(crate) fn renew(&mut self, state: &State) -> Result<bool, AllocError>
+    pub(crate) fn renew(&mut self, state: &State, place: Place) -> Result<bool, AllocError>
         ensures done { IfOk result (λ is_done. is_done ≡ true → self.new ≡ spec.with_touched state.now self.old) }
         ensures free { IfOk result (λ is_done. is_done ≡ true → spec.another_shares state.now self.old ≡ false) }
         ensures same { IfOk result (λ is_done. is_done ≡ false → self.new ≡ self.old) }
         ensures kept { OnErr result (self.new ≡ self.old) }
     {
-        let Some(place) = self.keyed.place_at(Side::Wire, &state.wire) else {
-            return Ok(false);
-        };
         let Some(stored) = self.keyed.get(place) else {
             return Ok(false);
         };

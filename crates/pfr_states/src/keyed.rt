@@ -141,16 +141,6 @@ impl Keyed {
         Some(place)
     }
 
-    /// The state with a key on a side.
-    #[inline(always)]
-    pub(crate) fn at(&self, side: Side, key: &Key) -> Option<&Stored>
-        ensures stored { option_copied result ≡ slab.value_of (spec.keyed side key.now self.now) }
-        ensures states { spec.AreStates self.now }
-    {
-        let place = self.place_at(side, key)?;
-        self.get(place)
-    }
-
     /// Where the state of a number stands.
     pub(crate) fn place_of(&self, number: StateNumber) -> Option<Place>
         ensures place { result ≡ slab.place_of (slab.of_number number.0 self.now) }

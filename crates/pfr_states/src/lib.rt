@@ -8,8 +8,10 @@ mod indexed;
 mod key_hash;
 mod keyed;
 pub mod laws;
-mod stored;
+pub mod stored;
 pub mod table;
 
 pub use change::{Side, TableChange, TableError};
+pub use pfr_places::Place;
+pub use stored::Found;
 pub use table::Table;

@@ -9,5 +9,12 @@ pub(crate) struct Stored {
     pub(crate) waits: Deadline,
 }
 
+/// A state that is found, where it stands. The place is a hint for whoever changes it next.
+#[derive(Clone, Copy)]
+pub struct Found<'a> {
+    pub state: &'a State,
+    pub place: Place,
+}
+
 /// A deadline, the number of the state that waits by it, and where that one stands.
 pub(crate) type Wait = (Deadline, StateNumber, Place);

@@ -1,6 +1,6 @@
 //! The table of states.
 ghost use Rattle.std.specs.Prelude.{◌≡◌, ◌≢◌, length, Some, None, OnOk, OnErr, IfErr, IsOk};
-ghost use Rattle.std.specs.Option.{option_copied};
+ghost use Rattle.std.specs.Option.{option_map};
 ghost use Rattle.pfr_track.specs.declared.state.StateNumber.{StateNumber};
 ghost use Rattle.pfr_states.specs.declared.change.TableError.TheVariants.{Memory};
 ghost use Rattle.pfr_states.specs.declared.change.TableChange.TheVariants.{Made, Touched, Removed};
@@ -8,6 +8,8 @@ ghost use Rattle.pfr_states.specs.States as spec;
 
 use crate::change::{Side, TableChange, TableError};
 use crate::indexed::IndexedStates;
+use crate::stored::Found;
+use pfr_places::Place;
 use pfr_track::{Clock, Key, State, StateNumber};
 use std::alloc::Global;
 use std::marker::Model;
@@ -54,20 +56,23 @@ impl Table {
     pub fn at(&self, side: Side, key: &Key, clock: Clock) -> Option<State>
         ensures { result ≡ spec.at side key.now (spec.purged clock self.now.states) }
     {
-        self.look_up(side, key, clock).copied()
+        match self.find(side, key, clock) {
+            Some(found) => Some(*found.state),
+            None => None,
+        }
     }
 
     /// What [`Table::at`] answers, where it stands: a state is large.
     #[inline(always)]
-    pub fn look_up(&self, side: Side, key: &Key, clock: Clock) -> Option<&State>
-        ensures { option_copied result ≡ spec.at side key.now (spec.purged clock self.now.states) }
+    pub fn find(&self, side: Side, key: &Key, clock: Clock) -> Option<Found<'_>>
+        ensures { option_map (λ found. found.state.now) result ≡ spec.at side key.now (spec.purged clock self.now.states) }
     {
-        match self.states.at(side, key) {
-            Some(state) => {
-                if state.deadline.has_come(clock) {
+        match self.states.find(side, key) {
+            Some(found) => {
+                if found.state.deadline.has_come(clock) {
                     None
                 } else {
-                    Some(state)
+                    Some(found)
                 }
             }
             None => None,
@@ -161,16 +166,22 @@ impl Table {
         Ok(())
     }
 
-    /// Takes a state over as a packet leaves it.
-    fn touch(&mut self, state: &State) -> Result<(), TableError>
+    /// Takes a state over as a packet leaves it. It may stand at a place that is named.
+    fn touch(&mut self, state: &State, place: Option<Place>) -> Result<(), TableError>
         ensures done { OnOk result (self.new.states ≡ spec.with_change (Touched state.now) self.old.states) }
         ensures allowed { OnOk result (spec.refusal (Touched state.now) self.old.limit self.old.states ≡ None) }
         ensures refused { IfErr result (λ e. e ≢ Memory → spec.refusal (Touched state.now) self.old.limit self.old.states ≡ Some e) }
         ensures kept { OnErr result (self.new ≡ self.old) }
         ensures limit { self.new.limit ≡ self.old.limit }
     {
-        if self.states.renew(state)? {
-            return Ok(());
+        let place = match place {
+            Some(place) => Some(place),
+            None => self.states.place_at(Side::Wire, &state.wire),
+        };
+        if let Some(place) = place {
+            if self.states.renew(state, place)? {
+                return Ok(());
+            }
         }
         self.move_state(state)
     }
@@ -195,11 +206,16 @@ impl Table {
         ensures limit { self.new.limit ≡ self.old.limit }
         ensures removes { (number : StateNumber) → change ≡ Removed number → IsOk result }
     {
-        self.take_over(&change)
+        self.take_over(&change, None)
     }
 
-    /// What [`Table::apply`] does, with a change that stays where it is: a state is large.
-    pub fn take_over(&mut self, change: &TableChange) -> Result<(), TableError>
+    /// What [`Table::apply`] does, with a change that stays where it is: a state is large. Where a place is named, a state that is
+    /// touched is looked for there, which saves a search; nothing rests on it that it stands there.
+    pub fn take_over(
+        &mut self,
+        change: &TableChange,
+        place: Option<Place>,
+    ) -> Result<(), TableError>
         ensures done { OnOk result (self.new.states ≡ spec.with_change change.now self.old.states) }
         ensures allowed { OnOk result (spec.refusal change.now self.old.limit self.old.states ≡ None) }
         ensures refused { IfErr result (λ e. e ≢ Memory → spec.refusal change.now self.old.limit self.old.states ≡ Some e) }
@@ -209,7 +225,7 @@ impl Table {
     {
         match change {
             TableChange::Made(state) => self.make(state),
-            TableChange::Touched(state) => self.touch(state),
+            TableChange::Touched(state) => self.touch(state, place),
             TableChange::Removed(number) => {
                 self.remove(*number);
                 Ok(())

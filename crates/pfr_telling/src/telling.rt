@@ -13,7 +13,7 @@ ghost use Rattle.pfr_telling.specs.Telling as spec;
 
 use pfr_net::IfName;
 use pfr_states::laws::{a_purge_goes_state_by_state, due_is_the_first};
-use pfr_states::{Table, TableChange, TableError};
+use pfr_states::{Place, Table, TableChange, TableError};
 use pfr_sync::{Change, Message, Queue};
 use pfr_track::{Clock, State, StateNumber};
 use std::alloc::{AllocError, Global};
@@ -35,12 +35,12 @@ fn remove(table: &mut Table, number: StateNumber, clock: Clock)
     table.settle(clock);
 }
 
-/// Has a table take over what a packet changes.
-fn apply(table: &mut Table, change: &TableChange) -> Result<(), AllocError>
+/// Has a table take over what a packet changes. A state that is touched may stand at a place that is named.
+fn apply(table: &mut Table, change: &TableChange, place: Option<Place>) -> Result<(), AllocError>
     requires { refusal change.now table.old.limit table.old.states ≡ None }
     ensures { OnOk result (table.new ≡ record { states = with_change change.now table.old.states; limit = table.old.limit }) }
 {
-    match table.take_over(change) {
+    match table.take_over(change, place) {
         Ok(()) => Ok(()),
         Err(TableError::Memory) => Err(AllocError),
         Err(TableError::KeyTaken) => unreachable!(),
@@ -141,12 +141,14 @@ impl Telling {
         }
     }
 
-    /// Tells of what a packet changes in a table, and has the table take it over.
+    /// Tells of what a packet changes in a table, and has the table take it over. A state that is touched may stand at a place that
+    /// is named, and nothing rests on it that it does.
     pub fn change(
         &mut self,
         table: &mut Table,
         clock: Clock,
         change: &Option<TableChange>,
+        place: Option<Place>,
     ) -> Result<(), AllocError>
         requires { IfSome change.now (λ change. refusal change table.old.limit table.old.states ≡ None) }
         ensures table { OnOk result (table.new ≡ spec.changed change.now table.old) }
@@ -158,7 +160,7 @@ impl Telling {
             return Ok(());
         };
         self.tell_change(table, clock, change)?;
-        apply(table, change)
+        apply(table, change, place)
     }
 
     /// Closes the open message at the end of a run: none where nothing is told.
