@@ -5,11 +5,11 @@
     flows.py [PROGRAM] [--packets N ..] --nat
     flows.py [PROGRAM] [--packets N ..] --messages [--before PROGRAM]
 
-The first is of captures of many flows at once, the second of the memory of runs that have K states at their end. With
---nat it prints a third one instead, of captures of many flows that the ruleset translates. There it measures the
-program beside itself without translation, on captures of as many packets, and beside tcprewrite. With --messages it
-prints a fourth one instead, of runs that tell a standby in a file: beside the same runs without, and these beside
-another program, which may know no messages.
+The first is of captures of many flows at once, the second of runs that have K states at their end: their memory, and
+their speed beside tcprewrite's. With --nat it prints a third one instead, of captures of many flows that the ruleset
+translates. There it measures the program beside itself without translation, on captures of as many packets, and beside
+tcprewrite. With --messages it prints a fourth one instead, of runs that tell a standby in a file: beside the same runs
+without, and these beside another program, which may know no messages.
 """
 
 import argparse
@@ -210,8 +210,8 @@ def told_row(folder, program, count, before):
     return [*words, *(f"{ratio:.2f}" for ratio in ratios)], ratios
 
 
-def memory_row(folder, program, states):
-    """The memory of two runs that end with so many states, as words."""
+def standing_row(folder, program, states):
+    """The memory of two runs that end with so many states, and the ratio of the long one to tcprewrite, as words."""
     words = [f"{states}"]
     for count in (SHORT, LONG):
         contest = Contest(folder, program, count, states)
@@ -219,7 +219,8 @@ def memory_row(folder, program, states):
         if contest.states() != states:
             sys.exit(f"{contest.states()} states at the end, not {states}")
         words.append(peak_memory(contest.program))
-    return words
+    ours, rewriting = best_seconds(contest.program, contest.tcprewrite)
+    return [*words, f"{LONG / ours:.0f}", f"{rewriting / ours:.2f}"]
 
 
 def print_speeds(folder, program, counts):
@@ -230,12 +231,12 @@ def print_speeds(folder, program, counts):
         print_row(speed_row(folder, program, count))
 
 
-def print_memory(folder, program, numbers):
+def print_standing(folder, program, numbers):
     print()
-    print_row(["states", f"peak MB, {SHORT} packets", f"peak MB, {LONG} packets"])
-    print_row(["---:"] * 3)
+    print_row(["states", f"peak MB, {SHORT} packets", f"peak MB, {LONG} packets", "pfreplay packets/s", "/ tcprewrite"])
+    print_row(["---:"] * 5)
     for states in numbers:
-        print_row(memory_row(folder, program, states))
+        print_row(standing_row(folder, program, states))
 
 
 def print_translated(folder, program, counts):
@@ -293,7 +294,7 @@ def main():
             if words.packets:
                 print_speeds(folder, program, words.packets)
             if words.states:
-                print_memory(folder, program, words.states)
+                print_standing(folder, program, words.states)
     print(f"load {os.getloadavg()[0]:.1f}")
 
 

@@ -25,7 +25,7 @@ OUTPUTS = ("verdicts", "packets", "counters", "states")
 # the ruleset and the filter pass the same packets
 RULES = "block in all\npass in from 198.51.100.0/24 to any no state\npass out all no state\n"
 FILTER = "src net 10.0.0.0/8 or src net 198.51.100.0/24"
-RUNS = 3
+RUNS = 5
 MEGABYTE = 1000000
 
 
