@@ -62,12 +62,13 @@ exchanges_new entries place state new =
     (between (take place entries) (drop place entries) state state None new)
 
 -- an entry gives way
-pub exchanges_over : (entries : List Entry) (place : ℕ) (state : State) (d : Entry) (new : Option Told) → place < length entries
-    → let old = Some (get_or entries place d).told in Exchanges old new (counts_of entries) (counts_of (edited state (record { place = place; old = old; new = new }) entries))
-exchanges_over entries place state d new within =
-    let entry = get_or entries place d in
+pub exchanges_over : (entries : List Entry) (place : ℕ) (state : State) (entry : Entry) (new : Option Told) → place < length entries → entry ≡ get_or entries place entry
+    → let old = Some entry.told in Exchanges old new (counts_of entries) (counts_of (edited state (record { place = place; old = old; new = new }) entries))
+exchanges_over entries place state entry new within read =
+    let at_place : drop place entries ≡ entry ∷ drop (place + 1) entries =
+    drop_more entries place entry within ∙ ap (λ x. x ∷ drop (place + 1) entries) (sym read) in
     let all : take place entries ++ cons_option (Some entry) (drop (place + 1) entries) ≡ entries =
-    ap (λ rest. take place entries ++ rest) (sym (drop_more entries place d within)) ∙ take-append-drop place entries in
+    ap (λ rest. take place entries ++ rest) (sym at_place) ∙ take-append-drop place entries in
     subst (λ (all : List Entry). Exchanges (Some entry.told) new (counts_of all) (counts_of (edited state (record { place = place; old = Some entry.told; new = new }) entries))) all
     (between (take place entries) (drop (place + 1) entries) entry.state state (Some entry.told) new)
 

@@ -8,6 +8,7 @@ pub mod MessageLemmas
 pub mod NameLemmas
 pub mod NumberLemmas
 pub mod OnceLemmas
+pub mod OrderLemmas
 pub mod PacketLemmas
 pub mod PartLemmas
 pub mod PlaceLemmas

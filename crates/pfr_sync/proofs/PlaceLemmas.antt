@@ -1,7 +1,8 @@
 -- The place of an event among entries by rising number.
-use Rattle.std.proofs.Common.{◌≡◌, ℕ, zero, suc, ◌≤◌, ◌<◌, true, nat_lt, List, [], ◌∷◌, ◌++◌, length, take, drop, get_or, refl, ap, ◌∙◌, arith}
+use Rattle.std.proofs.Common.{◌≡◌, ℕ, zero, suc, ◌+◌, ◌≤◌, ◌<◌, true, nat_lt, List, [], ◌∷◌, ◌++◌, length, take, drop, get_or, refl, ap, ◌∙◌, arith}
 use Rattle.std.specs.List.Sorted.{IsNonDecreasingBy}
 use Rattle.std.proofs.lemmas.Bool.{and_parts, ltb-true}
+use Rattle.std.proofs.lemmas.List.{get_or_read}
 use Rattle.pfr_sync.specs.declared.event.Event.{Event}
 use Rattle.pfr_sync.specs.declared.queue.Entry.{Entry}
 use Rattle.pfr_sync.specs.Queues.{number_of, rise, with_entry}
@@ -32,3 +33,23 @@ behind_lower event [] (suc place) within lower = absurd (omega arith)
 behind_lower event (x ∷ entries) (suc place) within lower =
     with_behind event x entries (lower 0 x (omega arith))
     ∙ ap (λ rest. x ∷ rest) (behind_lower event entries place (omega arith) (λ i d before. lower (suc i) d (omega arith)))
+
+-- ---- a search by halves
+
+-- entries before a place are of lower numbers, and those from another on are not
+pub record Halves (entries : List Entry) (n low high : ℕ) : Type 0 where
+  pub order : low ≤ high
+  pub within : high ≤ length entries
+  pub lower : (i : ℕ) (d : Entry) → i < low → number_of (get_or entries i d) < n
+  pub above : (d : Entry) → high < length entries → n ≤ number_of (get_or entries high d)
+
+pub halves_lower : (entries : List Entry) (n low high m : ℕ) (x : Entry) → rise entries ≡ true → Halves entries n low high → m < high
+    → x ≡ get_or entries m x → number_of x < n → Halves entries n (m + 1) high
+halves_lower entries n low high m x in_order halves before read is_lower = record {
+  order = omega arith;
+  within = halves.within;
+  lower = λ i d behind.
+      let rises = numbers_rise entries in_order i m d (omega arith) (omega (arith, halves.within)) in
+      omega (arith, rises, ap number_of (get_or_read entries m x (omega (arith, halves.within)) read d));
+  above = halves.above;
+}

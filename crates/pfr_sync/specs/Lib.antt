@@ -1,4 +1,5 @@
 pub mod Edits
+pub mod Entries
 pub mod Events
 pub mod Files
 pub mod Laws

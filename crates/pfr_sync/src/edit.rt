@@ -1,5 +1,5 @@
 //! What an event does to the entries of the open message.
-ghost use Rattle.std.specs.Prelude.{◌≡◌, ◌+◌, ◌≤◌, ◌<◌, ◌++◌, true, take, drop, length, slice_index_or, vec_len, [], ◌∷◌, OnOk, OnErr, IfNone, IsSome};
+ghost use Rattle.std.specs.Prelude.{◌≡◌, ◌+◌, ◌≤◌, ◌<◌, ◌++◌, true, take, drop, length, slice_index_or, [], ◌∷◌, OnOk, OnErr, IfNone, IsSome};
 ghost use Rattle.pfr_track.specs.declared.state.State.{State as S};
 ghost use Rattle.pfr_track.specs.declared.time.Clock.{Clock as C};
 ghost use Rattle.pfr_sync.specs.declared.event.Event.{Event as E};
@@ -8,8 +8,9 @@ ghost use Rattle.pfr_sync.specs.Edits as edits;
 ghost use Rattle.pfr_sync.specs.Queues as spec;
 ghost use Rattle.pfr_sync.specs.Sizes as sizes;
 
+use crate::entries::Entries;
 use crate::event::Change;
-use crate::queue::{Entry, Told};
+use crate::queue::Told;
 use pfr_track::{State, StateNumber};
 use std::alloc::AllocError;
 
@@ -48,18 +49,27 @@ pub struct Edit {
 }
 
 /// The first place whose entry isn't of a lower number than this.
-fn place_of(entries: &[Entry], number: StateNumber) -> usize
+fn place_of(entries: &Entries, number: StateNumber) -> usize
     requires { spec.rise entries.now ≡ true }
     ensures within { result ≤ length entries.now }
     ensures entries { (event : E) → event.state.number ≡ number → spec.with_entry event entries.now ≡ take result entries.now ++ spec.with_entry event (drop result entries.now) }
     ensures above { (other : N) → result < length entries.now → number.0 ≤ spec.number_of (slice_index_or entries.now result other) }
 {
-    let number = number.0;
-    entries.partition_point(|entry| entry.state.number.0 < number)
+    let mut low = 0;
+    let mut high = entries.len();
+    while low < high {
+        let middle = low + (high - low) / 2;
+        if entries.get(middle).state.number.0 < number.0 {
+            low = middle + 1;
+        } else {
+            high = middle;
+        }
+    }
+    low
 }
 
 /// What an event does to the entries, at whatever clock.
-pub fn edit_of(entries: &[Entry], change: Change, state: &State) -> Edit
+pub fn edit_of(entries: &Entries, change: Change, state: &State) -> Edit
     requires { spec.rise entries.now ≡ true }
     ensures entries { (clock : C) → spec.with_entry (record { change = change; state = state.now; clock = clock }) entries.now ≡ edits.edited state.now result entries.now }
     ensures within { edits.behind result.place result.old ≤ length entries.now }
@@ -67,14 +77,14 @@ pub fn edit_of(entries: &[Entry], change: Change, state: &State) -> Edit
     ensures counts { sizes.Exchanges result.old result.new (sizes.counts_of entries.now) (sizes.counts_of (edits.edited state.now result entries.now)) }
 {
     let place = place_of(entries, state.number);
-    if place == entries.len() || state.number.0 < entries[place].state.number.0 {
+    if place == entries.len() || state.number.0 < entries.get(place).state.number.0 {
         Edit {
             place,
             old: None,
             new: Some(begun(change)),
         }
     } else {
-        let told = entries[place].told;
+        let told = entries.get(place).told;
         Edit {
             place,
             old: Some(told),
@@ -83,60 +93,20 @@ pub fn edit_of(entries: &[Entry], change: Change, state: &State) -> Edit
     }
 }
 
-/// Puts an entry before those from a place on. Where memory is refused nothing changes.
-// It has large locals, which a call that only writes an entry over needn't pay for.
-#[inline(never)]
-fn put(entries: &mut Vec<Entry>, place: usize, told: Told, state: &State) -> Result<(), AllocError>
-    requires { place ≤ length entries.old.items }
-    ensures entries { OnOk result (entries.new.items ≡ take place entries.old.items ++ record { told = told; state = state.now } ∷ drop place entries.old.items) }
-    ensures kept { OnErr result (entries.new.items ≡ entries.old.items) }
-{
-    // Mostly it belongs behind all others.
-    if place == entries.len() {
-        entries.push(Entry {
-            told,
-            state: *state,
-        })?;
-        return Ok(());
-    }
-    let last = entries.len() - 1;
-    let moved = entries[last];
-    entries.push(moved)?;
-    entries.copy_within(place..last, place + 1);
-    let entry = &mut entries[place];
-    entry.told = told;
-    entry.state = *state;
-    Ok(())
-}
-
-/// Takes an entry out.
-// As with one that is put in.
-#[inline(never)]
-fn take_out(entries: &mut Vec<Entry>, place: usize)
-    requires { place < length entries.old.items }
-    ensures { entries.new.items ≡ take place entries.old.items ++ drop (place + 1) entries.old.items }
-{
-    entries.remove(place);
-}
-
 /// Edits the entries. Where memory is refused nothing changes.
-pub fn apply(entries: &mut Vec<Entry>, edit: Edit, state: &State) -> Result<(), AllocError>
-    requires within { edits.behind edit.place edit.old ≤ length entries.old.items }
+pub fn apply(entries: &mut Entries, edit: Edit, state: &State) -> Result<(), AllocError>
+    requires within { edits.behind edit.place edit.old ≤ length entries.old }
     requires gone { IfNone edit.new (IsSome edit.old) }
-    ensures entries { OnOk result (entries.new.items ≡ edits.edited state.now edit entries.old.items) }
-    ensures kept { OnErr result (entries.new.items ≡ entries.old.items) }
+    ensures entries { OnOk result (entries.new ≡ edits.edited state.now edit entries.old) }
+    ensures kept { OnErr result (entries.new ≡ entries.old) }
 {
     match edit.new {
-        None => {
-            take_out(entries, edit.place);
-        }
+        None => entries.remove(edit.place),
         Some(told) => {
             if edit.old.is_some() {
-                let entry = &mut entries[edit.place];
-                entry.told = told;
-                entry.state = *state;
+                entries.write(edit.place, told, state);
             } else {
-                put(entries, edit.place, told, state)?;
+                entries.insert(edit.place, told, state)?;
             }
         }
     }
@@ -144,12 +114,10 @@ pub fn apply(entries: &mut Vec<Entry>, edit: Edit, state: &State) -> Result<(), 
 }
 
 /// Leaves the entry of an event alone, in the place of the first.
-pub fn start(entries: &mut Vec<Entry>, told: Told, state: &State)
-    requires { 0 < vec_len entries.old }
-    ensures { entries.new.items ≡ record { told = told; state = state.now } ∷ [] }
+pub fn start(entries: &mut Entries, told: Told, state: &State)
+    requires { 0 < length entries.old }
+    ensures { entries.new ≡ record { told = told; state = state.now } ∷ [] }
 {
     entries.truncate(1);
-    let entry = &mut entries[0];
-    entry.told = told;
-    entry.state = *state;
+    entries.write(0, told, state);
 }

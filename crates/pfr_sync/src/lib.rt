@@ -12,6 +12,7 @@
 
 mod digest;
 mod edit;
+mod entries;
 pub mod event;
 mod file;
 pub mod laws;

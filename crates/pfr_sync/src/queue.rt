@@ -9,6 +9,7 @@ ghost use Rattle.pfr_sync.specs.Messages as messages;
 ghost use Rattle.pfr_sync.specs.Queues as spec;
 
 use crate::edit::{apply, begun, edit_of, start};
+use crate::entries::Entries;
 use crate::event::{Change, Event};
 use crate::names::plain_name;
 use crate::origin::Origin;
@@ -46,7 +47,7 @@ pub struct Entry {
 pub struct Queue {
     alloc: Global,
     origin: Origin,
-    entries: Vec<Entry>,
+    entries: Entries,
     /// How many entries there are of each kind.
     counts: Counts,
 }
@@ -58,9 +59,9 @@ impl Model for Queue {
 
     ghost Value = { Queued };
 
-    ghost view = { λ q. record { origin = q.origin; entries = q.entries.items } };
+    ghost view = { λ q. record { origin = q.origin; entries = q.entries } };
 
-    ghost invariant = { λ q. IsQueue (record { origin = q.origin; entries = q.entries.items }) × (q.counts ≡ counts_of q.entries.items) };
+    ghost invariant = { λ q. IsQueue (record { origin = q.origin; entries = q.entries }) × (q.counts ≡ counts_of q.entries) };
 }
 
 impl Queue {
@@ -75,7 +76,7 @@ impl Queue {
                 checksum,
                 creator,
             },
-            entries: Vec::new(alloc),
+            entries: Entries::new(alloc),
             counts: one_of(None),
         }
     }
@@ -122,7 +123,7 @@ impl Queue {
             → IfOk result (λ message. spec.Tells self.new clock (events ++ event ∷ [])
             × (messages.closed_at self.old.origin clock (events ++ event ∷ []) ≡ messages.closed_at self.old.origin clock events ++ option_to_list message)) }
     {
-        let entries = self.entries.as_slice();
+        let entries = &self.entries;
         let edit = edit_of(entries, change, state);
         let counts = exchanged(self.counts, edit.old, edit.new);
         if has_room(counts) {
@@ -152,7 +153,7 @@ impl Queue {
             → IfOk result (λ message. messages.messages_of self.old.origin events ≡ messages.closed_at self.old.origin clock events ++ option_to_list message) }
     {
         let message = message_of(self.alloc, &self.origin, clock, &self.entries, self.counts)?;
-        self.entries.clear();
+        self.entries.truncate(0);
         self.counts = one_of(None);
         Ok(message)
     }

@@ -8,8 +8,9 @@ ghost use Rattle.pfr_sync.specs.Events as events;
 ghost use Rattle.pfr_sync.specs.Messages as messages;
 ghost use Rattle.pfr_sync.specs.Queues.{IsQueue};
 
+use crate::entries::Entries;
 use crate::origin::Origin;
-use crate::queue::{Entry, Told};
+use crate::queue::Told;
 use crate::records::{deletion_of, insertion_of, update_of};
 use crate::sizes::Counts;
 use pfr_messages::{Deletion, Insertion, Message, Update};
@@ -21,7 +22,7 @@ fn insertions_of(
     alloc: Global,
     origin: &Origin,
     clock: Clock,
-    entries: &[Entry],
+    entries: &Entries,
     count: usize,
 ) -> Result<Vec<Insertion>, AllocError>
     requires { name.fits origin.now.interface ≡ true }
@@ -29,7 +30,8 @@ fn insertions_of(
     ensures fits { IfOk result (λ v. list_all records.insertion.fits v.items ≡ true) }
 {
     let mut found = Vec::with_capacity(alloc, count)?;
-    for entry in entries {
+    for place in 0..entries.len() {
+        let entry = entries.get(place);
         if let Told::Insert = entry.told {
             found.push(insertion_of(*origin, clock, entry.state))?;
         }
@@ -42,14 +44,15 @@ fn updates_of(
     alloc: Global,
     origin: &Origin,
     clock: Clock,
-    entries: &[Entry],
+    entries: &Entries,
     count: usize,
 ) -> Result<Vec<Update>, AllocError>
     ensures records { IfOk result (λ v. v.items ≡ map (λ entry. events.update_of origin.now clock entry.state) (filter messages.is_update entries.now)) }
     ensures fits { IfOk result (λ v. list_all records.update.fits v.items ≡ true) }
 {
     let mut found = Vec::with_capacity(alloc, count)?;
-    for entry in entries {
+    for place in 0..entries.len() {
+        let entry = entries.get(place);
         if let Told::Update = entry.told {
             found.push(update_of(*origin, clock, entry.state))?;
         }
@@ -61,14 +64,15 @@ fn updates_of(
 fn deletions_of(
     alloc: Global,
     origin: &Origin,
-    entries: &[Entry],
+    entries: &Entries,
     count: usize,
 ) -> Result<Vec<Deletion>, AllocError>
     ensures records { IfOk result (λ v. v.items ≡ map (λ entry. events.deletion_of origin.now entry.state) (filter messages.is_delete entries.now)) }
     ensures fits { IfOk result (λ v. list_all records.deletion.fits v.items ≡ true) }
 {
     let mut found = Vec::with_capacity(alloc, count)?;
-    for entry in entries {
+    for place in 0..entries.len() {
+        let entry = entries.get(place);
         if let Told::Delete = entry.told {
             found.push(deletion_of(*origin, entry.state))?;
         }
@@ -82,13 +86,13 @@ pub fn message_of(
     alloc: Global,
     origin: &Origin,
     clock: Clock,
-    entries: &[Entry],
+    entries: &Entries,
     counts: Counts,
 ) -> Result<Option<Message>, AllocError>
     requires { IsQueue (record { origin = origin.now; entries = entries.now }) }
     ensures { IfOk result (λ message. option_to_list message ≡ messages.messages_by origin.now clock entries.now) }
 {
-    if entries.is_empty() {
+    if entries.len() == 0 {
         return Ok(None);
     }
     let insertions = insertions_of(alloc, origin, clock, entries, counts.insertions)?;

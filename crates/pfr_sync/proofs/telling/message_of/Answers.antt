@@ -1,10 +1,11 @@
-use Rattle.std.proofs.Common.{◌≡◌, false, nat_eq, length, sym, ◌∙◌}
+use Rattle.std.proofs.Common.{◌≡◌, false, nat_eq, length, ◌∙◌}
+use Rattle.std.proofs.lemmas.Bool.{ne_eqb}
 use Rattle.pfr_sync.proofs.MessageLemmas.{told_from}
 use Rattle.pfr_sync.proofs.telling.message_of.Goals as goal
 
 pub new-requires : goal.new-requires
 new-requires c =
-    let some : nat_eq (length c.args.entries.now) 0 ≡ false = sym c.is_empty.ensures ∙ c.if-is_empty.false in
+    let some : nat_eq (length c.args.entries.now) 0 ≡ false = ne_eqb (length c.args.entries.now) 0 (λ none. c.if-len-eq0.false (c.len.ensures ∙ none)) in
     let i = c.in_ok-insertions in
     let u = c.in_ok-updates in
     let d = c.in_ok-deletions in
@@ -12,7 +13,7 @@ new-requires c =
 
 pub returns : goal.returns
 returns c =
-    let some : nat_eq (length c.args.entries.now) 0 ≡ false = sym c.is_empty.ensures ∙ c.if-is_empty.false in
+    let some : nat_eq (length c.args.entries.now) 0 ≡ false = ne_eqb (length c.args.entries.now) 0 (λ none. c.if-len-eq0.false (c.len.ensures ∙ none)) in
     let i = c.in_ok-insertions in
     let u = c.in_ok-updates in
     let d = c.in_ok-deletions in

@@ -5,6 +5,6 @@ use Rattle.pfr_sync.specs.Messages as messages
 use Rattle.pfr_sync.proofs.GatherLemmas.{Gathers}
 use Rattle.pfr_sync.proofs.telling.updates_of.Given as goal
 
-abbrev pub invariant-loop-entry : goal.invariant-loop-entry
-invariant-loop-entry l =
-    Gathers messages.is_update (λ entry. events.update_of l.origin l.clock entry.state) records.update.fits l.found.items (take l.entry-index l.entries)
+abbrev pub invariant-loop-place : goal.invariant-loop-place
+invariant-loop-place l =
+    Gathers messages.is_update (λ entry. events.update_of l.origin l.clock entry.state) records.update.fits l.found.items (take l.place l.entries)

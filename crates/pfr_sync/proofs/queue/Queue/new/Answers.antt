@@ -4,4 +4,4 @@ use Rattle.pfr_sync.proofs.QueueLemmas.{queue_empty}
 use Rattle.pfr_sync.proofs.queue.Queue.new.Goals as goal
 
 pub invariant_of-result : goal.invariant_of-result
-invariant_of-result c = rw c.new.ensures.items (queue_empty _ (plain_from c.args.interface.now c.plain_name.result c.plain_name.ensures) (search rules), c.one_of.ensures.counts)
+invariant_of-result c = rw c.new.ensures (queue_empty _ (plain_from c.args.interface.now c.plain_name.result c.plain_name.ensures) (search rules), c.one_of.ensures.counts)
