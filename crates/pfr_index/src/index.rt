@@ -8,7 +8,7 @@ ghost use Rattle.pfr_places.specs.declared.place.Place.{Place};
 
 use crate::hash::Hash;
 use crate::search;
-use crate::slot::{Slot, leave, put};
+use crate::slot::{Slot, home, leave, put};
 use pfr_places::Place;
 use std::alloc::{AllocError, Global};
 use std::marker::Model;
@@ -27,6 +27,24 @@ fn wanted(held: usize) -> Result<usize, AllocError>
         return Err(AllocError);
     }
     Ok(((held + 1) * 2).next_power_of_two().max(FEWEST))
+}
+
+/// What stands where a search begins: mostly the place that it would find. Nothing rests on it.
+#[derive(Clone, Copy)]
+pub struct Guess {
+    slot: Slot,
+}
+
+impl Guess {
+    /// The place, if it stands there under this hash.
+    #[inline]
+    pub fn under(self, hash: Hash) -> Option<Place> {
+        if self.slot.hash.0 == hash.0 {
+            Some(self.slot.place)
+        } else {
+            None
+        }
+    }
 }
 
 /// The places of values by hashes of their keys. Contracts see how often each place stands under each hash, and for how many more there is room.
@@ -99,6 +117,16 @@ impl Index {
     {
         let was_there = leave(self.slots.as_mut_slice(), Slot { hash, place });
         self.held -= usize::from(was_there);
+    }
+
+    /// What stands where a search for a hash begins. A row of such questions is answered fast: nothing is done by what stands
+    /// there, so that none waits for the memory at which the one before looks.
+    #[inline]
+    pub fn guess(&self, hash: Hash) -> Option<Guess> {
+        match self.slots.get(home(hash, self.slots.len())) {
+            Some(slot) => Some(Guess { slot: *slot }),
+            None => None,
+        }
     }
 
     /// A place under a hash of which the test says that it is the one; none where it says so of no place under that hash.

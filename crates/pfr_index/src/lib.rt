@@ -7,5 +7,5 @@ mod search;
 mod slot;
 
 pub use hash::Hash;
-pub use index::Index;
+pub use index::{Guess, Index};
 pub use pfr_places::Place;

@@ -1,11 +1,12 @@
 -- Which state is due first, by the deadlines by which states wait.
-use Rattle.std.proofs.Common.{◌≡◌, ◌<◌, ◌≤◌, ◌&&◌, ◌+◌, ◌∙◌, ◌⊎◌, ℕ, true, false, not, nat_le, fold, length, slice_index_or, take, List, [], ◌∷◌, Option, Some, None, sym, refl, ap, subst, inl, inr, arith}
-use Rattle.std.specs.List.{AllByRecursion, Contains}
+use Rattle.std.proofs.Common.{◌≡◌, ◌≤◌, ◌&&◌, ◌++◌, ◌∙◌, ◌⊎◌, ℕ, true, false, not, nat_le, nat_lt, fold, List, [], ◌∷◌, Option, Some, None, sym, refl, ap, subst, inl, inr, arith}
+use Rattle.std.specs.List.{All, AllByRecursion, Contains}
 use Rattle.std.specs.Ordering.{is_lt}
 use Rattle.std.specs.List.Sorted.{IsPermutation}
-use Rattle.std.proofs.lemmas.Bool.{and_parts, both_ways, cases_Bool, cases_order, eq-eqb, eqb-true, le-ltb, leb-false, leb-true, lt-ltb, le-leb, ltb-false, not-true}
+use Rattle.std.proofs.lemmas.Bool.{and_parts, both_ways, cases_Bool, cases_order, eq-eqb, eqb-true, le-ltb, leb-false, leb-true, lt-ltb, le-leb, ltb-false, ltb-true, not-true}
 use Rattle.std.specs.declared.cmp.Reverse.{Reverse}
-use Rattle.std.proofs.lemmas.List.{map-append, take_more}
+use Rattle.std.proofs.lemmas.List.{map-append}
+use Rattle.std.proofs.lemmas.List.Elements.{All-contains}
 use Rattle.std.proofs.lemmas.List.Sums.{fold-append}
 use Rattle.std.proofs.lemmas.List.Sorted.{Contains-permutation}
 use Rattle.pfr_places.specs.Places.{at, have_own_places, is_at, value_of, with_placed, with_value, without as without_placed}
@@ -15,11 +16,11 @@ use Rattle.pfr_track.specs.declared.state.StateNumber.{StateNumber}
 use Rattle.pfr_track.specs.declared.time.Clock.{Clock}
 use Rattle.pfr_track.specs.declared.time.Deadline.{Deadline}
 use Rattle.pfr_states.specs.declared.stored.Stored.{Stored}
-use Rattle.pfr_states.specs.Awaited.{AreAwaited, IsAwaited, due_by, due_if_kept, first_by as first_by_waits, is_kept_at, is_kept_by, kept_by, sooner, wait_of, waits_by}
+use Rattle.pfr_states.specs.Awaited.{AreAwaited, IsAwaited, due_by, due_if_kept, first_among, first_by as first_by_waits, is_kept_at, is_kept_by, kept_by, sooner, wait_of, waits_by}
 use Rattle.pfr_states.specs.Keyed.{held, states_of}
 use Rattle.pfr_states.specs.Laws.{AnswersDue, IsFirstDue}
 use Rattle.pfr_states.specs.States.{due, earlier, first_of, lives, rise}
-use Rattle.pfr_states.specs.Waits.{IsBefore, IsPutOff, Wait, wait_cmp, waits_of}
+use Rattle.pfr_states.specs.Waits.{IsBefore, IsFrom, IsPutOff, Wait, wait_cmp, waits_of}
 use Rattle.pfr_states.proofs.DueLemmas.{Before, due_first, answers, not_before}
 use Rattle.pfr_states.proofs.FindLemmas.{found_there}
 use Rattle.pfr_states.proofs.CompareLemmas.{is_less, is_same}
@@ -35,7 +36,7 @@ each P (y ∷ ys) all x h = elim (in_cons y ys x h) [ inl is ↦ subst P is all.
 
 -- ---- the order of deadlines
 
-not_less : (a b : Wait) → IsBefore a b → a.0.0 ≤ b.0.0
+pub not_less : (a b : Wait) → IsBefore a b → a.0.0 ≤ b.0.0
 not_less a b before = elim (cases_order b.0.0 a.0.0) [
   | inl same ↦ omega (arith, same)
   | inr (inl less) ↦ absurd (both_ways (is_lt (wait_cmp b a)) before (rw (is_less b.0.0 a.0.0 less) refl))
@@ -52,8 +53,15 @@ not_under a b before level = elim (cases_order b.1.0 a.1.0) [
 -- ---- what is due
 
 module _ (clock : Clock) (all : List Held) (waits : List Wait) (awaited : AreAwaited waits all) where
-  pub none_waits : waits ≡ [] → None ≡ due clock (states_of all)
-  none_waits none = none_is_due clock (states_of all) (λ s h. (let q = from_states all s h in absurd (in_none (wait_of q.0) (subst (λ (ws : List Wait). Contains ws (wait_of q.0)) none (awaited q.0 q.1).there))))
+  pub none_come : (bound : ℕ) → All (IsFrom bound) waits → nat_lt clock.0 bound ≡ true → None ≡ due clock (states_of all)
+  none_come bound from ahead = none_is_due clock (states_of all) (λ s h.
+      let q = from_states all s h in
+      let is = awaited q.0 q.1 in
+      let low = All-contains (IsFrom bound) waits (wait_of q.0) from is.there in
+      let early = is.early in
+      let same : q.0.value.state.deadline.0 ≡ s.deadline.0 = ap (λ (t : State). t.deadline.0) q.2 in
+      let late = ltb-true clock.0 bound ahead in
+      lt-ltb clock.0 s.deadline.0 (omega (arith, low, early, same, late)))
 
   pub first_lives : (first : Wait) → AllByRecursion (IsBefore first) waits → nat_le first.0.0 clock.0 ≡ false → None ≡ due clock (states_of all)
   first_lives first before alive = none_is_due clock (states_of all) (λ s h.
@@ -175,15 +183,11 @@ first_of_all clock all waits awaited own in_order = fold_dues clock all None wai
   same r None answer other = sym (none_by clock (states_of all) r other answer)
   same r (Some s) answer other = first_by (states_of all) clock s r in_order other answer
 
--- one deadline more is looked at
-pub first_more : (clock : Clock) (all : List Held) (items : List (Reverse Wait)) (i : ℕ) (d : Reverse Wait) (before other : Option State) → i < length items → before ≡ first_by_waits clock all (waits_of (take i items)) → other ≡ due_by clock all (slice_index_or items i d).0
-    → sooner before other ≡ first_by_waits clock all (waits_of (take (i + 1) items))
-first_more clock all items i d before other within is next =
-    ap (λ (r : Option State). sooner r other) is ∙ ap (λ (r : Option State). sooner (first_by_waits clock all (waits_of (take i items))) r) next
-    ∙ sym (fold-append step None (waits_of (take i items)) ((slice_index_or items i d).0 ∷ []))
-    ∙ ap (λ (ws : List Wait). first_by_waits clock all ws) (sym (map-append (λ (w : Reverse Wait). w.0) (take i items) (slice_index_or items i d ∷ [])) ∙ ap (λ (ws : List (Reverse Wait)). waits_of ws) (sym (take_more items i d within))) where
-      step : Option State → Wait → Option State
-      step first wait = sooner first (due_by clock all wait)
+-- of two lists the second is looked at after the first
+pub first_both : (clock : Clock) (all : List Held) (start : Option State) (near far : List (Reverse Wait)) → first_among clock all (first_among clock all start (waits_of near)) (waits_of far) ≡ first_among clock all start (waits_of (near ++ far))
+first_both clock all start near far = sym (fold-append step start (waits_of near) (waits_of far)) ∙ ap (λ (ws : List Wait). first_among clock all start ws) (sym (map-append (λ (w : Reverse Wait). w.0) near far)) where
+  step : Option State → Wait → Option State
+  step first wait = sooner first (due_by clock all wait)
 
 -- ---- after a change
 
@@ -243,6 +247,10 @@ awaited_put_off all first waits after stored own awaited is moved =
 
       waits_equal : (d : Deadline) (n m : StateNumber) (p q : Place) → n.0 ≡ m.0 → p.0 ≡ q.0 → ◌≡◌ {A = Wait} (d, n, p) (d, m, q)
       waits_equal d n m p q same level = ap (λ (k : ℕ). wait_by d (number_by k) p) same ∙ ap (λ (k : ℕ). wait_by d m (place_by k)) level
+
+-- the deadlines only move
+pub awaited_moved : (all : List Held) (waits after : List Wait) → AreAwaited waits all → IsPermutation waits after → AreAwaited after all
+awaited_moved all waits after awaited now q h = (let is = awaited q h in record { there = Contains-permutation waits after (wait_of q) now is.there; early = is.early })
 
 -- each deadline by which a state waits is still there
 pub awaited_kept : (all : List Held) (waits after : List Wait) → have_own_places all ≡ true → AreAwaited waits all → ((wait : Wait) → Contains waits wait → is_kept_at wait all ≡ true → Contains after wait) → AreAwaited after all

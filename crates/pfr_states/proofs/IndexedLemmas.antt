@@ -13,7 +13,7 @@ use Rattle.pfr_states.specs.declared.stored.Stored.{Stored}
 use Rattle.pfr_states.specs.Awaited.{is_kept_by, kept_by, waits_by}
 use Rattle.pfr_states.specs.Keyed.{AreNumbered, keyed, states_of}
 use Rattle.pfr_states.specs.States.{after, at as at_key, first, is_number, state_of}
-use Rattle.pfr_states.specs.Waits.{Wait, head}
+use Rattle.pfr_states.specs.Waits.{Wait}
 use Rattle.pfr_states.proofs.KeyedChanges.{after_found, first_found, number_found}
 use Rattle.pfr_states.proofs.KeyedLemmas.{Held, find_states, holder, in_states}
 use Rattle.pfr_states.proofs.Membership.{here, none_of, there}
@@ -47,10 +47,6 @@ pub first_answer : (all : List Held) (result : Option Stored) → result ≡ val
 first_answer all result is = ap (λ (r : Option Stored). state_in r) is ∙ in_value (first_placed all) ∙ sym (first_found all)
 
 -- ---- deadlines
-
-pub head_none : (waits : List Wait) → head waits ≡ None → waits ≡ []
-head_none [] is = refl
-head_none (wait ∷ waits) is = absurd cc
 
 -- the state that waits by a deadline
 pub record IsKept (all : List Held) (wait : Wait) (stored : Stored) : Type 0 where

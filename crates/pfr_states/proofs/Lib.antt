@@ -1,8 +1,10 @@
 pub mod AwaitedLemmas
+pub mod BucketLemmas
 pub mod CompareLemmas
 pub mod DueLemmas
 pub mod DueOrderLemmas
 pub mod FilterLemmas
+pub mod FirstLemmas
 pub mod FindLemmas
 pub mod IndexedLemmas
 pub mod KeyLemmas
@@ -19,3 +21,4 @@ pub mod RefusalLemmas
 pub mod ShareLemmas
 pub mod TouchLemmas
 pub mod WaitLemmas
+pub mod WheelLemmas

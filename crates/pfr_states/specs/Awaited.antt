@@ -52,5 +52,9 @@ abbrev pub sooner : Option State → Option State → Option State
 sooner first None = first
 sooner first (Some state) = earlier first state
 
+-- the first of a state and those that wait by one of these
+abbrev pub first_among : Clock → List (Placed Stored) → Option State → List Wait → Option State
+first_among clock all first waits = fold (λ first wait. sooner first (due_by clock all wait)) first waits
+
 abbrev pub first_by : Clock → List (Placed Stored) → List Wait → Option State
-first_by clock all waits = fold (λ first wait. sooner first (due_by clock all wait)) None waits
+first_by clock all waits = first_among clock all None waits

@@ -5,3 +5,4 @@ pub mod Keyed
 pub mod Laws
 pub mod States
 pub mod Waits
+pub mod Wheel

@@ -1,5 +1,5 @@
 -- Deadlines by which states wait.
-use Rattle.std.specs.Prelude.{◌≡◌, ℕ, ◌-◌, false, List, [], ◌∷◌, map, Option, Some, None}
+use Rattle.std.specs.Prelude.{◌≡◌, ℕ, ◌-◌, ◌≤◌, nat_lt, if◌then◌else◌, false, List, [], ◌∷◌, map, Option, Some, None}
 use Rattle.std.specs.BinaryHeap.{heap_capacity, heap_len}
 use Rattle.std.specs.List.Sorted.{IsPermutation}
 use Rattle.std.specs.Ordering.{is_lt, nat_cmp, ordering_then}
@@ -27,6 +27,7 @@ IsBefore a b = is_lt (wait_cmp b a) ≡ false
 -- what deadlines are to contracts
 pub record Waiting : Type 0 where
   pub waits : List Wait
+  pub bound : ℕ
   pub room : ℕ
 
 abbrev pub waits_of : List (Reverse Wait) → List Wait
@@ -38,6 +39,14 @@ room_of heap = heap_capacity heap - heap_len heap
 abbrev pub head : List Wait → Option Wait
 head [] = None
 head (wait ∷ waits) = Some wait
+
+-- a deadline that isn't below a bound
+abbrev pub IsFrom : ℕ → Wait → Type 0
+IsFrom bound wait = bound ≤ wait.0.0
+
+abbrev pub first_below : ℕ → Option Wait → Option Wait
+first_below bound None = None
+first_below bound (Some wait) = if nat_lt wait.0.0 bound then Some wait else None
 
 -- another deadline stands for the same state in the place of the first one
 pub record IsPutOff (first : Wait) (own : Deadline) (old new : List Wait) : Type 0 where

@@ -1,13 +1,16 @@
 //! When states are looked at: deadlines by which states wait, the first one first.
-ghost use Rattle.std.specs.Prelude.{◌≡◌, ◌<◌, ◌≤◌, [], ◌∷◌, false, length, IfSome, OnOk};
-ghost use Rattle.std.specs.List.{AllByRecursion, Contains, filter};
+ghost use Rattle.std.specs.Prelude.{◌≡◌, ◌<◌, [], ◌∷◌, nat_lt, IfNone, IfSome, OnOk};
+ghost use Rattle.std.specs.List.{All, AllByRecursion, filter};
 ghost use Rattle.std.specs.List.Sorted.{IsPermutation};
-ghost use Rattle.pfr_states.specs.Awaited.{is_kept_at};
+ghost use Rattle.std.specs.Option.{option_copied};
+ghost use Rattle.pfr_states.specs.Awaited as awaited;
 ghost use Rattle.pfr_states.specs.Waits as spec;
 
+use crate::due::first_among;
 use crate::keyed::Keyed;
 use crate::stored::Wait;
-use pfr_track::Deadline;
+use crate::wheel::Wheel;
+use pfr_track::{Clock, Deadline, State};
 use std::alloc::{AllocError, Global};
 use std::cmp::Reverse;
 use std::collections::BinaryHeap;
@@ -16,23 +19,33 @@ use std::marker::Model;
 /// How many deadlines there may be before those are looked for by which no state waits any more.
 const FEW: usize = 64;
 
-/// Deadlines by which states wait. Contracts see them in no order, but for the first, and for how many more there is room.
+/// Deadlines by which states wait. Contracts see them in no order, but for the first below a bound, with that bound and how
+/// many more there is room for.
+///
+/// Those that come up later turn in a wheel, each second in a bucket of its own. When a clock reaches their second they move
+/// into a heap, which gives them in order. So what a second costs hangs on the deadlines of that second and on those of its
+/// bucket that lie further ahead, and not on how many there are. What the wheel doesn't take stands in the heap at once: a
+/// deadline that has come, or one for which memory is refused.
 #[derive(Drop)]
 pub(crate) struct Deadlines {
-    waits: BinaryHeap<Reverse<Wait>>,
+    near: BinaryHeap<Reverse<Wait>>,
+    wheel: Wheel,
+    /// How many there are.
+    count: usize,
     /// How many there were when those were dropped last by which no state waited.
     kept: usize,
 }
 
 impl Model for Deadlines {
     ghost use Rattle.std.specs.BinaryHeap.{IsHeap, heap_items};
+    ghost use Rattle.std.specs.Prelude.{◌++◌};
     ghost use Rattle.pfr_states.specs.Waits.{Waiting, reversed_cmp, room_of, waits_of};
 
     ghost Value = { Waiting };
 
-    ghost view = { λ d. record { waits = waits_of (heap_items d.waits); room = room_of d.waits } };
+    ghost view = { λ d. record { waits = waits_of (heap_items d.near ++ d.wheel.items); bound = d.wheel.bound; room = room_of d.near } };
 
-    ghost invariant = { λ d. IsHeap reversed_cmp (heap_items d.waits) };
+    ghost invariant = { λ d. IsHeap reversed_cmp (heap_items d.near) };
 }
 
 impl Deadlines {
@@ -41,24 +54,17 @@ impl Deadlines {
         ensures { result.waits ≡ [] }
     {
         Deadlines {
-            waits: BinaryHeap::new(alloc),
+            near: BinaryHeap::new(alloc),
+            wheel: Wheel::new(alloc),
+            count: 0,
             kept: 0,
         }
     }
 
-    /// How many deadlines there are.
+    /// How many deadlines at most come up below the bound.
     #[inline]
-    pub(crate) fn len(&self) -> usize
-        ensures { result ≡ length self.now.waits }
-    {
-        self.waits.len()
-    }
-
-    /// The deadlines in no order.
-    pub(crate) fn as_slice(&self) -> &[Reverse<Wait>]
-        ensures { spec.waits_of result.now ≡ self.now.waits }
-    {
-        self.waits.as_slice()
+    pub(crate) fn near_count(&self) -> usize {
+        self.near.len()
     }
 
     /// Makes room for one more.
@@ -66,7 +72,22 @@ impl Deadlines {
         ensures same { self.new.waits ≡ self.old.waits }
         ensures room { OnOk result (0 < self.new.room) }
     {
-        self.waits.reserve(1)
+        self.wheel.reserve()?;
+        self.near.reserve(1)
+    }
+
+    /// Puts a deadline into the wheel, or else into the heap.
+    fn put(&mut self, wait: Wait)
+        requires { 0 < self.old.room }
+        ensures { IsPermutation (wait ∷ self.old.waits) self.new.waits }
+    {
+        if self.wheel.put(wait) {
+            return;
+        }
+        match self.near.push(Reverse(wait)) {
+            Ok(()) => {}
+            Err(_) => unreachable!(),
+        }
     }
 
     /// Adds a deadline.
@@ -74,63 +95,94 @@ impl Deadlines {
         requires { 0 < self.old.room }
         ensures { IsPermutation (wait ∷ self.old.waits) self.new.waits }
     {
-        match self.waits.push(Reverse(wait)) {
-            Ok(()) => {}
-            Err(_) => unreachable!(),
+        self.count = self.count.saturating_add(1);
+        self.put(wait);
+    }
+
+    /// Whether the bound lies behind a clock, so that no deadline from the bound on has come.
+    #[inline]
+    pub(crate) fn are_ahead_of(&self, clock: Clock) -> bool
+        ensures { result ≡ nat_lt clock.0 self.now.bound }
+    {
+        u64::from(clock.0) < self.wheel.bound()
+    }
+
+    /// Moves the bound behind a clock, where memory isn't refused.
+    #[inline]
+    pub(crate) fn advance(&mut self, clock: Clock)
+        ensures { IsPermutation self.old.waits self.new.waits }
+    {
+        if !self.are_ahead_of(clock) {
+            self.wheel.advance(clock, &mut self.near);
         }
     }
 
-    /// The first deadline, and of one deadline that of the least number.
+    /// The first deadline below the bound, and of one deadline that of the least number.
     #[inline]
     pub(crate) fn first(&self) -> Option<Wait>
-        ensures head { result ≡ spec.head self.now.waits }
+        ensures below { result ≡ spec.first_below self.now.bound (spec.head self.now.waits) }
         ensures first { IfSome result (λ wait. AllByRecursion (spec.IsBefore wait) self.now.waits) }
-        ensures there { IfSome result (λ wait. Contains self.now.waits wait) }
+        ensures none { IfNone result (All (spec.IsFrom self.now.bound) self.now.waits) }
     {
-        match self.waits.peek() {
-            Some(first) => Some(first.0),
-            None => None,
-        }
+        let bound = self.wheel.bound();
+        let Some(first) = self.near.peek() else {
+            return None;
+        };
+        let first = first.0;
+        if first.0.0 < bound { Some(first) } else { None }
     }
 
     /// Takes the first deadline out.
     pub(crate) fn drop_first(&mut self)
-        ensures { IfSome (spec.head self.old.waits) (λ first. IsPermutation self.old.waits (first ∷ self.new.waits)) }
+        ensures { IfSome (spec.first_below self.old.bound (spec.head self.old.waits)) (λ first. IsPermutation self.old.waits (first ∷ self.new.waits)) }
     {
-        let Some(_first) = self.waits.pop() else {
+        let _ = self.wheel.bound();
+        let Some(_first) = self.near.pop() else {
             return;
         };
+        self.count = self.count.saturating_sub(1);
     }
 
-    /// Puts another deadline in the place of the first, for the same state. It takes no memory.
+    /// Puts another deadline in the place of the first, for the same state. It can't fail.
     pub(crate) fn put_off(&mut self, own: Deadline)
-        ensures { IfSome (spec.head self.old.waits) (λ first. spec.IsPutOff first own self.old.waits self.new.waits) }
+        ensures { IfSome (spec.first_below self.old.bound (spec.head self.old.waits)) (λ first. spec.IsPutOff first own self.old.waits self.new.waits) }
     {
-        let Some(first) = self.waits.pop() else {
+        let _ = self.wheel.bound();
+        let Some(first) = self.near.pop() else {
             return;
         };
         let (_, number, place) = first.0;
-        match self.waits.push(Reverse((own, number, place))) {
-            Ok(()) => {}
-            Err(_) => unreachable!(),
-        }
+        self.put((own, number, place));
     }
 
     /// Whether there are more than twice as many as states, and as were left when those were dropped last by which no state
     /// waited.
     pub(crate) fn are_many(&self, states: usize) -> bool {
-        self.waits.len() / 2 > self.kept.max(states).max(FEW)
+        self.count / 2 > self.kept.max(states).max(FEW)
     }
 
     /// Drops those by which no state waits any more.
     pub(crate) fn sweep(&mut self, keyed: &Keyed)
-        ensures { IsPermutation (filter (λ wait. is_kept_at wait keyed.now) self.old.waits) self.new.waits }
+        ensures { IsPermutation (filter (λ wait. awaited.is_kept_at wait keyed.now) self.old.waits) self.new.waits }
     {
-        self.waits.retain(
+        self.near.retain(
             |wait| -> bool
-                ensures { result ≡ is_kept_at wait.now.0 keyed.entry.now }
+                ensures { result ≡ awaited.is_kept_at wait.now.0 keyed.entry.now }
             { keyed.keeps(wait.0) },
         );
-        self.kept = self.waits.len();
+        self.wheel.sweep(keyed);
+        self.count = self.near.len().saturating_add(self.wheel.count());
+        self.kept = self.count;
+    }
+
+    /// Of the states that wait by one of these and whose own deadline has come the one that is due first, by a look at all.
+    pub(crate) fn first_due<'a>(&self, keyed: &'a Keyed, clock: Clock) -> Option<&'a State>
+        ensures { option_copied result ≡ awaited.first_by clock keyed.entry.now self.now.waits }
+    {
+        self.wheel.first_due(
+            first_among(None, keyed, self.near.as_slice(), clock),
+            keyed,
+            clock,
+        )
     }
 }

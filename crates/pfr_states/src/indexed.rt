@@ -13,6 +13,7 @@ use crate::change::Side;
 use crate::deadlines::Deadlines;
 use crate::keyed::Keyed;
 use crate::stored::{Found, Stored, Wait};
+use pfr_index::Guess;
 use pfr_places::Place;
 use pfr_track::{Clock, Key, State, StateNumber};
 use std::alloc::{AllocError, Global};
@@ -47,46 +48,6 @@ fn is_like(first: &State, second: &State) -> bool
     ensures { result ≡ index.is_like first.now second.now }
 {
     first.number == second.number && first.wire == second.wire && first.stack == second.stack
-}
-
-/// The state that waits by just this deadline, where its own has come.
-fn due_by(keyed: &Keyed, wait: Wait, clock: Clock) -> Option<&State>
-    ensures { option_copied result ≡ awaited.due_by clock keyed.now wait }
-{
-    if !wait.0.has_come(clock) {
-        return None;
-    }
-    let stored = keyed.kept_by(wait)?;
-    if stored.state.deadline.has_come(clock) {
-        Some(&stored.state)
-    } else {
-        None
-    }
-}
-
-/// The one of two states that is due first.
-fn sooner<'a>(first: Option<&'a State>, other: Option<&'a State>) -> Option<&'a State>
-    ensures { option_copied result ≡ awaited.sooner (option_copied first.entry) (option_copied other.entry) }
-{
-    let Some(other) = other else {
-        return first;
-    };
-    let Some(state) = first else {
-        return Some(other);
-    };
-    if goes_before(other, state) {
-        Some(other)
-    } else {
-        Some(state)
-    }
-}
-
-/// Whether a state is due before another one: by deadline, and of one deadline by number.
-fn goes_before(first: &State, second: &State) -> bool
-    ensures { result ≡ spec.goes_before first.now second.now }
-{
-    first.deadline < second.deadline
-        || first.deadline == second.deadline && first.number < second.number
 }
 
 /// Makes room for one more deadline.
@@ -136,13 +97,25 @@ impl IndexedStates {
         self.keyed.place_at(side, key)
     }
 
-    /// The state with a key on a side, with its place.
+    /// Where the state with a key on a side may stand.
+    #[inline]
+    pub(crate) fn guess_at(&self, side: Side, key: &Key) -> Option<Guess> {
+        self.keyed.guess_at(side, key)
+    }
+
+    /// What [`IndexedStates::place_at`] answers, with a look first where it is guessed to stand.
+    #[inline]
+    pub(crate) fn place_by(&self, side: Side, key: &Key, guess: Option<Guess>) -> Option<Place> {
+        self.keyed.place_by(side, key, guess)
+    }
+
+    /// The state with a key on a side, with its place. Where a place is named, it is looked for there first.
     #[inline(always)]
-    pub(crate) fn find(&self, side: Side, key: &Key) -> Option<Found<'_>>
+    pub(crate) fn find(&self, side: Side, key: &Key, hint: Option<Place>) -> Option<Found<'_>>
         ensures state { option_map (λ found. found.state.now) result ≡ spec.at side key.now self.now }
         ensures own_keys { spec.have_own_keys self.now ≡ true }
     {
-        match self.keyed.place_at(side, key) {
+        match self.keyed.place_near(side, key, hint) {
             Some(place) => match self.keyed.get(place) {
                 Some(stored) => Some(Found {
                     state: &stored.state,
@@ -159,7 +132,7 @@ impl IndexedStates {
         ensures state { option_copied result ≡ spec.at side key.now self.now }
         ensures own_keys { spec.have_own_keys self.now ≡ true }
     {
-        match self.find(side, key) {
+        match self.find(side, key, None) {
             Some(found) => Some(found.state),
             None => None,
         }
@@ -178,8 +151,10 @@ impl IndexedStates {
 
     /// Of the states whose deadline has come the one with the least deadline; of those the one with the least number.
     ///
-    /// It is found at once where the first deadline by which a state waits is its own, as [`IndexedStates::settle`] leaves
-    /// it, and else by a look at all deadlines.
+    /// It is found at once where the deadlines have been brought up to the clock and the first by which a state waits is its
+    /// own, as [`IndexedStates::settle`] leaves it, and else by a look at all deadlines.
+    // Mostly nothing is due, which is found out in a few steps. A call would clear the room for a state first.
+    #[inline(always)]
     pub(crate) fn due(&self, clock: Clock) -> Option<State>
         ensures state { result ≡ spec.due clock self.now }
         ensures in_order { spec.rise self.now ≡ true }
@@ -187,7 +162,10 @@ impl IndexedStates {
         // the places' numbers rise, and no two are one
         let _ = self.keyed.len();
         let Some(first) = self.deadlines.first() else {
-            return None;
+            if self.deadlines.are_ahead_of(clock) {
+                return None;
+            }
+            return self.search_due(clock);
         };
         if !first.0.has_come(clock) {
             return None;
@@ -208,11 +186,7 @@ impl IndexedStates {
     {
         // the places' numbers rise, and no two are one
         let _ = self.keyed.len();
-        let mut first = None;
-        for wait in self.deadlines.as_slice() {
-            first = sooner(first, due_by(&self.keyed, wait.0, clock));
-        }
-        first.copied()
+        self.deadlines.first_due(&self.keyed, clock).copied()
     }
 
     /// Settles the first deadline where it has come and isn't a state's own: one by which no state waits goes, and a state
@@ -249,7 +223,8 @@ impl IndexedStates {
     pub(crate) fn settle(&mut self, clock: Clock)
         ensures { self.new ≡ self.old }
     {
-        for _turn in 0..self.deadlines.len() {
+        self.deadlines.advance(clock);
+        for _turn in 0..self.deadlines.near_count() {
             if !self.settle_first(clock) {
                 return;
             }

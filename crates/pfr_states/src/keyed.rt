@@ -12,7 +12,7 @@ ghost use Rattle.pfr_states.specs.States as states;
 use crate::change::Side;
 use crate::key_hash::hash_of;
 use crate::stored::{Stored, Wait};
-use pfr_index::Index;
+use pfr_index::{Guess, Index};
 use pfr_places::{Place, Places};
 use pfr_track::{Key, State, StateNumber};
 use std::alloc::{AllocError, Global};
@@ -121,6 +121,12 @@ impl Keyed {
         self.places.get(place)
     }
 
+    /// Where the state with a key on a side may stand.
+    #[inline]
+    pub(crate) fn guess_at(&self, side: Side, key: &Key) -> Option<Guess> {
+        self.index_on(side).guess(hash_of(key))
+    }
+
     /// Where the state with a key on a side stands.
     #[inline(always)]
     pub(crate) fn place_at(&self, side: Side, key: &Key) -> Option<Place>
@@ -139,6 +145,33 @@ impl Keyed {
             return None;
         };
         Some(place)
+    }
+
+    /// The same, with a look at a place first, where it may stand.
+    #[inline(always)]
+    pub(crate) fn place_near(&self, side: Side, key: &Key, hint: Option<Place>) -> Option<Place>
+        ensures place { result ≡ slab.place_of (spec.keyed side key.now self.now) }
+        ensures states { spec.AreStates self.now }
+    {
+        if let Some(place) = hint {
+            if has_key(&self.places, place, side, key) {
+                return Some(place);
+            }
+        }
+        self.place_at(side, key)
+    }
+
+    /// The same, with a look first where it is guessed to stand.
+    #[inline]
+    pub(crate) fn place_by(&self, side: Side, key: &Key, guess: Option<Guess>) -> Option<Place>
+        ensures place { result ≡ slab.place_of (spec.keyed side key.now self.now) }
+        ensures states { spec.AreStates self.now }
+    {
+        let hint = match guess {
+            Some(guess) => guess.under(hash_of(key)),
+            None => None,
+        };
+        self.place_near(side, key, hint)
     }
 
     /// Where the state of a number stands.

@@ -4,14 +4,17 @@
 
 pub mod change;
 mod deadlines;
+mod due;
 mod indexed;
 mod key_hash;
 mod keyed;
 pub mod laws;
 pub mod stored;
 pub mod table;
+mod wheel;
 
 pub use change::{Side, TableChange, TableError};
+pub use pfr_index::Guess;
 pub use pfr_places::Place;
 pub use stored::Found;
 pub use table::Table;

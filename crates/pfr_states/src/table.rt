@@ -9,6 +9,7 @@ ghost use Rattle.pfr_states.specs.States as spec;
 use crate::change::{Side, TableChange, TableError};
 use crate::indexed::IndexedStates;
 use crate::stored::Found;
+use pfr_index::Guess;
 use pfr_places::Place;
 use pfr_track::{Clock, Key, State, StateNumber};
 use std::alloc::Global;
@@ -63,11 +64,26 @@ impl Table {
     }
 
     /// What [`Table::at`] answers, where it stands: a state is large.
-    #[inline(always)]
+    #[inline]
     pub fn find(&self, side: Side, key: &Key, clock: Clock) -> Option<Found<'_>>
         ensures { option_map (λ found. found.state.now) result ≡ spec.at side key.now (spec.purged clock self.now.states) }
     {
-        match self.states.find(side, key) {
+        self.find_near(side, key, clock, None)
+    }
+
+    /// What [`Table::find`] answers. Where a place is named, as by [`Table::place_by`], the state is looked for there first, which
+    /// saves a search; nothing rests on it that it stands there.
+    #[inline(always)]
+    pub fn find_near(
+        &self,
+        side: Side,
+        key: &Key,
+        clock: Clock,
+        hint: Option<Place>,
+    ) -> Option<Found<'_>>
+        ensures { option_map (λ found. found.state.now) result ≡ spec.at side key.now (spec.purged clock self.now.states) }
+    {
+        match self.states.find(side, key, hint) {
             Some(found) => {
                 if found.state.deadline.has_come(clock) {
                     None
@@ -79,6 +95,20 @@ impl Table {
         }
     }
 
+    /// Where the state with this key on a side may stand. Nothing rests on it: it is for [`Table::place_by`], and for a row of keys
+    /// asked first, so that none waits for the memory at which the one before looks.
+    #[inline]
+    pub fn guess_at(&self, side: Side, key: &Key) -> Option<Guess> {
+        self.states.guess_at(side, key)
+    }
+
+    /// Where the state with this key on a side stands, if there is one, whether its deadline has come or not: a hint for
+    /// [`Table::find_near`]. It is looked for first where it is guessed to stand.
+    #[inline]
+    pub fn place_by(&self, side: Side, key: &Key, guess: Option<Guess>) -> Option<Place> {
+        self.states.place_by(side, key, guess)
+    }
+
     /// Whether there is room for one more state once those are gone whose deadline has come.
     pub fn room(&self, clock: Clock) -> bool
         ensures { result ≡ spec.has_room self.now.limit (spec.purged clock self.now.states) }
@@ -87,6 +117,7 @@ impl Table {
     }
 
     /// Of the states whose deadline has come the one with the least deadline; of those the one with the least number.
+    #[inline]
     pub fn due(&self, clock: Clock) -> Option<State>
         ensures { result ≡ spec.due clock self.now.states }
     {
@@ -115,10 +146,11 @@ impl Table {
     }
 
     /// Settles the deadlines that have come at a clock, so that [`Table::due`] and [`Table::room`] answer at once for this
-    /// clock and for those before it. The states stay as they are. It takes no memory.
+    /// clock and for those before it. The states stay as they are. It may take memory for deadlines that come up; where that is
+    /// refused, some aren't settled.
     ///
     /// A state whose deadline moves later isn't looked for among the deadlines at once: it is looked at again once the
-    /// deadline comes by which it waited. Without settling `due` looks at all deadlines where such a one comes first.
+    /// deadline comes by which it waited. Without settling at a clock `due` may have to look at all deadlines.
     pub fn settle(&mut self, clock: Clock)
         ensures { self.new ≡ self.old }
     {

@@ -2,14 +2,14 @@ use Rattle.std.proofs.Common.{◌≡◌, ◌∙◌, Some, ap, false, nat_le, sym
 use Rattle.std.specs.Option.{option_copied}
 use Rattle.std.proofs.lemmas.Bool.{eqb-true}
 use Rattle.pfr_states.specs.declared.stored.Stored.{Stored}
-use Rattle.pfr_states.proofs.AwaitedLemmas.{first_is_due, first_lives, none_waits}
-use Rattle.pfr_states.proofs.IndexedLemmas.{head_none, kept}
+use Rattle.pfr_states.proofs.AwaitedLemmas.{first_is_due, first_lives, none_come}
+use Rattle.pfr_states.proofs.IndexedLemmas.{kept}
 use Rattle.pfr_states.proofs.KeyedInvariants.{rise_states}
 use Rattle.pfr_states.proofs.indexed.IndexedStates.due.Goals as goal
 
-pub returns-in_default-clause-state : goal.returns-in_default-clause-state
-returns-in_default-clause-state c =
-    rw (← c.self.view_is) (none_waits c.args.clock c.self.inside.keyed c.self.inside.deadlines.waits c.self.invariant (head_none c.self.inside.deadlines.waits (sym c.first.ensures.head ∙ c.in_default.is)))
+pub returns-then-are_ahead_of-clause-state : goal.returns-then-are_ahead_of-clause-state
+returns-then-are_ahead_of-clause-state c =
+    rw (← c.self.view_is) (none_come c.args.clock c.self.inside.keyed c.self.inside.deadlines.waits c.self.invariant c.self.inside.deadlines.bound c.in_default.ensures.none (sym c.are_ahead_of.ensures ∙ c.if-are_ahead_of.true))
 
 pub returns-then-not-has_come-clause-state : goal.returns-then-not-has_come-clause-state
 returns-then-not-has_come-clause-state c =
@@ -27,8 +27,8 @@ returns-then-eq-clause-state c =
     rw (← c.self.view_is) (ap (λ (v : Stored). Some v.state) (sym it.has_value)
     ∙ first_is_due c.args.clock all c.self.inside.deadlines.waits c.self.invariant c.in-Some.first it.placed (rise_states all states.by_number states.in_order) c.in-Some.ensures.first come it.among level (ap (λ (v : Stored). v.state.number.0) it.has_value ∙ it.number))
 
-pub returns-in_default-clause-in_order : goal.returns-in_default-clause-in_order
-returns-in_default-clause-in_order c = rw (← c.self.view_is) (rise_states c.self.inside.keyed c.len.ensures.states.by_number c.len.ensures.states.in_order)
+pub returns-then-are_ahead_of-clause-in_order : goal.returns-then-are_ahead_of-clause-in_order
+returns-then-are_ahead_of-clause-in_order c = rw (← c.self.view_is) (rise_states c.self.inside.keyed c.len.ensures.states.by_number c.len.ensures.states.in_order)
 
 pub returns-then-not-has_come-clause-in_order : goal.returns-then-not-has_come-clause-in_order
 returns-then-not-has_come-clause-in_order c = rw (← c.self.view_is) (rise_states c.self.inside.keyed c.len.ensures.states.by_number c.len.ensures.states.in_order)

@@ -8,12 +8,12 @@ use Rattle.pfr_states.proofs.indexed.IndexedStates.find.Goals as goal
 pub returns-in-Some-get-clause-state : goal.returns-in-Some-get-clause-state
 returns-in-Some-get-clause-state c =
     rw (← c.self.view_is) (ap (λ r. state_in (option_copied r)) (sym c.in-Some-get.is) ∙ key_answer c.args.side c.args.key.now c.self.inside.keyed (option_copied c.get.result)
-    (c.get.ensures.stored ∙ value_there c.self.inside.keyed c.get.ensures.states.own_places (has_key c.args.side c.args.key.now) c.in-Some.place (sym c.place_at.ensures.place ∙ c.in-Some.is)))
+    (c.get.ensures.stored ∙ value_there c.self.inside.keyed c.get.ensures.states.own_places (has_key c.args.side c.args.key.now) c.in-Some.place (sym c.place_near.ensures.place ∙ c.in-Some.is)))
 
 pub returns-in-None-get-clause-state : goal.returns-in-None-get-clause-state
 returns-in-None-get-clause-state c =
     rw (← c.self.view_is) (ap (λ r. state_in (option_copied r)) (sym c.in-None-get.is) ∙ key_answer c.args.side c.args.key.now c.self.inside.keyed (option_copied c.get.result)
-    (c.get.ensures.stored ∙ value_there c.self.inside.keyed c.get.ensures.states.own_places (has_key c.args.side c.args.key.now) c.in-Some.place (sym c.place_at.ensures.place ∙ c.in-Some.is)))
+    (c.get.ensures.stored ∙ value_there c.self.inside.keyed c.get.ensures.states.own_places (has_key c.args.side c.args.key.now) c.in-Some.place (sym c.place_near.ensures.place ∙ c.in-Some.is)))
 
 pub returns-in-None-clause-state : goal.returns-in-None-clause-state
-returns-in-None-clause-state c = rw (← c.self.view_is) (key_none c.args.side c.args.key.now c.self.inside.keyed (sym c.place_at.ensures.place ∙ c.in-None.is))
+returns-in-None-clause-state c = rw (← c.self.view_is) (key_none c.args.side c.args.key.now c.self.inside.keyed (sym c.place_near.ensures.place ∙ c.in-None.is))

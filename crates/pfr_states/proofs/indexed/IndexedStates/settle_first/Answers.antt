@@ -18,7 +18,7 @@ invariant_of-self c =
     let waits = c.self.inside.deadlines.waits in
     let first = c.in-Some.first in
     let none : kept_by first (value_of (at first.2 all)) ≡ None = sym c.kept_by.ensures.stored ∙ ap (λ r. option_copied r) c.in_default-kept_by.is in
-    let gone = subst (λ (r : Option Wait). IfSome r (λ first. IsPermutation waits (first ∷ c.drop_first.new.self.waits))) (sym c.first.ensures.head ∙ c.in-Some.is) c.drop_first.ensures in
+    let gone = subst (λ (r : Option Wait). IfSome r (λ first. IsPermutation waits (first ∷ c.drop_first.new.self.waits))) (sym c.first.ensures.below ∙ c.in-Some.is) c.drop_first.ensures in
     awaited_dropped all first waits c.drop_first.new.self.waits c.self.invariant c.kept_by.ensures.states.own_places (not_kept first (value_of (at first.2 all)) none) gone
 
 pub invariant_of-self-2 : goal.invariant_of-self-2
@@ -28,7 +28,7 @@ invariant_of-self-2 c =
     let first = c.in-Some.first in
     let stored = c.in-Some-kept_by.field-0.now in
     let is : kept_by first (value_of (at first.2 all)) ≡ Some stored = sym c.kept_by.ensures.stored ∙ ap (λ r. option_copied r) c.in-Some-kept_by.is in
-    let moved = subst (λ (r : Option Wait). IfSome r (λ first. IsPutOff first stored.state.deadline waits c.put_off.new.self.waits)) (sym c.first.ensures.head ∙ c.in-Some.is) c.put_off.ensures in
+    let moved = subst (λ (r : Option Wait). IfSome r (λ first. IsPutOff first stored.state.deadline waits c.put_off.new.self.waits)) (sym c.first.ensures.below ∙ c.in-Some.is) c.put_off.ensures in
     subst (λ (xs : List Held). AreAwaited c.put_off.new.self.waits xs) (sym c.write.ensures) (awaited_put_off all first waits c.put_off.new.self.waits stored c.kept_by.ensures.states.own_places c.self.invariant is moved)
 
 pub returns : goal.returns

@@ -3,7 +3,7 @@ use Rattle.std.specs.Option.{option_map}
 use Rattle.pfr_track.specs.declared.state.State.{State}
 use Rattle.pfr_states.specs.declared.stored.Found.{Found}
 use Rattle.pfr_states.proofs.PurgeLemmas.{at_alive, at_gone, at_none}
-use Rattle.pfr_states.proofs.table.Table.find.Goals as goal
+use Rattle.pfr_states.proofs.table.Table.find_near.Goals as goal
 
 abbrev state_at : Option Found → Option State
 state_at found = option_map (λ (found : Found). found.state.now) found
