@@ -165,6 +165,7 @@ fn replay(
         let mut answers = Direct {
             table: &table,
             clock,
+            hint: None,
             found: None,
         };
         let outcome = step(alloc, job, number, clock, &view, &mut answers)?;

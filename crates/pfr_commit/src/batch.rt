@@ -9,11 +9,43 @@ use crate::emitted::Emitted;
 use crate::results::in_places;
 use pfr_capture::Record;
 use pfr_headers::View;
+use pfr_packet::lookup_of;
 use pfr_record::Speculation;
+use pfr_states::Place;
 use std::alloc::AllocError;
+
+/// For how many packets in a row the states are looked up by which they go.
+const AHEAD: usize = 32;
+
+/// From how many states on they are looked up ahead. Fewer stay in a processor's caches, where a lookup needn't wait for memory.
+const MANY: usize = 16_384;
 
 impl Book {
     ghost use Rattle.pfr_commit.specs.Books.{LeadsTo, LeavesTexts, RisesOver, frames_of, job_of, lines_of, untold, world_up_to, world_with, written};
+
+    /// Where the states stand by which the first of these packets go, as far as they are looked up ahead. An evaluation looks there
+    /// first, and nothing rests on it. What is looked at in memory comes together so, first the slots of the index and then the
+    /// states, and not one after the other between evaluations.
+    fn look_ahead(&self, packets: &[(Record, View)]) -> [Option<Place>; AHEAD] {
+        let mut hints = [None; AHEAD];
+        if self.table.len() < MANY {
+            return hints;
+        }
+        let mut lookups = [None; AHEAD];
+        for (lookup, packet) in lookups.iter_mut().zip(packets) {
+            *lookup = match lookup_of(&self.job, &packet.1) {
+                Some((side, key)) => Some((side, key, self.table.guess_at(side, &key))),
+                None => None,
+            };
+        }
+        for (hint, lookup) in hints.iter_mut().zip(lookups.iter()) {
+            *hint = match lookup {
+                Some((side, key, guess)) => self.table.place_by(*side, key, *guess),
+                None => None,
+            };
+        }
+        hints
+    }
 
     /// Takes the next packets, and puts what they add behind what was emitted. Each has its record's view. The results may be
     /// in any order; some may be missing, and some of other packets or other jobs. Of several of one packet the first is
@@ -49,9 +81,13 @@ impl Book {
                 return Err(refused);
             }
         };
+        let mut hints = [None; AHEAD];
         for index in 0..packets.len() {
+            if index % AHEAD == 0 {
+                hints = self.look_ahead(&packets[index..]);
+            }
             let (record, view) = &packets[index];
-            self.take(record, view, &mut places, index, out)?;
+            self.take(record, view, &mut places, index, hints[index % AHEAD], out)?;
         }
         Ok(())
     }

@@ -166,13 +166,15 @@ impl Book {
         }
     }
 
-    /// Evaluates a packet, and writes what it comes to over a fresh outcome. It answers where a state was found for it, if one was.
+    /// Evaluates a packet, and writes what it comes to over a fresh outcome. The state by which it goes may stand at a place that is
+    /// named. It answers where a state was found for it, if one was.
     #[tactic(auto, unfolding(pfr_packet::specs::Steps::step_of))]
     fn run(
         &self,
         number: u64,
         clock: Clock,
         view: &View,
+        hint: Option<Place>,
         outcome: &mut Outcome,
     ) -> Result<Option<Place>, AllocError>
         requires { outcome.old ≡ fresh }
@@ -181,6 +183,7 @@ impl Book {
         let mut answers = Direct {
             table: &self.table,
             clock,
+            hint,
             found: None,
         };
         step_into(
@@ -196,8 +199,8 @@ impl Book {
     }
 
     /// Writes what a packet comes to over a fresh outcome, by the speculation at a place or evaluated here. It answers how many
-    /// were evaluated, none or one, and where a state was found for it then. The speculation is taken out. Where there is none,
-    /// no room for one is cleared or copied.
+    /// were evaluated, none or one, and where a state was found for it then: it may stand at a place that is named. The speculation
+    /// is taken out. Where there is none, no room for one is cleared or copied.
     fn evaluate(
         &self,
         number: u64,
@@ -205,6 +208,7 @@ impl Book {
         view: &View,
         results: &mut Places,
         place: usize,
+        hint: Option<Place>,
         outcome: &mut Outcome,
     ) -> Result<(u64, Option<Place>), AllocError>
         requires { outcome.old ≡ fresh }
@@ -219,7 +223,7 @@ impl Book {
         {
             return Ok((0, None));
         }
-        Ok((1, self.run(number, clock, view, outcome)?))
+        Ok((1, self.run(number, clock, view, hint, outcome)?))
     }
 
     /// Takes over what the next packet came to at a clock, and puts what it adds behind what was emitted. Where memory is
@@ -258,13 +262,14 @@ impl Book {
     }
 
     /// Takes the next packet, with the speculation at a place, and puts what it adds behind what was emitted. Where memory is
-    /// refused that stays as it was.
+    /// refused that stays as it was. The state by which it goes may stand where the hint says.
     pub(crate) fn take(
         &mut self,
         packet: &Record,
         view: &View,
         results: &mut Places,
         place: usize,
+        hint: Option<Place>,
         out: &mut Emitted,
     ) -> Result<(), AllocError>
         requires view { view.now ≡ view_of packet.now.link packet.now.bytes.items }
@@ -287,7 +292,15 @@ impl Book {
         // what is asked of the table at this clock is answered at once then
         self.table.settle(clock);
         let mut outcome = Outcome::new(self.alloc);
-        let (evaluated, found) = self.evaluate(number, clock, view, results, place, &mut outcome)?;
+        let (evaluated, found) = self.evaluate(
+            number,
+            clock,
+            view,
+            results,
+            place,
+            hint,
+            &mut outcome,
+        )?;
         // what `take_outcome` asks of an outcome is so of each that an evaluation has
         no_change_is_refused();
         every_change_is_of_the_named_state();
@@ -334,7 +347,7 @@ impl Book {
             }
         };
         let mut out = Emitted::new(self.alloc);
-        self.take(packet, &view, &mut results, 0, &mut out)?;
+        self.take(packet, &view, &mut results, 0, None, &mut out)?;
         Ok(out)
     }
 

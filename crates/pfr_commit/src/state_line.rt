@@ -126,7 +126,8 @@ fn traffic_of(state: &State) -> Tail
 }
 
 impl StateLine<'_> {
-    /// Puts the line behind a text. Nothing is formatted: each of its three parts is written from its end.
+    /// Puts the line behind a text. Nothing is formatted: each of its three parts is written from its end. Where memory is
+    /// refused, the parts before may stand behind the text.
     #[tactic(auto, unfolding(crate::specs::Lines::state_line))]
     pub fn put(&self, text: &mut Vec<u8>) -> Result<(), AllocError>
         ensures { OnOk result (text.new.items ≡ text.old.items ++ spec.state_line self.now.state.now) }

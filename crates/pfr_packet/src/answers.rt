@@ -5,6 +5,9 @@ ghost use Rattle.pfr_packet.specs.declared.answers.Question.{Question};
 ghost use Rattle.pfr_packet.specs.declared.answers.Question.TheVariants.{At, Room};
 ghost use Rattle.pfr_packet.specs.Plan.{found_in, has_room_in, purged_at};
 
+use crate::job::Job;
+use crate::keys::{Subject, side_of, subject_of};
+use pfr_headers::{View, direction_of};
 use pfr_states::{Place, Side, Table};
 use pfr_track::{Clock, Key, State};
 use std::alloc::AllocError;
@@ -44,6 +47,8 @@ pub trait Answers {
 pub struct Direct<'a> {
     pub table: &'a Table,
     pub clock: Clock,
+    /// Where the state may stand that is asked for first, by its key on the side of [`lookup_of`].
+    pub hint: Option<Place>,
     /// Where the state stood that was found last, if one was.
     pub found: Option<Place>,
 }
@@ -56,7 +61,7 @@ impl Answers for Direct<'_> {
     #[tactic(auto, unfolding(crate::specs::Plan::found_in, crate::specs::Plan::purged_at))]
     fn at(&mut self, side: Side, key: &Key) -> Result<Option<State>, AllocError> {
         // each way ends for itself: where ways meet, a state is copied once more
-        match self.table.find(side, key, self.clock) {
+        match self.table.find_near(side, key, self.clock, self.hint) {
             Some(found) => {
                 self.found = Some(found.place);
                 return Ok(Some(*found.state));
@@ -71,5 +76,18 @@ impl Answers for Direct<'_> {
     #[tactic(auto, unfolding(crate::specs::Plan::has_room_in, crate::specs::Plan::purged_at))]
     fn room(&mut self) -> Result<bool, AllocError> {
         Ok(self.table.room(self.clock))
+    }
+}
+
+/// The side and the key by which a state is looked for first when a packet is evaluated, if one is. Whoever evaluates packets in a
+/// row may look all their states up together beforehand, and name their places as hints ([`Direct`]).
+pub fn lookup_of(job: &Job, view: &View) -> Option<(Side, Key)> {
+    let View::Ipv4(packet) = view else {
+        return None;
+    };
+    let direction = direction_of(packet, job.inside());
+    match subject_of(direction, packet) {
+        Subject::Alone => None,
+        Subject::Embedded(key) | Subject::Connection(key) => Some((side_of(direction), key)),
     }
 }

@@ -310,10 +310,8 @@ pub fn step_into<A: Answers>(
     ensures kept { (question : Question) → A.asked answers.old question → A.asked answers.new question }
 {
     let packet = match view {
-        View::Skip => {
-            *outcome = Outcome::unseen(alloc, Verdict::Skip, Reason::NotIp);
-            return Ok(());
-        }
+        // A fresh outcome is that of such a packet.
+        View::Skip => return Ok(()),
         View::Short if !job.is_skipped() => {
             *outcome = Outcome::unseen(alloc, Verdict::Block, Reason::Short);
             return Ok(());

@@ -15,24 +15,6 @@ use pfr_states::TableChange;
 use pfr_track::{Advance, Clock, State, advance};
 use std::alloc::Global;
 
-/// What a packet of a state's connection comes to that passes by the state.
-fn passed(
-    alloc: Global,
-    direction: Direction,
-    packet: &Packet,
-    state: &State,
-    reason: Reason,
-    change: Option<TableChange>,
-) -> Outcome
-    ensures { result ≡ spec.passed direction packet.now state.now reason change }
-{
-    let mut outcome = Outcome::by_state(alloc, direction, state, Verdict::Pass, reason);
-    outcome.bytes = written_by(direction, packet, &state.wire, &state.stack);
-    outcome.change = change;
-    outcome.ask_leave(packet, state.rules.allows_options);
-    outcome
-}
-
 /// What an ICMP error comes to that embeds a packet of a state's connection: it passes, and the state stays as it is.
 pub(crate) fn embedded(
     alloc: Global,
@@ -42,7 +24,13 @@ pub(crate) fn embedded(
 ) -> Outcome
     ensures { result ≡ spec.embedded direction packet.now state.now }
 {
-    passed(alloc, direction, packet, state, Reason::StateError, None)
+    let mut outcome = Outcome::new(alloc);
+    outcome.find_state(direction, state);
+    outcome.verdict = Verdict::Pass;
+    outcome.reason = Reason::StateError;
+    outcome.bytes = written_by(direction, packet, &state.wire, &state.stack);
+    outcome.ask_leave(packet, state.rules.allows_options);
+    outcome
 }
 
 /// Makes what a packet with a state's key comes to, out of what it comes to where it doesn't fit. The state becomes what it is

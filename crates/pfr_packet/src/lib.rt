@@ -18,7 +18,7 @@ pub mod passage;
 pub mod picks;
 pub mod verdict;
 
-pub use answers::{Answers, Direct, Question};
+pub use answers::{Answers, Direct, Question, lookup_of};
 pub use evaluation::{step, step_into};
 pub use job::Job;
 pub use outcome::{Outcome, VisitedRules};

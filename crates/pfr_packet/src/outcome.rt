@@ -89,29 +89,6 @@ impl Outcome {
         }
     }
 
-    /// What a packet comes to whose state is found: the state's rules are named, and nothing changes.
-    pub(crate) fn by_state(
-        alloc: Global,
-        direction: Direction,
-        state: &State,
-        verdict: Verdict,
-        reason: Reason,
-    ) -> Outcome
-        ensures { result ≡ spec.by_state direction state.now verdict reason }
-    {
-        Outcome {
-            direction: Some(direction),
-            verdict,
-            reason,
-            rule: state.rules.filter,
-            translation: state.rules.translation,
-            state: Some(state.number),
-            visited: VisitedRules::none(alloc),
-            bytes: None,
-            change: None,
-        }
-    }
-
     /// Makes a fresh outcome what a packet comes to whose state is found and which doesn't fit.
     #[inline(always)]
     pub(crate) fn find_state(&mut self, direction: Direction, state: &State)

@@ -1,5 +1,0 @@
-use Rattle.std.proofs.Common.{rules}
-use Rattle.pfr_packet.proofs.found.passed.Goals as goal
-
-pub returns : goal.returns
-returns c = search rules
