@@ -1,6 +1,6 @@
 //! The program of `main.rattle` in plain Rust, over a table of states of the same structure. States stand in a slab, their
-//! numbers in order, their places under hashes of the keys of either side, and their deadlines in a heap. It takes the
-//! same words and prints the same lines.
+//! numbers in order, their places under hashes of the keys of either side, and their deadlines in a wheel of seconds with a
+//! heap in front. It takes the same words and prints the same lines.
 
 use std::cmp::Reverse;
 use std::collections::BinaryHeap;
@@ -214,6 +214,81 @@ struct Stored {
 /// A deadline, the number of the state that waits by it, and where that one stands.
 type Wait = (u64, u64, u32);
 
+/// How many buckets there are.
+const BUCKETS: u64 = 256;
+
+/// Deadlines in buckets by their second. Those that have come are in the heap, and all others from the bound on.
+#[derive(Default)]
+struct Deadlines {
+    near: BinaryHeap<Reverse<Wait>>,
+    buckets: Vec<Vec<Reverse<Wait>>>,
+    bound: u64,
+    count: usize,
+}
+
+impl Deadlines {
+    fn put(&mut self, wait: Wait) {
+        if self.buckets.is_empty() {
+            self.buckets.resize_with(BUCKETS as usize, Vec::new);
+        }
+        if wait.0 < self.bound {
+            self.near.push(Reverse(wait));
+        } else {
+            self.buckets[(wait.0 % BUCKETS) as usize].push(Reverse(wait));
+        }
+    }
+
+    fn add(&mut self, wait: Wait) {
+        self.count += 1;
+        self.put(wait);
+    }
+
+    /// Moves what has come into the heap, and the bound behind the clock.
+    fn advance(&mut self, clock: u32) {
+        let end = u64::from(clock) + 1;
+        if end <= self.bound {
+            return;
+        }
+        for ahead in 0..(end - self.bound).min(BUCKETS) {
+            let Some(bucket) = self
+                .buckets
+                .get_mut(((self.bound + ahead) % BUCKETS) as usize)
+            else {
+                break;
+            };
+            let mut index = 0;
+            while index < bucket.len() {
+                let Reverse(wait) = bucket[index];
+                if wait.0 < end {
+                    self.near.push(bucket.swap_remove(index));
+                } else {
+                    index += 1;
+                }
+            }
+        }
+        self.bound = end;
+    }
+
+    /// The first below the bound.
+    fn first(&self) -> Option<Wait> {
+        let &Reverse(first) = self.near.peek()?;
+        (first.0 < self.bound).then_some(first)
+    }
+
+    fn retain(&mut self, is_kept: impl Fn(Wait) -> bool) {
+        self.near.retain(|wait| is_kept(wait.0));
+        for bucket in &mut self.buckets {
+            bucket.retain(|wait| is_kept(wait.0));
+        }
+        self.count = self.near.len() + self.buckets.iter().map(Vec::len).sum::<usize>();
+    }
+
+    fn iter(&self) -> impl Iterator<Item = Wait> + '_ {
+        let turning = self.buckets.iter().flatten();
+        self.near.iter().chain(turning).map(|wait| wait.0)
+    }
+}
+
 #[derive(Default)]
 struct Table {
     states: Vec<Option<Stored>>,
@@ -223,7 +298,7 @@ struct Table {
     count: usize,
     wire: Index,
     stack: Index,
-    deadlines: BinaryHeap<Reverse<Wait>>,
+    deadlines: Deadlines,
     /// How many deadlines were left when those were dropped last by which no state waited.
     kept: usize,
     limit: usize,
@@ -279,11 +354,11 @@ impl Table {
 
     /// Drops the deadlines by which no state waits any more once they are many.
     fn sweep_deadlines(&mut self) {
-        if self.deadlines.len() / 2 > self.kept.max(self.count).max(64) {
+        if self.deadlines.count / 2 > self.kept.max(self.count).max(64) {
             let states = &self.states;
             self.deadlines
-                .retain(|wait| kept_by(states, wait.0).is_some());
-            self.kept = self.deadlines.len();
+                .retain(|wait| kept_by(states, wait).is_some());
+            self.kept = self.deadlines.count;
         }
     }
 
@@ -320,7 +395,7 @@ impl Table {
         self.count += 1;
         self.wire.insert(hash_of(&state.wire), place);
         self.stack.insert(hash_of(&state.stack), place);
-        self.deadlines.push(Reverse((waits, state.number, place)));
+        self.deadlines.add((waits, state.number, place));
     }
 
     /// Writes a state over the one at a place, which has other keys.
@@ -337,7 +412,7 @@ impl Table {
         self.stack.insert(hash_of(&state.stack), place);
         let waits = state.deadline;
         self.states[place as usize] = Some(Stored { state, waits });
-        self.deadlines.push(Reverse((waits, state.number, place)));
+        self.deadlines.add((waits, state.number, place));
     }
 
     fn make(&mut self, state: State) -> bool {
@@ -363,8 +438,7 @@ impl Table {
                     if state.deadline < stored.waits {
                         stored.waits = state.deadline;
                         self.sweep_deadlines();
-                        self.deadlines
-                            .push(Reverse((state.deadline, state.number, place)));
+                        self.deadlines.add((state.deadline, state.number, place));
                     }
                     return true;
                 }
@@ -398,7 +472,8 @@ impl Table {
 
     /// Settles the deadlines that have come, so that `due` answers at once.
     fn settle(&mut self, clock: u32) {
-        while let Some(&Reverse(first)) = self.deadlines.peek() {
+        self.deadlines.advance(clock);
+        while let Some(first) = self.deadlines.first() {
             if u64::from(clock) < first.0 {
                 return;
             }
@@ -406,11 +481,12 @@ impl Table {
             if own == Some(first.0) {
                 return;
             }
-            self.deadlines.pop();
+            self.deadlines.near.pop();
             let Some(own) = own else {
+                self.deadlines.count -= 1;
                 continue;
             };
-            self.deadlines.push(Reverse((own, first.1, first.2)));
+            self.deadlines.put((own, first.1, first.2));
             if let Some(stored) = &mut self.states[first.2 as usize] {
                 stored.waits = own;
             }
@@ -419,15 +495,19 @@ impl Table {
 
     /// Of the states whose deadline has come the one with the least deadline; of those the one with the least number.
     fn due(&self, clock: u32) -> Option<State> {
-        let &Reverse(first) = self.deadlines.peek()?;
-        if u64::from(clock) < first.0 {
+        let first = self.deadlines.first();
+        let is_ahead = match first {
+            Some(first) => u64::from(clock) < first.0,
+            None => u64::from(clock) < self.deadlines.bound,
+        };
+        if is_ahead {
             return None;
         }
         let kept = |wait: Wait| kept_by(&self.states, wait).map(|stored| stored.state);
-        kept(first)
-            .filter(|state| state.deadline == first.0)
+        first
+            .and_then(|first| kept(first).filter(|state| state.deadline == first.0))
             .or_else(|| {
-                let all = self.deadlines.iter().filter_map(|wait| kept(wait.0));
+                let all = self.deadlines.iter().filter_map(kept);
                 all.filter(|state| state.has_come(clock))
                     .min_by_key(|state| (state.deadline, state.number))
             })
