@@ -1,5 +1,5 @@
 -- Picks: ports that are tried one after the other.
-use Rattle.std.proofs.Common.{◌≡◌, ◌<◌, ◌-◌, ◌+◌, ℕ, suc, true, false, Option, Some, None, List, [], ◌∷◌, ◌++◌, Result, Ok, Err, IfOk, append-nil, refl, subst, arith}
+use Rattle.std.proofs.Common.{◌≡◌, ◌<◌, ◌-◌, ◌+◌, ℕ, suc, true, false, Option, Some, None, List, [], ◌∷◌, ◌++◌, Result, Ok, Err, IfOk, OnOk, append-nil, refl, subst, arith}
 use Rattle.std.specs.Option.{is_some}
 use Rattle.pfr_net.specs.declared.port.Port.{Port}
 use Rattle.pfr_ruleset.specs.declared.flat.PortRange.{PortRange}
@@ -92,6 +92,11 @@ falling_free table steps wire next rest low bound asked after key found below le
 pub ok_then : {A E : Type 0} {P Q : A → Type 0} → ((a : A) → P a → Q a) → (r : Result A E) → IfOk r P → IfOk r Q
 ok_then f (Ok a) h = f a h
 ok_then f (Err e) h = h
+
+-- the same of what is so where there is an answer
+pub done_then : {A E : Type 0} {P Q : Type 0} → (P → Q) → (r : Result A E) → OnOk r P → OnOk r Q
+done_then f (Ok a) h = f h
+done_then f (Err e) h = h
 
 -- these ports were tried, whatever stands behind them
 abbrev pub Tried : StateTable → (ℕ → Key) → List ℕ → (Question → Type 0) → Option Key → Type 0

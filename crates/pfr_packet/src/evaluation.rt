@@ -3,13 +3,13 @@ ghost use Rattle.std.specs.Prelude.{◌≡◌, IfOk, OnOk};
 ghost use Rattle.pfr_packet.specs.declared.answers.Question.{Question};
 ghost use Rattle.pfr_packet.specs.Job.{timeouts_of};
 ghost use Rattle.pfr_packet.specs.Outcomes.{fresh};
-ghost use Rattle.pfr_packet.specs.Passages.{by_way, kept_by_way};
+ghost use Rattle.pfr_packet.specs.Passages.{by_way};
 ghost use Rattle.pfr_packet.specs.Plan.{Goes};
 ghost use Rattle.pfr_packet.specs.Steps as spec;
 
 use crate::answers::Answers;
-use crate::filtering::Filtered;
-use crate::found::{embedded, track};
+use crate::filtering::{Conduct, filter_into};
+use crate::found::{embed, track};
 use crate::job::Job;
 use crate::keys::{Subject, side_of, subject_of};
 use crate::making::make_state;
@@ -26,9 +26,8 @@ use std::alloc::{AllocError, Global};
 
 /// An IPv4 packet that is evaluated.
 ///
-/// The ways that few packets go are calls of their own, which answer no outcome but write one over. They would burden the way of
-/// a packet whose state is found: an outcome is large, is copied part by part where ways meet, and room for one that is answered
-/// is cleared beforehand.
+/// What it comes to is written over a fresh outcome on each way, and said of the outcome where the packet doesn't end for want of
+/// memory. An outcome is large, and would be copied where ways meet. The ways that few packets go are calls of their own.
 #[derive(Clone, Copy)]
 struct Arrival<'a> {
     alloc: Global,
@@ -39,63 +38,27 @@ struct Arrival<'a> {
     direction: Direction,
 }
 
-/// What becomes of a packet before a state is made for it.
-#[derive(Drop)]
-struct Judged {
-    outcome: Outcome,
-    /// What the state says of its rules, for a packet that passes and may make one.
-    kept: Option<StateRules>,
-}
-
-impl Judged {
-    /// By what the filter makes of a packet behind a passage.
-    fn filtered(passage: &Passage, visits: Visits, filtered: Filtered) -> Judged
-        ensures outcome { result.outcome ≡ by_way passage.now visits filtered.outcome }
-        ensures kept { result.kept ≡ kept_by_way passage.now.translation filtered.outcome.rule filtered.allows_options filtered.kept }
-    {
-        let Filtered {
-            mut outcome,
-            allows_options,
-            kept,
-        } = filtered;
-        outcome.translation = passage.translation;
-        outcome.visited.translation = visits;
-        let kept = passage.kept(outcome.rule, allows_options, kept);
-        Judged { outcome, kept }
-    }
+/// What translated a packet behind a passage is named in what the filter made of it; these translation rules were visited.
+fn name_translation(outcome: &mut Outcome, passage: &Passage, visits: Visits)
+    ensures { outcome.new ≡ by_way passage.now visits outcome.old }
+{
+    outcome.translation = passage.translation;
+    outcome.visited.translation = visits;
 }
 
 impl Arrival<'_> {
     /// What it comes to by the filter alone.
-    fn filtered(&self) -> Result<Outcome, AllocError>
-        ensures { IfOk result (λ outcome. outcome ≡ spec.alone self.now.job.now self.now.packet.now self.now.direction) }
-    {
-        let filtered = Filtered::of(self.alloc, self.job.rules(), self.packet, self.direction)?;
-        Ok(filtered.outcome)
-    }
-
-    /// The same, written over an outcome.
     #[inline(never)]
     fn write_filtered(&self, outcome: &mut Outcome) -> Result<(), AllocError>
+        requires { outcome.old ≡ fresh }
         ensures { OnOk result (outcome.new ≡ spec.alone self.now.job.now self.now.packet.now self.now.direction) }
     {
-        *outcome = self.filtered()?;
+        let rules = self.job.rules();
+        filter_into(self.alloc, rules, self.packet, self.direction, outcome)?;
         Ok(())
     }
 
     /// What it comes to as an ICMP error, by the connection of the packet that it embeds.
-    fn by_embedded<A: Answers>(&self, key: &Key, answers: &mut A) -> Result<Outcome, AllocError>
-        ensures seen { A.seen answers.new ≡ A.seen answers.old }
-        ensures goes { IfOk result (λ outcome. Goes (A.seen answers.old) (spec.embedded_plan self.now key.now) outcome (A.asked answers.new)) }
-        ensures kept { (question : Question) → A.asked answers.old question → A.asked answers.new question }
-    {
-        match answers.at(side_of(self.direction), key)? {
-            Some(state) => Ok(embedded(self.alloc, self.direction, self.packet, &state)),
-            None => self.filtered(),
-        }
-    }
-
-    /// The same, written over an outcome.
     #[inline(never)]
     fn write_embedded<A: Answers>(
         &self,
@@ -103,12 +66,18 @@ impl Arrival<'_> {
         answers: &mut A,
         outcome: &mut Outcome,
     ) -> Result<(), AllocError>
+        requires { outcome.old ≡ fresh }
         ensures seen { A.seen answers.new ≡ A.seen answers.old }
         ensures goes { OnOk result (Goes (A.seen answers.old) (spec.embedded_plan self.now key.now) outcome.new (A.asked answers.new)) }
         ensures kept { (question : Question) → A.asked answers.old question → A.asked answers.new question }
     {
-        *outcome = self.by_embedded(key, answers)?;
-        Ok(())
+        match answers.at(side_of(self.direction), key)? {
+            Some(state) => {
+                embed(outcome, self.direction, self.packet, &state);
+                Ok(())
+            }
+            None => self.write_filtered(outcome),
+        }
     }
 
     /// What it does to the state of its connection, and comes to, written over a fresh outcome. The state becomes what it is from
@@ -130,37 +99,45 @@ impl Arrival<'_> {
         );
     }
 
-    /// What becomes of it behind a passage, before a state is made for it. These translation rules were visited.
-    fn judged(&self, passage: &Passage, visits: Visits) -> Result<Judged, AllocError>
-        ensures outcome { IfOk result (λ judged. judged.outcome ≡ spec.judged_outcome self.now passage.now visits) }
-        ensures kept { IfOk result (λ judged. judged.kept ≡ spec.kept_rules self.now passage.now) }
+    /// What becomes of it behind a passage, before a state is made for it. These translation rules were visited. It answers what the
+    /// state says of its rules, for a packet that passes and may make one.
+    fn judge(
+        &self,
+        passage: &Passage,
+        visits: Visits,
+        outcome: &mut Outcome,
+    ) -> Result<Option<StateRules>, AllocError>
+        requires { outcome.old ≡ fresh }
+        ensures outcome { OnOk result (outcome.new ≡ spec.judged_outcome self.now passage.now visits) }
+        ensures kept { IfOk result (λ kept. kept ≡ spec.kept_rules self.now passage.now) }
     {
         if passage.passes {
-            return Ok(Judged {
-                outcome: Outcome::unfiltered(
-                    self.alloc,
-                    self.direction,
-                    self.packet,
-                    passage,
-                    visits,
-                ),
-                kept: passage.kept(None, false, None),
-            });
+            *outcome = Outcome::unfiltered(
+                self.alloc,
+                self.direction,
+                self.packet,
+                passage,
+                visits,
+            );
+            return Ok(passage.kept(None, false, None));
         }
-        let filtered = self.filtered_behind(passage)?;
-        Ok(Judged::filtered(passage, visits, filtered))
+        let conduct = self.filter_behind(passage, outcome)?;
+        let kept = passage.kept(outcome.rule, conduct.allows_options, conduct.kept);
+        name_translation(outcome, passage, visits);
+        Ok(kept)
     }
 
-    /// What the filter makes of it behind a passage.
-    fn filtered_behind(&self, passage: &Passage) -> Result<Filtered, AllocError>
-        ensures outcome { IfOk result (λ f. f.outcome ≡ spec.filtered_behind self.now passage.now) }
-        ensures leave { IfOk result (λ f. f.allows_options ≡ spec.leave_behind self.now passage.now) }
-        ensures kept { IfOk result (λ f. f.kept ≡ spec.kept_behind self.now passage.now) }
+    /// What the filter makes of it behind a passage. It answers what the rule that decides says beyond its verdict.
+    fn filter_behind(&self, passage: &Passage, outcome: &mut Outcome) -> Result<Conduct, AllocError>
+        requires { outcome.old ≡ fresh }
+        ensures outcome { OnOk result (outcome.new ≡ spec.filtered_behind self.now passage.now) }
+        ensures leave { IfOk result (λ conduct. conduct.allows_options ≡ spec.leave_behind self.now passage.now) }
+        ensures kept { IfOk result (λ conduct. conduct.kept ≡ spec.kept_behind self.now passage.now) }
     {
         let rules = self.job.rules();
         match passage.translated(self.direction, self.packet) {
-            None => Filtered::of(self.alloc, rules, self.packet, self.direction),
-            Some(packet) => Filtered::of(self.alloc, rules, &packet, self.direction),
+            None => filter_into(self.alloc, rules, self.packet, self.direction, outcome),
+            Some(packet) => filter_into(self.alloc, rules, &packet, self.direction, outcome),
         }
     }
 
@@ -170,13 +147,14 @@ impl Arrival<'_> {
         passage: &Passage,
         visits: Visits,
         answers: &mut A,
-    ) -> Result<Outcome, AllocError>
+        outcome: &mut Outcome,
+    ) -> Result<(), AllocError>
+        requires { outcome.old ≡ fresh }
         ensures seen { A.seen answers.new ≡ A.seen answers.old }
-        ensures goes { IfOk result (λ outcome. Goes (A.seen answers.old) (spec.going_plan self.now visits passage.now) outcome (A.asked answers.new)) }
+        ensures goes { OnOk result (Goes (A.seen answers.old) (spec.going_plan self.now visits passage.now) outcome.new (A.asked answers.new)) }
         ensures kept { (question : Question) → A.asked answers.old question → A.asked answers.new question }
     {
-        let Judged { outcome, kept } = self.judged(passage, visits)?;
-        match kept {
+        match self.judge(passage, visits, outcome)? {
             Some(rules) if outcome.verdict.lets_pass() => {
                 let state = make(
                     StateNumber(self.number),
@@ -188,9 +166,9 @@ impl Arrival<'_> {
                     self.clock,
                     self.job.timeouts(),
                 );
-                make_state(self.packet, state, outcome, answers)
+                make_state(self.packet, &state, answers, outcome)
             }
-            _ => Ok(outcome),
+            _ => Ok(()),
         }
     }
 
@@ -202,9 +180,11 @@ impl Arrival<'_> {
         target: &NatAddress,
         visits: Visits,
         answers: &mut A,
-    ) -> Result<Outcome, AllocError>
+        outcome: &mut Outcome,
+    ) -> Result<(), AllocError>
+        requires { outcome.old ≡ fresh }
         ensures seen { A.seen answers.new ≡ A.seen answers.old }
-        ensures goes { IfOk result (λ outcome. Goes (A.seen answers.old) (spec.pick_plan self.now visits key.now hit.now target.now) outcome (A.asked answers.new)) }
+        ensures goes { OnOk result (Goes (A.seen answers.old) (spec.pick_plan self.now visits key.now hit.now target.now) outcome.new (A.asked answers.new)) }
         ensures kept { (question : Question) → A.asked answers.old question → A.asked answers.new question }
     {
         let transport = &self.packet.transport;
@@ -215,8 +195,11 @@ impl Arrival<'_> {
         };
         let ports = ports_for(transport, target, key.inside.port);
         match pick.picked(ports, self.job.seed(), self.number, answers)? {
-            None => Ok(Outcome::exhausted(self.alloc, self.direction, hit.number, visits)),
-            Some(wire) => self.go(&Passage::picked(key, hit, wire), visits, answers),
+            None => {
+                *outcome = Outcome::exhausted(self.alloc, self.direction, hit.number, visits);
+                Ok(())
+            }
+            Some(wire) => self.go(&Passage::picked(key, hit, wire), visits, answers, outcome),
         }
     }
 
@@ -227,35 +210,27 @@ impl Arrival<'_> {
         hit: Option<Hit>,
         visits: Visits,
         answers: &mut A,
-    ) -> Result<Outcome, AllocError>
+        outcome: &mut Outcome,
+    ) -> Result<(), AllocError>
+        requires { outcome.old ≡ fresh }
         ensures seen { A.seen answers.new ≡ A.seen answers.old }
-        ensures goes { IfOk result (λ outcome. Goes (A.seen answers.old) (spec.hit_plan self.now visits key.now hit) outcome (A.asked answers.new)) }
+        ensures goes { OnOk result (Goes (A.seen answers.old) (spec.hit_plan self.now visits key.now hit) outcome.new (A.asked answers.new)) }
         ensures kept { (question : Question) → A.asked answers.old question → A.asked answers.new question }
     {
         let Some(hit) = hit else {
-            return self.go(&Passage::untranslated(key), visits, answers);
+            return self.go(&Passage::untranslated(key), visits, answers, outcome);
         };
         match hit.new_end {
             NewEnd::Mapped(address, mapping) => {
                 let inside = mapped_end(&self.packet.transport, key.inside, address, mapping);
                 let passage = Passage::mapped(self.direction, key, &hit, inside);
-                self.go(&passage, visits, answers)
+                self.go(&passage, visits, answers, outcome)
             }
-            NewEnd::Picked(target) => self.by_pick(key, &hit, &target, visits, answers),
+            NewEnd::Picked(target) => { self.by_pick(key, &hit, &target, visits, answers, outcome) }
         }
     }
 
     /// What it comes to as the first packet of a connection.
-    fn open<A: Answers>(&self, key: &Key, answers: &mut A) -> Result<Outcome, AllocError>
-        ensures seen { A.seen answers.new ≡ A.seen answers.old }
-        ensures goes { IfOk result (λ outcome. Goes (A.seen answers.old) (spec.opening_plan self.now key.now) outcome (A.asked answers.new)) }
-        ensures kept { (question : Question) → A.asked answers.old question → A.asked answers.new question }
-    {
-        let (hit, visits) = translate(self.alloc, self.job.rules(), self.packet, self.direction)?;
-        self.by_hit(key, hit, visits, answers)
-    }
-
-    /// The same, written over an outcome.
     #[inline(never)]
     fn write_opened<A: Answers>(
         &self,
@@ -263,12 +238,13 @@ impl Arrival<'_> {
         answers: &mut A,
         outcome: &mut Outcome,
     ) -> Result<(), AllocError>
+        requires { outcome.old ≡ fresh }
         ensures seen { A.seen answers.new ≡ A.seen answers.old }
         ensures goes { OnOk result (Goes (A.seen answers.old) (spec.opening_plan self.now key.now) outcome.new (A.asked answers.new)) }
         ensures kept { (question : Question) → A.asked answers.old question → A.asked answers.new question }
     {
-        *outcome = self.open(key, answers)?;
-        Ok(())
+        let (hit, visits) = translate(self.alloc, self.job.rules(), self.packet, self.direction)?;
+        self.by_hit(key, hit, visits, answers, outcome)
     }
 }
 

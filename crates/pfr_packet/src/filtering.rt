@@ -1,8 +1,9 @@
 //! What the filter makes of a packet by itself.
-ghost use Rattle.std.specs.Prelude.{◌≡◌, IfOk};
+ghost use Rattle.std.specs.Prelude.{◌≡◌, IfOk, OnOk};
 ghost use Rattle.pfr_packet.specs.Filtering as spec;
+ghost use Rattle.pfr_packet.specs.Outcomes.{fresh};
 
-use crate::outcome::{Outcome, VisitedRules};
+use crate::outcome::Outcome;
 use crate::verdict::{Reason, Verdict};
 use pfr_headers::Packet;
 use pfr_net::{Direction, RuleNumber};
@@ -76,57 +77,36 @@ fn conduct_of(rules: &[FlatRule], rule: Option<RuleNumber>) -> Conduct
     }
 }
 
-/// What a decision of the filter comes to.
-fn decided(alloc: Global, direction: Direction, decision: Decision, visits: Visits) -> Outcome
-    ensures { result ≡ spec.decided direction decision visits }
+/// Makes a fresh outcome what a decision of the filter comes to.
+fn decide(outcome: &mut Outcome, direction: Direction, decision: Decision, visits: Visits)
+    requires { outcome.old ≡ fresh }
+    ensures { outcome.new ≡ spec.decided direction decision visits }
 {
-    Outcome {
-        direction: Some(direction),
-        verdict: verdict_of(decision.action),
-        reason: reason_of(decision.rule),
-        rule: decision.rule,
-        translation: None,
-        state: None,
-        visited: VisitedRules {
-            translation: Visits::new(alloc),
-            filter: visits,
-        },
-        bytes: None,
-        change: None,
-    }
+    outcome.direction = Some(direction);
+    outcome.verdict = verdict_of(decision.action);
+    outcome.reason = reason_of(decision.rule);
+    outcome.rule = decision.rule;
+    outcome.visited.filter = visits;
 }
 
-/// What the filter makes of a packet.
-#[derive(Drop)]
-pub(crate) struct Filtered {
-    pub(crate) outcome: Outcome,
-    /// The deciding rule allows IP options.
-    pub(crate) allows_options: bool,
-    /// What the state says of its rules that the deciding rule keeps, for a packet that passes and may make one.
-    pub(crate) kept: Option<StateRules>,
-}
-
-impl Filtered {
-    /// What the filter makes of a packet by itself. One with IP options that are not allowed doesn't pass.
-    #[tactic(auto, unfolding(crate::specs::Filtering::filtered, crate::specs::Filtering::allows_options, crate::specs::Filtering::kept))]
-    pub(crate) fn of(
-        alloc: Global,
-        rules: &Ruleset,
-        packet: &Packet,
-        direction: Direction,
-    ) -> Result<Filtered, AllocError>
-        ensures outcome { IfOk result (λ f. f.outcome ≡ spec.filtered rules.now packet.now direction) }
-        ensures leave { IfOk result (λ f. f.allows_options ≡ spec.allows_options rules.now packet.now direction) }
-        ensures kept { IfOk result (λ f. f.kept ≡ spec.kept rules.now packet.now direction) }
-    {
-        let (decision, visits) = filter(alloc, rules, packet, direction)?;
-        let conduct = conduct_of(rules.filter.rules(), decision.rule);
-        let mut outcome = decided(alloc, direction, decision, visits);
-        outcome.ask_leave(packet, conduct.allows_options);
-        Ok(Filtered {
-            outcome,
-            allows_options: conduct.allows_options,
-            kept: conduct.kept,
-        })
-    }
+/// What the filter makes of a packet by itself, written over a fresh outcome. One with IP options that are not allowed doesn't pass.
+/// It answers what the rule that decides says beyond its verdict.
+#[tactic(auto, unfolding(crate::specs::Filtering::filtered, crate::specs::Filtering::allows_options, crate::specs::Filtering::kept))]
+pub(crate) fn filter_into(
+    alloc: Global,
+    rules: &Ruleset,
+    packet: &Packet,
+    direction: Direction,
+    outcome: &mut Outcome,
+) -> Result<Conduct, AllocError>
+    requires { outcome.old ≡ fresh }
+    ensures outcome { OnOk result (outcome.new ≡ spec.filtered rules.now packet.now direction) }
+    ensures leave { IfOk result (λ conduct. conduct.allows_options ≡ spec.allows_options rules.now packet.now direction) }
+    ensures kept { IfOk result (λ conduct. conduct.kept ≡ spec.kept rules.now packet.now direction) }
+{
+    let (decision, visits) = filter(alloc, rules, packet, direction)?;
+    let conduct = conduct_of(rules.filter.rules(), decision.rule);
+    decide(outcome, direction, decision, visits);
+    outcome.ask_leave(packet, conduct.allows_options);
+    Ok(conduct)
 }

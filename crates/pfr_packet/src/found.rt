@@ -4,7 +4,7 @@ ghost use Rattle.pfr_track.specs.Tracking.{touched};
 ghost use Rattle.pfr_packet.specs.declared.verdict.Reason.TheVariants.{StateMismatch};
 ghost use Rattle.pfr_packet.specs.declared.verdict.Verdict.TheVariants.{Block};
 ghost use Rattle.pfr_packet.specs.Found as spec;
-ghost use Rattle.pfr_packet.specs.Outcomes.{by_state};
+ghost use Rattle.pfr_packet.specs.Outcomes.{by_state, fresh};
 
 use crate::keys::written_by;
 use crate::outcome::Outcome;
@@ -13,24 +13,18 @@ use pfr_headers::Packet;
 use pfr_net::{Direction, Timeouts};
 use pfr_states::TableChange;
 use pfr_track::{Advance, Clock, State, advance};
-use std::alloc::Global;
 
-/// What an ICMP error comes to that embeds a packet of a state's connection: it passes, and the state stays as it is.
-pub(crate) fn embedded(
-    alloc: Global,
-    direction: Direction,
-    packet: &Packet,
-    state: &State,
-) -> Outcome
-    ensures { result ≡ spec.embedded direction packet.now state.now }
+/// Makes a fresh outcome what an ICMP error comes to that embeds a packet of a state's connection: it passes, and the state stays as
+/// it is.
+pub(crate) fn embed(outcome: &mut Outcome, direction: Direction, packet: &Packet, state: &State)
+    requires { outcome.old ≡ fresh }
+    ensures { outcome.new ≡ spec.embedded direction packet.now state.now }
 {
-    let mut outcome = Outcome::new(alloc);
     outcome.find_state(direction, state);
     outcome.verdict = Verdict::Pass;
     outcome.reason = Reason::StateError;
     outcome.bytes = written_by(direction, packet, &state.wire, &state.stack);
     outcome.ask_leave(packet, state.rules.allows_options);
-    outcome
 }
 
 /// Makes what a packet with a state's key comes to, out of what it comes to where it doesn't fit. The state becomes what it is

@@ -1,11 +1,10 @@
 use Rattle.std.proofs.Common.{None}
 use Rattle.std.proofs.lemmas.List.Elements.{All-nil}
-use Rattle.pfr_packet.specs.declared.outcome.Outcome.{Outcome}
 use Rattle.pfr_packet.specs.Passages.{picked_passage}
 use Rattle.pfr_packet.specs.Plan.{Goes}
 use Rattle.pfr_packet.specs.Steps.{by_pick, going, going_plan, pick_plan}
 use Rattle.pfr_packet.proofs.GoingLemmas.{to_the_end}
-use Rattle.pfr_packet.proofs.PickLemmas.{ok_then}
+use Rattle.pfr_packet.proofs.PickLemmas.{done_then}
 use Rattle.pfr_packet.proofs.evaluation.Arrival.by_pick.Goals as goal
 
 -- no port is free
@@ -21,7 +20,8 @@ pub returns-in-Some-clause-goes : goal.returns-in-Some-clause-goes
 returns-in-Some-clause-goes g c =
     let arrival = c.args.self.now in
     let next = by_pick arrival.job.now arrival.number arrival.clock arrival.packet.now arrival.direction c.args.visits c.args.key.now c.args.hit.now in
-    ok_then (λ (outcome : Outcome) (goes : Goes (g.A.Answers.seen c.picked.new.answers) (going_plan arrival c.args.visits c.picked-in-Some.result) outcome (g.A.Answers.asked c.go.new.answers)).
+    let outcome = c.go.new.outcome in
+    done_then (λ (goes : Goes (g.A.Answers.seen c.picked.new.answers) (going_plan arrival c.args.visits c.picked-in-Some.result) outcome (g.A.Answers.asked c.go.new.answers)).
     to_the_end (g.A.Answers.seen c.args.answers.now) (pick_plan arrival c.args.visits c.args.key.now c.args.hit.now c.args.target.now)
     (going arrival.job.now arrival.number arrival.clock arrival.packet.now arrival.direction c.args.visits (picked_passage c.args.key.now c.args.hit.now c.in-Some.wire)) outcome
     (g.A.Answers.asked c.picked.new.answers) (g.A.Answers.asked c.go.new.answers)
