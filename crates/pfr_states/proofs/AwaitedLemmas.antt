@@ -1,13 +1,9 @@
 -- Which state is due first, by the deadlines by which states wait.
-use Rattle.std.proofs.Common.{◌≡◌, ◌≤◌, ◌&&◌, ◌++◌, ◌∙◌, ◌⊎◌, ℕ, true, false, not, nat_le, nat_lt, fold, List, [], ◌∷◌, Option, Some, None, sym, refl, ap, subst, inl, inr, arith}
-use Rattle.std.specs.List.{All, AllByRecursion, Contains}
-use Rattle.std.specs.Ordering.{is_lt}
+use Rattle.std.proofs.Common.{◌≡◌, ◌≤◌, ◌&&◌, ◌∙◌, ◌⊎◌, ℕ, true, false, not, nat_le, nat_lt, fold, List, [], ◌∷◌, Option, Some, None, sym, refl, ap, subst, inl, inr, arith}
+use Rattle.std.specs.List.{All, AllByRecursion, Contains, FoldsTo}
 use Rattle.std.specs.List.Sorted.{IsPermutation}
-use Rattle.std.proofs.lemmas.Bool.{and_parts, both_ways, cases_Bool, cases_order, eq-eqb, eqb-true, le-ltb, leb-false, leb-true, lt-ltb, le-leb, ltb-false, ltb-true, not-true}
-use Rattle.std.specs.declared.cmp.Reverse.{Reverse}
-use Rattle.std.proofs.lemmas.List.{map-append}
+use Rattle.std.proofs.lemmas.Bool.{and_parts, both_ways, cases_Bool, eq-eqb, eqb-true, le-ltb, leb-false, leb-true, lt-ltb, le-leb, ltb-false, ltb-true, not-true}
 use Rattle.std.proofs.lemmas.List.Elements.{All-contains}
-use Rattle.std.proofs.lemmas.List.Sums.{fold-append}
 use Rattle.std.proofs.lemmas.List.Sorted.{Contains-permutation}
 use Rattle.pfr_places.specs.Places.{at, have_own_places, is_at, value_of, with_placed, with_value, without as without_placed}
 use Rattle.pfr_places.specs.declared.place.Place.{Place}
@@ -16,39 +12,23 @@ use Rattle.pfr_track.specs.declared.state.StateNumber.{StateNumber}
 use Rattle.pfr_track.specs.declared.time.Clock.{Clock}
 use Rattle.pfr_track.specs.declared.time.Deadline.{Deadline}
 use Rattle.pfr_states.specs.declared.stored.Stored.{Stored}
-use Rattle.pfr_states.specs.Awaited.{AreAwaited, IsAwaited, due_by, due_if_kept, first_among, first_by as first_by_waits, is_kept_at, is_kept_by, kept_by, sooner, wait_of, waits_by}
+use Rattle.pfr_states.specs.Awaited.{AreAwaited, IsAwaited, due_by, due_if_kept, first_by as first_by_waits, is_kept_at, is_kept_by, kept_by, sooner, wait_of, waits_by}
 use Rattle.pfr_states.specs.Keyed.{held, states_of}
 use Rattle.pfr_states.specs.Laws.{AnswersDue, IsFirstDue}
 use Rattle.pfr_states.specs.States.{due, earlier, first_of, lives, rise}
-use Rattle.pfr_states.specs.Waits.{IsBefore, IsFrom, IsPutOff, Wait, wait_cmp, waits_of}
+use Rattle.pfr_deadlines.specs.Waits.{IsBefore, IsFrom, IsPutOff, Wait, come_at}
+use Rattle.pfr_deadlines.proofs.OrderLemmas.{not_less, not_under}
 use Rattle.pfr_states.proofs.DueLemmas.{Before, due_first, answers, not_before}
 use Rattle.pfr_states.proofs.FindLemmas.{found_there}
-use Rattle.pfr_states.proofs.CompareLemmas.{is_less, is_same}
 use Rattle.pfr_states.proofs.IndexedLemmas.{kept}
 use Rattle.pfr_states.proofs.KeyedLemmas.{Held, from_states, in_states, in_with, itself}
 use Rattle.pfr_states.proofs.KeyedChanges.{in_value, in_without, with}
-use Rattle.pfr_states.proofs.Membership.{here, in_cons, in_none, there}
+use Rattle.pfr_states.proofs.Membership.{here, in_cons, in_none, there, to_filter}
 use Rattle.pfr_states.proofs.QuestionLemmas.{first_by, none_by, none_is_due}
 
 pub each : {X : Type 0} (P : X → Type 0) (xs : List X) → AllByRecursion P xs → (x : X) → Contains xs x → P x
 each P [] all x h = absurd (in_none x h)
 each P (y ∷ ys) all x h = elim (in_cons y ys x h) [ inl is ↦ subst P is all.0 | inr rest ↦ each P ys all.1 x rest ]
-
--- ---- the order of deadlines
-
-pub not_less : (a b : Wait) → IsBefore a b → a.0.0 ≤ b.0.0
-not_less a b before = elim (cases_order b.0.0 a.0.0) [
-  | inl same ↦ omega (arith, same)
-  | inr (inl less) ↦ absurd (both_ways (is_lt (wait_cmp b a)) before (rw (is_less b.0.0 a.0.0 less) refl))
-  | inr (inr more) ↦ omega arith
-]
-
-not_under : (a b : Wait) → IsBefore a b → b.0.0 ≡ a.0.0 → a.1.0 ≤ b.1.0
-not_under a b before level = elim (cases_order b.1.0 a.1.0) [
-  | inl same ↦ omega (arith, same)
-  | inr (inl less) ↦ absurd (both_ways (is_lt (wait_cmp b a)) before (rw (is_same b.0.0 a.0.0 level, is_less b.1.0 a.1.0 less) refl))
-  | inr (inr more) ↦ omega arith
-]
 
 -- ---- what is due
 
@@ -138,10 +118,7 @@ kept_from clock all wait (Some p) s is gives = elim (cases_Bool (waits_by wait p
   or_self (Some s) t = s
 
 due_from : (clock : Clock) (all : List Held) (wait : Wait) (s : State) → due_by clock all wait ≡ Some s → Contains (states_of all) s × (lives clock s ≡ false)
-due_from clock all wait s is = elim (cases_Bool (nat_le wait.0.0 clock.0)) [
-  | inl come ↦ kept_from clock all wait (at wait.2 all) s refl (rw come at is)
-  | inr not_yet ↦ (let none : None ≡ Some s = rw not_yet at is in absurd cc)
-]
+due_from clock all wait s is = kept_from clock all wait (at wait.2 all) s refl is
 
 from_listed : (r : Option State) (states : List State) (s : State) → Contains (listed r states) s → (r ≡ Some s) ⊎ Contains states s
 from_listed None states s h = inr h
@@ -165,29 +142,36 @@ to_dues clock all (w ∷ waits) wait s is h = to_listed (due_by clock all w) (du
 own_wait : (q : Held) → waits_by (wait_of q) q.value ≡ true
 own_wait q = rw (eq-eqb q.value.waits.0 q.value.waits.0 refl, eq-eqb q.value.state.number.0 q.value.state.number.0 refl) refl
 
-due_of : (clock : Clock) (all : List Held) (waits : List Wait) → AreAwaited waits all → have_own_places all ≡ true → (q : Held) → Contains all q → lives clock q.value.state ≡ false → due_by clock all (wait_of q) ≡ Some q.value.state
-due_of clock all waits awaited own q h gone =
-    let early = (awaited q h).early in
-    let past = ltb-false clock.0 q.value.state.deadline.0 gone in
-    rw (le-leb q.value.waits.0 clock.0 (omega (arith, early, past)), itself all own q h, own_wait q, gone) refl
+due_of : (clock : Clock) (all : List Held) → have_own_places all ≡ true → (q : Held) → Contains all q → lives clock q.value.state ≡ false → due_by clock all (wait_of q) ≡ Some q.value.state
+due_of clock all own q h gone =
+    rw (itself all own q h, own_wait q, gone) refl
 
-pub first_of_all : (clock : Clock) (all : List Held) (waits : List Wait) → AreAwaited waits all → have_own_places all ≡ true → rise (states_of all) ≡ true → first_by_waits clock all waits ≡ due clock (states_of all)
-first_of_all clock all waits awaited own in_order = fold_dues clock all None waits ∙ same (first_of (dues clock all waits)) (due clock (states_of all)) is_answer (due_first (states_of all) clock) where
-  is_answer : AnswersDue clock (states_of all) (first_of (dues clock all waits))
-  is_answer = answers clock (states_of all) (dues clock all waits) (from_dues clock all waits) (λ s h gone.
+-- and the deadline by which it waits has come
+come_too : (clock : Clock) (all : List Held) (waits : List Wait) → AreAwaited waits all → (q : Held) → Contains all q → lives clock q.value.state ≡ false → Contains (come_at clock waits) (wait_of q)
+come_too clock all waits awaited q h gone =
+    let is = awaited q h in
+    let early = is.early in
+    let past = ltb-false clock.0 q.value.state.deadline.0 gone in
+    to_filter (λ (wait : Wait). nat_le wait.0.0 clock.0) waits (wait_of q) is.there (le-leb q.value.waits.0 clock.0 (omega (arith, early, past)))
+
+pub first_of_all : (clock : Clock) (all : List Held) (waits : List Wait) → AreAwaited waits all → have_own_places all ≡ true → rise (states_of all) ≡ true → first_by_waits clock all (come_at clock waits) ≡ due clock (states_of all)
+first_of_all clock all waits awaited own in_order = fold_dues clock all None (come_at clock waits) ∙ same (first_of (dues clock all (come_at clock waits))) (due clock (states_of all)) is_answer (due_first (states_of all) clock) where
+  is_answer : AnswersDue clock (states_of all) (first_of (dues clock all (come_at clock waits)))
+  is_answer = answers clock (states_of all) (dues clock all (come_at clock waits)) (from_dues clock all (come_at clock waits)) (λ s h gone.
       let q = from_states all s h in
-      let listed_there = to_dues clock all waits (wait_of q.0) q.0.value.state (due_of clock all waits awaited own q.0 q.1 (ap (lives clock) q.2 ∙ gone)) (awaited q.0 q.1).there in
-      subst (λ (t : State). Contains (dues clock all waits) t) q.2 listed_there)
+      let listed_there = to_dues clock all (come_at clock waits) (wait_of q.0) q.0.value.state (due_of clock all own q.0 q.1 (ap (lives clock) q.2 ∙ gone)) (come_too clock all waits awaited q.0 q.1 (ap (lives clock) q.2 ∙ gone)) in
+      subst (λ (t : State). Contains (dues clock all (come_at clock waits)) t) q.2 listed_there)
 
   same : (r t : Option State) → AnswersDue clock (states_of all) r → AnswersDue clock (states_of all) t → r ≡ t
   same r None answer other = sym (none_by clock (states_of all) r other answer)
   same r (Some s) answer other = first_by (states_of all) clock s r in_order other answer
 
--- of two lists the second is looked at after the first
-pub first_both : (clock : Clock) (all : List Held) (start : Option State) (near far : List (Reverse Wait)) → first_among clock all (first_among clock all start (waits_of near)) (waits_of far) ≡ first_among clock all start (waits_of (near ++ far))
-first_both clock all start near far = sym (fold-append step start (waits_of near) (waits_of far)) ∙ ap (λ (ws : List Wait). first_among clock all start ws) (sym (map-append (λ (w : Reverse Wait). w.0) near far)) where
-  step : Option State → Wait → Option State
-  step first wait = sooner first (due_by clock all wait)
+-- the states that are gone through, by reference, come to this
+pub gone_through : {B : Type 0} (R : B → Wait → B → Type 0) (seen : B → Option State) (clock : Clock) (all : List Held) → ((before : B) (wait : Wait) (after : B) → R before wait after → seen after ≡ sooner (seen before) (due_by clock all wait))
+    → (start last : B) (waits : List Wait) → FoldsTo R start waits last → seen last ≡ fold (λ first wait. sooner first (due_by clock all wait)) (seen start) waits
+gone_through R seen clock all steps start last [] so = ap seen (sym so)
+gone_through R seen clock all steps start last (wait ∷ waits) so =
+    gone_through R seen clock all steps so.0 last waits so.2 ∙ ap (λ (first : Option State). fold (λ first wait. sooner first (due_by clock all wait)) first waits) (steps start wait so.0 so.1)
 
 -- ---- after a change
 

@@ -13,7 +13,7 @@ use Rattle.pfr_states.specs.declared.stored.Stored.{Stored}
 use Rattle.pfr_states.specs.Awaited.{is_kept_by, kept_by, waits_by}
 use Rattle.pfr_states.specs.Keyed.{AreNumbered, keyed, states_of}
 use Rattle.pfr_states.specs.States.{after, at as at_key, first, is_number, state_of}
-use Rattle.pfr_states.specs.Waits.{Wait}
+use Rattle.pfr_deadlines.specs.Waits.{Wait}
 use Rattle.pfr_states.proofs.KeyedChanges.{after_found, first_found, number_found}
 use Rattle.pfr_states.proofs.KeyedLemmas.{Held, find_states, holder, in_states}
 use Rattle.pfr_states.proofs.Membership.{here, none_of, there}

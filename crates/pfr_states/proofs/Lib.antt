@@ -1,10 +1,7 @@
 pub mod AwaitedLemmas
-pub mod BucketLemmas
-pub mod CompareLemmas
 pub mod DueLemmas
 pub mod DueOrderLemmas
 pub mod FilterLemmas
-pub mod FirstLemmas
 pub mod FindLemmas
 pub mod IndexedLemmas
 pub mod KeyLemmas
@@ -20,5 +17,3 @@ pub mod QuestionLemmas
 pub mod RefusalLemmas
 pub mod ShareLemmas
 pub mod TouchLemmas
-pub mod WaitLemmas
-pub mod WheelLemmas

@@ -1,12 +1,12 @@
 -- By which deadlines states wait.
-use Rattle.std.specs.Prelude.{◌≤◌, ◌==◌, ◌&&◌, Bool, false, not, nat_le, if◌then◌else◌, List, fold, Option, Some, None}
+use Rattle.std.specs.Prelude.{◌≤◌, ◌==◌, ◌&&◌, Bool, false, not, if◌then◌else◌, List, fold, Option, Some, None}
 use Rattle.std.specs.List.{Contains}
 use Rattle.pfr_places.specs.Places.{Placed, at, value_of}
 use Rattle.pfr_track.specs.declared.state.State.{State}
 use Rattle.pfr_track.specs.declared.time.Clock.{Clock}
 use Rattle.pfr_states.specs.declared.stored.Stored.{Stored}
 use Rattle.pfr_states.specs.States.{earlier, lives}
-use Rattle.pfr_states.specs.Waits.{Wait}
+use Rattle.pfr_deadlines.specs.Waits.{Wait}
 
 -- the deadline by which a state waits, with its number and its place
 abbrev pub wait_of : Placed Stored → Wait
@@ -45,16 +45,13 @@ due_if_kept clock wait None = None
 due_if_kept clock wait (Some stored) = if waits_by wait stored && not (lives clock stored.state) then Some stored.state else None
 
 abbrev pub due_by : Clock → List (Placed Stored) → Wait → Option State
-due_by clock all wait = if nat_le wait.0.0 clock.0 then due_if_kept clock wait (value_of (at wait.2 all)) else None
+due_by clock all wait = due_if_kept clock wait (value_of (at wait.2 all))
 
 -- the first of two, where there are two
 abbrev pub sooner : Option State → Option State → Option State
 sooner first None = first
 sooner first (Some state) = earlier first state
 
--- the first of a state and those that wait by one of these
-abbrev pub first_among : Clock → List (Placed Stored) → Option State → List Wait → Option State
-first_among clock all first waits = fold (λ first wait. sooner first (due_by clock all wait)) first waits
-
+-- the first of those that wait by one of these
 abbrev pub first_by : Clock → List (Placed Stored) → List Wait → Option State
-first_by clock all waits = first_among clock all None waits
+first_by clock all waits = fold (λ first wait. sooner first (due_by clock all wait)) None waits

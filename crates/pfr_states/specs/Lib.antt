@@ -4,5 +4,3 @@ pub mod KeyHash
 pub mod Keyed
 pub mod Laws
 pub mod States
-pub mod Waits
-pub mod Wheel

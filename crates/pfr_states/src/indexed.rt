@@ -7,12 +7,13 @@ ghost use Rattle.pfr_states.specs.Awaited as awaited;
 ghost use Rattle.pfr_states.specs.Indexed as index;
 ghost use Rattle.pfr_states.specs.Keyed.{AreStates};
 ghost use Rattle.pfr_states.specs.States as spec;
-ghost use Rattle.pfr_states.specs.Waits.{Wait};
+ghost use Rattle.pfr_deadlines.specs.Waits.{Wait};
 
 use crate::change::Side;
-use crate::deadlines::Deadlines;
+use crate::due::{due_by, sooner};
 use crate::keyed::Keyed;
-use crate::stored::{Found, Stored, Wait};
+use crate::stored::{Found, Stored};
+use pfr_deadlines::{Deadlines, Wait};
 use pfr_index::Guess;
 use pfr_places::Place;
 use pfr_track::{Clock, Key, State, StateNumber};
@@ -57,7 +58,11 @@ fn make_room(deadlines: &mut Deadlines, keyed: &Keyed) -> Result<(), AllocError>
     ensures states { AreStates keyed.now }
 {
     if deadlines.are_many(keyed.len()) {
-        deadlines.sweep(keyed);
+        deadlines.sweep(
+            |wait| -> bool
+                ensures { result ≡ awaited.is_kept_at wait keyed.entry.now }
+            { keyed.keeps(wait) },
+        );
         return deadlines.reserve();
     }
     deadlines.reserve()
@@ -152,7 +157,7 @@ impl IndexedStates {
     /// Of the states whose deadline has come the one with the least deadline; of those the one with the least number.
     ///
     /// It is found at once where the deadlines have been brought up to the clock and the first by which a state waits is its
-    /// own, as [`IndexedStates::settle`] leaves it, and else by a look at all deadlines.
+    /// own, as [`IndexedStates::settle`] leaves it, and else by a look at all deadlines that have come.
     // Mostly nothing is due, which is found out in a few steps. A call would clear the room for a state first.
     #[inline(always)]
     pub(crate) fn due(&self, clock: Clock) -> Option<State>
@@ -178,7 +183,7 @@ impl IndexedStates {
         self.search_due(clock)
     }
 
-    /// The same by a look at all deadlines.
+    /// The same by a look at all deadlines that have come.
     #[cold]
     fn search_due(&self, clock: Clock) -> Option<State>
         ensures state { result ≡ spec.due clock self.now }
@@ -186,7 +191,15 @@ impl IndexedStates {
     {
         // the places' numbers rise, and no two are one
         let _ = self.keyed.len();
-        self.deadlines.first_due(&self.keyed, clock).copied()
+        let keyed = &self.keyed;
+        let first = self.deadlines.fold_come(
+            clock,
+            None,
+            |first, wait| -> Option<&State>
+                ensures { option_copied result ≡ awaited.sooner (option_copied first.entry) (awaited.due_by clock keyed.entry.now wait) }
+            { sooner(first, due_by(keyed, wait, clock)) },
+        );
+        first.copied()
     }
 
     /// Settles the first deadline where it has come and isn't a state's own: one by which no state waits goes, and a state

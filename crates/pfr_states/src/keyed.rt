@@ -11,7 +11,8 @@ ghost use Rattle.pfr_states.specs.States as states;
 
 use crate::change::Side;
 use crate::key_hash::hash_of;
-use crate::stored::{Stored, Wait};
+use crate::stored::Stored;
+use pfr_deadlines::Wait;
 use pfr_index::{Guess, Index};
 use pfr_places::{Place, Places};
 use pfr_track::{Key, State, StateNumber};

@@ -3,7 +3,6 @@
 #![tactic(auto)]
 
 pub mod change;
-mod deadlines;
 mod due;
 mod indexed;
 mod key_hash;
@@ -11,7 +10,6 @@ mod keyed;
 pub mod laws;
 pub mod stored;
 pub mod table;
-mod wheel;
 
 pub use change::{Side, TableChange, TableError};
 pub use pfr_index::Guess;

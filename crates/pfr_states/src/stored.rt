@@ -1,6 +1,6 @@
 //! States where they stand, and the deadlines by which they wait.
 use pfr_places::Place;
-use pfr_track::{Deadline, State, StateNumber};
+use pfr_track::{Deadline, State};
 
 /// A state, with the deadline by which it waits: not a later one than its own.
 #[derive(Clone, Copy)]
@@ -15,6 +15,3 @@ pub struct Found<'a> {
     pub state: &'a State,
     pub place: Place,
 }
-
-/// A deadline, the number of the state that waits by it, and where that one stands.
-pub(crate) type Wait = (Deadline, StateNumber, Place);

@@ -54,25 +54,19 @@ impl Table {
     }
 
     /// The state with this key on a side. One whose deadline has come isn't answered, purged or not.
+    // A call would clear the room for a state first.
+    #[inline]
     pub fn at(&self, side: Side, key: &Key, clock: Clock) -> Option<State>
         ensures { result ≡ spec.at side key.now (spec.purged clock self.now.states) }
     {
-        match self.find(side, key, clock) {
+        match self.find_near(side, key, clock, None) {
             Some(found) => Some(*found.state),
             None => None,
         }
     }
 
-    /// What [`Table::at`] answers, where it stands: a state is large.
-    #[inline]
-    pub fn find(&self, side: Side, key: &Key, clock: Clock) -> Option<Found<'_>>
-        ensures { option_map (λ found. found.state.now) result ≡ spec.at side key.now (spec.purged clock self.now.states) }
-    {
-        self.find_near(side, key, clock, None)
-    }
-
-    /// What [`Table::find`] answers. Where a place is named, as by [`Table::place_by`], the state is looked for there first, which
-    /// saves a search; nothing rests on it that it stands there.
+    /// What [`Table::at`] answers, where it stands: a state is large. Where a place is named, as by [`Table::place_by`], the state
+    /// is looked for there first, which saves a search; nothing rests on it that it stands there.
     #[inline(always)]
     pub fn find_near(
         &self,

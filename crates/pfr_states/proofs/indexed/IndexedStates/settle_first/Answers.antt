@@ -4,7 +4,7 @@ use Rattle.std.specs.List.Sorted.{IsPermutation}
 use Rattle.pfr_places.specs.Places.{at, value_of}
 use Rattle.pfr_states.specs.Awaited.{AreAwaited, kept_by}
 use Rattle.pfr_states.specs.Keyed.{states_of}
-use Rattle.pfr_states.specs.Waits.{IsPutOff, Wait}
+use Rattle.pfr_deadlines.specs.Waits.{IsPutOff, Wait}
 use Rattle.pfr_states.specs.declared.stored.Stored.{Stored}
 use Rattle.pfr_states.proofs.AwaitedLemmas.{awaited_dropped, awaited_put_off}
 use Rattle.pfr_states.proofs.IndexedLemmas.{kept, not_kept}

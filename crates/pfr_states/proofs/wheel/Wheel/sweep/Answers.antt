@@ -1,5 +1,0 @@
-use Rattle.pfr_states.proofs.WheelLemmas.{part_right}
-use Rattle.pfr_states.proofs.wheel.Wheel.sweep.Goals as goal
-
-pub invariant_of-self : goal.invariant_of-self
-invariant_of-self c = part_right c.self.inside.bound c.sweep_buckets.new.buckets.items c.self.inside.buckets.items c.self.invariant c.sweep_buckets.ensures.fewer
