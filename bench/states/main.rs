@@ -606,6 +606,7 @@ fn make(table: &mut Table, index: u64, count: &mut Count) {
     }
 }
 
+#[inline(always)]
 fn find(table: &Table, first: u64, turn: u64, size: u64, count: &mut Count) {
     let side = if turn % 2 == 0 {
         Side::Wire

@@ -1,12 +1,15 @@
 -- Results at the places of their packets.
-use Rattle.std.proofs.Common.{◌≡◌, ◌<◌, ◌≤◌, ◌+◌, ◌-◌, ◌==◌, ◌&&◌, ℕ, Bool, true, false, nat_le, nat_lt, is_none, cond, List, [], ◌∷◌, ◌++◌, length, replicate, get_or, Option, Some, None, inl, inr, refl, sym, ◌∙◌, arith}
-use Rattle.std.specs.List.{find}
+use Rattle.std.proofs.Common.{◌≡◌, ◌<◌, ◌≤◌, ◌+◌, ◌-◌, ◌==◌, ◌&&◌, ℕ, Bool, true, false, nat_le, nat_lt, is_none, cond, List, [], ◌∷◌, ◌++◌, length, replicate, get_or, Option, Some, None, IfSome, inl, inr, refl, sym, ◌∙◌, arith}
+use Rattle.std.specs.List.{All, find}
 use lib.ListN.{set}
 use Rattle.std.specs.Option.{option_or}
 use Rattle.std.proofs.lemmas.Bool.{and_from, and_parts, cases_Bool, eqb-true, eq-eqb, false≢true, le-leb, leb-true, lt-ltb, ltb-true}
 use Rattle.std.proofs.lemmas.List.{get_or-replicate, get_or-set_other, get_or-set_same, length-replicate, length-set}
 use Rattle.std.proofs.lemmas.List.Folds.{find-append}
+use Rattle.std.proofs.lemmas.List.Elements.{All-head, All-tail}
+use Rattle.pfr_packet.specs.Job.{RunJob}
 use Rattle.pfr_record.specs.declared.speculation.Speculation.{Speculation}
+use Rattle.pfr_commit.specs.Found.{IsOfJob}
 use Rattle.pfr_commit.specs.Results.{ArePlaced, is_free, is_of, with_result}
 
 pub none_placed : (first count : ℕ) → ArePlaced [] first (replicate count None)
@@ -88,4 +91,12 @@ pub same_length : (found : Speculation) (first : ℕ) (places : List (Option Spe
 same_length found first places = elim (cases_Bool (nat_le first found.number && is_free places (found.number - first))) [
   | inl placed ↦ rw placed (length-set places (found.number - first) (Some found))
   | inr not_placed ↦ rw not_placed refl
+]
+
+-- where all are of a job, so is the one that is found
+pub own_found : (job : RunJob) (test : Speculation → Bool) (results : List Speculation) → All (IsOfJob job) results → IfSome (find test results) (IsOfJob job)
+own_found job test [] all = tt
+own_found job test (found ∷ results) all = elim (cases_Bool (test found)) [
+  | inl it_is ↦ rw it_is (All-head (IsOfJob job) found results all)
+  | inr other ↦ rw other (own_found job test results (All-tail (IsOfJob job) found results all))
 ]

@@ -2,6 +2,7 @@ pub mod Books
 pub mod Counters
 pub mod Emissions
 pub mod Endings
+pub mod Found
 pub mod Laws
 pub mod Lines
 pub mod Machine

@@ -1,5 +1,5 @@
 //! The committer.
-ghost use Rattle.std.specs.Prelude.{◌≡◌, ◌<◌, ◌≤◌, ◌+◌, ◌^◌, ℕ, false, true, max, get_or, IfOk, IfSome, IsSome, IsTrue, ◌↔◌, OnOk, OnErr, None};
+ghost use Rattle.std.specs.Prelude.{◌≡◌, ◌<◌, ◌≤◌, ◌+◌, ◌^◌, ℕ, false, true, max, IfOk, IfSome, IsSome, IsTrue, ◌↔◌, OnOk, OnErr, None};
 ghost use Rattle.std.specs.Arc.{arc_value};
 ghost use Rattle.std.specs.Option.{option_to_list};
 ghost use Rattle.pfr_headers.specs.declared.packet.View.TheVariants.{Ipv4};
@@ -16,7 +16,8 @@ ghost use Rattle.pfr_commit.specs.World as spec;
 use crate::counters::Counters;
 use crate::emitted::Emitted;
 use crate::ending::Ending;
-use crate::results::{Places, is_taken, of_one, take_at};
+use crate::reruns::{Reruns, Unwatched};
+use crate::results::{Found, of_one};
 use pfr_capture::Record;
 use pfr_headers::View;
 use pfr_packet::laws::{
@@ -61,6 +62,7 @@ fn later(clock: Clock, seconds: u32) -> Clock
 
 impl Book {
     ghost use Rattle.pfr_commit.specs.Books.{LeadsTo, MayUse, MayUseNext, StandsAt, job_of, untold, world_in, world_with};
+    ghost use Rattle.pfr_commit.specs.Found.{IsOfJob, IsOwnAt, found_at};
 
     /// A book that has taken no packet of a job.
     #[tactic(auto, unfolding(crate::specs::World::opening))]
@@ -120,22 +122,24 @@ impl Book {
         &self.table
     }
 
-    /// The outcome of a speculation that may be used for a packet.
+    /// The outcome of a speculation that may be used for a packet. It may be known to be of the book's own job.
     fn usable_outcome(
         &self,
         number: u64,
         clock: Clock,
         view: &View,
         speculation: Option<Speculation>,
+        is_own: bool,
     ) -> Option<Outcome>
+        requires { is_own ≡ true → IfSome speculation (IsOfJob (job_of self.now)) }
         ensures some { IsSome result ↔ MayUse speculation (job_of self.now) number clock view.now self.now.table }
         ensures outcome { IfSome result (λ outcome. outcome ≡ step_of (job_of self.now) number clock view.now self.now.table) }
     {
-        match speculation {
-            Some(speculation) => {
-                speculation.outcome_for(&self.job, number, clock, view, &self.table)
-            }
-            None => None,
+        let speculation = speculation?;
+        if is_own {
+            speculation.outcome_of_own(&self.job, number, clock, view, &self.table)
+        } else {
+            speculation.outcome_for(&self.job, number, clock, view, &self.table)
         }
     }
 
@@ -148,16 +152,19 @@ impl Book {
         number: u64,
         clock: Clock,
         view: &View,
-        results: &mut Places,
+        results: &mut Found,
         place: usize,
         outcome: &mut Outcome,
     ) -> bool
-        ensures used { IsTrue result ↔ MayUse (get_or results.old.items place None) (job_of self.now) number clock view.now self.now.table }
+        requires { IsOwnAt (job_of self.now) place results.old }
+        ensures used { IsTrue result ↔ MayUse (found_at place results.old) (job_of self.now) number clock view.now self.now.table }
         ensures outcome { IsTrue result → outcome.new ≡ step_of (job_of self.now) number clock view.now self.now.table }
         ensures same { result ≡ false → outcome.new ≡ outcome.old }
-        ensures others { (other : ℕ) → place < other → get_or results.new.items other None ≡ get_or results.old.items other None }
+        ensures others { (other : ℕ) → place < other → found_at other results.new ≡ found_at other results.old }
+        ensures own { results.new.are_own ≡ results.old.are_own }
     {
-        match self.usable_outcome(number, clock, view, take_at(results, place)) {
+        let is_own = results.are_own;
+        match self.usable_outcome(number, clock, view, results.take_at(place), is_own) {
             Some(found) => {
                 *outcome = found;
                 true
@@ -201,28 +208,32 @@ impl Book {
     /// Writes what a packet comes to over a fresh outcome, by the speculation at a place or evaluated here. It answers how many
     /// were evaluated, none or one, and where a state was found for it then: it may stand at a place that is named. The speculation
     /// is taken out. Where there is none, no room for one is cleared or copied.
-    fn evaluate(
+    fn evaluate<R: Reruns>(
         &self,
         number: u64,
         clock: Clock,
         view: &View,
-        results: &mut Places,
+        results: &mut Found,
         place: usize,
         hint: Option<Place>,
+        reruns: &R,
         outcome: &mut Outcome,
     ) -> Result<(u64, Option<Place>), AllocError>
-        requires { outcome.old ≡ fresh }
+        requires outcome { outcome.old ≡ fresh }
+        requires own { IsOwnAt (job_of self.now) place results.old }
         ensures outcome { OnOk result (outcome.new ≡ step_of (job_of self.now) number clock view.now self.now.table) }
-        ensures used { IfOk result (λ evaluated. MayUse (get_or results.old.items place None) (job_of self.now) number clock view.now self.now.table → evaluated.0 ≡ 0) }
-        ensures evaluated { IfOk result (λ evaluated. (MayUse (get_or results.old.items place None) (job_of self.now) number clock view.now self.now.table → ⊥) → evaluated.0 ≡ 1) }
+        ensures used { IfOk result (λ evaluated. MayUse (found_at place results.old) (job_of self.now) number clock view.now self.now.table → evaluated.0 ≡ 0) }
+        ensures evaluated { IfOk result (λ evaluated. (MayUse (found_at place results.old) (job_of self.now) number clock view.now self.now.table → ⊥) → evaluated.0 ≡ 1) }
         ensures few { IfOk result (λ evaluated. evaluated.0 ≤ 1) }
-        ensures others { (other : ℕ) → place < other → get_or results.new.items other None ≡ get_or results.old.items other None }
+        ensures others { (other : ℕ) → place < other → found_at other results.new ≡ found_at other results.old }
+        ensures own { results.new.are_own ≡ results.old.are_own }
     {
-        if is_taken(results, place)
+        if results.is_taken(place)
             && self.use_result(number, clock, view, results, place, outcome)
         {
             return Ok((0, None));
         }
+        reruns.runs_again(number);
         Ok((1, self.run(number, clock, view, hint, outcome)?))
     }
 
@@ -263,26 +274,29 @@ impl Book {
 
     /// Takes the next packet, with the speculation at a place, and puts what it adds behind what was emitted. Where memory is
     /// refused that stays as it was. The state by which it goes may stand where the hint says.
-    pub(crate) fn take(
+    pub(crate) fn take<R: Reruns>(
         &mut self,
         packet: &Record,
         view: &View,
-        results: &mut Places,
+        results: &mut Found,
         place: usize,
         hint: Option<Place>,
+        reruns: &R,
         out: &mut Emitted,
     ) -> Result<(), AllocError>
         requires view { view.now ≡ view_of packet.now.link packet.now.bytes.items }
         requires few { self.old.count < 2 ^ 43 }
         requires open { self.old.is_over ≡ false }
+        requires own { IsOwnAt (job_of self.old) place results.old }
         ensures world { OnOk result (world_with self.new out.new ≡ untold (spec.after (job_of self.old) (world_with self.old out.old) (frame_of packet.now))) }
         ensures told { OnOk result (LeadsTo self.old self.new out.old out.new (λ world. spec.after (job_of self.old) world (frame_of packet.now))) }
         ensures job { self.new.job ≡ self.old.job }
         ensures counted { OnOk result (self.new.count ≡ self.old.count + 1) }
         ensures kept { OnErr result ((self.new.count ≡ self.old.count) × (texts_of out.new ≡ texts_of out.old)) }
-        ensures used { OnOk result (MayUseNext (get_or results.old.items place None) self.old packet.now view.now → self.new.own ≡ self.old.own) }
-        ensures evaluated { OnOk result ((MayUseNext (get_or results.old.items place None) self.old packet.now view.now → ⊥) → self.new.own ≡ self.old.own + 1) }
-        ensures others { (other : ℕ) → place < other → get_or results.new.items other None ≡ get_or results.old.items other None }
+        ensures used { OnOk result (MayUseNext (found_at place results.old) self.old packet.now view.now → self.new.own ≡ self.old.own) }
+        ensures evaluated { OnOk result ((MayUseNext (found_at place results.old) self.old packet.now view.now → ⊥) → self.new.own ≡ self.old.own + 1) }
+        ensures others { (other : ℕ) → place < other → found_at other results.new ≡ found_at other results.old }
+        ensures own { results.new.are_own ≡ results.old.are_own }
         ensures ok { OnOk result (self.new.is_over ≡ false) }
         ensures err { OnErr result (self.new.is_over ≡ true) }
     {
@@ -299,6 +313,7 @@ impl Book {
             results,
             place,
             hint,
+            reruns,
             &mut outcome,
         )?;
         // what `take_outcome` asks of an outcome is so of each that an evaluation has
@@ -347,7 +362,7 @@ impl Book {
             }
         };
         let mut out = Emitted::new(self.alloc);
-        self.take(packet, &view, &mut results, 0, None, &mut out)?;
+        self.take(packet, &view, &mut results, 0, None, &Unwatched, &mut out)?;
         Ok(out)
     }
 

@@ -8,6 +8,13 @@ use std::alloc::{AllocError, Global};
 /// A place for each packet of a batch, with what was found out about it.
 pub(crate) type Places = Vec<Option<Speculation>>;
 
+/// What was found out about packets, and whether it is known to be of the committer's own job.
+#[derive(Drop)]
+pub(crate) struct Found {
+    pub(crate) places: Places,
+    pub(crate) are_own: bool,
+}
+
 /// So many places, with nothing in them.
 fn empty_places(alloc: Global, count: usize) -> Result<Places, AllocError>
     ensures { IfOk result (λ places. places.items ≡ replicate count None) }
@@ -59,50 +66,63 @@ fn placed(
 }
 
 /// The results for so many packets from a number on: of several of one packet the first. Where there are none they take no room.
+/// It may be known that they are of the committer's own job.
 pub(crate) fn in_places(
     alloc: Global,
     results: Vec<Speculation>,
     first: u64,
     count: usize,
-) -> Result<Places, AllocError>
-    ensures { IfOk result (λ places. spec.AreFound results.items first count places.items) }
+    are_own: bool,
+) -> Result<Found, AllocError>
+    ensures places { IfOk result (λ found. spec.AreFound results.items first count found.places.items) }
+    ensures own { IfOk result (λ found. found.are_own ≡ are_own) }
 {
-    if results.is_empty() {
-        Ok(Vec::new(alloc))
+    let places = if results.is_empty() {
+        Vec::new(alloc)
     } else {
-        placed(alloc, results, first, count)
-    }
+        placed(alloc, results, first, count)?
+    };
+    Ok(Found { places, are_own })
 }
 
-/// A place with a result, or none where there is no result.
-pub(crate) fn of_one(alloc: Global, found: Option<Speculation>) -> Result<Places, AllocError>
-    ensures { IfOk result (λ places. get_or places.items 0 None ≡ found) }
+/// A place with a result, or none where there is no result. Of its job nothing is known.
+pub(crate) fn of_one(alloc: Global, found: Option<Speculation>) -> Result<Found, AllocError>
+    ensures place { IfOk result (λ held. get_or held.places.items 0 None ≡ found) }
+    ensures own { IfOk result (λ held. held.are_own ≡ false) }
 {
     let mut places = Vec::new(alloc);
     if found.is_some() {
         places.push(found)?;
     }
-    Ok(places)
+    Ok(Found {
+        places,
+        are_own: false,
+    })
 }
 
-/// Whether there is something at a place.
-#[inline]
-pub(crate) fn is_taken(places: &Places, place: usize) -> bool
-    ensures { result ≡ false → get_or places.now.items place None ≡ None }
-{
-    match places.get(place) {
-        Some(held) => held.is_some(),
-        None => false,
+impl Found {
+    ghost use Rattle.pfr_commit.specs.Found.{found_at};
+
+    /// Whether there is something at a place.
+    #[inline]
+    pub(crate) fn is_taken(&self, place: usize) -> bool
+        ensures { result ≡ false → found_at place self.now ≡ None }
+    {
+        match self.places.get(place) {
+            Some(held) => held.is_some(),
+            None => false,
+        }
     }
-}
 
-/// Takes out what is at a place.
-pub(crate) fn take_at(places: &mut Places, place: usize) -> Option<Speculation>
-    ensures taken { result ≡ get_or places.old.items place None }
-    ensures others { (other : ℕ) → place < other → get_or places.new.items other None ≡ get_or places.old.items other None }
-{
-    match places.get_mut(place) {
-        Some(held) => held.take(),
-        None => None,
+    /// Takes out what is at a place.
+    pub(crate) fn take_at(&mut self, place: usize) -> Option<Speculation>
+        ensures taken { result ≡ found_at place self.old }
+        ensures others { (other : ℕ) → place < other → found_at other self.new ≡ found_at other self.old }
+        ensures own { self.new.are_own ≡ self.old.are_own }
+    {
+        match self.places.get_mut(place) {
+            Some(held) => held.take(),
+            None => None,
+        }
     }
 }

@@ -1,5 +1,5 @@
 //! Outcomes of packets that were evaluated ahead.
-ghost use Rattle.std.specs.Prelude.{◌≡◌, ◌<◌, ◌↔◌, IsTrue, IsSome, IfSome, length};
+ghost use Rattle.std.specs.Prelude.{◌≡◌, ◌<◌, ◌↔◌, true, IsTrue, IsSome, IfSome, length};
 ghost use Rattle.std.specs.List.{HoldsAt};
 ghost use Rattle.std.specs.Arc.{arc_value};
 ghost use Rattle.pfr_packet.specs.Plan.{purged_at};
@@ -95,14 +95,24 @@ impl Speculation {
         true
     }
 
-    /// Whether this is of such a packet of a job, and its record holds in a table.
-    fn fits(&self, job: &Job, number: u64, clock: Clock, view: &View, table: &Table) -> bool
+    /// Whether this is of such a packet of a job, and its record holds in a table. Jobs are compared unless it is known that this
+    /// is of that one: it takes as long as their text is.
+    fn fits(
+        &self,
+        is_of_job: bool,
+        job: &Job,
+        number: u64,
+        clock: Clock,
+        view: &View,
+        table: &Table,
+    ) -> bool
+        requires { is_of_job ≡ true → arc_value self.now.job ≡ job.now }
         ensures { IsTrue result ↔ Fits self.now job.now number clock view.now table.now }
     {
         self.number == number
             && self.clock == clock
             && is_same_view(&self.view, view)
-            && self.job.is_same(job)
+            && (is_of_job || self.job.is_same(job))
             && self.holds_in(table, clock)
     }
 
@@ -119,7 +129,27 @@ impl Speculation {
         ensures some { IsSome result ↔ Fits self job.now number clock view.now table.now }
         ensures outcome { IfSome result (λ outcome. outcome ≡ step_of job.now number clock view.now table.now) }
     {
-        if self.fits(job, number, clock, view, table) {
+        if self.fits(false, job, number, clock, view, table) {
+            Some(self.outcome)
+        } else {
+            None
+        }
+    }
+
+    /// The same where it is known that this is of the job, which isn't compared then.
+    pub fn outcome_of_own(
+        self,
+        job: &Job,
+        number: u64,
+        clock: Clock,
+        view: &View,
+        table: &Table,
+    ) -> Option<Outcome>
+        requires { arc_value self.job ≡ job.now }
+        ensures some { IsSome result ↔ Fits self job.now number clock view.now table.now }
+        ensures outcome { IfSome result (λ outcome. outcome ≡ step_of job.now number clock view.now table.now) }
+    {
+        if self.fits(true, job, number, clock, view, table) {
             Some(self.outcome)
         } else {
             None

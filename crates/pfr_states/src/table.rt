@@ -54,8 +54,8 @@ impl Table {
     }
 
     /// The state with this key on a side. One whose deadline has come isn't answered, purged or not.
-    // A call would clear the room for a state first.
-    #[inline]
+    // A call would clear the room for a state first, and copy it.
+    #[inline(always)]
     pub fn at(&self, side: Side, key: &Key, clock: Clock) -> Option<State>
         ensures { result ≡ spec.at side key.now (spec.purged clock self.now.states) }
     {

@@ -12,12 +12,12 @@ use Rattle.pfr_commit.proofs.WorldLemmas.{after_is}
 use Rattle.pfr_commit.proofs.book.Book.take.Goals as goal
 
 pub take_outcome-requires-clause-bytes : goal.take_outcome-requires-clause-bytes
-take_outcome-requires-clause-bytes c =
+take_outcome-requires-clause-bytes g c =
     if_some _ c.evaluate.new.outcome.bytes (λ (change : Change) is.
     sym c.requires.view ∙ c.what_is_written_is_of_the_packet.ensures _ _ _ c.args.view.now _ change (ap (λ (o : Outcome). o.bytes) (sym c.in_ok-evaluated.ensures.outcome) ∙ is))
 
 pub returns-clause-world : goal.returns-clause-world
-returns-clause-world c =
+returns-clause-world g c =
     let before = world_with c.args.self.now c.args.out.now in
     let frame = frame_of c.args.packet.now in
     let clock = c.later-clock.result in
@@ -28,7 +28,7 @@ returns-clause-world c =
     c.in_ok-take_outcome.ensures.world ∙ settled ∙ ap untold (after_is (job_of c.args.self.now) before frame clock view outcome c.later-clock.ensures c.requires.view outcome_is)
 
 pub returns-clause-told : goal.returns-clause-told
-returns-clause-told c =
+returns-clause-told g c =
     let clock = c.later-clock.result in
     let view = c.args.view.now in
     let settled = ap (λ (t : StateTable). record (world_in c.args.self.now) { table = t }) c.settle.ensures in
@@ -37,7 +37,7 @@ returns-clause-told c =
     settled refl refl refl refl refl c.later-clock.ensures c.requires.view outcome_is c.in_ok-take_outcome.ensures.told
 
 pub returns-clause-used : goal.returns-clause-used
-returns-clause-used c = search rules
+returns-clause-used g c = search rules
 
 pub returns-clause-evaluated : goal.returns-clause-evaluated
-returns-clause-evaluated c = search rules
+returns-clause-evaluated g c = search rules

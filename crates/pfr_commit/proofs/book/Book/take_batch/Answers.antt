@@ -1,56 +1,70 @@
-use Rattle.std.proofs.Common.{◌≡◌, ◌+◌, ◌<◌, ◌∙◌, ℕ, List, [], None, get_or, refl, sym, ap, subst, length, map, take, rules, arith}
+use Rattle.std.proofs.Common.{◌≡◌, ◌+◌, ◌<◌, ◌∙◌, ℕ, List, [], IfSome, Option, refl, sym, ap, subst, length, map, take, rules, arith}
 use Rattle.std.specs.List.{find}
 use Rattle.std.proofs.Math.Seq.{take-length}
 use Rattle.pfr_headers.specs.declared.packet.View.{View}
+use Rattle.pfr_packet.specs.Job.{RunJob}
+use Rattle.pfr_record.specs.declared.speculation.Speculation.{Speculation}
 use Rattle.pfr_capture.specs.declared.capture.Record.{Record}
 use Rattle.pfr_commit.specs.Books.{LeadsTo, job_of, untold, world_with, written}
 use Rattle.pfr_commit.specs.Emissions.{frame_of}
+use Rattle.pfr_commit.specs.Found.{IsOfJob, found_at}
 use Rattle.pfr_commit.specs.Results.{is_of}
 use Rattle.pfr_commit.specs.World.{Texts, world_after}
 use Rattle.pfr_commit.proofs.BatchLemmas.{rises_by, rises_next}
 use Rattle.pfr_commit.proofs.BookLemmas.{on_err, same_job}
+use Rattle.pfr_commit.proofs.ResultLemmas.{own_found}
 use Rattle.pfr_commit.proofs.StandLemmas.{leads_next, leads_none, leaves_none, leaves_part}
 use Rattle.pfr_commit.proofs.WorldLemmas.{batch_next, nothing_taken, part_taken, world_none}
-use Rattle.pfr_commit.proofs.book.Book.commit_batch.Goals as goal
+use Rattle.pfr_commit.proofs.book.Book.take_batch.Goals as goal
 
 pub returns-then-self-clause-part : goal.returns-then-self-clause-part
-returns-then-self-clause-part c = ap written (nothing_taken (job_of c.args.self.now) (world_with c.args.self.now c.args.out.now) c.args.self.now.count _)
+returns-then-self-clause-part g c = ap written (nothing_taken (job_of c.args.self.now) (world_with c.args.self.now c.args.out.now) c.args.self.now.count _)
 
 pub returns-then-self-clause-part_told : goal.returns-then-self-clause-part_told
-returns-then-self-clause-part_told c = leaves_none c.args.self.now c.args.self.now.count c.args.out.now c.args.out.now (map (λ packet. frame_of packet.0) c.args.packets.now) refl refl
+returns-then-self-clause-part_told g c = leaves_none c.args.self.now c.args.self.now.count c.args.out.now c.args.out.now (map (λ packet. frame_of packet.0) c.args.packets.now) refl refl
 
 pub returns-in-Err-clause-part : goal.returns-in-Err-clause-part
-returns-in-Err-clause-part c = ap written (nothing_taken (job_of c.args.self.now) (world_with c.args.self.now c.args.out.now) c.args.self.now.count _)
+returns-in-Err-clause-part g c = ap written (nothing_taken (job_of c.args.self.now) (world_with c.args.self.now c.args.out.now) c.args.self.now.count _)
 
 pub returns-in-Err-clause-part_told : goal.returns-in-Err-clause-part_told
-returns-in-Err-clause-part_told c = leaves_none c.args.self.now c.args.self.now.count c.args.out.now c.args.out.now (map (λ packet. frame_of packet.0) c.args.packets.now) refl refl
+returns-in-Err-clause-part_told g c = leaves_none c.args.self.now c.args.self.now.count c.args.out.now c.args.out.now (map (λ packet. frame_of packet.0) c.args.packets.now) refl refl
 
 pub loop-index-init : goal.loop-index-init
-loop-index-init c = record {
+loop-index-init g c = record {
   job = refl;
   counted = omega arith;
   is_open = c.if-self.false;
   own = refl;
-  tried = λ place _ below. c.in-Ok.ensures place below;
+  tried = λ place _ below. c.in-Ok.ensures.places place below;
+  are_own = c.in-Ok.ensures.own;
   world = ap untold (sym (world_none (job_of c.args.self.now) (world_with c.args.self.now c.args.out.now)));
   told = leads_none c.args.self.now c.args.out.now [] refl;
 }
 
+pub take-requires-clause-own : goal.take-requires-clause-own
+take-requires-clause-own g c = λ known.
+    let i = c.loop-index.invariant in
+    let test = c.loop-index-test.true in
+    let below : c.loop-index.index < length c.args.packets.now = search rules in
+    let own = own_found (job_of c.args.self.now) (is_of (c.args.self.now.count + 1 + c.loop-index.index)) c.args.results.items (c.requires.own (sym i.are_own ∙ known)) in
+    subst (λ (job : RunJob). IfSome (found_at c.loop-index.index c.loop-index.found) (IsOfJob job)) (sym (same_job c.loop-index.self c.args.self.now i.job))
+    (subst (λ (held : Option Speculation). IfSome held (IsOfJob (job_of c.args.self.now))) (sym (i.tried c.loop-index.index (omega arith) below)) own)
+
 pub returns-in_err-take-clause-part : goal.returns-in_err-take-clause-part
-returns-in_err-take-clause-part c =
+returns-in_err-take-clause-part g c =
     on_err c.from_residual.result _ (
     ap (λ (t : Texts). (t.verdicts, t.packets)) c.in_err-take.ensures.kept.1
     ∙ ap written c.loop-index.invariant.world
     ∙ ap written (part_taken (job_of c.args.self.now) (world_with c.args.self.now c.args.out.now) (λ packet. frame_of packet.0) c.args.packets.now c.args.self.now.count c.take.new.self.count c.loop-index.index (c.in_err-take.ensures.kept.0 ∙ c.loop-index.invariant.counted)))
 
 pub returns-in_err-take-clause-part_told : goal.returns-in_err-take-clause-part_told
-returns-in_err-take-clause-part_told c =
+returns-in_err-take-clause-part_told g c =
     on_err c.from_residual.result _ (
     leaves_part c.args.self.now c.loop-index.self c.take.new.self.count c.args.out.now c.loop-index.out c.take.new.out (λ packet. frame_of packet.0) c.args.packets.now c.loop-index.index
     (c.in_err-take.ensures.kept.0 ∙ c.loop-index.invariant.counted) c.in_err-take.ensures.kept.1 c.loop-index.invariant.told)
 
 pub loop-index-preserved : goal.loop-index-preserved
-loop-index-preserved c =
+loop-index-preserved g c =
     let i = c.loop-index.invariant in
     let test = c.loop-index-test.true in
     let below : c.loop-index.index < length c.args.packets.now = search rules in
@@ -66,8 +80,9 @@ loop-index-preserved c =
           let held = i.tried c.loop-index.index (omega arith) below ∙ ap (λ (n : ℕ). find (is_of n) c.args.results.items) number in
           rises_next (job_of c.args.self.now) (world_with c.args.self.now c.args.out.now) c.args.results.items c.args.packets.now c.loop-index.index c.index-packets-index.result
           c.args.self.now.own c.loop-index.self.own c.take.new.self.own below i.own
-          (rises_by (job_of c.args.self.now) (job_of c.loop-index.self) _ (world_with c.loop-index.self c.loop-index.out) c.args.results.items c.index-packets-index.result _ (get_or c.loop-index.places.items c.loop-index.index None)
+          (rises_by (job_of c.args.self.now) (job_of c.loop-index.self) _ (world_with c.loop-index.self c.loop-index.out) c.args.results.items c.index-packets-index.result _ (found_at c.loop-index.index c.loop-index.found)
           c.loop-index.self.own c.take.new.self.own job_is i.world c.index-packets-index.is held c.in_ok-take.ensures.used c.in_ok-take.ensures.evaluated);
+      are_own = c.take.ensures.own ∙ i.are_own;
       tried = λ place from within. c.take.ensures.others place (omega arith) ∙ i.tried place (omega arith) within;
       world = c.in_ok-take.ensures.world
           ∙ batch_next (job_of c.args.self.now) (job_of c.loop-index.self) (world_with c.args.self.now c.args.out.now) (world_with c.loop-index.self c.loop-index.out) (λ packet. frame_of packet.0) c.args.packets.now c.loop-index.index
@@ -77,10 +92,10 @@ loop-index-preserved c =
     }
 
 pub returns-then-self-clause-over : goal.returns-then-self-clause-over
-returns-then-self-clause-over c = search rules
+returns-then-self-clause-over g c = search rules
 
 pub returns-clause-told : goal.returns-clause-told
-returns-clause-told c =
+returns-clause-told g c =
     let end : c.loop-index.index ≡ length c.args.packets.now = search rules in
     let all = ap (λ (i : ℕ). take i c.args.packets.now) end ∙ take-length c.args.packets.now in
     subst (λ (packets : List (Record × View)). LeadsTo c.args.self.now c.loop-index.self c.args.out.now c.loop-index.out (λ world. world_after (job_of c.args.self.now) world (map (λ packet. frame_of packet.0) packets))) all

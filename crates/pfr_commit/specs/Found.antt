@@ -1,0 +1,17 @@
+-- What was found out ahead about packets, at their places.
+use Rattle.std.specs.Prelude.{◌≡◌, ℕ, true, IfSome, Option, None, get_or}
+use Rattle.std.specs.Arc.{arc_value}
+use Rattle.pfr_packet.specs.Job.{RunJob}
+use Rattle.pfr_record.specs.declared.speculation.Speculation.{Speculation}
+use Rattle.pfr_commit.specs.declared.results.Found.{Found}
+
+abbrev pub found_at : ℕ → Found → Option Speculation
+found_at place found = get_or found.places.items place None
+
+-- it is of a job
+abbrev pub IsOfJob : RunJob → Speculation → Type 0
+IsOfJob job speculation = arc_value speculation.job ≡ job
+
+-- what is at a place is of a job, where it is known to be of the committer's own
+abbrev pub IsOwnAt : RunJob → ℕ → Found → Type 0
+IsOwnAt job place found = found.are_own ≡ true → IfSome (found_at place found) (IsOfJob job)
