@@ -1,0 +1,1 @@
+//! What all passes of a batch drew together.
