@@ -1,9 +1,9 @@
 -- Sums over the views of a table, and how often numbers stand in lists.
-use Rattle.std.proofs.Common.{◌≡◌, ℕ, zero, suc, ◌+◌, ◌-◌, ◌==◌, ◌<◌, ◌≤◌, List, [], ◌∷◌, ◌++◌, length, get_or, set, min, refl, ap, sym, ◌∙◌, arith, length-append}
+use Rattle.std.proofs.Common.{◌≡◌, ℕ, zero, suc, ◌+◌, ◌-◌, ◌==◌, ◌<◌, ◌≤◌, List, [], ◌∷◌, ◌++◌, length, get_or, set, min, max, refl, ap, sym, ◌∙◌, arith, length-append}
 use Rattle.std.proofs.lemmas.Bool.Decides.{nat_tests}
 use Rattle.std.proofs.lemmas.Bool.{cases_lt}
 use Rattle.std.proofs.lemmas.Grind.{common_steps}
-use Rattle.std.proofs.lemmas.List.Elements.{All-cons, All-nil, All-weaker}
+use Rattle.std.proofs.lemmas.List.Elements.{All-cons, All-head, All-nil, All-tail, All-weaker}
 use Rattle.std.specs.List.{All}
 use Rattle.std.specs.List.Sorted.{IsStrictlyIncreasing}
 use mathlib.Core.Option.{some, some-injective, some-ne-none}
@@ -81,3 +81,21 @@ once_more number bound = grind (arith, nat_tests)
 pub rises_push : (xs : List ℕ) (number : ℕ) → IsStrictlyIncreasing xs → All (λ earlier. earlier < number) xs → IsStrictlyIncreasing (xs ++ number ∷ [])
 rises_push xs number rises below k within =
     let r = rises k in let b = below k 0 in grind (arith, common_steps, length-append)
+
+-- ---- how far a list has come
+
+-- the least bound that a list's numbers are below
+abbrev pub bound_of : List ℕ → ℕ
+bound_of [] = 0
+bound_of (x ∷ xs) = max (x + 1) (bound_of xs)
+
+pub bound_least : (xs : List ℕ) (bound : ℕ) → All (λ number. number < bound) xs → bound_of xs ≤ bound
+bound_least [] bound below = omega arith
+bound_least (x ∷ xs) bound below =
+    let here : x < bound = All-head (λ number. number < bound) x xs below in
+    let rest = bound_least xs bound (All-tail (λ number. number < bound) x xs below) in
+    omega arith
+
+pub bound_push : (xs : List ℕ) (number : ℕ) → number + 1 ≤ bound_of (xs ++ number ∷ [])
+bound_push [] number = omega arith
+bound_push (x ∷ xs) number = let rest = bound_push xs number in omega arith

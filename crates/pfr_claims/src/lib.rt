@@ -11,6 +11,6 @@ mod passes;
 mod rule;
 
 pub use claims::Claims;
-
+pub use gathered::Gathered;
 pub use passes::{Claim, ClaimPass, EndedPass};
 pub use rule::Sizes;

@@ -1,4 +1,8 @@
 //! The passes of a batch's workers.
+ghost use Rattle.std.specs.Prelude.{◌≡◌, []};
+ghost use Rattle.std.specs.List.Sorted.{IsStrictlyIncreasing};
+ghost use Rattle.pfr_claims.specs.Drawing.{knows};
+
 use crate::rule::View;
 use atomic_table::Seat;
 use std::marker::Model;
@@ -40,6 +44,18 @@ impl Model for EndedPass {
     ghost view = { λ pass. held (batch_of pass.seat.table_id pass.seat.me.0.sizes) pass.seat.me.0.drawn };
 
     ghost invariant = { λ pass. (pass.seat.me ≡ (knows pass.seat.me.0.sizes pass.seat.me.0.drawn 0 1, [])) × IsStrictlyIncreasing pass.seat.me.0.drawn };
+}
+
+impl EndedPass {
+    /// The seat of the pass.
+    pub(crate) fn into_seat(self) -> Seat<(), View>
+        ensures table { result.table_id ≡ self.batch.table }
+        ensures knows { result.me ≡ (knows self.batch.sizes self.drawn 0 1, []) }
+        ensures rises { IsStrictlyIncreasing self.drawn }
+    {
+        let EndedPass { seat } = self;
+        seat
+    }
 }
 
 /// What a worker is given by a claim: a number of the batch, from 0, with its pass back, or its pass ended.
