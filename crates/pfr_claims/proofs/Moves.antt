@@ -1,12 +1,11 @@
 -- Each step keeps the rule of the word.
-use Rattle.std.proofs.Common.{◌≡◌, ℕ, zero, suc, ◌+◌, ◌-◌, ◌==◌, ◌%◌, ◌^◌, ◌<◌, ◌≤◌, ◌≢◌, List, [], ◌∷◌, ◌++◌, length, nat_lt, slice_index, slice_set, set, refl, ap, sym, subst, ◌∙◌, arith, inl, inr, ⊎_elim, if◌then◌else◌}
+use Rattle.std.proofs.Common.{◌≡◌, ℕ, ◌+◌, ◌-◌, ◌%◌, ◌^◌, ◌<◌, ◌≤◌, List, [], ◌∷◌, ◌++◌, length, slice_index, slice_set, set, refl, ap, sym, subst, ◌∙◌, arith, ⊎_elim}
 use Rattle.std.proofs.lemmas.Bool.Decides.{nat_tests}
-use Rattle.std.proofs.lemmas.List.{append-nil}
 use Rattle.std.specs.List.{All}
 use Rattle.std.specs.List.Sorted.{IsStrictlyIncreasing}
-use mathlib.Core.Option.{Option, some, none, some-injective, some-ne-none}
+use mathlib.Core.Option.{some, none, some-ne-none}
 use lib.ListN.{get_elem?}
-use Rattle.atomic_table.specs.Table.{Act, State, Me, step, opening, Allows, Splits, Joins}
+use Rattle.atomic_table.specs.Table.{State, Me, step, opening, Allows, Splits, Joins}
 use Rattle.atomic_table.specs.Table.Act.{keeps}
 use Rattle.atomic_table.proofs.Lists.{at_set, at_snoc, set_again}
 use Rattle.pfr_claims.specs.declared.rule.Sizes.{Sizes}
@@ -78,7 +77,7 @@ draws sizes id slots drawn s h homes at fits =
     let next : (n + 1) % 2 ^ 64 ≡ n + 1 = omega arith in
     let word : slice_index (slice_set s.words 0 ((n + 1) % 2 ^ 64)) 0 ≡ n + 1 = word_set s.words ((n + 1) % 2 ^ 64) h.one_word ∙ next in
     let earlier : All (λ number. number < n) drawn =
-      all_below drawn n (λ number. let o = h.once number in let t = total_at (λ view. times number view.drawn) s.views id v at in omega arith) in
+    all_below drawn n (λ number. let o = h.once number in let t = total_at (λ view. times number view.drawn) s.views id v at in omega arith) in
     let rises : IsStrictlyIncreasing (drawn ++ n ∷ []) = rises_push drawn n ((h.each id v at).rises refl) earlier in
     let live = total_set (λ view. view.live) s.views id v w at in
     let ended = total_set (λ view. view.ended) s.views id v w at in
@@ -91,9 +90,9 @@ draws sizes id slots drawn s h homes at fits =
         one_word = length_set s.words ((n + 1) % 2 ^ 64) h.one_word;
         small = h.small;
         once = λ number.
-          let o = h.once number in
-          let t = total_set (λ view. times number view.drawn) s.views id v w at in
-          rw word (omega (arith, times_append number drawn (n ∷ []), once_more number n));
+            let o = h.once number in
+            let t = total_set (λ view. times number view.drawn) s.views id v w at in
+            rw word (omega (arith, times_append number drawn (n ∷ []), once_more number n));
         past = rw word (grind (arith, nat_tests));
         whole = grind (arith, nat_tests);
         each = each_set (Fits sizes) s.views id w (record { sized = λ _. refl; none = λ no. absurd (grind (arith, nat_tests)); rises = λ _. rises }) h.each;
@@ -110,12 +109,12 @@ closes sizes id slots drawn positive s h homes at fits =
     let whole = h.whole in
     let all : sizes.workers ≤ total (λ view. view.ended) s.views = total_at (λ view. view.ended) s.views id v at in
     let idle : (other : ℕ) (w : View) → get_elem? s.views other ≡ some w → w.ended ≡ 0 → w.drawn ≡ [] =
-      λ other w there none. let live = total_at (λ view. view.live) s.views other w there in (h.each other w there).none (omega arith) in
+    λ other w there none. let live = total_at (λ view. view.live) s.views other w there in (h.each other w there).none (omega arith) in
     let drew_all : (number : ℕ) → times number drawn ≡ once_below number (slice_index s.words 0) =
-      λ number.
-        let alone : total (λ view. times number view.drawn) s.views ≡ times number drawn =
-          total_alone (λ view. view.ended) (λ view. times number view.drawn) s.views id v at (omega arith) (λ other w there none. ap (times number) (idle other w there none)) in
-        sym alone ∙ h.once number in (
+    λ number.
+    let alone : total (λ view. times number view.drawn) s.views ≡ times number drawn =
+    total_alone (λ view. view.ended) (λ view. times number view.drawn) s.views id v at (omega arith) (λ other w there none. ap (times number) (idle other w there none)) in
+    sym alone ∙ h.once number in (
       v,
       keeps,
       tt,
@@ -131,7 +130,7 @@ deals sizes id live positive s h at =
     let rest = rest_of v in
     let pass = pass_of v in
     let sum : (of : View → ℕ) → total of (set s.views id rest ++ pass ∷ []) + of v ≡ total of s.views + of rest + of pass =
-      λ of. let t = total_set of s.views id v rest at in omega (arith, total_snoc of (set s.views id rest) pass) in
+    λ of. let t = total_set of s.views id v rest at in omega (arith, total_snoc of (set s.views id rest) pass) in
     let lives = sum (λ view. view.live) in
     let ends = sum (λ view. view.ended) in
     let past = h.past in
@@ -157,7 +156,7 @@ collects sizes id other ended drawn drawn' positive s h at apart at' =
     let w = knows sizes drawn' 0 1 in
     let joint = both v w in
     let sum : (of : View → ℕ) → total of (set (set s.views id joint) other spent) + of v + of w ≡ total of s.views + of joint + of spent =
-      λ of. let t = total_set of s.views id v joint at in let u = total_set of (set s.views id joint) other w spent at' in omega arith in
+    λ of. let t = total_set of s.views id v joint at in let u = total_set of (set s.views id joint) other w spent at' in omega arith in
     let lives = sum (λ view. view.live) in
     let ends = sum (λ view. view.ended) in
     let past = h.past in
@@ -166,14 +165,14 @@ collects sizes id other ended drawn drawn' positive s h at apart at' =
       one_word = h.one_word;
       small = h.small;
       once = λ number.
-        let o = h.once number in
-        let t = sum (λ view. times number view.drawn) in
-        omega (arith, times_append number drawn drawn');
+          let o = h.once number in
+          let t = sum (λ view. times number view.drawn) in
+          omega (arith, times_append number drawn drawn');
       past = omega arith;
       whole = omega arith;
       each =
-        each_set (Fits sizes) (set s.views id joint) other spent (nothing_fits sizes)
-        (each_set (Fits sizes) s.views id joint (record { sized = λ _. refl; none = λ no. absurd (omega arith); rises = λ no. absurd (omega arith) }) h.each);
+          each_set (Fits sizes) (set s.views id joint) other spent (nothing_fits sizes)
+          (each_set (Fits sizes) s.views id joint (record { sized = λ _. refl; none = λ no. absurd (omega arith); rises = λ no. absurd (omega arith) }) h.each);
     }
 
 -- ---- each at an equation, which is how the code has it

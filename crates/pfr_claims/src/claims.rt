@@ -41,7 +41,7 @@ fn deal(
     ensures count { IfOk result (λ passes. vec_len passes ≡ workers) }
     ensures passes { IfOk result (λ passes. All (λ pass. pass ≡ held (batch_of table.now.shared.table_id table.now.shared.key) []) passes.items) }
 {
-    let mut passes = Vec::new(alloc);
+    let mut passes = Vec::with_capacity(alloc, workers as usize)?;
     for _worker in 0..workers {
         let seat = table.shared.split_seat::<Deal>(&mut dealer);
         passes.push(ClaimPass { seat })?;

@@ -38,7 +38,9 @@ impl Claims {
         ensures knows { all.new.me ≡ (knows self.now.sizes (all.old.me.0.drawn ++ pass.drawn) 0 (all.old.me.0.ended + 1), []) }
         ensures rises { IsStrictlyIncreasing pass.drawn }
     {
-        self.table.shared.join_seat::<Collect>(all, pass.into_seat());
+        self.table
+            .shared
+            .join_seat::<Collect>(all, pass.into_seat());
     }
 
     /// Joins all passes in one seat.

@@ -1,4 +1,4 @@
-use Rattle.std.proofs.Common.{◌≡◌, ◌-◌, ◌≤◌, [], vec_len}
+use Rattle.std.proofs.Common.{◌≡◌, ◌-◌, [], vec_len}
 use Rattle.std.specs.List.{All}
 use Rattle.pfr_claims.specs.Batches.{batch_of, held}
 use Rattle.pfr_claims.specs.Drawing.{knows}

@@ -1,5 +1,4 @@
-use Rattle.std.proofs.Common.{◌≡◌, sym, ap, ◌∙◌, arith}
-use Rattle.pfr_claims.specs.Batches.{Batch}
+use Rattle.std.proofs.Common.{sym, ap, ◌∙◌, arith}
 use Rattle.pfr_claims.proofs.Moves.{draws_at}
 use Rattle.pfr_claims.proofs.claims.Claims.claim.Goals as goal
 

@@ -1,4 +1,4 @@
-use Rattle.std.proofs.Common.{◌≡◌, sym, ap, ◌∙◌, rules, arith}
+use Rattle.std.proofs.Common.{sym, ap, ◌∙◌, arith}
 use Rattle.pfr_claims.proofs.Moves.{collects_at}
 use Rattle.pfr_claims.specs.Drawing.{knows}
 use Rattle.pfr_claims.proofs.claims.Claims.collect.Goals as goal

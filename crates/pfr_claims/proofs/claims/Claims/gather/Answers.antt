@@ -1,4 +1,4 @@
-use Rattle.std.proofs.Common.{◌≡◌, sym, ap, ◌∙◌, arith}
+use Rattle.std.proofs.Common.{sym, ap, ◌∙◌, arith}
 use Rattle.pfr_claims.proofs.Moves.{closes_at}
 use Rattle.pfr_claims.proofs.claims.Claims.gather.Goals as goal
 
