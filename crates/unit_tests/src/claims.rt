@@ -7,6 +7,7 @@ use pfr_claims::{Claim, ClaimPass, Claims, EndedPass};
 use std::alloc::{AllocError, Global};
 use std::collections::VecDeque;
 use std::test::Fail;
+use std::thread::{Threads, join};
 
 /// What was drawn in some turns, in their order, and where the word stood once all passes had ended.
 #[derive(Drop)]
@@ -93,5 +94,43 @@ fn numbers_are_drawn_in_turn(rt: HostRuntime) -> Result<(), Fail> {
             assert!(rt; *number == index as u64);
         }
     }
+    Ok(())
+}
+
+/// Drains two passes in two threads.
+fn drain_beside<R: Threads + Sync>(
+    rt: &R,
+    claims: &Claims,
+    first: ClaimPass,
+    second: ClaimPass,
+) -> (EndedPass, EndedPass)
+    requires { (first.batch ≡ claims.now) × (second.batch ≡ claims.now) }
+    ensures { (result.0.batch ≡ claims.now) × (result.1.batch ≡ claims.now) }
+{
+    join(
+        rt,
+        move || -> EndedPass
+            requires { first.batch ≡ claims.now }
+            ensures { result.batch ≡ claims.entry.now }
+        { claims.drain(first) },
+        move || -> EndedPass
+            requires { second.batch ≡ claims.now }
+            ensures { result.batch ≡ claims.entry.now }
+        { claims.drain(second) },
+    )
+}
+
+/// A batch and its passes may cross threads.
+#[test]
+fn two_threads_draw(rt: HostRuntime) -> Result<(), Fail> {
+    let (claims, mut passes) = Claims::new(rt.alloc(), 4096, 2)?;
+    let Some(second) = passes.pop() else {
+        panic!(rt; "there is no second pass")
+    };
+    let Some(first) = passes.pop() else {
+        panic!(rt; "there is no first pass")
+    };
+    let (first, second) = drain_beside(&rt, &claims, first, second);
+    assert!(rt; claims.gather(vec![in rt.alloc(); first, second]?).word == 4098);
     Ok(())
 }
