@@ -50,7 +50,8 @@ fn deal(
 }
 
 impl Claims {
-    /// A batch of `count` packets, and a pass for each of its workers. The word that they draw from begins at 0.
+    /// A batch of `count` packets, at most 4096, and a pass for each of its 1 to 64 workers. The word that they draw from
+    /// begins at 0. The only error is that memory was refused.
     pub fn new(
         alloc: Global,
         count: u64,
@@ -67,7 +68,9 @@ impl Claims {
         Ok((Claims { table, sizes }, passes))
     }
 
-    /// Draws the next number of the batch with a pass. It waits for nobody, takes no memory and can't fail.
+    /// Draws the next number of the batch with a pass. A number below the count is a place in the batch, from 0; at any
+    /// other the pass ends. It waits for nobody, takes no memory and can't fail.
+    #[inline]
     pub fn claim(&self, pass: ClaimPass) -> Claim
         requires { pass.batch ≡ self.now }
         ensures { Claimed self.now pass.drawn result }
