@@ -8,6 +8,8 @@ mod captures;
 #[cfg(test)]
 mod checksum;
 #[cfg(test)]
+mod claims;
+#[cfg(test)]
 mod criteria;
 #[cfg(test)]
 mod elements;

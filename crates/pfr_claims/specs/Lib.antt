@@ -1,0 +1,4 @@
+pub mod Batches
+pub mod Claiming
+pub mod Counting
+pub mod Drawing
