@@ -77,6 +77,7 @@ impl Results {
 }
 
 /// Adds the numbers of the packets that a book evaluates itself.
+#[derive(Drop)]
 struct Sum(AtomicU64);
 
 impl Reruns for Sum {
@@ -86,6 +87,7 @@ impl Reruns for Sum {
 }
 
 /// How often the book evaluated a packet itself, the numbers that it told before, and whether the lines are right.
+#[derive(Drop)]
 struct Taken {
     own: u64,
     told: u64,
