@@ -42,12 +42,12 @@ taken_next packets count frame is =
     rw add-one
     (take-suc packets count frame (slice_get_within packets count frame is) ∙ ap (λ (f : Frame). take count packets ++ f ∷ []) (get_or_from_slice_get packets count frame frame is))
 
-world_next : (job : RunJob) (packets : List Frame) (count : ℕ) (frame : Frame) → slice_get packets count ≡ Some frame → world_of job (take (count + 1) packets) ≡ after job (world_of job (take count packets)) frame
+world_on : (job : RunJob) (frames : List Frame) (frame : Frame) → world_of job (frames ++ frame ∷ []) ≡ after job (world_of job frames) frame
 unfolding world_of
-world_next job packets count frame is =
-    ap (λ (frames : List Frame). world_of job frames) (taken_next packets count frame is)
-    ∙ world_append job (opening job) (take count packets) (frame ∷ [])
-    ∙ world_one job (world_of job (take count packets)) frame
+world_on job frames frame = world_append job (opening job) frames (frame ∷ []) ∙ world_one job (world_of job frames) frame
+
+world_next : (job : RunJob) (packets : List Frame) (count : ℕ) (frame : Frame) → slice_get packets count ≡ Some frame → world_of job (take (count + 1) packets) ≡ after job (world_of job (take count packets)) frame
+world_next job packets count frame is = ap (λ (frames : List Frame). world_of job frames) (taken_next packets count frame is) ∙ world_on job (take count packets) frame
 
 tables_next : (job : RunJob) (packets : List Frame) (count : ℕ) → tables_of job packets (count + 1) ≡ tables_of job packets count ++ (world_of job (take (count + 1) packets)).table ∷ []
 tables_next job packets count =
@@ -65,17 +65,19 @@ added_by job world frame messages =
     let outcome = step_of job (world.count + 1) clock (view_of frame.link frame.bytes) world.table in
     record { verdicts = verdict_line (world.count + 1) clock outcome; packets = packet_text frame outcome; messages = messages }
 
+-- that is what a packet adds
+abbrev Adds : RunJob → World → Frame → List Content → Type 0
+Adds job world frame messages = online job (after job world frame) ≡ joined (online job world) (added_by job world frame messages)
+
 -- there are such messages
-online_next : (job : RunJob) (packets : List Frame) (count : ℕ) (frame : Frame) → slice_get packets count ≡ Some frame
-    → (messages : List Content) × (online job (after job (world_of job (take count packets)) frame) ≡ joined (online job (world_of job (take count packets))) (added_by job (world_of job (take count packets)) frame messages))
+messages_next : (job : RunJob) (frames : List Frame) (frame : Frame) → (messages : List Content) × Adds job (world_of job frames) frame messages
 unfolding after with_outcome
-online_next job packets count frame is =
-    let world = world_of job (take count packets) in
-    let grows = online_grows job (take count packets) (frame ∷ []) in
-    let next = ap (λ (frames : List Frame). online job (world_of job frames)) (sym (taken_next packets count frame is)) in (
+messages_next job frames frame =
+    let world = world_of job frames in
+    let grows = online_grows job frames (frame ∷ []) in (
       grows.0.messages,
       texts_are (online job (after job world frame)) (joined (online job world) (added_by job world frame grows.0.messages)) refl refl
-          (ap (λ (t : Texts). t.messages) (ap (online job) (sym (world_next job packets count frame is)) ∙ sym next ∙ grows.1)),
+          (ap (λ (t : Texts). t.messages) (ap (online job) (sym (world_on job frames frame)) ∙ grows.1)),
     )
 
 -- ---- commits
@@ -86,27 +88,27 @@ committed_at job packets machine count =
     let world = world_of job (take count packets) in
     record machine { committed = count; tables = tables_of job packets count; world = world; emitted = online job world }
 
-messages_are : (job : RunJob) (world : World) (frame : Frame) (messages : List Content) → online job (after job world frame) ≡ joined (online job world) (added_by job world frame messages)
+messages_are : (job : RunJob) (world : World) (frame : Frame) (messages : List Content) → Adds job world frame messages
     → closed_at (origin_of job) (clock_at world.clock frame) (after job world frame).events ≡ closed_at (origin_of job) world.clock world.events ++ messages
 unfolding after with_outcome
 messages_are job world frame messages is = ap (λ (t : Texts). t.messages) is
 
 -- the state after the next commit
 next_is : (job : RunJob) (packets : List Frame) (machine : Machine) (count : ℕ) (frame : Frame) → slice_get packets count ≡ Some frame → (messages : List Content)
-    → online job (after job (world_of job (take count packets)) frame) ≡ joined (online job (world_of job (take count packets))) (added_by job (world_of job (take count packets)) frame messages)
+    → Adds job (world_of job (take count packets)) frame messages
     → committed_at job packets machine (count + 1) ≡ record machine {
       committed = count + 1;
       tables = tables_of job packets count ++ (after job (world_of job (take count packets)) frame).table ∷ [];
       world = after job (world_of job (take count packets)) frame;
       emitted = joined (online job (world_of job (take count packets))) (added_by job (world_of job (take count packets)) frame messages);
     }
-next_is job packets machine count frame is messages written =
+next_is job packets machine count frame is messages adds =
     let by : List StateTable → World → Texts → Machine = λ tables world emitted. record machine { committed = count + 1; tables = tables; world = world; emitted = emitted } in
     let old = world_of job (take count packets) in
     let new = world_of job (take (count + 1) packets) in
     ap (λ (tables : List StateTable). by tables new (online job new)) (tables_next job packets count)
     ∙ ap (λ (world : World). by (tables_of job packets count ++ world.table ∷ []) world (online job world)) (world_next job packets count frame is)
-    ∙ ap (by (tables_of job packets count ++ (after job old frame).table ∷ []) (after job old frame)) written
+    ∙ ap (by (tables_of job packets count ++ (after job old frame).table ∷ []) (after job old frame)) adds
 
 commits : (job : RunJob) (packets : List Frame) (machine : Machine) (count : ℕ) → count < machine.opened → machine.opened ≤ length packets → Commits job packets (committed_at job packets machine count) None (committed_at job packets machine (count + 1))
 unfolding after
@@ -115,7 +117,7 @@ commits job packets machine count below within =
     let frame = found.0 in
     let world = world_of job (take count packets) in
     let clock = clock_at world.clock frame in
-    let writes = online_next job packets count frame found.1 in
+    let adds = messages_next job (take count packets) frame in
     record {
       is_open = below;
       frame = frame;
@@ -124,9 +126,9 @@ commits job packets machine count below within =
       clock_is = refl;
       outcome = step_of job (world.count + 1) clock (view_of frame.link frame.bytes) world.table;
       takes = refl;
-      added = added_by job world frame writes.0;
-      emits = record { verdicts_are = refl; packets_are = refl; messages_are = messages_are job world frame writes.0 writes.1 };
-      new_is = next_is job packets machine count frame found.1 writes.0 writes.1;
+      added = added_by job world frame adds.0;
+      emits = record { verdicts_are = refl; packets_are = refl; messages_are = messages_are job world frame adds.0 adds.1 };
+      new_is = next_is job packets machine count frame found.1 adds.0 adds.1;
     }
 
 -- packets are committed up to a later count

@@ -1,6 +1,7 @@
-//! What the runs of workers come to, as runs of the speculative machine.
+//! What the runs of workers come to.
 //!
-//! A state that says of itself that it is the end of a run is one: there are events, one after the other, that lead to it.
+//! A state of the speculative machine whose parts agree as they do at the end of a run is the end of one: a list of events leads
+//! there from the start.
 #![tactic(auto)]
 
 pub mod laws;
