@@ -1,0 +1,4 @@
+pub mod BatchLemmas
+pub mod CommitLemmas
+pub mod LeadLemmas
+pub mod ReachLemmas

@@ -1,0 +1,7 @@
+//! What the runs of workers come to.
+//!
+//! A state of the speculative machine whose parts agree as they do at the end of a run is the end of one: a list of events leads
+//! there from the start.
+#![tactic(auto)]
+
+pub mod laws;
