@@ -4,4 +4,11 @@
 //! there from the start.
 #![tactic(auto)]
 
+pub mod ahead;
+mod found;
+pub mod gate;
 pub mod laws;
+mod views;
+
+pub use ahead::{Ahead, evaluate_ahead};
+pub use gate::Gate;

@@ -1,0 +1,178 @@
+//! Packets of a batch, evaluated ahead by workers.
+ghost use Rattle.std.specs.Prelude.{◌≡◌, ◌≤◌, ◌<◌, IfOk, Some, length};
+ghost use Rattle.std.specs.Arc.{arc_value};
+ghost use Rattle.std.specs.List.{All, AllZip};
+ghost use Rattle.pfr_commit.specs.Books.{job_of};
+ghost use Rattle.pfr_commit.specs.Found.{IsOfJob};
+ghost use Rattle.pfr_work.specs.Batches.{IsViewOf};
+
+use crate::found::{FoundOut, OfRun};
+use crate::gate::Gate;
+use crate::views::views;
+use pfr_capture::Record;
+use pfr_claims::Gathered;
+use pfr_commit::Book;
+use pfr_crew::{Answered, Work, answered_beside};
+use pfr_headers::{View, view};
+use pfr_packet::Job;
+use pfr_record::{Speculation, speculate};
+use pfr_states::Table;
+use pfr_track::Clock;
+use std::alloc::{AllocError, Global};
+use std::marker::{Brand, PhantomData};
+use std::sync::{Arc, Wait};
+use std::thread::Threads;
+
+/// The most questions of a result that is kept. A pick among taken ports asks one for each of them, and such a record is large: its
+/// packet is evaluated by the committer.
+const MOST_QUESTIONS: usize = 1024;
+
+/// What was found out ahead about the packets of a batch: results in the order in which they came, the views of all records in
+/// theirs, and which worker drew which packets.
+#[derive(Drop)]
+pub struct Ahead {
+    pub results: Vec<Speculation>,
+    pub views: Vec<View>,
+    pub gathered: Gathered,
+}
+
+/// What all workers of a batch share.
+struct Speculating<'a, J: OfRun, G> {
+    alloc: Global,
+    job: &'a Arc<Job>,
+    table: &'a Table,
+    records: &'a [Record],
+    /// The clock at each record.
+    clocks: &'a [Clock],
+    /// The number of the first packet.
+    first: u64,
+    gate: &'a G,
+    of: PhantomData<J>,
+    ghost own: { J.job ≡ Some (arc_value job.now) },
+}
+
+impl<'a, J: OfRun + Send + Sync, G: Gate> Speculating<'a, J, G> {
+    /// The number of the packet at a place of the batch.
+    fn number_at(&self, place: u64) -> u64 {
+        self.first.saturating_add(place)
+    }
+
+    /// What is found out about the packet at a place.
+    fn speculation_at(&self, place: u64) -> Option<FoundOut<J>> {
+        let record = self.records.get(place as usize)?;
+        let clock = self.clocks.get(place as usize)?;
+        let view = view(record.link, record.bytes.as_slice());
+        let number = self.number_at(place);
+        match speculate(self.alloc, self.job, number, *clock, view, self.table) {
+            Ok(speculation) => Some(FoundOut { speculation }),
+            Err(_) => None,
+        }
+    }
+}
+
+impl<'a, J: OfRun + Send + Sync, G: Gate> Work for Speculating<'a, J, G> {
+    type Answer = FoundOut<J>;
+
+    fn answer(&self, place: u64) -> Option<FoundOut<J>> {
+        self.gate.starts(self.number_at(place));
+        let found = self.speculation_at(place)?;
+        if found.speculation.questions() > MOST_QUESTIONS {
+            return None;
+        }
+        Some(found)
+    }
+
+    fn sent(&self, place: u64) {
+        self.gate.answered(self.number_at(place));
+    }
+}
+
+/// The speculations of what workers found out.
+fn speculations<J: OfRun>(
+    alloc: Global,
+    found: Vec<FoundOut<J>>,
+) -> Result<Vec<Speculation>, AllocError>
+    ensures { IfOk result (λ results. All (λ speculation. J.job ≡ Some (arc_value speculation.job)) results.items) }
+{
+    let mut results = Vec::with_capacity(alloc, found.len())?;
+    for FoundOut { speculation } in found {
+        results.push(speculation)?;
+    }
+    Ok(results)
+}
+
+/// The clock at each record behind one: the greatest second so far.
+fn clocks(alloc: Global, clock: Clock, records: &[Record]) -> Result<Vec<Clock>, AllocError> {
+    let mut clocks = Vec::with_capacity(alloc, records.len())?;
+    let mut last = clock;
+    for record in records {
+        last = Clock(last.0.max(record.seconds));
+        clocks.push(last)?;
+    }
+    Ok(clocks)
+}
+
+/// Has the packets of a batch evaluated by workers, under the job that is named.
+fn ahead_in<J: OfRun + Send + Sync, R: Threads + Wait + Sync, G: Gate>(
+    rt: &R,
+    alloc: Global,
+    book: &Book,
+    clock: Clock,
+    records: &[Record],
+    workers: u64,
+    gate: &G,
+) -> Result<Ahead, AllocError>
+    requires job { J.job ≡ Some (job_of book.now) }
+    requires count { length records.now ≤ 4096 }
+    requires workers { (0 < workers) × (workers ≤ 64) }
+    ensures own { IfOk result (λ ahead. All (IsOfJob (job_of book.now)) ahead.results.items) }
+    ensures views { IfOk result (λ ahead. AllZip IsViewOf records.now ahead.views.items) }
+    ensures sizes { IfOk result (λ ahead. (ahead.gathered.sizes.count ≡ length records.now) × (ahead.gathered.sizes.workers ≡ workers)) }
+{
+    let clocks = clocks(alloc, clock, records)?;
+    let work = Speculating::<J, G> {
+        alloc,
+        job: book.job(),
+        table: book.table(),
+        records,
+        clocks: clocks.as_slice(),
+        first: book.committed().saturating_add(1),
+        gate,
+        of: PhantomData,
+    };
+    let count = records.len() as u64;
+    let Answered {
+        answers,
+        gathered,
+        beside,
+    } = answered_beside(rt, alloc, count, workers, &work, || views(rt, alloc, records))?;
+    Ok(Ahead {
+        results: speculations(alloc, answers)?,
+        views: beside?,
+        gathered,
+    })
+}
+
+/// Has the packets that come next to a book evaluated by workers on its table, behind a clock. Each worker draws packets until all
+/// are drawn. The gate is told of each before it is evaluated, and once its result is sent. Beside them the calling thread makes
+/// the views of the records.
+///
+/// Results may be missing: of a packet for which memory is refused, or which asks much of the table, and of one that a thread
+/// which can't be started would have drawn. The only error is that memory was refused.
+pub fn evaluate_ahead<R: Threads + Wait + Sync, G: Gate>(
+    rt: &R,
+    alloc: Global,
+    book: &Book,
+    clock: Clock,
+    records: &[Record],
+    workers: u64,
+    gate: &G,
+) -> Result<Ahead, AllocError>
+    requires count { length records.now ≤ 4096 }
+    requires workers { (0 < workers) × (workers ≤ 64) }
+    ensures own { IfOk result (λ ahead. All (IsOfJob (job_of book.now)) ahead.results.items) }
+    ensures views { IfOk result (λ ahead. AllZip IsViewOf records.now ahead.views.items) }
+    ensures sizes { IfOk result (λ ahead. (ahead.gathered.sizes.count ≡ length records.now) × (ahead.gathered.sizes.workers ≡ workers)) }
+{
+    ahead_in::<Brand, R, G>(rt, alloc, book, clock, records, workers, gate)
+}

@@ -1,0 +1,14 @@
+//! Who is told of the turns of packets.
+
+/// Who is told when a worker or the committer turns to a packet. The numbers are those of packets, from 1. A call may wait: a
+/// worker goes on behind it.
+pub trait Gate: Sync {
+    /// A worker has drawn a packet, and evaluates it next.
+    fn starts(&self, number: u64);
+
+    /// A worker has sent what it found out about a packet.
+    fn answered(&self, number: u64);
+
+    /// The committer evaluates a packet itself next, as no result of it holds.
+    fn ran_again(&self, number: u64);
+}
