@@ -1,26 +1,28 @@
 //! A batch whose workers answer beside the calling thread.
-ghost use Rattle.std.specs.Prelude.{◌≡◌, ◌+◌, ◌<◌, ◌≤◌, IfOk, length, vec_len, vec_capacity};
+ghost use Rattle.std.specs.Prelude.{◌≡◌, ◌+◌, ◌<◌, ◌≤◌, IfOk, IfErr, length, vec_len, vec_capacity};
 ghost use Rattle.std.specs.List.{All};
+ghost use Rattle.pfr_crew.specs.Turns.{batch_of_turn};
 
 use crate::desk::{Desk, Returned};
 use crate::senders::{SenderSlot, sender_slots};
-use crate::work::{Work, draw_and_answer};
+use crate::work::{Turn, Work, take_turn};
 use crossbeam_channel::unbounded;
 use pfr_claims::{ClaimPass, Claims, EndedPass, Gathered};
 use std::alloc::{AllocError, Global};
 use std::snapshot::Snapshot;
 use std::sync::Wait;
 use std::thread;
-use std::thread::{Promise, Scope, Threads};
+use std::thread::{Promise, PromisedHandle, Scope, Threads};
 
-/// A worker's promise: the pass that it ends is of its batch.
+/// A worker's promise: what it gives back is a pass of its batch.
 #[derive(Drop)]
 struct PassOf(Snapshot<Claims>);
 
-impl Promise<EndedPass> for PassOf {
+impl Promise<Turn> for PassOf {
     ghost use Rattle.std.specs.Prelude.{◌≡◌};
+    ghost use Rattle.pfr_crew.specs.Turns.{batch_of_turn};
 
-    ghost kept_by = { λ promise pass. pass.batch ≡ promise.0.value };
+    ghost kept_by = { λ promise turn. batch_of_turn turn ≡ promise.0.value };
 }
 
 /// What comes of a batch: the answers in the order in which they arrived, the batch with all its passes ended, and what
@@ -30,6 +32,48 @@ pub struct Answered<A, T> {
     pub answers: Vec<A>,
     pub gathered: Gathered,
     pub beside: T,
+}
+
+/// Starts the thread of a worker. Where it is refused, the worker's sender is let go of, and its pass isn't used.
+fn start<'s, E, R: Threads + Wait + Sync, W: Work>(
+    scope: &Scope<'s, E>,
+    rt: &'s R,
+    claims: &'s Claims,
+    slot: &'s SenderSlot<W::Answer>,
+    work: &'s W,
+    pass: ClaimPass,
+) -> Result<PromisedHandle<Turn, PassOf>, Turn>
+    requires { pass.batch ≡ claims.now }
+    ensures ok { IfOk result (λ handle. handle.promise.0.value ≡ claims.now) }
+    ensures err { IfErr result (λ turn. batch_of_turn turn ≡ claims.now) }
+{
+    let turn = move || -> Turn
+        requires { pass.batch ≡ claims.now }
+        ensures { batch_of_turn result ≡ claims.entry.now }
+    { take_turn(rt, claims, slot, work, pass) };
+    match scope.spawn_with(PassOf(Snapshot::of(claims)), turn) {
+        Ok(handle) => Ok(handle),
+        Err(refused) => {
+            drop(slot.take(rt));
+            Err((refused.value)())
+        }
+    }
+}
+
+/// Waits for a worker's turn to be over, and draws a pass that wasn't used to its end.
+fn finish<R: Threads>(
+    rt: &R,
+    claims: &Claims,
+    started: Result<PromisedHandle<Turn, PassOf>, Turn>,
+) -> EndedPass
+    requires ok { IfOk started (λ handle. handle.promise.0.value ≡ claims.now) }
+    requires err { IfErr started (λ turn. batch_of_turn turn ≡ claims.now) }
+    ensures { result.batch ≡ claims.now }
+{
+    match started {
+        Ok(handle) => handle.join(rt).end(claims),
+        Err(turn) => turn.end(claims),
+    }
 }
 
 /// Starts a worker for each pass, does the calling thread's part beside them, and joins them. The pass of a worker that
@@ -56,26 +100,9 @@ fn work_beside<'s, E, R: Threads + Wait + Sync, W: Work, T, B: FnOnce() -> T + D
     let Some(pass) = passes.pop() else {
         return desk.attend(rt);
     };
-    let slot = &slots[passes.len()];
-    if slot.is_empty(rt) {
-        let returned = work_beside(scope, rt, claims, slots, work, passes, desk);
-        return returned.with(claims.drain(pass));
-    }
-    let run = move || -> EndedPass
-        requires { pass.batch ≡ claims.now }
-        ensures { result.batch ≡ claims.entry.now }
-    { draw_and_answer(rt, claims, slot, work, pass) };
-    match scope.spawn_with(PassOf(Snapshot::of(claims)), run) {
-        Ok(handle) => {
-            let returned = work_beside(scope, rt, claims, slots, work, passes, desk);
-            returned.with(handle.join(rt))
-        }
-        Err(refused) => {
-            drop(slot.take(rt));
-            let returned = work_beside(scope, rt, claims, slots, work, passes, desk);
-            returned.with((refused.value)())
-        }
-    }
+    let started = start(scope, rt, claims, &slots[passes.len()], work, pass);
+    let returned = work_beside(scope, rt, claims, slots, work, passes, desk);
+    returned.with(finish(rt, claims, started))
 }
 
 /// The same in a scope of its own.

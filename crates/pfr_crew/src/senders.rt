@@ -16,11 +16,6 @@ impl<A: Drop> SenderSlot<A> {
     pub(crate) fn take<R: Wait>(&self, rt: &R) -> Option<Sender<A>> {
         self.sender.lock(rt).take()
     }
-
-    /// Whether there is no sender.
-    pub(crate) fn is_empty<R: Wait>(&self, rt: &R) -> bool {
-        self.sender.lock(rt).is_none()
-    }
 }
 
 /// A slot for each worker, each with a sender as far as memory serves. The sender that they are made of is let go of, so

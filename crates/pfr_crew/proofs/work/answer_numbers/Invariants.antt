@@ -1,6 +1,6 @@
 use Rattle.std.proofs.Common.{◌≡◌, ◌-◌}
 use Rattle.pfr_claims.proofs.Sums.{bound_of}
-use Rattle.pfr_crew.proofs.work.draw_and_answer.Given as goal
+use Rattle.pfr_crew.proofs.work.answer_numbers.Given as goal
 
 abbrev pub invariant-draws : goal.invariant-draws
 invariant-draws g l = l.live.batch ≡ l.claims

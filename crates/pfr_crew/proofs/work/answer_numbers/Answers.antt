@@ -1,6 +1,6 @@
 use Rattle.std.proofs.Common.{◌≡◌, ◌<◌, ◌≤◌, ◌+◌, ap, arith, ◌++◌, ◌∷◌, []}
 use Rattle.pfr_claims.proofs.Sums.{bound_of, bound_least, bound_push}
-use Rattle.pfr_crew.proofs.work.draw_and_answer.Goals as goal
+use Rattle.pfr_crew.proofs.work.answer_numbers.Goals as goal
 
 -- the number that is drawn is below the count, and what is drawn later is above it
 pub draws-smaller : goal.draws-smaller
