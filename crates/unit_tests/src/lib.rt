@@ -12,6 +12,8 @@ mod checksum;
 #[cfg(test)]
 mod claims;
 #[cfg(test)]
+mod crews;
+#[cfg(test)]
 mod criteria;
 #[cfg(test)]
 mod elements;

@@ -1,0 +1,81 @@
+//! What the calling thread does beside the workers.
+ghost use Rattle.std.specs.Prelude.{◌≡◌, ◌+◌, ◌<◌, ◌∷◌, [], ◌++◌, vec_len, vec_capacity};
+
+use crossbeam_channel::Receiver;
+use pfr_claims::EndedPass;
+use std::alloc::Global;
+use std::sync::Wait;
+
+/// What the calling thread has before it: its own part, the channel of the answers, and a list with room for the ended
+/// passes.
+#[derive(Drop)]
+pub(crate) struct Desk<B: Drop, A: Drop> {
+    pub(crate) alloc: Global,
+    pub(crate) beside: B,
+    pub(crate) inbox: Receiver<A>,
+    pub(crate) ended: Vec<EndedPass>,
+}
+
+/// What has come back to the calling thread.
+pub(crate) struct Returned<A, T> {
+    pub(crate) answers: Vec<A>,
+    pub(crate) ended: Vec<EndedPass>,
+    pub(crate) beside: T,
+}
+
+/// Receives answers until the last sender is gone. An answer that there is no memory for is let go of.
+fn receive<R: Wait, A: Drop>(rt: &R, alloc: Global, inbox: Receiver<A>) -> Vec<A> {
+    let mut answers = Vec::new(alloc);
+    for answer in inbox.iter(rt) {
+        let _kept = answers.push(answer);
+    }
+    answers
+}
+
+impl<B: Drop, A: Drop> Desk<B, A> {
+    /// Does the caller's own part, and receives the answers then.
+    pub(crate) fn attend<R: Wait, T>(self, rt: &R) -> Returned<A, T>
+    where
+        B: FnOnce() -> T,
+        requires { B.pre self.beside }
+        ensures ended { result.ended ≡ self.ended }
+        ensures beside { B.post self.beside result.beside }
+    {
+        let Desk {
+            alloc,
+            beside,
+            inbox,
+            ended,
+        } = self;
+        let beside = beside();
+        let answers = receive(rt, alloc, inbox);
+        Returned {
+            answers,
+            ended,
+            beside,
+        }
+    }
+}
+
+impl<A, T> Returned<A, T> {
+    /// The same with one more ended pass.
+    pub(crate) fn with(self, pass: EndedPass) -> Returned<A, T>
+        requires { vec_len self.ended < vec_capacity self.ended }
+        ensures ended { result.ended.items ≡ self.ended.items ++ pass ∷ [] }
+        ensures len { vec_len result.ended ≡ vec_len self.ended + 1 }
+        ensures room { vec_capacity result.ended ≡ vec_capacity self.ended }
+        ensures beside { result.beside ≡ self.beside }
+    {
+        let Returned {
+            answers,
+            mut ended,
+            beside,
+        } = self;
+        ended.push_reserved(pass);
+        Returned {
+            answers,
+            ended,
+            beside,
+        }
+    }
+}

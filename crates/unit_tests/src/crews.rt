@@ -1,0 +1,172 @@
+//! Batches whose numbers workers answer beside the calling thread.
+ghost use Rattle.std.specs.Prelude.{◌≡◌, ◌+◌, ◌<◌, ◌≤◌};
+
+use pfr_crew::{Work, answered_beside};
+use std::alloc::{AllocError, Global};
+use std::sync::Wait;
+use std::sync::atomic::{AtomicBool, AtomicU64, Ordering};
+use std::test::Fail;
+use std::thread::{Threads, sleep};
+use std::time::{Clock, Duration};
+
+/// Waits for a flag, for ten seconds or more at most, and answers whether it came.
+fn wait_for<R: Clock>(rt: &R, flag: &AtomicBool) -> bool {
+    for _turn in 0..10_000u32 {
+        if flag.load(Ordering::SeqCst) {
+            return true;
+        }
+        sleep(rt, Duration::from_millis(1));
+    }
+    false
+}
+
+/// Answers number 0 once number 1 was sent.
+#[derive(Drop)]
+struct LastFirst<'a, R: Clock + Sync> {
+    rt: &'a R,
+    sent: AtomicBool,
+}
+
+impl<'a, R: Clock + Sync> Work for LastFirst<'a, R> {
+    type Answer = (u64, bool);
+
+    fn answer(&self, number: u64) -> Option<(u64, bool)> {
+        Some((number, number == 0 && wait_for(self.rt, &self.sent)))
+    }
+
+    fn sent(&self, number: u64) {
+        if number == 1 {
+            self.sent.store(true, Ordering::SeqCst);
+        }
+    }
+}
+
+/// Two workers answer beside each other, and beside the calling thread.
+#[test]
+fn workers_answer_beside_each_other(rt: HostRuntime) -> Result<(), Fail> {
+    let work = LastFirst {
+        rt: &rt,
+        sent: AtomicBool::new(false),
+    };
+    let beside = || wait_for(&rt, &work.sent);
+    let answered = answered_beside(&rt, rt.alloc(), 2, 2, &work, beside)?;
+    assert!(rt; answered.beside && answered.answers.len() == 2);
+    assert!(rt; answered.answers[0] == (1, false) && answered.answers[1] == (0, true));
+    Ok(())
+}
+
+/// A number and its double, which nobody has to compute again.
+#[derive(Drop)]
+struct Doubled {
+    number: u64,
+    double: u64,
+    ghost is: { double ≡ number + number },
+}
+
+/// The number, by what is known of every answer.
+fn number_of(answer: &Doubled) -> u64
+    ensures { result ≡ answer.now.number }
+{
+    answer.double - answer.number
+}
+
+/// How often one number was answered, was sent, and arrived.
+#[derive(Drop)]
+struct Times {
+    answered: AtomicU64,
+    sent: AtomicU64,
+    arrived: AtomicU64,
+}
+
+/// Counts what becomes of each number. Every third one from 0 has no answer.
+#[derive(Drop)]
+struct Tally {
+    times: Vec<Times>,
+}
+
+impl Tally {
+    fn new(alloc: Global, numbers: u64) -> Result<Tally, AllocError> {
+        let mut times = Vec::new(alloc);
+        for _number in 0..numbers {
+            times.push(Times {
+                answered: AtomicU64::new(0),
+                sent: AtomicU64::new(0),
+                arrived: AtomicU64::new(0),
+            })?;
+        }
+        Ok(Tally { times })
+    }
+
+    /// Counts what has arrived.
+    fn arrive(&self, answers: &[Doubled]) {
+        for answer in answers {
+            if let Some(times) = self.times.get(number_of(answer) as usize) {
+                times.arrived.fetch_add(1, Ordering::SeqCst);
+            }
+        }
+    }
+
+    /// Whether each number was answered once, and each answer sent once and received once.
+    fn is_whole(&self) -> bool {
+        for (index, times) in self.times.iter().enumerate() {
+            let wanted = u64::from(index % 3 != 0);
+            let answered = times.answered.load(Ordering::SeqCst);
+            let sent = times.sent.load(Ordering::SeqCst);
+            let arrived = times.arrived.load(Ordering::SeqCst);
+            if answered != 1 || sent != wanted || arrived != wanted {
+                return false;
+            }
+        }
+        true
+    }
+}
+
+impl Work for Tally {
+    type Answer = Doubled;
+
+    fn answer(&self, number: u64) -> Option<Doubled> {
+        if let Some(times) = self.times.get(number as usize) {
+            times.answered.fetch_add(1, Ordering::SeqCst);
+        }
+        if number % 3 == 0 {
+            return None;
+        }
+        let double = number.checked_add(number)?;
+        Some(Doubled { number, double })
+    }
+
+    fn sent(&self, number: u64) {
+        if let Some(times) = self.times.get(number as usize) {
+            times.sent.fetch_add(1, Ordering::SeqCst);
+        }
+    }
+}
+
+/// Has the numbers of a batch counted, and answers how often the calling thread's part ran, and where the word stood.
+fn play<R: Threads + Wait + Sync>(
+    rt: &R,
+    alloc: Global,
+    numbers: u64,
+    workers: u64,
+    tally: &Tally,
+) -> Result<(u64, u64), AllocError>
+    requires count { numbers ≤ 4096 }
+    requires workers { (0 < workers) × (workers ≤ 64) }
+{
+    let calls = AtomicU64::new(0);
+    let beside = || calls.fetch_add(1, Ordering::SeqCst);
+    let answered = answered_beside(rt, alloc, numbers, workers, tally, beside)?;
+    tally.arrive(&answered.answers);
+    Ok((calls.load(Ordering::SeqCst), answered.gathered.word))
+}
+
+/// Each number is answered once, whoever draws it, and each answer is sent once and arrives.
+#[test]
+fn each_number_is_answered_once(rt: HostRuntime) -> Result<(), Fail> {
+    for (numbers, workers, word) in [(64, 4, 68), (64, 1, 65), (0, 3, 3), (5, 64, 69)] {
+        let tally = Tally::new(rt.alloc(), numbers)?;
+        let played = play(&rt, rt.alloc(), numbers, workers, &tally)?;
+        assert!(rt; played == (1, word) && tally.is_whole());
+    }
+    Ok(())
+}
