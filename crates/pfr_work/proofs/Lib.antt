@@ -2,3 +2,4 @@ pub mod BatchLemmas
 pub mod CommitLemmas
 pub mod LeadLemmas
 pub mod ReachLemmas
+pub mod ViewLemmas

@@ -6,4 +6,4 @@ use Rattle.pfr_capture.specs.declared.capture.Record.{Record}
 
 -- a view is that of a record
 abbrev pub IsViewOf : Record → View → Type 0
-IsViewOf record view = view ≡ view_of record.link record.bytes.items
+IsViewOf packet view = view ≡ view_of packet.link packet.bytes.items

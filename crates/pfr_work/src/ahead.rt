@@ -37,6 +37,7 @@ pub struct Ahead {
 }
 
 /// What all workers of a batch share.
+#[derive(Drop)]
 struct Speculating<'a, J: OfRun, G> {
     alloc: Global,
     job: &'a Arc<Job>,
@@ -51,7 +52,7 @@ struct Speculating<'a, J: OfRun, G> {
     ghost own: { J.job ≡ Some (arc_value job.now) },
 }
 
-impl<'a, J: OfRun + Send + Sync, G: Gate> Speculating<'a, J, G> {
+impl<'a, J: OfRun, G> Speculating<'a, J, G> {
     /// The number of the packet at a place of the batch.
     fn number_at(&self, place: u64) -> u64 {
         self.first.saturating_add(place)
@@ -64,7 +65,10 @@ impl<'a, J: OfRun + Send + Sync, G: Gate> Speculating<'a, J, G> {
         let view = view(record.link, record.bytes.as_slice());
         let number = self.number_at(place);
         match speculate(self.alloc, self.job, number, *clock, view, self.table) {
-            Ok(speculation) => Some(FoundOut { speculation }),
+            Ok(speculation) => Some(FoundOut {
+                speculation,
+                of: PhantomData,
+            }),
             Err(_) => None,
         }
     }
@@ -95,7 +99,7 @@ fn speculations<J: OfRun>(
     ensures { IfOk result (λ results. All (λ speculation. J.job ≡ Some (arc_value speculation.job)) results.items) }
 {
     let mut results = Vec::with_capacity(alloc, found.len())?;
-    for FoundOut { speculation } in found {
+    for FoundOut { speculation, of: _ } in found {
         results.push(speculation)?;
     }
     Ok(results)
@@ -145,7 +149,14 @@ fn ahead_in<J: OfRun + Send + Sync, R: Threads + Wait + Sync, G: Gate>(
         answers,
         gathered,
         beside,
-    } = answered_beside(rt, alloc, count, workers, &work, || views(rt, alloc, records))?;
+    } = answered_beside(
+        rt,
+        alloc,
+        count,
+        workers,
+        &work,
+        || views(rt, alloc, records),
+    )?;
     Ok(Ahead {
         results: speculations(alloc, answers)?,
         views: beside?,

@@ -4,7 +4,7 @@ ghost use Rattle.std.specs.Arc.{arc_value};
 ghost use Rattle.pfr_packet.specs.Job.{RunJob};
 
 use pfr_record::Speculation;
-use std::marker::Brand;
+use std::marker::{Brand, PhantomData};
 
 /// Names the job of a run, to contracts alone: what crosses from a worker to the committer is known by its type to be of it.
 pub(crate) trait OfRun {
@@ -24,5 +24,6 @@ impl OfRun for Brand {
 #[derive(Drop)]
 pub(crate) struct FoundOut<J: OfRun> {
     pub(crate) speculation: Speculation,
+    pub(crate) of: PhantomData<J>,
     pub ghost own: { J.job ≡ Some (arc_value speculation.job) },
 }
