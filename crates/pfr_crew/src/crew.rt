@@ -143,7 +143,8 @@ fn in_scope<R: Threads + Wait + Sync, W: Work, T, B: FnOnce() -> T + Drop>(
 ///
 /// The batch has `count` numbers, at most 4096, for 1 to 64 `workers`, each a thread of its own that ends before this
 /// returns. `beside` runs once, in the calling thread. The only error is that memory was refused before any of that began,
-/// and then nothing was done. From then on, a thread or an answer that memory is refused for is one less.
+/// and then nothing was done. Later on, a worker whose thread is refused answers nothing, and its numbers are drawn by the
+/// others. An answer that there is no memory for is let go of.
 pub fn answered_beside<R: Threads + Wait + Sync, W: Work, T, B: FnOnce() -> T + Drop>(
     rt: &R,
     alloc: Global,

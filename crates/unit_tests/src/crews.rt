@@ -37,6 +37,8 @@ impl<'a, R: Clock + Sync> Work for LastFirst<'a, R> {
     fn sent(&self, number: u64) {
         if number == 1 {
             self.sent.store(true, Ordering::SeqCst);
+            // An answer that is only sent after this call arrives behind the other one.
+            sleep(self.rt, Duration::from_millis(50));
         }
     }
 }

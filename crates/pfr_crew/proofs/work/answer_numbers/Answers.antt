@@ -1,4 +1,4 @@
-use Rattle.std.proofs.Common.{◌≡◌, ◌<◌, ◌≤◌, ◌+◌, ap, arith, ◌++◌, ◌∷◌, []}
+use Rattle.std.proofs.Common.{◌≡◌, ◌≤◌, ap, arith, ◌++◌, ◌∷◌, []}
 use Rattle.pfr_claims.proofs.Sums.{bound_of, bound_least, bound_push}
 use Rattle.pfr_crew.proofs.work.answer_numbers.Goals as goal
 
