@@ -21,31 +21,36 @@ use std::sync::atomic::{AtomicU64, Ordering};
 use std::test::Fail;
 
 /// The verdict lines of the packets: the third goes by the state that the first makes.
-const LINES: &[u8] = b"1 0 out pass rule r=0 t=- s=1\n2 0 out pass rule r=0 t=- s=2\n3 0 out pass state r=0 t=- s=1\n";
+const LINES: &[u8] =
+    b"1 0 out pass rule r=0 t=- s=1\n2 0 out pass rule r=0 t=- s=2\n3 0 out pass state r=0 t=- s=1\n";
 
 /// Packets with their views.
 #[derive(Drop)]
-struct Packets {
-    items: Vec<(Record, View)>,
+pub(crate) struct Packets {
+    pub(crate) items: Vec<(Record, View)>,
     ghost views: { All (λ packet. packet.1 ≡ view_of packet.0.link packet.0.bytes.items) items.items },
 }
 
+/// A datagram from a port of 10.0.0.5 to 198.51.100.7:53.
+pub(crate) fn datagram(alloc: Global, port: u16) -> Result<Record, AllocError> {
+    let mut bytes = Vec::with_capacity(alloc, 28)?;
+    bytes.extend_from_slice(&[0x45, 0, 0, 28, 0, 1, 0, 0, 0x40, 17, 0x46, 0x91])?;
+    bytes.extend_from_slice(&[10, 0, 0, 5, 198, 51, 100, 7])?;
+    bytes.extend_from_slice(&port.to_be_bytes())?;
+    bytes.extend_from_slice(&[0, 53, 0, 8, 0, 0])?;
+    Ok(Record {
+        link: 101,
+        seconds: 0,
+        fraction: 0,
+        header: [0; 16],
+        bytes,
+    })
+}
+
 impl Packets {
-    /// Puts a datagram from a port of 10.0.0.5 to 198.51.100.7:53 behind the others.
-    fn put(&mut self, alloc: Global, port: u16) -> Result<(), AllocError> {
-        let mut bytes = Vec::with_capacity(alloc, 28)?;
-        bytes.extend_from_slice(&[0x45, 0, 0, 28, 0, 1, 0, 0, 0x40, 17, 0x46, 0x91])?;
-        bytes.extend_from_slice(&[10, 0, 0, 5, 198, 51, 100, 7])?;
-        bytes.extend_from_slice(&port.to_be_bytes())?;
-        bytes.extend_from_slice(&[0, 53, 0, 8, 0, 0])?;
-        let view = view(101, bytes.as_slice());
-        let record = Record {
-            link: 101,
-            seconds: 0,
-            fraction: 0,
-            header: [0; 16],
-            bytes,
-        };
+    /// Puts a packet behind the others.
+    pub(crate) fn put(&mut self, record: Record) -> Result<(), AllocError> {
+        let view = view(record.link, record.bytes.as_slice());
         self.items.push((record, view))?;
         Ok(())
     }
@@ -78,7 +83,7 @@ impl Results {
 
 /// Adds the numbers of the packets that a book evaluates itself.
 #[derive(Drop)]
-struct Sum(AtomicU64);
+pub(crate) struct Sum(pub(crate) AtomicU64);
 
 impl Reruns for Sum {
     fn runs_again(&self, number: u64) {
@@ -94,7 +99,8 @@ struct Taken {
     are_lines: bool,
 }
 
-fn job(alloc: Global) -> Result<Job, ConfError> {
+/// The job of `pass out` on one interface.
+pub(crate) fn job(alloc: Global) -> Result<Job, ConfError> {
     let interface = Interface {
         name: IfName::new(b"em0"),
         address: Ipv4Address(0xc000_0201),
@@ -121,9 +127,9 @@ fn take(alloc: Global, found: &[usize]) -> Result<Taken, AllocError> {
     let mut packets = Packets {
         items: Vec::new(alloc),
     };
-    packets.put(alloc, 1000)?;
-    packets.put(alloc, 1001)?;
-    packets.put(alloc, 1000)?;
+    packets.put(datagram(alloc, 1000)?)?;
+    packets.put(datagram(alloc, 1001)?)?;
+    packets.put(datagram(alloc, 1000)?)?;
     let table = Table::new(alloc, 10);
     for place in found {
         if let Some((_, view)) = packets.items.get(*place) {
