@@ -6,8 +6,6 @@
 #[cfg(test)]
 mod ahead;
 #[cfg(test)]
-mod batches;
-#[cfg(test)]
 mod captures;
 #[cfg(test)]
 mod checksum;
