@@ -25,6 +25,10 @@ use std::time::{self, Duration};
 /// More packets than any test has.
 const MOST: usize = 64;
 
+/// The verdict lines of three packets of which the third is the first one again.
+const LINES: &[u8] =
+    b"1 0 out pass rule r=0 t=- s=1\n2 0 out pass rule r=0 t=- s=2\n3 0 out pass state r=0 t=- s=1\n";
+
 /// Packets with their views.
 #[derive(Drop)]
 struct Packets {
@@ -202,9 +206,7 @@ fn none_is_evaluated_again(rt: HostRuntime) -> Result<(), Fail> {
 fn a_result_that_no_longer_holds_is_told_and_dropped(rt: HostRuntime) -> Result<(), Fail> {
     let taken = take(&rt, rt.alloc(), &[1000, 1001, 1000], 2, &Counts::new())?;
     assert!(rt; taken.own == 1 && taken.told == 3);
-    let lines =
-        b"1 0 out pass rule r=0 t=- s=1\n2 0 out pass rule r=0 t=- s=2\n3 0 out pass state r=0 t=- s=1\n";
-    assert!(rt; taken.out.verdicts.as_slice() == lines);
+    assert!(rt; taken.out.verdicts.as_slice() == LINES);
     Ok(())
 }
 
