@@ -1,5 +1,5 @@
 //! The commands of the program, with their words, flags and help.
-use crate::values::{ADDRESS, FILE, INSIDE, INTERFACE, PEER, SEED};
+use crate::values::{ADDRESS, BATCH, FILE, INSIDE, INTERFACE, PEER, SEED, WORKERS};
 use clap::{Arg, ArgAction, Command};
 use std::alloc::{AllocError, Global};
 
@@ -78,7 +78,18 @@ fn with_choices<'a>(alloc: Global, command: Command<'a>) -> Result<Command<'a>, 
     let seed = "What random choices begin with, 64 hexadecimal digits [default: 64 zeros]";
     let command = with_flags(alloc, command, &RUN_FLAGS)?;
     let command = command.arg(flag(alloc, "seed", SEED, seed).required(false))?;
+    let command = with_sizes(alloc, command)?;
     with_messages(alloc, command)
+}
+
+/// A command with the flags that say how the work is shared.
+fn with_sizes<'a>(alloc: Global, command: Command<'a>) -> Result<Command<'a>, AllocError> {
+    let batch =
+        "How many packets are taken and written at a time; the outputs don't depend on it [default: 256]";
+    let workers =
+        "How many threads evaluate packets ahead; the outputs don't depend on it [default: 4]";
+    let command = command.arg(flag(alloc, "batch", BATCH, batch).required(false))?;
+    command.arg(flag(alloc, "workers", WORKERS, workers).required(false))
 }
 
 /// A command with the flags that say where messages go, of which one at most may be given.

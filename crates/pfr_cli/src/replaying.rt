@@ -5,20 +5,30 @@ use crate::files::{created, opened, ruleset_text};
 use crate::peer::{Connection, connected};
 use crate::words::{Messages, OutputNames, RunWords};
 use pfr_capture::{ReaderSource, Tail, WriterSink};
-use pfr_out::{Form, Report, Sinks, replay_job};
+use pfr_out::{Form, Gate, Report, Sinks, replay_job};
 use pfr_packet::Job;
 use std::io::Write;
 use std::net::Net;
 use std::rt::Files;
+use std::sync::Wait;
+use std::thread::Threads;
 
-/// How many packets are committed and written at a time.
-const BATCH: usize = 256;
+/// Who waits for no packet's turn.
+struct Unwatched;
+
+impl Gate for Unwatched {
+    fn starts(&self, _number: u64) {}
+
+    fn answered(&self, _number: u64) {}
+
+    fn ran_again(&self, _number: u64) {}
+}
 
 /// What takes an output, by the files and the network of a runtime.
 type OutputSink<R> = WriterSink<Destination<<R as Files>::File, Connection<<R as Net>::Stream>>>;
 
 /// Replays a capture through a ruleset, prints how many packets were committed, and answers the status.
-pub fn replay<'a, R: Files + Net + AllocGlobal, O: Write>(
+pub fn replay<'a, R: Files + Net + AllocGlobal + Threads + Wait + Sync, O: Write>(
     rt: &R,
     asked: &RunWords<'a>,
     out: &mut O,
@@ -28,7 +38,16 @@ pub fn replay<'a, R: Files + Net + AllocGlobal, O: Write>(
     let mut source = ReaderSource::new(opened(rt, asked.capture)?);
     let mut sinks = sinks(rt, &asked.outputs)?;
     let form = form_of(&asked.outputs.messages);
-    let report = replay_job(rt, &mut source, job, BATCH, form, &mut sinks)?;
+    let report = replay_job(
+        rt,
+        &mut source,
+        job,
+        asked.batch,
+        asked.workers,
+        form,
+        &mut sinks,
+        &Unwatched,
+    )?;
     finish(&report, out)
 }
 

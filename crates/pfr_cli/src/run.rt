@@ -8,10 +8,12 @@ use pfr_ruleset::Interface;
 use std::io::Write;
 use std::net::Net;
 use std::rt::Files;
+use std::sync::Wait;
+use std::thread::Threads;
 
 /// Does what the words ask, the program's name first among them, and answers the status to end with. What
 /// is wrong goes to `err`, in one line.
-pub fn run<R: Files + Net + AllocGlobal, O: Write, E: Write>(
+pub fn run<R: Files + Net + AllocGlobal + Threads + Wait + Sync, O: Write, E: Write>(
     rt: &R,
     words: &[String],
     out: &mut O,
@@ -23,7 +25,7 @@ pub fn run<R: Files + Net + AllocGlobal, O: Write, E: Write>(
     }
 }
 
-fn work<'a, R: Files + Net + AllocGlobal, O: Write>(
+fn work<'a, R: Files + Net + AllocGlobal + Threads + Wait + Sync, O: Write>(
     rt: &R,
     words: &'a [String],
     out: &mut O,

@@ -1,5 +1,5 @@
 //! The values behind the flags of the command line, and their forms.
-ghost use Rattle.std.specs.Prelude.{◌≡◌, ◌<◌, ℕ, IfOk, IfSome, MatchOption, OnErr, SomeIff, length, slice_index};
+ghost use Rattle.std.specs.Prelude.{◌≡◌, ◌≤◌, ◌<◌, ℕ, IfOk, IfSome, MatchOption, OnErr, SomeIff, length, slice_index};
 ghost use Rattle.std.specs.Char.{digit_value};
 ghost use Rattle.pfr_cli.specs.Peers.{Names, NamesNone, WritesNone, WritesPort};
 ghost use Rattle.pfr_cli.specs.Seeds.{byte_at};
@@ -20,6 +20,10 @@ pub const ADDRESS: &str = "A.B.C.D/BITS";
 pub const INSIDE: &str = "NETS";
 /// The form of the value behind `--seed`.
 pub const SEED: &str = "HEX";
+/// The form of the value behind `--batch`.
+pub const BATCH: &str = "1..4096";
+/// The form of the value behind `--workers`.
+pub const WORKERS: &str = "0..64";
 /// The form of the value behind `--peer`.
 pub const PEER: &str = "HOST:PORT";
 /// The form of the value behind the flags that name a file.
@@ -99,6 +103,34 @@ fn digit(byte: u8) -> Option<u8>
     match char::from(byte).to_digit(16) {
         Some(digit) => Some(digit as u8),
         None => None,
+    }
+}
+
+/// How many packets are taken and written at a time, 1 to 4096, in decimal digits.
+pub fn batch<'a>(word: &'a str) -> Result<usize, Failure<'a>>
+    ensures { IfOk result (λ batch. (1 ≤ batch) × (batch ≤ 4096)) }
+{
+    match number(word.as_bytes()) {
+        Some(batch) if 1 <= batch && batch <= 4096 => Ok(batch as usize),
+        _ => Err(Failure::BadValue {
+            flag: "--batch",
+            form: BATCH,
+            word,
+        }),
+    }
+}
+
+/// How many workers evaluate packets ahead, 0 to 64, in decimal digits.
+pub fn workers<'a>(word: &'a str) -> Result<u64, Failure<'a>>
+    ensures { IfOk result (λ workers. workers ≤ 64) }
+{
+    match number(word.as_bytes()) {
+        Some(workers) if workers <= 64 => Ok(workers),
+        _ => Err(Failure::BadValue {
+            flag: "--workers",
+            form: WORKERS,
+            word,
+        }),
     }
 }
 

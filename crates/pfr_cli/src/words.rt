@@ -1,8 +1,10 @@
 //! The words of the command line.
+ghost use Rattle.std.specs.Prelude.{◌≤◌, IfOk};
+
 use crate::commands::command_line;
 use crate::failure::Failure;
 use crate::peer::Peer;
-use crate::values::{interface, networks, peer, seed};
+use crate::values::{batch, interface, networks, peer, seed, workers};
 use clap::ArgMatches;
 use clap::error::ErrorKind;
 use pfr_net::Net;
@@ -33,8 +35,19 @@ pub struct RunWords<'a> {
     pub interface: Interface,
     pub inside: Vec<Net>,
     pub seed: [u8; 32],
+    /// How many packets are taken and written at a time, and how many workers evaluate them ahead.
+    pub batch: usize,
+    pub workers: u64,
     pub outputs: OutputNames<'a>,
+    pub ghost batch_within: { (1 ≤ batch) × (batch ≤ 4096) },
+    pub ghost workers_within: { workers ≤ 64 },
 }
+
+/// How many packets are taken and written at a time where the words don't say.
+const BATCH: usize = 256;
+
+/// How many workers evaluate them ahead where the words don't say.
+const WORKERS: u64 = 4;
 
 /// The files that a run writes, and where its messages go.
 #[derive(Clone, Copy)]
@@ -106,6 +119,8 @@ fn run_words<'a>(alloc: Global, matches: &ArgMatches<'a>) -> Result<Asked<'a>, F
         interface,
         inside,
         seed: given_seed(matches)?,
+        batch: given_batch(matches)?,
+        workers: given_workers(matches)?,
         outputs,
     }))
 }
@@ -137,6 +152,26 @@ fn given_seed<'a>(matches: &ArgMatches<'a>) -> Result<[u8; 32], Failure<'a>> {
     match matches.get_str("seed") {
         Some(digits) => seed(digits),
         None => Ok([0; 32]),
+    }
+}
+
+/// How many packets the words say are taken and written at a time, or the default.
+fn given_batch<'a>(matches: &ArgMatches<'a>) -> Result<usize, Failure<'a>>
+    ensures { IfOk result (λ batch. (1 ≤ batch) × (batch ≤ 4096)) }
+{
+    match matches.get_str("batch") {
+        Some(word) => batch(word),
+        None => Ok(BATCH),
+    }
+}
+
+/// How many workers the words say, or the default.
+fn given_workers<'a>(matches: &ArgMatches<'a>) -> Result<u64, Failure<'a>>
+    ensures { IfOk result (λ workers. workers ≤ 64) }
+{
+    match matches.get_str("workers") {
+        Some(word) => workers(word),
+        None => Ok(WORKERS),
     }
 }
 

@@ -7,7 +7,7 @@ ghost use Rattle.pfr_commit.specs.World as spec;
 use crate::book::Book;
 use crate::emitted::Emitted;
 use crate::reruns::{Reruns, Unwatched};
-use crate::results::{Found, in_places};
+use crate::results::in_places;
 use pfr_capture::Record;
 use pfr_headers::View;
 use pfr_packet::lookup_of;
@@ -25,24 +25,16 @@ impl Book {
     ghost use Rattle.pfr_commit.specs.Books.{LeadsTo, LeavesTexts, RisesOver, frames_of, job_of, lines_of, untold, world_up_to, world_with, written};
     ghost use Rattle.pfr_commit.specs.Found.{IsOfJob};
 
-    /// Where the states stand by which the first of these packets go, as far as they are looked up ahead: where no result stands at
-    /// their places, of which the first is named. An evaluation looks there first, and nothing rests on it. What is looked at in
-    /// memory comes together so, first the slots of the index and then the states, and not one after the other between evaluations.
-    fn look_ahead(
-        &self,
-        packets: &[(Record, View)],
-        results: &Found,
-        first: usize,
-    ) -> [Option<Place>; AHEAD] {
+    /// Where the states stand by which the first of these packets go, as far as they are looked up ahead. An evaluation looks there
+    /// first, and so does the check of a result; nothing rests on it. What is looked at in memory comes together so, first the slots
+    /// of the index and then the states, and not one after the other between packets.
+    fn look_ahead(&self, packets: &[(Record, View)]) -> [Option<Place>; AHEAD] {
         let mut hints = [None; AHEAD];
         if self.table.len() < MANY {
             return hints;
         }
         let mut lookups = [None; AHEAD];
-        for (index, (lookup, packet)) in lookups.iter_mut().zip(packets).enumerate() {
-            if results.is_taken(first.saturating_add(index)) {
-                continue;
-            }
+        for (lookup, packet) in lookups.iter_mut().zip(packets) {
             *lookup = match lookup_of(&self.job, &packet.1) {
                 Some((side, key)) => Some((side, key, self.table.guess_at(side, &key))),
                 None => None,
@@ -100,7 +92,7 @@ impl Book {
         let mut hints = [None; AHEAD];
         for index in 0..packets.len() {
             if index % AHEAD == 0 {
-                hints = self.look_ahead(&packets[index..], &found, index);
+                hints = self.look_ahead(&packets[index..]);
             }
             let (record, view) = &packets[index];
             self.take(

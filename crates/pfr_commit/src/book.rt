@@ -115,6 +115,13 @@ impl Book {
         self.count
     }
 
+    /// The greatest second of the packets' records.
+    pub fn clock(&self) -> Clock
+        ensures { result ≡ self.now.clock }
+    {
+        self.clock
+    }
+
     /// The states that the packets have left, as long as memory wasn't refused.
     pub fn table(&self) -> &Table
         ensures { result.now ≡ self.now.table }
@@ -122,7 +129,8 @@ impl Book {
         &self.table
     }
 
-    /// The outcome of a speculation that may be used for a packet. It may be known to be of the book's own job.
+    /// The outcome of a speculation that may be used for a packet. It may be known to be of the book's own job, and the state by
+    /// which the packet goes may stand at a place that is named.
     fn usable_outcome(
         &self,
         number: u64,
@@ -130,6 +138,7 @@ impl Book {
         view: &View,
         speculation: Option<Speculation>,
         is_own: bool,
+        hint: Option<Place>,
     ) -> Option<Outcome>
         requires { is_own ≡ true → IfSome speculation (IsOfJob (job_of self.now)) }
         ensures some { IsSome result ↔ MayUse speculation (job_of self.now) number clock view.now self.now.table }
@@ -137,7 +146,7 @@ impl Book {
     {
         let speculation = speculation?;
         if is_own {
-            speculation.outcome_of_own(&self.job, number, clock, view, &self.table)
+            speculation.outcome_of_own(&self.job, number, clock, view, &self.table, hint)
         } else {
             speculation.outcome_for(&self.job, number, clock, view, &self.table)
         }
@@ -154,6 +163,7 @@ impl Book {
         view: &View,
         results: &mut Found,
         place: usize,
+        hint: Option<Place>,
         outcome: &mut Outcome,
     ) -> bool
         requires { IsOwnAt (job_of self.now) place results.old }
@@ -164,7 +174,7 @@ impl Book {
         ensures own { results.new.are_own ≡ results.old.are_own }
     {
         let is_own = results.are_own;
-        match self.usable_outcome(number, clock, view, results.take_at(place), is_own) {
+        match self.usable_outcome(number, clock, view, results.take_at(place), is_own, hint) {
             Some(found) => {
                 *outcome = found;
                 true
@@ -206,7 +216,7 @@ impl Book {
     }
 
     /// Writes what a packet comes to over a fresh outcome, by the speculation at a place or evaluated here. It answers how many
-    /// were evaluated, none or one, and where a state was found for it then: it may stand at a place that is named. The speculation
+    /// were evaluated, none or one, and where the state may stand by which it goes; so may the place that is named. The speculation
     /// is taken out. Where there is none, no room for one is cleared or copied.
     fn evaluate<R: Reruns>(
         &self,
@@ -229,9 +239,9 @@ impl Book {
         ensures own { results.new.are_own ≡ results.old.are_own }
     {
         if results.is_taken(place)
-            && self.use_result(number, clock, view, results, place, outcome)
+            && self.use_result(number, clock, view, results, place, hint, outcome)
         {
-            return Ok((0, None));
+            return Ok((0, hint));
         }
         reruns.runs_again(number);
         Ok((1, self.run(number, clock, view, hint, outcome)?))

@@ -130,7 +130,7 @@ impl Index {
     }
 
     /// A place under a hash of which the test says that it is the one; none where it says so of no place under that hash.
-    #[inline]
+    #[inline(always)]
     pub fn find<F: Fn(Place) -> bool>(&self, hash: Hash, is_it: F) -> Option<Place>
         requires { F.IsAlwaysCallable is_it }
         ensures some { IfSome result (λ place. (0 < self.now.times (record { hash = hash; place = place })) × F.post is_it place true) }

@@ -18,7 +18,8 @@ pub(crate) enum Outcome {
 }
 
 /// Searches slots for a place under a hash of which a test says that it is the one, up to the first free one.
-#[inline]
+// A call would keep the test, and what it looks at, in memory.
+#[inline(always)]
 fn search<F: Fn(Place) -> bool>(slots: &[Slot], hash: Hash, is_it: &F) -> Outcome
     requires { F.IsAlwaysCallable is_it.now }
     ensures { spec.ComesTo (F.post is_it.now) hash slots.now result }
@@ -34,18 +35,8 @@ fn search<F: Fn(Place) -> bool>(slots: &[Slot], hash: Hash, is_it: &F) -> Outcom
     Outcome::NotYet
 }
 
-/// What a search comes to that has gone on behind the last slot, to the first ones. Few do.
-#[cold]
-#[inline(never)]
-fn search_on<F: Fn(Place) -> bool>(slots: &[Slot], hash: Hash, is_it: &F) -> Outcome
-    requires { F.IsAlwaysCallable is_it.now }
-    ensures { spec.ComesTo (F.post is_it.now) hash slots.now result }
-{
-    search(slots, hash, is_it)
-}
-
 /// A place under a hash of which a test says that it is the one; none where it says so of no place under that hash.
-#[inline]
+#[inline(always)]
 pub(crate) fn find<F: Fn(Place) -> bool>(slots: &[Slot], hash: Hash, is_it: &F) -> Option<Place>
     requires callable { F.IsAlwaysCallable is_it.now }
     requires reached { AreReached slots.now }
@@ -56,7 +47,7 @@ pub(crate) fn find<F: Fn(Place) -> bool>(slots: &[Slot], hash: Hash, is_it: &F) 
     match search(&slots[home..], hash, is_it) {
         Outcome::At(place) => Some(place),
         Outcome::Nowhere => None,
-        Outcome::NotYet => match search_on(&slots[..home], hash, is_it) {
+        Outcome::NotYet => match search(&slots[..home], hash, is_it) {
             Outcome::At(place) => Some(place),
             Outcome::Nowhere => None,
             Outcome::NotYet => None,

@@ -1,4 +1,5 @@
 pub mod BeginningLemmas
+pub mod FeedingLemmas
 pub mod ReadingLemmas
 pub mod RunLemmas
 pub mod WritingLemmas

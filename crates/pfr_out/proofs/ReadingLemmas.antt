@@ -3,30 +3,25 @@ use Rattle.std.proofs.Common.{◌≡◌, ℕ, ltb, false, List, [], ◌∷◌, �
 use Rattle.std.specs.List.{All, flat_map}
 use Rattle.std.proofs.lemmas.Bool.{le-ltb}
 use Rattle.std.proofs.lemmas.List.{append_assoc, append-nil, length-append, map-append, take_at}
-use Rattle.std.proofs.lemmas.List.Elements.{All-head, All-push, All-tail, All-weaker}
-use Rattle.pfr_headers.specs.declared.packet.View.{View}
-use Rattle.pfr_headers.specs.View.{view_of}
+use Rattle.std.proofs.lemmas.List.Elements.{All-head, All-tail}
 use Rattle.pfr_capture.specs.declared.capture.CaptureError.{CaptureError}
 use Rattle.pfr_capture.specs.declared.capture.CaptureError.TheVariants as refusal
 use Rattle.pfr_capture.specs.declared.capture.Form.{Form}
 use Rattle.pfr_capture.specs.declared.capture.Record.{Record}
 use Rattle.pfr_capture.specs.Header.{form_of, opening_of}
-use Rattle.pfr_capture.specs.Reading.{EndsCapture, Gave, HasGiven, LacksRecord, NextFails, Reading, ReadsOn, Refuses, bytes_of}
+use Rattle.pfr_capture.specs.Reading.{EndsCapture, FieldsOf, Gave, HasGiven, LacksRecord, NextFails, Reading, ReadsOn, Refuses, bytes_of}
 use Rattle.pfr_capture.specs.Records.{IsCapture, RecordBytes, text_of}
 use Rattle.pfr_capture.proofs.CaptureLemmas.{IsFront, given_first}
-use Rattle.pfr_commit.specs.Books.{frames_of}
-use Rattle.pfr_out.specs.Reading.{BatchSays, End, EndsBehind, IsPacket, records_of}
+use Rattle.pfr_commit.specs.Emissions.{frame_of}
+use Rattle.pfr_out.specs.Reading.{BatchSays, End, EndsBehind, records_of}
 use Rattle.pfr_out.specs.Replay.{OfEvery, frame_in}
 
--- packets of a capture, as packets of a run
-pub same_frames : (form : Form) (packets : List (Record × View)) → All (IsPacket form) packets → frames_of packets ≡ map (frame_in form) (records_of packets)
+-- records of a capture, as packets of a run
+pub same_frames : (form : Form) (records : List Record) → All (FieldsOf form) records → map frame_of records ≡ map (frame_in form) (records_of records)
 same_frames form [] all = refl
-same_frames form (packet ∷ packets) all =
-    let is = All-head (IsPacket form) packet packets all in
-    rw (is.fields.link, is.fields.seconds, same_frames form packets (All-tail (IsPacket form) packet packets all)) refl
-
-pub all_viewed : (form : Form) (packets : List (Record × View)) → All (IsPacket form) packets → All (λ packet. packet.1 ≡ view_of packet.0.link packet.0.bytes.items) packets
-all_viewed form packets all = All-weaker (IsPacket form) (λ packet. packet.1 ≡ view_of packet.0.link packet.0.bytes.items) (λ packet is. is.view_is) packets all
+same_frames form (one ∷ records) all =
+    let is = All-head (FieldsOf form) one records all in
+    rw (is.link, is.seconds, same_frames form records (All-tail (FieldsOf form) one records all)) refl
 
 -- ---- the reader
 
@@ -71,12 +66,9 @@ batch_refused old mid new before between left given refusal.BadMagic count count
 batch_refused old mid new before between left given refusal.BadVersion count count' on form nothing refuses lacks fails = absurd fails
 batch_refused old mid new before between left given (refusal.LinkType link) count count' on form nothing refuses lacks fails = absurd fails
 
--- one packet more
-pub one_packet : (form : Form) (packets : List (Record × View)) (packet : Record × View) → All (IsPacket form) packets → IsPacket form packet → All (IsPacket form) (packets ++ packet ∷ [])
-one_packet form packets packet all is = All-push (IsPacket form) packets packet all is
-
-pub one_record : (packets : List (Record × View)) (packet : Record × View) → records_of (packets ++ packet ∷ []) ≡ records_of packets ++ bytes_of packet.0 ∷ []
-one_record packets packet = map-append (λ (p : Record × View). bytes_of p.0) packets (packet ∷ [])
+-- one record more
+pub one_record : (records : List Record) (one : Record) → records_of (records ++ one ∷ []) ≡ records_of records ++ bytes_of one ∷ []
+one_record records one = map-append bytes_of records (one ∷ [])
 
 -- the header of every text that begins with what was read
 pub header_is : (capture : Reading) (read more : List ℕ) (given : List RecordBytes) → HasGiven capture read given → take 24 (read ++ more) ≡ capture.header

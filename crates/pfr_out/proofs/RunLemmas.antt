@@ -3,25 +3,22 @@ use Rattle.std.proofs.Common.{◌≡◌, ℕ, suc, ◌+◌, ◌≤◌, Bool, IsT
 use Rattle.std.specs.List.{All}
 use Rattle.std.proofs.Math.Nat.{suc-mul, zero-mul}
 use Rattle.std.proofs.lemmas.List.{append_assoc, length-append, length-map, map-append, take-take, take_at}
-use Rattle.pfr_headers.specs.declared.packet.View.{View}
 use Rattle.pfr_packet.specs.Job.{RunJob}
 use Rattle.pfr_capture.specs.declared.capture.CaptureError.{CaptureError}
 use Rattle.pfr_capture.specs.declared.capture.CaptureError.TheVariants as refusal
 use Rattle.pfr_capture.specs.declared.capture.Form.{Form}
 use Rattle.pfr_capture.specs.declared.capture.Record.{Record}
 use Rattle.pfr_capture.specs.declared.capture.Tail.{Tail}
-use Rattle.pfr_capture.specs.Reading.{Gave, HasGiven, LacksRecord, OpenFails, Reading, ReadsOn, RefusesHeader, StopsEarly}
+use Rattle.pfr_capture.specs.Reading.{FieldsOf, Gave, HasGiven, LacksRecord, OpenFails, Reading, ReadsOn, RefusesHeader, StopsEarly}
 use Rattle.pfr_capture.specs.Records.{IsCapture, RecordBytes}
 use Rattle.pfr_capture.proofs.CaptureLemmas.{IsFront, read_is_capture}
 use Rattle.pfr_commit.specs.declared.book.Book.{Book}
-use Rattle.pfr_commit.specs.declared.emitted.Emitted.{Emitted}
-use Rattle.pfr_commit.specs.Books.{LeadsTo, StandsAt, frames_of, job_of}
-use Rattle.pfr_commit.specs.Emissions.{texts_of}
+use Rattle.pfr_commit.specs.Books.{StandsAt, job_of}
+use Rattle.pfr_commit.specs.Emissions.{frame_of}
 use Rattle.pfr_commit.specs.World.{Frame, Texts, World, joined, no_texts, opening, world_after, world_of}
 use Rattle.pfr_commit.specs.World.{online as written}
 use Rattle.pfr_commit.proofs.BookLemmas.{same_job}
 use Rattle.pfr_commit.proofs.OnlineLemmas.{online_grows}
-use Rattle.pfr_commit.proofs.StandLemmas.{nothing_behind}
 use Rattle.pfr_commit.proofs.WorldLemmas.{world_append, world_count, world_none}
 use Rattle.pfr_out.specs.declared.report.Output.{Output}
 use Rattle.pfr_out.specs.declared.report.Report.{Report}
@@ -31,10 +28,10 @@ use Rattle.pfr_out.specs.declared.settings.Form.{Form as MessageForm}
 use Rattle.pfr_out.specs.declared.settings.Settings.{Settings}
 use Rattle.pfr_out.specs.declared.sinks.Sinks.{Sinks}
 use Rattle.pfr_out.specs.Outputs.{AllTold, Grew, Outputs, PartWritten, header_alone, texts_alone}
-use Rattle.pfr_out.specs.Reading.{BatchFails, BatchSays, End, EndsBehind, IsPacket, records_of, wants_memory}
+use Rattle.pfr_out.specs.Reading.{BatchFails, BatchSays, End, EndsBehind, records_of, wants_memory}
 use Rattle.pfr_out.specs.Replay.{Failing, Holds, HoldsAllRead, HoldsAll, IsBoundary, IsJob, OfEvery, Replayed, StopOf, Stopped, closing, frame_in, online, run_of, run_with, StopFails, stop_for, whole}
 use Rattle.pfr_out.specs.Spelling.{Run}
-use Rattle.pfr_out.specs.Taking.{Add, Added, BatchStops, ConcludeFails, Concludes, EndStops, HasTaken, IsLate, Reaches, SinksFail, Standing, TakenAll, run_in}
+use Rattle.pfr_out.specs.Taking.{Add, ConcludeFails, Concludes, EndStops, IsLate, Reaches, SinksFail, Standing, TakenAll, run_in}
 use Rattle.pfr_out.proofs.ReadingLemmas.{header_is, of_every, same_frames}
 use Rattle.pfr_out.proofs.WritingLemmas.{grew_twice, header_is_online, online_behind, whole_is}
 
@@ -74,96 +71,80 @@ same_run book other form other_form job_is form_is =
 
 -- ---- how far a run has come
 
--- the reader has given these records, a book has taken them, and all that they write is written
-pub record SoFar (run : Run) (capture : Reading) (text left : List ℕ) (told : Sinks Bool) (old new : Outputs) (book : Book) (records : List RecordBytes) : Type 0 where
+-- the reader has given these records, they leave this world, and all that they write is written
+pub record SoFar (run : Run) (capture : Reading) (text left : List ℕ) (told : Sinks Bool) (old new : Outputs) (world : World) (records : List RecordBytes) : Type 0 where
   pub read : List ℕ
   pub text_is : text ≡ read ++ left
   pub given : HasGiven capture read records
   pub grew : AllTold told → Grew old new (online capture.header run (run_of run.job capture.form records))
-  pub stands : StandsAt book (run_of run.job capture.form records)
+  pub world_is : world ≡ run_of run.job capture.form records
 
--- at the head of the loop
-pub record AtHead (run : Run) (batch : ℕ) (capture : Reading) (text left : List ℕ) (told : Sinks Bool) (old new : Outputs) (book : Book) : Type 0 where
+-- between two batches
+pub record AtHead (run : Run) (batch : ℕ) (capture : Reading) (text left : List ℕ) (told : Sinks Bool) (old new : Outputs) (world : World) : Type 0 where
   pub records : List RecordBytes
-  pub so_far : SoFar run capture text left told old new book records
+  pub so_far : SoFar run capture text left told old new world records
   pub boundary : IsBoundary batch (length records)
 
 -- nothing was given yet, and the header was written
-pub at_start : (run : Run) (batch : ℕ) (capture : Reading) (read left : List ℕ) (told : Sinks Bool) (old new : Outputs) (book : Book) → HasGiven capture read [] → StandsAt book (opening run.job) → (AllTold told → Grew old new (header_alone capture.header))
-    → AtHead run batch capture (read ++ left) left told old new book
-at_start run batch capture read left told old new book given stands grew = record {
+pub at_start : (run : Run) (batch : ℕ) (capture : Reading) (read left : List ℕ) (told : Sinks Bool) (old new : Outputs) → HasGiven capture read [] → (AllTold told → Grew old new (header_alone capture.header))
+    → AtHead run batch capture (read ++ left) left told old new (opening run.job)
+at_start run batch capture read left told old new given grew = record {
   records = [];
   so_far = record {
     read = read;
     text_is = refl;
     given = given;
     grew = λ t. header_is_online old new capture.header run (run_of run.job capture.form []) (ap (λ (w : World). written run.job w) (run_none run.job capture.form) ∙ opening_written run.job) (grew t);
-    stands = subst (λ (w : World). StandsAt book w) (sym (run_none run.job capture.form)) stands;
+    world_is = sym (run_none run.job capture.form);
   };
   boundary = (0, sym (zero-mul batch));
 }
 
 -- ---- a batch
 
--- the packets of a batch
-pub record Batch (capture capture' : Reading) (left left' : List ℕ) (packets : List (Record × View)) : Type 0 where
+-- the records of a batch
+pub record Batch (capture capture' : Reading) (left left' : List ℕ) (packets : List Record) : Type 0 where
   pub on : ReadsOn capture capture' left left' (records_of packets)
   pub same : (capture'.form ≡ capture.form) × (capture'.header ≡ capture.header)
-  pub packets_are : All (IsPacket capture.form) packets
+  pub fields : All (FieldsOf capture.form) packets
 
--- a book took them, and what they add is written
-pub record Took (run : Run) (told : Sinks Bool) (mid new : Outputs) (book book' : Book) (packets : List (Record × View)) : Type 0 where
-  pub taken : Standing book (λ world. StandsAt book' (world_after run.job world (frames_of packets)))
-  pub adds : Standing book (λ world. Add run.job world (frames_of packets) (λ added. AllTold told → Grew mid new (texts_alone run added)))
-
--- by what is said of the book's own run, and of the same sinks
-pub took : (run : Run) (told told' : Sinks Bool) (mid new : Outputs) (book book' : Book) (form : MessageForm) (packets : List (Record × View)) → run_in book form ≡ run → told' ≡ told → HasTaken book book' packets
-    → Added book packets (λ added. AllTold told' → Grew mid new (texts_alone (run_in book form) added)) → Took run told mid new book book' packets
-took run told told' mid new book book' form packets run_is told_is taken adds = record {
-  taken = λ world stands. subst (λ (r : Run). StandsAt book' (world_after r.job world (frames_of packets))) run_is (taken world stands);
-  adds = λ world stands.
-      subst (λ (t : Sinks Bool). Add run.job world (frames_of packets) (λ added. AllTold t → Grew mid new (texts_alone run added))) told_is
-      (subst (λ (r : Run). Add r.job world (frames_of packets) (λ added. AllTold told' → Grew mid new (texts_alone r added))) run_is (adds world stands));
-}
-
--- where nothing was emitted before, what is emitted is what is written more
-pub leads_on : (old new : Book) (out out' : Emitted) (next : World → World) → texts_of out ≡ no_texts → LeadsTo old new out out' next → (world : World) → StandsAt old world
-    → StandsAt new (next world) × (written (job_of old) (next world) ≡ joined (written (job_of old) world) (texts_of out'))
-leads_on old new out out' next none leads world stands = leads world (written (job_of old) world) stands (nothing_behind (written (job_of old) world) (texts_of out) none)
+-- what they add is written
+abbrev pub Took : Run → (told : Sinks Bool) → (mid new : Outputs) → World → List Record → Type 0
+Took run told mid new world packets = Add run.job world (map frame_of packets) (λ added. AllTold told → Grew mid new (texts_alone run added))
 
 -- what the batch leaves
-taken_run : (job : RunJob) (form : Form) (records : List RecordBytes) (packets : List (Record × View)) → All (IsPacket form) packets
-    → run_of job form (records ++ records_of packets) ≡ world_after job (run_of job form records) (frames_of packets)
+taken_run : (job : RunJob) (form : Form) (records : List RecordBytes) (packets : List Record) → All (FieldsOf form) packets
+    → run_of job form (records ++ records_of packets) ≡ world_after job (run_of job form records) (map frame_of packets)
 taken_run job form records packets all =
-    run_append job form records (records_of packets) ∙ ap (λ (fs : List Frame). world_after job (run_of job form records) fs) (sym (same_frames form packets all))
+    run_append job form records (records_of packets) ∙ ap (λ fs. world_after job (run_of job form records) fs) (sym (same_frames form packets all))
 
-given_more : (run : Run) (capture capture' : Reading) (text left left' : List ℕ) (told : Sinks Bool) (old mid : Outputs) (book : Book) (records : List RecordBytes) (packets : List (Record × View)) → SoFar run capture text left told old mid book records → Batch capture capture' left left' packets
+given_more : (run : Run) (capture capture' : Reading) (text left left' : List ℕ) (told : Sinks Bool) (old mid : Outputs) (world : World) (records : List RecordBytes) (packets : List Record) → SoFar run capture text left told old mid world records → Batch capture capture' left left' packets
     → (read : List ℕ) × (text ≡ read ++ left') × HasGiven capture' read (records ++ records_of packets)
-given_more run capture capture' text left left' told old mid book records packets s b =
+given_more run capture capture' text left left' told old mid world records packets s b =
     (s.read ++ b.on.came, s.text_is ∙ (rw b.on.gave (sym (append_assoc s.read b.on.came left'))), b.on.on s.read records s.given)
 
 -- what it writes
-piece_is : (run : Run) (header : List ℕ) (form : Form) (records : List RecordBytes) (packets : List (Record × View)) (added : Texts) → All (IsPacket form) packets
-    → written run.job (world_after run.job (run_of run.job form records) (frames_of packets)) ≡ joined (written run.job (run_of run.job form records)) added
+piece_is : (run : Run) (header : List ℕ) (form : Form) (records : List RecordBytes) (packets : List Record) (added : Texts) → All (FieldsOf form) packets
+    → written run.job (world_after run.job (run_of run.job form records) (map frame_of packets)) ≡ joined (written run.job (run_of run.job form records)) added
     → Grew (online header run (run_of run.job form records)) (online header run (run_of run.job form (records ++ records_of packets))) (texts_alone run added)
 piece_is run header form records packets added all is =
     online_behind header run (run_of run.job form records) (run_of run.job form (records ++ records_of packets)) added
     (ap (λ (w : World). written run.job w) (taken_run run.job form records packets all) ∙ is)
 
 -- the batch was taken and written
-pub batch_taken : (run : Run) (capture capture' : Reading) (text left left' : List ℕ) (told : Sinks Bool) (old mid new : Outputs) (book book' : Book) (records : List RecordBytes) (packets : List (Record × View))
-    → SoFar run capture text left told old mid book records → Batch capture capture' left left' packets → Took run told mid new book book' packets
-    → SoFar run capture' text left' told old new book' (records ++ records_of packets)
-batch_taken run capture capture' text left left' told old mid new book book' records packets s b took =
-    let more = given_more run capture capture' text left left' told old mid book records packets s b in
-    let add = took.adds (run_of run.job capture.form records) s.stands in
+pub batch_taken : (run : Run) (capture capture' : Reading) (text left left' : List ℕ) (told : Sinks Bool) (old mid new : Outputs) (world : World) (records : List RecordBytes) (packets : List Record)
+    → SoFar run capture text left told old mid world records → Batch capture capture' left left' packets → Took run told mid new world packets
+    → SoFar run capture' text left' told old new (world_after run.job world (map frame_of packets)) (records ++ records_of packets)
+batch_taken run capture capture' text left left' told old mid new world records packets s b took =
+    let more = given_more run capture capture' text left left' told old mid world records packets s b in
+    let add : Took run told mid new (run_of run.job capture.form records) packets = subst (λ (w : World). Took run told mid new w packets) s.world_is took in
     record {
       read = more.0;
       text_is = more.1;
       given = more.2;
       grew = λ t. rw (b.same.0, b.same.1) (grew_twice old mid new (online capture.header run (run_of run.job capture.form records)) (texts_alone run add.added)
-          (online capture.header run (run_of run.job capture.form (records ++ records_of packets))) (s.grew t) (add.hold t) (piece_is run capture.header capture.form records packets add.added b.packets_are add.is));
-      stands = rw b.same.0 (subst (λ (w : World). StandsAt book' w) (sym (taken_run run.job capture.form records packets b.packets_are)) (took.taken (run_of run.job capture.form records) s.stands));
+          (online capture.header run (run_of run.job capture.form (records ++ records_of packets))) (s.grew t) (add.hold t) (piece_is run capture.header capture.form records packets add.added b.fields add.is));
+      world_is = rw b.same.0 (ap (λ (w : World). world_after run.job w (map frame_of packets)) s.world_is ∙ sym (taken_run run.job capture.form records packets b.fields));
     }
 
 -- ---- stops
@@ -172,9 +153,9 @@ front_is : (records all : List RecordBytes) (count : ℕ) → IsFront records al
 front_is records all count front counted = rw (← counted) (sym front.front)
 
 -- the reader stopped, or memory was refused, with whole batches written
-pub holds_so_far : (run : Run) (batch : ℕ) (capture : Reading) (text left left' : List ℕ) (told : Sinks Bool) (old new : Outputs) (book : Book) (records : List RecordBytes) (committed : ℕ) → SoFar run capture text left told old new book records → Gave left left'
+pub holds_so_far : (run : Run) (batch : ℕ) (capture : Reading) (text left left' : List ℕ) (told : Sinks Bool) (old new : Outputs) (world : World) (records : List RecordBytes) (committed : ℕ) → SoFar run capture text left told old new world records → Gave left left'
     → IsBoundary batch (length records) → length records ≡ committed → OfEvery text left' (Holds run batch told old new committed)
-holds_so_far run batch capture text left left' told old new book records committed s gave boundary counted =
+holds_so_far run batch capture text left left' told old new world records committed s gave boundary counted =
     of_every capture text left' s.read left records (Holds run batch told old new committed) s.text_is gave s.given (λ all front.
     let within = front.within in
     record {
@@ -194,13 +175,13 @@ front_of_part xs ys all f =
     }
 
 -- a batch was written in part
-pub holds_part_of_batch : (run : Run) (batch : ℕ) (capture capture' : Reading) (text left left' : List ℕ) (told : Sinks Bool) (old mid new : Outputs) (book : Book) (records : List RecordBytes) (packets : List (Record × View)) (output : Output) (committed : ℕ)
-    → SoFar run capture text left told old mid book records → Batch capture capture' left left' packets → length (records_of packets) ≤ batch → IsBoundary batch (length records) → length records ≡ committed
-    → Standing book (λ world. Add run.job world (frames_of packets) (λ added. AllTold told → PartWritten mid new (texts_alone run added) output)) → Failing run batch text left' told old new output committed
-holds_part_of_batch run batch capture capture' text left left' told old mid new book records packets output committed s b few boundary counted part =
-    let more = given_more run capture capture' text left left' told old mid book records packets s b in
+pub holds_part_of_batch : (run : Run) (batch : ℕ) (capture capture' : Reading) (text left left' : List ℕ) (told : Sinks Bool) (old mid new : Outputs) (world : World) (records : List RecordBytes) (packets : List Record) (output : Output) (committed : ℕ)
+    → SoFar run capture text left told old mid world records → Batch capture capture' left left' packets → length (records_of packets) ≤ batch → IsBoundary batch (length records) → length records ≡ committed
+    → Add run.job world (map frame_of packets) (λ added. AllTold told → PartWritten mid new (texts_alone run added) output) → Failing run batch text left' told old new output committed
+holds_part_of_batch run batch capture capture' text left left' told old mid new world records packets output committed s b few boundary counted part =
+    let more = given_more run capture capture' text left left' told old mid world records packets s b in
     let all_long = length-append records (records_of packets) in
-    let add = part (run_of run.job capture.form records) s.stands in
+    let add = subst (λ (w : World). Add run.job w (map frame_of packets) (λ added. AllTold told → PartWritten mid new (texts_alone run added) output)) s.world_is part in
     inl (of_every capture' text left' more.0 left' (records ++ records_of packets) _ more.1 (record { came = []; gave = refl }) more.2 (λ all front.
     let within = front.within in
     rw (b.same.0, b.same.1) (inr (record {
@@ -212,40 +193,40 @@ holds_part_of_batch run batch capture capture' text left left' told old mid new 
       before = λ t. rw (front_is records all committed (front_of_part records (records_of packets) all front) counted) (s.grew t);
       piece = add.added;
       piece_is = rw (front_is records all committed (front_of_part records (records_of packets) all front) counted, front_is (records ++ records_of packets) all (length (records ++ records_of packets)) front refl)
-          (piece_is run capture.header capture.form records packets add.added b.packets_are add.is);
+          (piece_is run capture.header capture.form records packets add.added b.fields add.is);
       part = add.hold;
     }))))
 
 -- as many packets as records
-pub counted_by : (run : Run) (capture : Reading) (text left : List ℕ) (told : Sinks Bool) (old new : Outputs) (book : Book) (records : List RecordBytes) → SoFar run capture text left told old new book records → length records ≡ book.count
+pub counted_by : (run : Run) (capture : Reading) (text left : List ℕ) (told : Sinks Bool) (old new : Outputs) (world : World) (records : List RecordBytes) → SoFar run capture text left told old new world records → length records ≡ world.count
 unfolding run_of world_of opening
-counted_by run capture text left told old new book records s =
+counted_by run capture text left told old new world records s =
     let count : (run_of run.job capture.form records).count ≡ 0 + length (map (frame_in capture.form) records) = world_count run.job (opening run.job) (map (frame_in capture.form) records) in
     let same : length (map (frame_in capture.form) records) ≡ length records = length-map records (frame_in capture.form) in
-    let ours : book.count ≡ (run_of run.job capture.form records).count = ap (λ (w : World). w.count) s.stands.left in
+    let ours : world.count ≡ (run_of run.job capture.form records).count = ap (λ (w : World). w.count) s.world_is in
     omega arith
 
 -- the source's bytes, where the capture ends behind these records
-pub capture_is : (run : Run) (capture : Reading) (text left : List ℕ) (told : Sinks Bool) (old new : Outputs) (book : Book) (records given : List RecordBytes) (end : End) → SoFar run capture text left told old new book records → EndsBehind capture left given end
+pub capture_is : (run : Run) (capture : Reading) (text left : List ℕ) (told : Sinks Bool) (old new : Outputs) (world : World) (records given : List RecordBytes) (end : End) → SoFar run capture text left told old new world records → EndsBehind capture left given end
     → IsCapture text capture.form (records ++ given) end
-capture_is run capture text left told old new book records given end s ends = rw s.text_is (ends s.read records s.given)
+capture_is run capture text left told old new world records given end s ends = rw s.text_is (ends s.read records s.given)
 
-text_header : (run : Run) (capture : Reading) (text left : List ℕ) (told : Sinks Bool) (old new : Outputs) (book : Book) (records : List RecordBytes) → SoFar run capture text left told old new book records → take 24 text ≡ capture.header
-text_header run capture text left told old new book records s = rw s.text_is (header_is capture s.read left records s.given)
+text_header : (run : Run) (capture : Reading) (text left : List ℕ) (told : Sinks Bool) (old new : Outputs) (world : World) (records : List RecordBytes) → SoFar run capture text left told old new world records → take 24 text ≡ capture.header
+text_header run capture text left told old new world records s = rw s.text_is (header_is capture s.read left records s.given)
 
-pub holds_all : (run : Run) (capture : Reading) (text left : List ℕ) (told : Sinks Bool) (old new : Outputs) (book : Book) (records : List RecordBytes) (end : End) → SoFar run capture text left told old new book records → IsCapture text capture.form records end
-    → HoldsAll run text told old new end book.count
-holds_all run capture text left told old new book records end s is = record {
+pub holds_all : (run : Run) (capture : Reading) (text left : List ℕ) (told : Sinks Bool) (old new : Outputs) (world : World) (records : List RecordBytes) (end : End) → SoFar run capture text left told old new world records → IsCapture text capture.form records end
+    → HoldsAll run text told old new end world.count
+holds_all run capture text left told old new world records end s is = record {
   form = capture.form;
   records = records;
   capture = is;
-  counted = counted_by run capture text left told old new book records s;
-  grew = λ t. rw (text_header run capture text left told old new book records s) (s.grew t);
+  counted = counted_by run capture text left told old new world records s;
+  grew = λ t. rw (text_header run capture text left told old new world records s) (s.grew t);
 }
 
-pub holds_all_read : (run : Run) (capture : Reading) (text left : List ℕ) (told : Sinks Bool) (old new : Outputs) (book : Book) (records : List RecordBytes) → SoFar run capture text left told old new book records → LacksRecord capture refusal.Read
-    → HoldsAllRead run text left told old new book.count
-holds_all_read run capture text left told old new book records s lacks =
+pub holds_all_read : (run : Run) (capture : Reading) (text left : List ℕ) (told : Sinks Bool) (old new : Outputs) (world : World) (records : List RecordBytes) → SoFar run capture text left told old new world records → LacksRecord capture refusal.Read
+    → HoldsAllRead run text left told old new world.count
+holds_all_read run capture text left told old new world records s lacks =
     let is = read_is_capture capture s.read records s.given lacks in
     record {
       read = s.read;
@@ -254,16 +235,29 @@ holds_all_read run capture text left told old new book records s lacks =
       records = records;
       tail = is.0;
       capture = is.1;
-      counted = counted_by run capture text left told old new book records s;
-      grew = λ t. rw (text_header run capture text left told old new book records s) (s.grew t);
+      counted = counted_by run capture text left told old new world records s;
+      grew = λ t. rw (text_header run capture text left told old new world records s) (s.grew t);
     }
 
 -- ---- the end of a capture
 
-pub taken_all : (run : Run) (capture : Reading) (text left : List ℕ) (told : Sinks Bool) (old new : Outputs) (book : Book) (records : List RecordBytes) (tail : Tail) → SoFar run capture text left told old new book records
-    → IsCapture text capture.form records (Ok tail) → TakenAll run text told old new book tail
-unfolding holds_all
-taken_all run capture text left told old new book records tail s is = record { all = holds_all run capture text left told old new book records (Ok tail) s is; stands = s.stands }
+-- the reading has ended so, and all packets before that are written
+abbrev pub Ended : Run → ℕ → (text left : List ℕ) → (told : Sinks Bool) → (old new : Outputs) → World → End → Type 0
+Ended run batch text left told old new world (Ok tail) = (all : HoldsAll run text told old new (Ok tail) world.count) × (world ≡ run_of run.job all.form all.records)
+Ended run batch text left told old new world (Err e) = Stopped run batch text left told old new (stop_for e world.count)
+
+-- and a book stands there
+pub reaches : (run : Run) (batch : ℕ) (text left : List ℕ) (told : Sinks Bool) (old new : Outputs) (world : World) (book : Book) (end : End) → Ended run batch text left told old new world end → StandsAt book world
+    → Reaches run batch text left told old new book end
+reaches run batch text left told old new world book (Ok tail) ended stands =
+    let count : book.count ≡ world.count = ap (λ (w : World). w.count) stands.left in
+    record {
+      all = record { form = ended.0.form; records = ended.0.records; capture = ended.0.capture; counted = ended.0.counted ∙ sym count; grew = ended.0.grew };
+      stands = subst (λ (w : World). StandsAt book w) ended.1 stands;
+    }
+reaches run batch text left told old new world book (Err e) ended stands =
+    let count : book.count ≡ world.count = ap (λ (w : World). w.count) stands.left in
+    rw count ended
 
 replayed : (run : Run) (text : List ℕ) (told : Sinks Bool) (old mid new : Outputs) (book : Book) (form : MessageForm) (tail : Tail) (report : Report) → run_in book form ≡ run → TakenAll run text told old mid book tail
     → Standing book (λ world. AllTold told → Grew mid new (closing (run_in book form) world)) → report.committed ≡ book.count → report.tail ≡ tail → Replayed run text told old new report
@@ -297,38 +291,30 @@ end_stopped run batch text left told old mid new book form tail (stop.Ruleset fa
 end_stopped run batch text left told old mid new book form tail (stop.Capture e committed) run_is t stops = absurd stops
 end_stopped run batch text left told old mid new book form tail (stop.Read committed) run_is t stops = absurd stops
 
--- ---- the loop
+-- ---- the batches
 
-pub memory_stopped : (run : Run) (batch : ℕ) (capture : Reading) (text left left' : List ℕ) (told : Sinks Bool) (old new : Outputs) (book : Book) → AtHead run batch capture text left told old new book → Gave left left'
-    → Stopped run batch text left' told old new (stop.Memory book.count)
-memory_stopped run batch capture text left left' told old new book h gave =
-    inr (inl (holds_so_far run batch capture text left left' told old new book h.records book.count h.so_far gave h.boundary (counted_by run capture text left told old new book h.records h.so_far)))
+pub memory_stopped : (run : Run) (batch : ℕ) (capture : Reading) (text left left' : List ℕ) (told : Sinks Bool) (old new : Outputs) (world : World) → AtHead run batch capture text left told old new world → Gave left left'
+    → Stopped run batch text left' told old new (stop.Memory world.count)
+memory_stopped run batch capture text left left' told old new world h gave =
+    inr (inl (holds_so_far run batch capture text left left' told old new world h.records world.count h.so_far gave h.boundary (counted_by run capture text left told old new world h.records h.so_far)))
 
-pub batch_stopped : (run : Run) (batch : ℕ) (capture capture' : Reading) (text left left' : List ℕ) (told : Sinks Bool) (old mid new : Outputs) (book : Book) (form : MessageForm) (packets : List (Record × View)) (s : Stop) → run_in book form ≡ run
-    → AtHead run batch capture text left told old mid book → Batch capture capture' left left' packets → length packets ≤ batch → BatchStops book packets form told mid new s → Stopped run batch text left' told old new s
-batch_stopped run batch capture capture' text left left' told old mid new book form packets (stop.Memory committed) run_is h b few stops =
-    rw (stops.0, stops.1) (memory_stopped run batch capture text left left' told old mid book h (record { came = b.on.came; gave = b.on.gave }))
-batch_stopped run batch capture capture' text left left' told old mid new book form packets (stop.Write output committed) run_is h b few stops =
-    rw stops.0 (holds_part_of_batch run batch capture capture' text left left' told old mid new book h.records packets output book.count h.so_far b (rw (length-map packets _) few) h.boundary
-    (counted_by run capture text left told old mid book h.records h.so_far)
-    (λ world stands. subst (λ (r : Run). Add r.job world (frames_of packets) (λ added. AllTold told → PartWritten mid new (texts_alone r added) output)) run_is (stops.1 world stands)))
-batch_stopped run batch capture capture' text left left' told old mid new book form packets (stop.Ruleset fault) run_is h b few stops = absurd stops
-batch_stopped run batch capture capture' text left left' told old mid new book form packets (stop.Capture e committed) run_is h b few stops = absurd stops
-batch_stopped run batch capture capture' text left left' told old mid new book form packets (stop.Read committed) run_is h b few stops = absurd stops
-
--- the same of the same sinks
-pub batch_stops_for : (book : Book) (packets : List (Record × View)) (form : MessageForm) (told told' : Sinks Bool) (old new : Outputs) (s : Stop) → told ≡ told' → BatchStops book packets form told old new s → BatchStops book packets form told' old new s
-batch_stops_for book packets form told told' old new s is stops = subst (λ (t : Sinks Bool). BatchStops book packets form t old new s) is stops
+-- a batch was written in part
+pub batch_cut : (run : Run) (batch : ℕ) (capture capture' : Reading) (text left left' : List ℕ) (told : Sinks Bool) (old mid new : Outputs) (world : World) (packets : List Record) (output : Output)
+    → AtHead run batch capture text left told old mid world → Batch capture capture' left left' packets → length packets ≤ batch
+    → Add run.job world (map frame_of packets) (λ added. AllTold told → PartWritten mid new (texts_alone run added) output) → Stopped run batch text left' told old new (stop.Write output world.count)
+batch_cut run batch capture capture' text left left' told old mid new world packets output h b few part =
+    holds_part_of_batch run batch capture capture' text left left' told old mid new world h.records packets output world.count h.so_far b (rw (length-map packets _) few) h.boundary
+    (counted_by run capture text left told old mid world h.records h.so_far) part
 
 pub concludes_for : (end : End) (book : Book) (form : MessageForm) (told told' : Sinks Bool) (old new : Outputs) (s : Stop) → told ≡ told' → Concludes end book form told old new s → Concludes end book form told' old new s
 concludes_for end book form told told' old new s is concludes = subst (λ (t : Sinks Bool). Concludes end book form t old new s) is concludes
 
 -- a whole batch more
-pub next_head : (run : Run) (batch : ℕ) (capture capture' : Reading) (text left left' : List ℕ) (told : Sinks Bool) (old mid new : Outputs) (book book' : Book) (packets : List (Record × View)) → AtHead run batch capture text left told old mid book
-    → Batch capture capture' left left' packets → length packets ≡ batch → Took run told mid new book book' packets → AtHead run batch capture' text left' told old new book'
-next_head run batch capture capture' text left left' told old mid new book book' packets h b full took = record {
+pub next_head : (run : Run) (batch : ℕ) (capture capture' : Reading) (text left left' : List ℕ) (told : Sinks Bool) (old mid new : Outputs) (world : World) (packets : List Record) → AtHead run batch capture text left told old mid world
+    → Batch capture capture' left left' packets → length packets ≡ batch → Took run told mid new world packets → AtHead run batch capture' text left' told old new (world_after run.job world (map frame_of packets))
+next_head run batch capture capture' text left left' told old mid new world packets h b full took = record {
   records = h.records ++ records_of packets;
-  so_far = batch_taken run capture capture' text left left' told old mid new book book' h.records packets h.so_far b took;
+  so_far = batch_taken run capture capture' text left left' told old mid new world h.records packets h.so_far b took;
   boundary = more_batches batch (length h.records) (length (h.records ++ records_of packets)) h.boundary (length-append h.records (records_of packets) ∙ ap (λ (n : ℕ). length h.records + n) (length-map packets _ ∙ full));
 }
   where
@@ -337,35 +323,30 @@ next_head run batch capture capture' text left left' told old mid new book book'
         let next : boundary.0 + 1 ≡ suc boundary.0 = omega arith in
         (boundary.0 + 1, is ∙ ap (λ (n : ℕ). n + batch) boundary.1 ∙ (rw next (sym (suc-mul boundary.0 batch))))
 
--- the reading ended with a refusal, and the packets before it are written
-pub reading_stopped : (run : Run) (batch : ℕ) (capture capture' : Reading) (text left left' : List ℕ) (told : Sinks Bool) (old mid new : Outputs) (book book' : Book) (packets : List (Record × View)) (e : CaptureError) → AtHead run batch capture text left told old mid book
-    → wants_memory (Some (Err e)) ≡ false → BatchSays capture capture' left left' (records_of packets) (Some (Err e))
-    → (capture'.form ≡ capture.form) × (capture'.header ≡ capture.header) → All (IsPacket capture.form) packets → Took run told mid new book book' packets
-    → Stopped run batch text left' told old new (stop_for e book'.count)
-reading_stopped run batch capture capture' text left left' told old mid new book book' packets refusal.Read h other says same all took =
-    inr (holds_all_read run capture' text left' told old new book' (h.records ++ records_of packets)
-    (batch_taken run capture capture' text left left' told old mid new book book' h.records packets h.so_far (record { on = says.0; same = same; packets_are = all }) took) says.1)
-reading_stopped run batch capture capture' text left left' told old mid new book book' packets refusal.Memory h other says same all took = absurd (cc other)
-reading_stopped run batch capture capture' text left left' told old mid new book book' packets (refusal.RecordTooLong asked) h other says same all took =
-    holds_all run capture' text left' told old new book' (h.records ++ records_of packets) (Err (refusal.RecordTooLong asked))
-    (batch_taken run capture capture' text left left' told old mid new book book' h.records packets h.so_far (record { on = says.0; same = same; packets_are = all }) took)
-    (rw same.0 (capture_is run capture text left told old mid book h.records (records_of packets) (Err (refusal.RecordTooLong asked)) h.so_far says.1))
-reading_stopped run batch capture capture' text left left' told old mid new book book' packets refusal.HeaderCut h other says same all took = absurd says
-reading_stopped run batch capture capture' text left left' told old mid new book book' packets refusal.BadMagic h other says same all took = absurd says
-reading_stopped run batch capture capture' text left left' told old mid new book book' packets refusal.BadVersion h other says same all took = absurd says
-reading_stopped run batch capture capture' text left left' told old mid new book book' packets (refusal.LinkType link) h other says same all took = absurd says
-
 -- the reading ended, and the packets before that are written
-pub reached : (run : Run) (batch : ℕ) (capture capture' : Reading) (text left left' : List ℕ) (told : Sinks Bool) (old mid new : Outputs) (book book' : Book) (packets : List (Record × View)) (end : End) → AtHead run batch capture text left told old mid book
+pub reached : (run : Run) (batch : ℕ) (capture capture' : Reading) (text left left' : List ℕ) (told : Sinks Bool) (old mid new : Outputs) (world : World) (packets : List Record) (end : End) → AtHead run batch capture text left told old mid world
     → wants_memory (Some end) ≡ false → BatchSays capture capture' left left' (records_of packets) (Some end)
-    → (capture'.form ≡ capture.form) × (capture'.header ≡ capture.header) → All (IsPacket capture.form) packets → Took run told mid new book book' packets
-    → Reaches run batch text left' told old new book' end
-reached run batch capture capture' text left left' told old mid new book book' packets (Ok tail) h other says same all took =
-    taken_all run capture' text left' told old new book' (h.records ++ records_of packets) tail
-    (batch_taken run capture capture' text left left' told old mid new book book' h.records packets h.so_far (record { on = says.0; same = same; packets_are = all }) took)
-    (rw same.0 (capture_is run capture text left told old mid book h.records (records_of packets) (Ok tail) h.so_far says.1))
-reached run batch capture capture' text left left' told old mid new book book' packets (Err e) h other says same all took =
-    reading_stopped run batch capture capture' text left left' told old mid new book book' packets e h other says same all took
+    → (capture'.form ≡ capture.form) × (capture'.header ≡ capture.header) → All (FieldsOf capture.form) packets → Took run told mid new world packets
+    → Ended run batch text left' told old new (world_after run.job world (map frame_of packets)) end
+unfolding holds_all
+reached run batch capture capture' text left left' told old mid new world packets (Ok tail) h other says same all took =
+    let far = batch_taken run capture capture' text left left' told old mid new world h.records packets h.so_far (record { on = says.0; same = same; fields = all }) took in (
+      holds_all run capture' text left' told old new (world_after run.job world (map frame_of packets)) (h.records ++ records_of packets) (Ok tail) far
+          (rw same.0 (capture_is run capture text left told old mid world h.records (records_of packets) (Ok tail) h.so_far says.1)),
+      far.world_is,
+    )
+reached run batch capture capture' text left left' told old mid new world packets (Err refusal.Read) h other says same all took =
+    inr (holds_all_read run capture' text left' told old new (world_after run.job world (map frame_of packets)) (h.records ++ records_of packets)
+    (batch_taken run capture capture' text left left' told old mid new world h.records packets h.so_far (record { on = says.0; same = same; fields = all }) took) says.1)
+reached run batch capture capture' text left left' told old mid new world packets (Err refusal.Memory) h other says same all took = absurd (cc other)
+reached run batch capture capture' text left left' told old mid new world packets (Err (refusal.RecordTooLong asked)) h other says same all took =
+    holds_all run capture' text left' told old new (world_after run.job world (map frame_of packets)) (h.records ++ records_of packets) (Err (refusal.RecordTooLong asked))
+    (batch_taken run capture capture' text left left' told old mid new world h.records packets h.so_far (record { on = says.0; same = same; fields = all }) took)
+    (rw same.0 (capture_is run capture text left told old mid world h.records (records_of packets) (Err (refusal.RecordTooLong asked)) h.so_far says.1))
+reached run batch capture capture' text left left' told old mid new world packets (Err refusal.HeaderCut) h other says same all took = absurd says
+reached run batch capture capture' text left left' told old mid new world packets (Err refusal.BadMagic) h other says same all took = absurd says
+reached run batch capture capture' text left left' told old mid new world packets (Err refusal.BadVersion) h other says same all took = absurd says
+reached run batch capture capture' text left left' told old mid new world packets (Err (refusal.LinkType link)) h other says same all took = absurd says
 
 -- ---- before the loop
 
@@ -384,10 +365,6 @@ pub header_stopped : (run : Run) (batch : ℕ) (capture : Reading) (read left : 
     → Stopped run batch (read ++ left) left told old new (stop.Write output 0)
 header_stopped run batch capture read left told old new output h part =
     inl (of_every capture (read ++ left) left read left [] _ refl (record { came = []; gave = refl }) h (λ all front. inl (record { none = refl; part = part })))
-
-pub opening_count : (job : RunJob) (book : Book) → StandsAt book (opening job) → book.count ≡ 0
-unfolding opening
-opening_count job book stands = ap (λ (w : World). w.count) stands.left
 
 -- ---- how a batch of records ends
 

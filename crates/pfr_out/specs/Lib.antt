@@ -1,3 +1,4 @@
+pub mod Feedings
 pub mod Laws
 pub mod Outputs
 pub mod Reading

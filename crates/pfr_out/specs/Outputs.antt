@@ -1,5 +1,5 @@
 -- The outputs of a run, and how they grow.
-use Rattle.std.specs.Prelude.{◌≡◌, ◌≢◌, ◌<◌, ℕ, Bool, List, [], ◌++◌, IsTrue}
+use Rattle.std.specs.Prelude.{◌≡◌, ◌≢◌, ◌<◌, ℕ, Bool, ◌&&◌, List, [], ◌++◌, IsTrue}
 use Rattle.pfr_capture.specs.Device.{GrewByPart, Rose}
 use Rattle.pfr_commit.specs.World.{Texts}
 use Rattle.pfr_out.specs.declared.report.Output.{Output}
@@ -34,6 +34,10 @@ Outputs = Sinks (List ℕ)
 -- contracts speak of the bytes of all sinks
 abbrev pub AllTold : Sinks Bool → Type 0
 AllTold told = (o : Output) → IsTrue (of_output o told)
+
+-- the same as a test
+abbrev pub all_told : {S : Type 0} → (S → Bool) → Sinks S → Bool
+all_told told sinks = (((told sinks.verdicts && told sinks.packets) && told sinks.counters) && told sinks.states) && told sinks.messages
 
 -- ---- pieces of text
 

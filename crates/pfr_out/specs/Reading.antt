@@ -1,24 +1,16 @@
 -- A batch of records on its way from the source.
 use Rattle.std.specs.Prelude.{◌≡◌, ℕ, Bool, true, false, List, ◌++◌, map, Option, Some, None, Result, Ok, Err}
-use Rattle.pfr_headers.specs.declared.packet.View.{View}
-use Rattle.pfr_headers.specs.View.{view_of}
 use Rattle.pfr_capture.specs.declared.capture.CaptureError.{CaptureError}
 use Rattle.pfr_capture.specs.declared.capture.CaptureError.TheVariants as capture
-use Rattle.pfr_capture.specs.declared.capture.Form.{Form}
 use Rattle.pfr_capture.specs.declared.capture.Record.{Record}
 use Rattle.pfr_capture.specs.declared.capture.Tail.{Tail}
 use Rattle.pfr_capture.specs.Device.{Rose}
-use Rattle.pfr_capture.specs.Reading.{FieldsOf, Gave, HasGiven, LacksRecord, ReadsOn, Reading, bytes_of}
+use Rattle.pfr_capture.specs.Reading.{Gave, HasGiven, LacksRecord, ReadsOn, Reading, bytes_of}
 use Rattle.pfr_capture.specs.Records.{IsCapture, RecordBytes}
 
--- the records of packets
-abbrev pub records_of : List (Record × View) → List RecordBytes
-records_of packets = map (λ packet. bytes_of packet.0) packets
-
--- a packet is one of a capture of this form, with its view
-pub record IsPacket (form : Form) (packet : Record × View) : Type 0 where
-  pub fields : FieldsOf form packet.0
-  pub view_is : packet.1 ≡ view_of packet.0.link packet.0.bytes.items
+-- records as a capture has them
+abbrev pub records_of : List Record → List RecordBytes
+records_of records = map bytes_of records
 
 -- how the reading of records ends: at the capture's end, or with a refusal
 abbrev pub End : Type 0

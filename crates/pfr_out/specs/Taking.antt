@@ -1,13 +1,11 @@
--- One batch of packets on its way into the outputs, and the end of a run.
+-- The end of a run.
 use Rattle.std.specs.Prelude.{◌≡◌, ◌++◌, ℕ, Bool, IsTrue, List, [], Result, Ok, Err, ⊤}
-use Rattle.pfr_headers.specs.declared.packet.View.{View}
 use Rattle.pfr_packet.specs.Job.{RunJob}
 use Rattle.pfr_capture.specs.declared.capture.CaptureError.{CaptureError}
-use Rattle.pfr_capture.specs.declared.capture.Record.{Record}
 use Rattle.pfr_capture.specs.declared.capture.Tail.{Tail}
 use Rattle.pfr_capture.specs.Reading.{HasGiven, Reading}
 use Rattle.pfr_commit.specs.declared.book.Book.{Book}
-use Rattle.pfr_commit.specs.Books.{StandsAt, frames_of, job_of}
+use Rattle.pfr_commit.specs.Books.{StandsAt, job_of}
 use Rattle.pfr_commit.specs.World.{Frame, Texts, World, joined, online, world_after}
 use Rattle.pfr_out.specs.declared.report.Report.{Report}
 use Rattle.pfr_out.specs.declared.report.Stop.{Stop}
@@ -15,7 +13,7 @@ use Rattle.pfr_out.specs.declared.report.Stop.TheVariants as stop
 use Rattle.pfr_out.specs.declared.sinks.Sinks.{Sinks}
 use Rattle.pfr_out.specs.declared.settings.Form.{Form}
 use Rattle.pfr_out.specs.Spelling.{Run}
-use Rattle.pfr_out.specs.Outputs.{AllTold, Outputs, PartWritten, RoseAt, each_of, texts_alone}
+use Rattle.pfr_out.specs.Outputs.{AllTold, Outputs, PartWritten, RoseAt, each_of}
 use Rattle.pfr_out.specs.Replay.{HoldsAll, Replayed, Stopped, closing, run_of, stop_for}
 
 -- a run by a book's job
@@ -26,32 +24,13 @@ run_in book form = record { job = job_of book; form = form }
 abbrev pub Standing : Book → (World → Type 0) → Type 0
 Standing book P = (world : World) → StandsAt book world → P world
 
--- a book has taken the packets of a batch
-abbrev pub HasTaken : (old new : Book) → List (Record × View) → Type 0
-HasTaken old new packets = Standing old (λ world. StandsAt new (world_after (job_of old) world (frames_of packets)))
-
 -- packets add texts to what is written of a world, and this is a fact of the texts
 pub record Add (job : RunJob) (world : World) (frames : List Frame) (P : Texts → Type 0) : Type 0 where
   pub added : Texts
   pub is : online job (world_after job world frames) ≡ joined (online job world) added
   pub hold : P added
 
--- the same of the packets of a batch, behind those that a book has taken
-abbrev pub Added : Book → List (Record × View) → (Texts → Type 0) → Type 0
-Added book packets P = Standing book (λ world. Add (job_of book) world (frames_of packets) P)
-
 -- Facts of the outputs hold where all sinks tell their bytes.
-
--- a batch that was not written whole
-abbrev pub BatchStops : Book → List (Record × View) → Form → (told : Sinks Bool) → Outputs → Outputs → Stop → Type 0
-BatchStops book packets form told old new (stop.Memory committed) = (committed ≡ book.count) × (new ≡ old)
-BatchStops book packets form told old new (stop.Write output committed) =
-    (committed ≡ book.count) × Added book packets (λ added. AllTold told → PartWritten old new (texts_alone (run_in book form) added) output)
-BatchStops book packets form told old new _ = ⊥
-
--- the same, as its sinks show it
-abbrev pub BatchStopsIn : {S : Type 0} → (told : S → Bool) → (written : S → List ℕ) → Book → List (Record × View) → Form → (old new : Sinks S) → Stop → Type 0
-BatchStopsIn told written book packets form old new s = BatchStops book packets form (each_of told old) (each_of written old) (each_of written new) s
 
 -- an end that was not written whole
 abbrev pub EndStops : Book → Form → (told : Sinks Bool) → Outputs → Outputs → Stop → Type 0

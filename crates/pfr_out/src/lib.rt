@@ -1,12 +1,14 @@
 //! A capture through a ruleset: the lines that say what becomes of each packet, the packets that aren't blocked, the counters
 //! of the rules, the states that are left, and the messages by which another firewall is told of the states.
 //!
-//! [`replay`] is the whole run, over any source and any sinks. Its contract is the theorem of this crate: at a run to the end
-//! the sinks have grown by exactly what one thread writes that takes the packets in the order of the capture; and where a
-//! device fails, by a beginning of that, which holds at least the packets that the stop reports as committed.
+//! [`replay`] is the whole run, over any source and any sinks. Its contract is the theorem of this crate: for all sizes of a batch,
+//! numbers of workers and orders of their results, at a run to the end the sinks have grown by exactly what one thread writes
+//! that takes the packets in the order of the capture; and where a device fails, by a beginning of that, which holds at least
+//! the packets that the stop reports as committed.
 #![tactic(auto)]
 
 mod channel;
+mod feeding;
 pub mod laws;
 mod reading;
 pub mod report;
@@ -16,6 +18,7 @@ pub mod sinks;
 mod taking;
 
 pub use pfr_conf::{ConfError, ConfErrorKind};
+pub use pfr_work::Gate;
 pub use report::{Output, Report, Stop};
 pub use run::{replay, replay_job};
 pub use settings::{Form, Settings};

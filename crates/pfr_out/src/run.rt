@@ -1,23 +1,24 @@
 //! The replay of a capture.
-ghost use Rattle.std.specs.Prelude.{◌≡◌, ◌≤◌, None, Some, IfErr, IfOk, OnOk};
+ghost use Rattle.std.specs.Prelude.{◌≡◌, ◌≤◌, None, IfErr, IfOk, OnOk};
 ghost use Rattle.pfr_commit.specs.Books.{StandsAt, job_of};
 ghost use Rattle.pfr_commit.specs.World.{opening};
-ghost use Rattle.pfr_out.specs.Outputs.{Stay, each_of};
-ghost use Rattle.pfr_out.specs.Reading.{BatchFails};
+ghost use Rattle.pfr_out.specs.Outputs.{each_of};
 ghost use Rattle.pfr_out.specs.Replay.{Replays, ReplaysRun, StopFails, Stops, StopsRun};
-ghost use Rattle.pfr_out.specs.Taking.{IsLate, ReachesOn, ReplaysOn, StopsOn, run_in};
+ghost use Rattle.pfr_out.specs.Taking.{IsLate, ReplaysOn, StopsOn, run_in};
 
 use crate::channel::Channel;
-use crate::reading::{read_batch, wants_memory};
+use crate::feeding::Feeding;
 use crate::report::{Report, Stop};
 use crate::settings::{Form, Settings};
 use crate::sinks::Sinks;
-use crate::taking::{conclude, stop_for, take_batch};
-use pfr_capture::{Capture, CaptureError, Sink, Source, Tail};
-use pfr_commit::{Book, Emitted};
+use crate::taking::stop_for;
+use pfr_capture::{Capture, Sink, Source};
+use pfr_commit::Book;
 use pfr_packet::Job;
-use std::alloc::{AllocError, Global};
-use std::sync::Arc;
+use pfr_work::Gate;
+use std::alloc::{AllocError, AllocGlobal, Global};
+use std::sync::{Arc, Wait};
+use std::thread::Threads;
 
 /// A book that has taken no packet of a job.
 fn book_of(alloc: Global, job: Job) -> Result<Book, AllocError>
@@ -28,97 +29,67 @@ fn book_of(alloc: Global, job: Job) -> Result<Book, AllocError>
     Book::new(alloc, job)
 }
 
-/// Writes the header of a capture, and then takes and writes its packets, a batch at a time. Its reader has given none of them.
-/// It answers how the reading ends; where memory was refused then that is a stop.
-fn take_packets<R: Source, S: Sink>(
-    alloc: Global,
-    book: &mut Book,
-    capture: &mut Capture,
+/// Replays a capture whose reader has given no packet.
+fn replay_capture<H: AllocGlobal + Threads + Wait + Sync, R: Source, S: Sink, G: Gate>(
+    rt: &H,
+    book: Book,
+    mut capture: Capture,
     source: &mut R,
     batch: usize,
-    channel: &mut Channel,
+    workers: u64,
+    mut channel: Channel,
     sinks: &mut Sinks<S>,
-) -> Result<Result<Tail, CaptureError>, Stop>
-    requires reading { capture.old.over ≡ None }
-    requires start { capture.old.count ≡ 0 }
-    requires world { StandsAt book.old (opening (job_of book.old)) }
+    gate: &G,
+) -> Result<Report, Stop>
+    requires reading { capture.over ≡ None }
+    requires start { capture.count ≡ 0 }
+    requires world { StandsAt book (opening (job_of book)) }
     requires batch { (1 ≤ batch) × (batch ≤ 4096) }
+    requires workers { workers ≤ 64 }
     ensures told { (R.told source.new ≡ R.told source.old) × (each_of S.told sinks.new ≡ each_of S.told sinks.old) }
-    ensures reaches { IfOk result (λ end. ReachesOn R.told R.unread S.told S.written (run_in book.old channel.old.form) batch book.new capture.old source.old source.new sinks.old sinks.new end) }
-    ensures stopped { IfErr result (λ stop. StopsOn R.told R.unread S.told S.written (run_in book.old channel.old.form) batch capture.old source.old source.new sinks.old sinks.new stop) }
-    ensures job { book.new.job ≡ book.old.job }
-    ensures form { channel.new.form ≡ channel.old.form }
+    ensures ok { IfOk result (λ report. ReplaysOn R.told R.unread S.told S.written (run_in book channel.form) capture source.old sinks.old sinks.new report) }
+    ensures stopped { IfErr result (λ stop. StopsOn R.told R.unread S.told S.written (run_in book channel.form) batch capture source.old source.new sinks.old sinks.new stop) }
     ensures late { IfErr result (λ stop. IsLate stop) }
-    ensures no_failure { IfOk result (λ end. BatchFails (Some end) (R.failures source.old) (R.failures source.new) × Stay S.failures sinks.old sinks.new) }
+    ensures no_failure { OnOk result ((R.failures source.new ≡ R.failures source.old) × (each_of S.failures sinks.new ≡ each_of S.failures sinks.old)) }
     ensures failure { IfErr result (λ stop. StopFails stop (R.failures source.old) (R.failures source.new) (each_of S.failures sinks.old) (each_of S.failures sinks.new)) }
 {
     match sinks.write_header(&capture.header()) {
         Ok(()) => {}
         Err(output) => return Err(Stop::Write(output, 0)),
     }
-    let mut packets = Vec::new(alloc);
-    let mut out = Emitted::new(alloc);
-    loop {
-        let end = read_batch(capture, source, batch, &mut packets);
-        if wants_memory(&end) {
-            return Err(Stop::Memory(book.committed()));
-        }
-        match take_batch(alloc, book, packets.as_slice(), &mut out, channel, sinks) {
-            Ok(()) => {}
-            Err(stop) => return Err(stop),
-        }
-        if let Some(end) = end {
-            return Ok(end);
-        }
-    }
-}
-
-/// Replays a capture whose reader has given no packet.
-fn replay_capture<R: Source, S: Sink>(
-    alloc: Global,
-    mut book: Book,
-    capture: &mut Capture,
-    source: &mut R,
-    batch: usize,
-    mut channel: Channel,
-    sinks: &mut Sinks<S>,
-) -> Result<Report, Stop>
-    requires reading { capture.old.over ≡ None }
-    requires start { capture.old.count ≡ 0 }
-    requires world { StandsAt book (opening (job_of book)) }
-    requires batch { (1 ≤ batch) × (batch ≤ 4096) }
-    ensures told { (R.told source.new ≡ R.told source.old) × (each_of S.told sinks.new ≡ each_of S.told sinks.old) }
-    ensures ok { IfOk result (λ report. ReplaysOn R.told R.unread S.told S.written (run_in book channel.form) capture.old source.old sinks.old sinks.new report) }
-    ensures stopped { IfErr result (λ stop. StopsOn R.told R.unread S.told S.written (run_in book channel.form) batch capture.old source.old source.new sinks.old sinks.new stop) }
-    ensures late { IfErr result (λ stop. IsLate stop) }
-    ensures no_failure { OnOk result ((R.failures source.new ≡ R.failures source.old) × (each_of S.failures sinks.new ≡ each_of S.failures sinks.old)) }
-    ensures failure { IfErr result (λ stop. StopFails stop (R.failures source.old) (R.failures source.new) (each_of S.failures sinks.old) (each_of S.failures sinks.new)) }
-{
-    match take_packets(
-        alloc,
-        &mut book,
-        capture,
+    let address = book.job().interface().address;
+    let feeding = Feeding {
+        alloc: rt.alloc(),
+        capture: &mut capture,
         source,
-        batch,
-        &mut channel,
+        most: batch,
+        channel: &mut channel,
+        address,
         sinks,
-    ) {
-        Ok(end) => conclude(book, end, &mut channel, sinks),
-        Err(stop) => Err(stop),
-    }
+        given: 0,
+        committed: 0,
+        end: None,
+        cut: None,
+    };
+    let mut last = None;
+    let mut feeding = feeding.run(rt, book, workers, gate, &mut last);
+    feeding.finish(last)
 }
 
 /// Replays a capture by a job, whose ruleset was read before: what [`replay`] does behind its text. No stop is for the
 /// ruleset.
-pub fn replay_job<H: AllocGlobal, R: Source, S: Sink>(
+pub fn replay_job<H: AllocGlobal + Threads + Wait + Sync, R: Source, S: Sink, G: Gate>(
     rt: &H,
     source: &mut R,
     job: Job,
     batch: usize,
+    workers: u64,
     form: Form,
     sinks: &mut Sinks<S>,
+    gate: &G,
 ) -> Result<Report, Stop>
     requires batch { (1 ≤ batch) × (batch ≤ 4096) }
+    requires workers { workers ≤ 64 }
     ensures told { (R.told source.new ≡ R.told source.old) × (each_of S.told sinks.new ≡ each_of S.told sinks.old) }
     ensures ok { IfOk result (λ report. Replays R.told R.unread S.told S.written (record { job = job; form = form }) source.old sinks.old sinks.new report) }
     ensures stopped { IfErr result (λ stop. Stops R.told R.unread S.told S.written (record { job = job; form = form }) batch source.old source.new sinks.old sinks.new stop) }
@@ -127,7 +98,7 @@ pub fn replay_job<H: AllocGlobal, R: Source, S: Sink>(
     ensures failure { IfErr result (λ stop. StopFails stop (R.failures source.old) (R.failures source.new) (each_of S.failures sinks.old) (each_of S.failures sinks.new)) }
 {
     let alloc = rt.alloc();
-    let mut capture = match Capture::open(alloc, source) {
+    let capture = match Capture::open(alloc, source) {
         Ok(capture) => capture,
         Err(refusal) => return Err(stop_for(refusal, 0)),
     };
@@ -136,11 +107,16 @@ pub fn replay_job<H: AllocGlobal, R: Source, S: Sink>(
         Ok(book) => book,
         Err(_) => return Err(Stop::Memory(0)),
     };
-    replay_capture(alloc, book, &mut capture, source, batch, channel, sinks)
+    replay_capture(
+        rt, book, capture, source, batch, workers, channel, sinks, gate,
+    )
 }
 
-/// Replays a capture through a ruleset, as the firewall's interface would see its packets. One thread takes them in the order
-/// of the capture, a batch at a time. A packet whose source lies in an inside network goes out.
+/// Replays a capture through a ruleset, as the firewall's interface would see its packets. They are taken in the order of the
+/// capture, a batch at a time. A packet whose source lies in an inside network goes out.
+///
+/// Workers, if there are any, evaluate the packets of a batch ahead, and the gate is told of their turns. What is written hangs on
+/// neither: it is what one thread writes that takes the packets one after the other.
 ///
 /// The text is read first, and a fault of it leaves the source unread. The capture's header goes to the packets, in a write of
 /// its own. Then each batch adds the messages that it closes, a line for each packet to the verdicts, and the packets that
@@ -155,15 +131,17 @@ pub fn replay_job<H: AllocGlobal, R: Source, S: Sink>(
 /// Whatever the devices, Ok comes only where the text means a ruleset, and a stop for the ruleset only with the text's first
 /// fault, or for want of memory. What is said of the capture holds where the source tells its bytes, and what is said of the
 /// outputs where all sinks tell theirs too.
-pub fn replay<H: AllocGlobal, R: Source, S: Sink>(
+pub fn replay<H: AllocGlobal + Threads + Wait + Sync, R: Source, S: Sink, G: Gate>(
     rt: &H,
     source: &mut R,
     text: &[u8],
     seed: [u8; 32],
     settings: &Settings<'_>,
     sinks: &mut Sinks<S>,
+    gate: &G,
 ) -> Result<Report, Stop>
     requires batch { (1 ≤ settings.now.batch) × (settings.now.batch ≤ 4096) }
+    requires workers { settings.now.workers ≤ 64 }
     ensures told { (R.told source.new ≡ R.told source.old) × (each_of S.told sinks.new ≡ each_of S.told sinks.old) }
 
     // A run to the end.
@@ -178,5 +156,11 @@ pub fn replay<H: AllocGlobal, R: Source, S: Sink>(
         Ok(job) => job,
         Err(fault) => return Err(Stop::Ruleset(fault)),
     };
-    replay_job(rt, source, job, settings.batch, settings.form, sinks)
+    let Settings {
+        batch,
+        workers,
+        form,
+        ..
+    } = *settings;
+    replay_job(rt, source, job, batch, workers, form, sinks, gate)
 }

@@ -22,6 +22,8 @@ pub struct Settings<'a> {
     pub inside: &'a [Net],
     /// How many packets are taken and written at a time, 1 to 4096.
     pub batch: usize,
+    /// How many workers evaluate packets ahead, 0 to 64.
+    pub workers: u64,
     /// The form of the messages to a standby.
     pub form: Form,
 }

@@ -21,7 +21,18 @@ pub struct Sinks<S> {
 }
 
 impl<S: Sink> Sinks<S> {
-    ghost use Rattle.pfr_out.specs.Outputs.{GrewBy, RoseAt, TookPart, batch_alone, each_of, ending_alone, header_alone};
+    ghost use Rattle.pfr_out.specs.Outputs.{GrewBy, RoseAt, TookPart, all_told, batch_alone, each_of, ending_alone, header_alone};
+
+    /// Whether contracts speak of the bytes of all sinks.
+    pub(crate) fn tell(&self) -> bool
+        ensures { result ≡ all_told S.told self.now }
+    {
+        self.verdicts.tells()
+            && self.packets.tells()
+            && self.counters.tells()
+            && self.states.tells()
+            && self.messages.tells()
+    }
 
     /// Writes the header of a capture.
     pub(crate) fn write_header(&mut self, header: &[u8]) -> Result<(), Output>

@@ -1,55 +1,14 @@
-//! Packets into the outputs, a batch at a time, and the end of a run.
-ghost use Rattle.std.specs.Prelude.{◌≡◌, ◌≤◌, ◌+◌, ◌^◌, false, length, IfErr, IfOk, OnOk, Ok};
-ghost use Rattle.std.specs.List.{All};
-ghost use Rattle.pfr_headers.specs.View.{view_of};
-ghost use Rattle.pfr_out.specs.Outputs.{GrewBy, each_of, texts_alone};
+//! The end of a run.
+ghost use Rattle.std.specs.Prelude.{◌≡◌, IfErr, IfOk, OnOk, Ok};
+ghost use Rattle.pfr_out.specs.Outputs.{GrewBy, each_of};
 ghost use Rattle.pfr_out.specs.Replay.{closing, stop_for};
-ghost use Rattle.pfr_out.specs.Taking.{Added, BatchStopsIn, ConcludeFails, ConcludesIn, EndStopsIn, HasTaken, SinksFail, Standing, run_in};
+ghost use Rattle.pfr_out.specs.Taking.{ConcludeFails, ConcludesIn, EndStopsIn, SinksFail, Standing, run_in};
 
 use crate::channel::Channel;
 use crate::report::{Report, Stop};
 use crate::sinks::Sinks;
-use pfr_capture::{CaptureError, Record, Sink, Tail};
-use pfr_commit::{Book, Emitted};
-use pfr_headers::View;
-use std::alloc::Global;
-
-/// Takes the next packets, and writes what they add.
-pub(crate) fn take_batch<S: Sink>(
-    alloc: Global,
-    book: &mut Book,
-    packets: &[(Record, View)],
-    out: &mut Emitted,
-    channel: &mut Channel,
-    sinks: &mut Sinks<S>,
-) -> Result<(), Stop>
-    requires views { All (λ packet. packet.1 ≡ view_of packet.0.link packet.0.bytes.items) packets.now }
-    requires few { book.old.count + length packets.now ≤ 2 ^ 43 }
-    ensures told { each_of S.told sinks.new ≡ each_of S.told sinks.old }
-    ensures job { book.new.job ≡ book.old.job }
-    ensures form { channel.new.form ≡ channel.old.form }
-    ensures world { OnOk result (HasTaken book.old book.new packets.now) }
-    ensures counted { OnOk result (book.new.count ≡ book.old.count + length packets.now) }
-    ensures written { OnOk result (Added book.old packets.now (λ added. GrewBy S.told S.written sinks.old sinks.new (texts_alone (run_in book.old channel.old.form) added))) }
-    ensures stops { IfErr result (λ stop. BatchStopsIn S.told S.written book.old packets.now channel.old.form sinks.old sinks.new stop) }
-    ensures no_failure { OnOk result (each_of S.failures sinks.new ≡ each_of S.failures sinks.old) }
-    ensures failure { IfErr result (λ stop. SinksFail stop (each_of S.failures sinks.old) (each_of S.failures sinks.new)) }
-{
-    let committed = book.committed();
-    out.clear();
-    match book.commit_batch(packets, Vec::new(alloc), out) {
-        Ok(()) => {}
-        Err(_) => return Err(Stop::Memory(committed)),
-    }
-    match channel.spell(book.job().interface().address, out.messages.as_slice()) {
-        Ok(()) => {}
-        Err(_) => return Err(Stop::Memory(committed)),
-    }
-    match sinks.write_batch(out, channel.text()) {
-        Ok(()) => Ok(()),
-        Err(output) => Err(Stop::Write(output, committed)),
-    }
-}
+use pfr_capture::{CaptureError, Sink, Tail};
+use pfr_commit::Book;
 
 /// Writes what stands at the end of a run.
 pub(crate) fn close<S: Sink>(

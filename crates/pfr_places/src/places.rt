@@ -111,6 +111,8 @@ impl<T: Copy> Places<T> {
 
     /// Puts a value of a new number at a place of its own. Where memory is refused nothing changes. It is refused as well
     /// where 4294967294 places are taken, as many as an index of 32 bits has room for.
+    // A call would copy the value once more.
+    #[inline(always)]
     pub fn insert(&mut self, number: u64, value: T) -> Result<Place, AllocError>
         requires { spec.of_number number self.old ≡ None }
         ensures done { IfOk result (λ place. self.new ≡ spec.with_placed (record { number = number; place = place; value = value }) self.old) }

@@ -1,6 +1,8 @@
 //! Answers of a table of states.
 ghost use Rattle.std.specs.Prelude.{◌≡◌, ◌↔◌, IsTrue};
+ghost use Rattle.std.specs.Option.{option_map};
 
+use pfr_states::Found;
 use pfr_track::{DatagramPeer, Key, Peers, State, StateRules, TcpPeer, Traffic};
 
 /// What a table of states answered.
@@ -77,18 +79,13 @@ fn is_same_state(first: &State, second: &State) -> bool
         && is_same_traffic(&first.back, &second.back)
 }
 
-impl Answer {
-    /// Whether two answers are one: states in all that they hold.
-    pub(crate) fn is_same(&self, other: &Answer) -> bool
-        ensures { IsTrue result ↔ (self.now ≡ other.now) }
-    {
-        match (self, other) {
-            (Answer::Found(Some(first)), Answer::Found(Some(second))) => {
-                is_same_state(first, second)
-            }
-            (Answer::Found(None), Answer::Found(None)) => true,
-            (Answer::HasRoom(first), Answer::HasRoom(second)) => first == second,
-            _ => false,
-        }
+/// Whether a table found just what was recorded: no state, or one that is the same in all that it holds.
+pub(crate) fn is_same_find(found: &Option<Found<'_>>, recorded: &Option<State>) -> bool
+    ensures { IsTrue result ↔ (option_map (λ found. found.state.now) found.now ≡ recorded.now) }
+{
+    match (found, recorded) {
+        (Some(found), Some(state)) => is_same_state(found.state, state),
+        (None, None) => true,
+        _ => false,
     }
 }

@@ -6,11 +6,11 @@ ghost use Rattle.pfr_packet.specs.Plan.{purged_at};
 ghost use Rattle.pfr_packet.specs.Steps.{step_of};
 ghost use Rattle.pfr_record.specs.Record.{Agrees, IsSound, answer_of};
 
-use crate::answer::Answer;
+use crate::answer::{Answer, is_same_find};
 use indexmap::IndexMap;
 use pfr_headers::View;
 use pfr_packet::{Answers, Job, Outcome, Question};
-use pfr_states::Table;
+use pfr_states::{Place, Table};
 use pfr_track::Clock;
 use std::sync::Arc;
 
@@ -27,22 +27,24 @@ pub struct Speculation {
     ghost sound: { IsSound (arc_value job) number clock view outcome answers.entries },
 }
 
-/// What a table answers at a clock.
+/// Whether a table answers a question so at a clock. The state that is asked for is looked for where a hint says first.
 #[tactic(auto, unfolding(pfr_packet::specs::Plan::found_in, pfr_packet::specs::Plan::has_room_in, pfr_packet::specs::Plan::purged_at))]
-fn answer_of(table: &Table, clock: Clock, question: &Question) -> Answer
-    ensures { result ≡ answer_of (purged_at clock table.now) question.now }
-{
-    match question {
-        Question::At(side, key) => Answer::Found(table.at(*side, key, clock)),
-        Question::Room => Answer::HasRoom(table.room(clock)),
-    }
-}
-
-/// Whether a table answers a question so at a clock.
-fn is_answered(table: &Table, clock: Clock, question: &Question, answer: &Answer) -> bool
+fn is_answered(
+    table: &Table,
+    clock: Clock,
+    hint: Option<Place>,
+    question: &Question,
+    answer: &Answer,
+) -> bool
     ensures { IsTrue result ↔ (answer_of (purged_at clock table.now) question.now ≡ answer.now) }
 {
-    answer_of(table, clock, question).is_same(answer)
+    match (question, answer) {
+        (Question::At(side, key), Answer::Found(recorded)) => {
+            is_same_find(&table.find_near(*side, key, clock, hint), recorded)
+        }
+        (Question::Room, Answer::HasRoom(room)) => table.room(clock) == *room,
+        _ => false,
+    }
 }
 
 fn is_same_view(first: &View, second: &View) -> bool
@@ -71,28 +73,37 @@ impl Speculation {
 
     /// Whether a table gives at a clock the answer that stands at a place of the record.
     #[tactic(auto, using(crate::proofs::RecordLemmas::answered_at, crate::proofs::RecordLemmas::answered_of_all))]
-    fn is_answered_at(&self, index: usize, table: &Table, clock: Clock) -> bool
+    fn is_answered_at(&self, index: usize, table: &Table, clock: Clock, hint: Option<Place>) -> bool
         requires { index < length self.now.answers.entries }
         ensures held { IsTrue result → HoldsAt (λ entry. answer_of (purged_at clock table.now) entry.0 ≡ entry.1) self.now.answers.entries index }
         ensures of_all { Agrees (purged_at clock table.now) self.now.answers.entries → IsTrue result }
     {
         match self.answers.get_index(index) {
-            Some((question, answer)) => is_answered(table, clock, question, answer),
+            Some((question, answer)) => is_answered(table, clock, hint, question, answer),
             None => false,
         }
     }
 
-    /// Whether a table gives at a clock each answer that was recorded: states are the same in all that they hold.
+    /// Whether a table gives at a clock each answer that was recorded: states are the same in all that they hold. The state that
+    /// was asked for first is looked for where a hint says first.
     #[tactic(auto, using(crate::proofs::RecordLemmas::agrees_more, crate::proofs::RecordLemmas::agrees_all))]
-    pub fn holds_in(&self, table: &Table, clock: Clock) -> bool
+    fn holds_near(&self, table: &Table, clock: Clock, hint: Option<Place>) -> bool
         ensures { IsTrue result ↔ Agrees (purged_at clock table.now) self.now.answers.entries }
     {
         for index in 0..self.answers.len() {
-            if !self.is_answered_at(index, table, clock) {
+            let hint = if index == 0 { hint } else { None };
+            if !self.is_answered_at(index, table, clock, hint) {
                 return false;
             }
         }
         true
+    }
+
+    /// Whether a table gives at a clock each answer that was recorded: states are the same in all that they hold.
+    pub fn holds_in(&self, table: &Table, clock: Clock) -> bool
+        ensures { IsTrue result ↔ Agrees (purged_at clock table.now) self.now.answers.entries }
+    {
+        self.holds_near(table, clock, None)
     }
 
     /// Whether this is of such a packet of a job, and its record holds in a table. Jobs are compared unless it is known that this
@@ -105,6 +116,7 @@ impl Speculation {
         clock: Clock,
         view: &View,
         table: &Table,
+        hint: Option<Place>,
     ) -> bool
         requires { is_of_job ≡ true → arc_value self.now.job ≡ job.now }
         ensures { IsTrue result ↔ Fits self.now job.now number clock view.now table.now }
@@ -113,7 +125,7 @@ impl Speculation {
             && self.clock == clock
             && is_same_view(&self.view, view)
             && (is_of_job || self.job.is_same(job))
-            && self.holds_in(table, clock)
+            && self.holds_near(table, clock, hint)
     }
 
     /// The outcome for a packet of a job over a table: there is one where this is of just that packet, and its record holds in
@@ -129,14 +141,15 @@ impl Speculation {
         ensures some { IsSome result ↔ Fits self job.now number clock view.now table.now }
         ensures outcome { IfSome result (λ outcome. outcome ≡ step_of job.now number clock view.now table.now) }
     {
-        if self.fits(false, job, number, clock, view, table) {
+        if self.fits(false, job, number, clock, view, table, None) {
             Some(self.outcome)
         } else {
             None
         }
     }
 
-    /// The same where it is known that this is of the job, which isn't compared then.
+    /// The same where it is known that this is of the job, which isn't compared then. The state that was asked for first may stand
+    /// at a place that is named, as by [`Table::place_by`]; nothing rests on it that it stands there.
     pub fn outcome_of_own(
         self,
         job: &Job,
@@ -144,12 +157,13 @@ impl Speculation {
         clock: Clock,
         view: &View,
         table: &Table,
+        hint: Option<Place>,
     ) -> Option<Outcome>
         requires { arc_value self.job ≡ job.now }
         ensures some { IsSome result ↔ Fits self job.now number clock view.now table.now }
         ensures outcome { IfSome result (λ outcome. outcome ≡ step_of job.now number clock view.now table.now) }
     {
-        if self.fits(true, job, number, clock, view, table) {
+        if self.fits(true, job, number, clock, view, table, hint) {
             Some(self.outcome)
         } else {
             None

@@ -298,10 +298,7 @@ impl IndexedStates {
         ensures kept { OnErr result (self.new ≡ self.old) }
     {
         make_room(&mut self.deadlines, &self.keyed)?;
-        let place = self.keyed.add(Stored {
-            state: *state,
-            waits: state.deadline,
-        })?;
+        let place = self.keyed.add(state)?;
         self.deadlines.add((state.deadline, state.number, place));
         Ok(())
     }

@@ -227,20 +227,27 @@ impl Keyed {
         self.places.after(number.0)
     }
 
-    /// Adds a state of a new number with keys that no other one has. Where memory is refused nothing changes.
-    pub(crate) fn add(&mut self, stored: Stored) -> Result<Place, AllocError>
-        requires number { slab.of_number stored.state.number.0 self.old ≡ None }
-        requires keys { list_any (states.shares_key stored.state) (spec.states_of self.old) ≡ false }
-        ensures done { IfOk result (λ place. self.new ≡ slab.with_placed (spec.held stored place) self.old) }
+    /// Adds a state of a new number with keys that no other one has, which waits by its deadline. Where memory is refused
+    /// nothing changes.
+    pub(crate) fn add(&mut self, state: &State) -> Result<Place, AllocError>
+        requires number { slab.of_number state.now.number.0 self.old ≡ None }
+        requires keys { list_any (states.shares_key state.now) (spec.states_of self.old) ≡ false }
+        ensures done { IfOk result (λ place. self.new ≡ slab.with_placed (spec.held (record { state = state.now; waits = state.now.deadline }) place) self.old) }
         ensures kept { OnErr result (self.new ≡ self.old) }
     {
         self.wire.reserve()?;
         self.stack.reserve()?;
-        let place = self.places.insert(stored.state.number.0, stored)?;
+        let place = self.places.insert(
+            state.number.0,
+            Stored {
+                state: *state,
+                waits: state.deadline,
+            },
+        )?;
         // whatever places are asked, they are in order
         are_places(&self.places);
-        self.wire.insert(hash_of(&stored.state.wire), place);
-        self.stack.insert(hash_of(&stored.state.stack), place);
+        self.wire.insert(hash_of(&state.wire), place);
+        self.stack.insert(hash_of(&state.stack), place);
         Ok(place)
     }
 

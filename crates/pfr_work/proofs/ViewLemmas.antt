@@ -4,7 +4,7 @@ use Rattle.std.specs.List.{AllZip}
 use Rattle.std.proofs.lemmas.List.{take_more}
 
 module _ {X Y : Type 0} (R : X → Y → Type 0) where
-  one_more : (xs : List X) (ys : List Y) (x : X) (y : Y) → AllZip R xs ys → R x y → AllZip R (xs ++ x ∷ []) (ys ++ y ∷ [])
+  pub one_more : (xs : List X) (ys : List Y) (x : X) (y : Y) → AllZip R xs ys → R x y → AllZip R (xs ++ x ∷ []) (ys ++ y ∷ [])
   one_more [] [] x y all one = (one, tt)
   one_more [] (b ∷ ys) x y all one = absurd all
   one_more (a ∷ xs) [] x y all one = absurd all

@@ -1,2 +1,3 @@
 pub mod Batches
 pub mod Ends
+pub mod Runs

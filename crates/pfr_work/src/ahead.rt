@@ -121,7 +121,6 @@ fn ahead_in<J: OfRun + Send + Sync, R: Threads + Wait + Sync, G: Gate>(
     rt: &R,
     alloc: Global,
     book: &Book,
-    clock: Clock,
     records: &[Record],
     workers: u64,
     gate: &G,
@@ -133,7 +132,7 @@ fn ahead_in<J: OfRun + Send + Sync, R: Threads + Wait + Sync, G: Gate>(
     ensures views { IfOk result (λ ahead. AllZip IsViewOf records.now ahead.views.items) }
     ensures sizes { IfOk result (λ ahead. (ahead.gathered.sizes.count ≡ length records.now) × (ahead.gathered.sizes.workers ≡ workers)) }
 {
-    let clocks = clocks(alloc, clock, records)?;
+    let clocks = clocks(alloc, book.clock(), records)?;
     let work = Speculating::<J, G> {
         alloc,
         job: book.job(),
@@ -164,9 +163,9 @@ fn ahead_in<J: OfRun + Send + Sync, R: Threads + Wait + Sync, G: Gate>(
     })
 }
 
-/// Has the packets that come next to a book evaluated by workers on its table, behind a clock. Each worker draws packets until all
-/// are drawn. The gate is told of each before it is evaluated, and once its result is sent. Beside them the calling thread makes
-/// the views of the records.
+/// Has the packets that come next to a book evaluated by workers on its table. Each worker draws packets until all are drawn.
+/// The gate is told of each before it is evaluated, and once its result is sent. Beside them the calling thread makes the views
+/// of the records.
 ///
 /// Results may be missing: of a packet for which memory is refused, or which asks much of the table, and of one that a thread
 /// which can't be started would have drawn. The only error is that memory was refused.
@@ -174,7 +173,6 @@ pub fn evaluate_ahead<R: Threads + Wait + Sync, G: Gate>(
     rt: &R,
     alloc: Global,
     book: &Book,
-    clock: Clock,
     records: &[Record],
     workers: u64,
     gate: &G,
@@ -185,5 +183,5 @@ pub fn evaluate_ahead<R: Threads + Wait + Sync, G: Gate>(
     ensures views { IfOk result (λ ahead. AllZip IsViewOf records.now ahead.views.items) }
     ensures sizes { IfOk result (λ ahead. (ahead.gathered.sizes.count ≡ length records.now) × (ahead.gathered.sizes.workers ≡ workers)) }
 {
-    ahead_in::<Brand, R, G>(rt, alloc, book, clock, records, workers, gate)
+    ahead_in::<Brand, R, G>(rt, alloc, book, records, workers, gate)
 }

@@ -5,10 +5,14 @@
 #![tactic(auto)]
 
 pub mod ahead;
+pub mod feed;
 mod found;
 pub mod gate;
 pub mod laws;
+pub mod run;
 mod views;
 
 pub use ahead::{Ahead, evaluate_ahead};
+pub use feed::Feed;
 pub use gate::Gate;
+pub use run::{Trace, run_workers};

@@ -13,7 +13,6 @@ use pfr_net::{IfName, Ipv4Address, Net};
 use pfr_packet::Job;
 use pfr_record::Speculation;
 use pfr_ruleset::Interface;
-use pfr_track::Clock;
 use pfr_work::{Gate, evaluate_ahead};
 use std::alloc::{AllocError, Global};
 use std::sync::atomic::{AtomicBool, AtomicU64, Ordering};
@@ -136,15 +135,7 @@ fn take<R: Threads + Wait + Sync, G: Gate>(
     if records.len() > MOST {
         return Err(AllocError);
     }
-    let found = evaluate_ahead(
-        rt,
-        alloc,
-        &book,
-        Clock(0),
-        records.as_slice(),
-        workers,
-        gate,
-    )?;
+    let found = evaluate_ahead(rt, alloc, &book, records.as_slice(), workers, gate)?;
     let mut packets = Packets {
         items: Vec::new(alloc),
     };

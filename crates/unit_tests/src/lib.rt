@@ -20,6 +20,8 @@ mod elements;
 #[cfg(test)]
 mod frames;
 #[cfg(test)]
+mod orders;
+#[cfg(test)]
 mod rewriting;
 #[cfg(test)]
 mod runs;

@@ -3,10 +3,12 @@ ghost use Rattle.std.specs.Prelude.{◌≤◌};
 
 use pfr_capture::{Mem, Tail};
 use pfr_net::{IfName, Ipv4Address, Net};
-use pfr_out::{Form, Output, Report, Settings, Sinks, Stop, replay};
+use pfr_out::{Form, Gate, Output, Report, Settings, Sinks, Stop, replay};
 use pfr_ruleset::Interface;
-use std::alloc::{AllocError, Global};
+use std::alloc::{AllocError, AllocGlobal, Global};
+use std::sync::Wait;
 use std::test::Fail;
+use std::thread::Threads;
 
 const HEADER: [u8; 24] = [
     0xd4, 0xc3, 0xb2, 0xa1, 2, 0, 4, 0, 0, 0, 0, 0, 0, 0, 0, 0, 0, 0, 4, 0, 101, 0, 0, 0,
@@ -58,10 +60,28 @@ struct Left {
     counts_all: bool,
 }
 
-/// Replays the capture through `pass out`. Its source gives 28 bytes at most at a time, and fails behind so many reads; the
-/// verdicts fail behind so many writes.
-fn run(rt: &HostRuntime, reads: u64, writes: u64, batch: usize) -> Result<Left, AllocError>
+/// Who waits for no packet's turn.
+struct Unwatched;
+
+impl Gate for Unwatched {
+    fn starts(&self, _number: u64) {}
+
+    fn answered(&self, _number: u64) {}
+
+    fn ran_again(&self, _number: u64) {}
+}
+
+/// Replays the capture through `pass out`, by so many workers. Its source gives 28 bytes at most at a time, and fails behind so
+/// many reads; the verdicts fail behind so many writes.
+fn run<R: AllocGlobal + Threads + Wait + Sync>(
+    rt: &R,
+    reads: u64,
+    writes: u64,
+    batch: usize,
+    workers: u64,
+) -> Result<Left, AllocError>
     requires batch { (1 ≤ batch) × (batch ≤ 4096) }
+    requires workers { workers ≤ 64 }
 {
     let mut source = capture(rt.alloc())?.at_most(28).failing_after(reads);
     let mut outputs = sinks(rt.alloc(), writes);
@@ -77,6 +97,7 @@ fn run(rt: &HostRuntime, reads: u64, writes: u64, batch: usize) -> Result<Left, 
         },
         inside: &inside,
         batch,
+        workers,
         form: Form::File,
     };
     let end = replay(
@@ -86,6 +107,7 @@ fn run(rt: &HostRuntime, reads: u64, writes: u64, batch: usize) -> Result<Left, 
         [0; 32],
         &settings,
         &mut outputs,
+        &Unwatched,
     );
     Ok(Left {
         end,
@@ -99,37 +121,45 @@ fn run(rt: &HostRuntime, reads: u64, writes: u64, batch: usize) -> Result<Left, 
 
 #[test]
 fn a_failed_write_stops_at_the_batch_before(rt: HostRuntime) -> Result<(), Fail> {
-    let left = run(&rt, 99, 1, 2)?;
-    assert!(rt; matches!(&left.end, Err(Stop::Write(Output::Verdicts, 2))));
-    assert!(rt; left.has_two_lines && left.packets == 24 + 2 * 44);
+    for workers in 0..3 {
+        let left = run(&rt, 99, 1, 2, workers)?;
+        assert!(rt; matches!(&left.end, Err(Stop::Write(Output::Verdicts, 2))));
+        assert!(rt; left.has_two_lines && left.packets == 24 + 2 * 44);
+    }
     Ok(())
 }
 
 #[test]
 fn a_batch_of_one_is_committed_by_itself(rt: HostRuntime) -> Result<(), Fail> {
-    let left = run(&rt, 99, 1, 1)?;
-    assert!(rt; matches!(&left.end, Err(Stop::Write(Output::Verdicts, 1))));
-    assert!(rt; left.packets == 24 + 44);
+    for workers in 0..3 {
+        let left = run(&rt, 99, 1, 1, workers)?;
+        assert!(rt; matches!(&left.end, Err(Stop::Write(Output::Verdicts, 1))));
+        assert!(rt; left.packets == 24 + 44);
+    }
     Ok(())
 }
 
 /// Four reads give the header of 24 bytes and two records of 44.
 #[test]
 fn a_failed_read_leaves_what_was_read(rt: HostRuntime) -> Result<(), Fail> {
-    let left = run(&rt, 4, 99, 256)?;
-    assert!(rt; matches!(&left.end, Err(Stop::Read(2))));
-    assert!(rt; left.has_two_lines && left.counters == 0 && left.messages == 0);
+    for workers in 0..3 {
+        let left = run(&rt, 4, 99, 256, workers)?;
+        assert!(rt; matches!(&left.end, Err(Stop::Read(2))));
+        assert!(rt; left.has_two_lines && left.counters == 0 && left.messages == 0);
+    }
     Ok(())
 }
 
 #[test]
 fn a_whole_run_is_closed(rt: HostRuntime) -> Result<(), Fail> {
-    let left = run(&rt, 99, 99, 3)?;
     let whole = Report {
         committed: 5,
         tail: Tail::Clean,
     };
-    assert!(rt; matches!(&left.end, Ok(report) if *report == whole));
-    assert!(rt; left.counts_all && left.packets == 24 + 5 * 44 && left.messages == MESSAGE);
+    for workers in 0..3 {
+        let left = run(&rt, 99, 99, 3, workers)?;
+        assert!(rt; matches!(&left.end, Ok(report) if *report == whole));
+        assert!(rt; left.counts_all && left.packets == 24 + 5 * 44 && left.messages == MESSAGE);
+    }
     Ok(())
 }

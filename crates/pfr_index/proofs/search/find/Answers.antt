@@ -26,12 +26,12 @@ returns-in-Nowhere-clause-none g c =
     c.home-home.ensures.is
     (rw (take_rest c.args.slots.now c.home-home.result) at c.in-Nowhere.ensures)
 
-pub returns-in-At-search_on-clause-some : goal.returns-in-At-search_on-clause-some
-returns-in-At-search_on-clause-some g c =
-    found_early (goal.F-post g c.args.is_it.now) c.args.hash c.args.slots.now c.home-home.result c.home-home.ensures.within c.in-At-search_on.place c.in-At-search_on.ensures
+pub returns-in-At-search-clause-some : goal.returns-in-At-search-clause-some
+returns-in-At-search-clause-some g c =
+    found_early (goal.F-post g c.args.is_it.now) c.args.hash c.args.slots.now c.home-home.result c.home-home.ensures.within c.in-At-search.place c.in-At-search.ensures
 
-pub returns-in-Nowhere-search_on-clause-none : goal.returns-in-Nowhere-search_on-clause-none
-returns-in-Nowhere-search_on-clause-none g c =
+pub returns-in-Nowhere-search-clause-none : goal.returns-in-Nowhere-search-clause-none
+returns-in-Nowhere-search-clause-none g c =
     none_early
     (goal.F-post g c.args.is_it.now)
     c.args.hash
@@ -41,10 +41,10 @@ returns-in-Nowhere-search_on-clause-none g c =
     c.requires.reached
     c.home-home.ensures.is
     (rw (take_rest c.args.slots.now c.home-home.result) at c.in-NotYet.ensures)
-    c.in-Nowhere-search_on.ensures
+    c.in-Nowhere-search.ensures
 
-pub returns-in-NotYet-search_on-clause-none : goal.returns-in-NotYet-search_on-clause-none
-returns-in-NotYet-search_on-clause-none g c =
+pub returns-in-NotYet-search-clause-none : goal.returns-in-NotYet-search-clause-none
+returns-in-NotYet-search-clause-none g c =
     none_all
     (goal.F-post g c.args.is_it.now)
     c.args.hash
@@ -52,4 +52,4 @@ returns-in-NotYet-search_on-clause-none g c =
     c.home-home.result
     c.home-home.ensures.within
     (rw (take_rest c.args.slots.now c.home-home.result) at c.in-NotYet.ensures)
-    c.in-NotYet-search_on.ensures
+    c.in-NotYet-search.ensures

@@ -1,33 +1,23 @@
-use Rattle.std.proofs.lemmas.Result.{IfErr-weaker}
-use Rattle.pfr_out.specs.declared.report.Report.{Report}
-use Rattle.pfr_out.specs.declared.report.Stop.{Stop}
+use Rattle.std.proofs.Common.{rules, ◌≡◌, refl}
 use Rattle.pfr_out.specs.Taking.{run_in}
-use Rattle.pfr_out.proofs.RunLemmas.{conclude_fails, conclude_is_late, concluded, concluded_stop, concludes_for, ok_and, same_run}
-use Rattle.pfr_out.proofs.WritingLemmas.{still_told}
+use Rattle.pfr_out.proofs.FeedingLemmas.{replays_on, stops_on}
+use Rattle.pfr_out.proofs.RunLemmas.{header_stopped}
 use Rattle.pfr_out.proofs.run.replay_capture.Goals as goal
 
-pub returns-in-Ok-clause-ok : goal.returns-in-Ok-clause-ok
-returns-in-Ok-clause-ok g c =
-    ok_and c.conclude.result _ _ _ (λ (report : Report) closed writes t read h.
-    concluded (run_in c.args.book c.args.channel.form) c.args.batch _ _ _ _ _ _ c.take_packets.new.book c.take_packets.new.channel.form c.in-Ok.end report
-    (same_run c.take_packets.new.book c.args.book c.take_packets.new.channel.form c.args.channel.form c.take_packets.ensures.job c.take_packets.ensures.form) (c.in-Ok.ensures.reaches t read h)
-    closed.0 closed.1 (λ world stands u. writes world stands (still_told _ _ c.take_packets.ensures.told.1 u)))
-    c.conclude.ensures.closed c.conclude.ensures.written
+pub returns-in-Err-clause-stopped : goal.returns-in-Err-clause-stopped
+returns-in-Err-clause-stopped g c = λ t read h. header_stopped (run_in c.args.book c.args.channel.form) c.args.batch _ read _ _ _ _ c.in-Err.output h (rw c.header.ensures at c.in-Err.ensures.fails)
 
-pub returns-in-Ok-clause-stopped : goal.returns-in-Ok-clause-stopped
-returns-in-Ok-clause-stopped g c =
-    IfErr-weaker c.conclude.result _ _ (λ (stop : Stop) stops t read h.
-    concluded_stop (run_in c.args.book c.args.channel.form) c.args.batch _ _ _ _ _ _ c.take_packets.new.book c.take_packets.new.channel.form c.in-Ok.end stop
-    (same_run c.take_packets.new.book c.args.book c.take_packets.new.channel.form c.args.channel.form c.take_packets.ensures.job c.take_packets.ensures.form) (c.in-Ok.ensures.reaches t read h)
-    (concludes_for c.in-Ok.end c.take_packets.new.book c.take_packets.new.channel.form _ _ _ _ stop c.take_packets.ensures.told.1 stops))
-    c.conclude.ensures.stops
+pub returns-clause-ok : goal.returns-clause-ok
+returns-clause-ok g c =
+    let sinks_are : c.sinks-1.given.0 ≡ c.finish.new.self.sinks.now = search rules in
+    rw sinks_are
+    (replays_on g.R.Source.told g.R.Source.unread g.R.Source.failures g.S.Sink.told g.S.Sink.written g.S.Sink.failures (run_in c.args.book c.args.channel.form) _ c.args.book c.run-feeding.result _ c.args.sinks.now c.finish.new.self.sinks.now c.finish.result
+    c.run-feeding.ensures.over c.finish.ensures.stopped c.finish.ensures.concluded c.run-feeding.ensures.form c.run-feeding.ensures.told.1 refl c.write_header.ensures.told (rw c.header.ensures at c.in-Ok.ensures.ok))
 
-pub returns-in-Ok-clause-late : goal.returns-in-Ok-clause-late
-returns-in-Ok-clause-late g c =
-    IfErr-weaker c.conclude.result _ _ (λ (stop : Stop) fails. conclude_is_late c.in-Ok.end _ _ _ stop fails) c.conclude.ensures.failure
-
-pub returns-in-Ok-clause-failure : goal.returns-in-Ok-clause-failure
-returns-in-Ok-clause-failure g c =
-    IfErr-weaker c.conclude.result _ _ (λ (stop : Stop) fails.
-    conclude_fails c.in-Ok.end _ _ _ _ _ _ stop c.in-Ok.ensures.no_failure.0 c.in-Ok.ensures.no_failure.1 fails)
-    c.conclude.ensures.failure
+pub returns-clause-stopped : goal.returns-clause-stopped
+returns-clause-stopped g c =
+    let sinks_are : c.sinks-1.given.0 ≡ c.finish.new.self.sinks.now = search rules in
+    let source_is : c.source-1.given.0 ≡ c.finish.new.self.source.now = search rules in
+    rw (sinks_are, source_is)
+    (stops_on g.R.Source.told g.R.Source.unread g.R.Source.failures g.S.Sink.told g.S.Sink.written g.S.Sink.failures (run_in c.args.book c.args.channel.form) _ c.args.book c.run-feeding.result _ c.finish.new.self.source.now c.args.sinks.now c.finish.new.self.sinks.now c.finish.result
+    c.run-feeding.ensures.over c.run-feeding.ensures.stopped c.finish.ensures.stopped c.finish.ensures.concluded c.finish.ensures.source_stays c.run-feeding.ensures.form c.run-feeding.ensures.told.1 refl c.write_header.ensures.told (rw c.header.ensures at c.in-Ok.ensures.ok))

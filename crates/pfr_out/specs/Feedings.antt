@@ -1,0 +1,153 @@
+-- How the batches of a capture are given, and what they add is taken.
+use Rattle.std.specs.Prelude.{◌≡◌, ◌⊎◌, ◌≤◌, ◌+◌, ◌++◌, ℕ, Bool, IsTrue, false, List, [], length, Option, Some, None, Result, Ok, IfErr, IfOk, OnOk}
+use Rattle.std.specs.List.{All}
+use Rattle.std.specs.Option.{option_map}
+use Rattle.pfr_net.specs.declared.address.Ipv4Address.{Ipv4Address}
+use Rattle.pfr_capture.specs.declared.capture.Record.{Record}
+use Rattle.pfr_capture.specs.Reading.{FieldsOf, HasGiven}
+use Rattle.pfr_commit.specs.declared.book.Book.{Book}
+use Rattle.pfr_commit.specs.World.{Texts}
+use Rattle.pfr_out.specs.declared.feeding.Cut.{Cut}
+use Rattle.pfr_out.specs.declared.feeding.Cut.TheVariants as cut
+use Rattle.pfr_out.specs.declared.feeding.Feeding.{Feeding}
+use Rattle.pfr_out.specs.declared.report.Report.{Report}
+use Rattle.pfr_out.specs.declared.report.Stop.{Stop}
+use Rattle.pfr_out.specs.declared.report.Stop.TheVariants as stop
+use Rattle.pfr_out.specs.declared.settings.Form.{Form}
+use Rattle.pfr_out.specs.declared.sinks.Sinks.{Sinks}
+use Rattle.pfr_out.specs.Outputs.{AllTold, Grew, GrewBy, Outputs, Stay, TookPart, batch_alone, each_of, header_alone}
+use Rattle.pfr_out.specs.Reading.{BatchFails, BatchSays, End, records_of, wants_memory}
+use Rattle.pfr_out.specs.Replay.{StopFails, Stopped, closing}
+use Rattle.pfr_out.specs.Spelling.{spelled}
+use Rattle.pfr_out.specs.Taking.{ConcludeFails, ConcludesIn, IsLate, Reaches, SinksFail, Standing, run_in}
+
+-- a piece, as it is written
+abbrev pub piece_alone : Form → Ipv4Address → Texts → Outputs
+piece_alone form address piece = batch_alone piece.verdicts piece.packets (spelled form address piece.messages)
+
+-- the stop by which a piece was cut, behind so many packets committed
+abbrev pub stop_by : ℕ → Cut → Stop
+stop_by committed cut.Memory = stop.Memory committed
+stop_by committed (cut.Write output) = stop.Write output committed
+
+abbrev pub stop_of : {R S : Type 0} → Feeding R S → Option Stop
+stop_of feeding = option_map (stop_by feeding.committed) feeding.cut
+
+-- what stays from the first call to the last
+pub record Same {R S : Type 0} (old new : Feeding R S) : Type 0 where
+  pub form : new.channel.now.form ≡ old.channel.now.form
+  pub address : new.address ≡ old.address
+  pub most : new.most ≡ old.most
+
+-- ---- reading
+
+-- it read these records, of which it dropped those of a batch for which memory was refused
+pub record Reads {R S : Type 0} (tells : R → Bool) (unread : R → List ℕ) (failures : R → ℕ) (old new : Feeding R S) (records : List Record) : Type 0 where
+  pub going : old.end ≡ None
+  pub says : IsTrue (tells old.source.now) → BatchSays old.capture.now new.capture.now (unread old.source.now) (unread new.source.now) (records_of records) new.end
+  pub form : new.capture.now.form ≡ old.capture.now.form
+  pub header : new.capture.now.header ≡ old.capture.now.header
+  pub fields : All (FieldsOf old.capture.now.form) records
+  pub at_most : length records ≤ old.most
+  pub full : new.end ≡ None → length records ≡ old.most
+  pub told : tells new.source.now ≡ tells old.source.now
+  pub failed : BatchFails new.end (failures old.source.now) (failures new.source.now)
+  pub same : Same old new
+  pub sinks : new.sinks.now ≡ old.sinks.now
+  pub given : new.given ≡ old.given + length records
+  pub committed : new.committed ≡ old.committed
+  pub cut : new.cut ≡ old.cut
+
+pub record Gives {R S : Type 0} (tells : R → Bool) (unread : R → List ℕ) (failures : R → ℕ) (old : Feeding R S) (records : List Record) (new : Feeding R S) : Type 0 where
+  pub reads : Reads tells unread failures old new records
+  pub wants : wants_memory new.end ≡ false
+
+-- the reading had ended, or it ends with no record more
+abbrev pub Ends : {R S : Type 0} → (tells : R → Bool) → (unread : R → List ℕ) → (failures : R → ℕ) → (old new : Feeding R S) → Type 0
+Ends tells unread failures old new = ((end : End) × (old.end ≡ Some end) × (new ≡ old)) ⊎ ((end : End) × (new.end ≡ Some end) × Reads tells unread failures old new [])
+
+-- it took packets back, and the reader is in the state in which it was
+pub record Rests {R S : Type 0} (old new : Feeding R S) : Type 0 where
+  pub capture : new.capture.now ≡ old.capture.now
+  pub source : new.source.now ≡ old.source.now
+  pub sinks : new.sinks.now ≡ old.sinks.now
+  pub end : new.end ≡ old.end
+  pub given : new.given ≡ old.given
+  pub committed : new.committed ≡ old.committed
+  pub cut : new.cut ≡ old.cut
+  pub same : Same old new
+
+-- ---- writing
+
+-- what a call that writes leaves as it is
+pub record Writes {R S : Type 0} (tells : S → Bool) (old new : Feeding R S) : Type 0 where
+  pub capture : new.capture.now ≡ old.capture.now
+  pub source : new.source.now ≡ old.source.now
+  pub end : new.end ≡ old.end
+  pub given : new.given ≡ old.given
+  pub told : each_of tells new.sinks.now ≡ each_of tells old.sinks.now
+  pub same : Same old new
+
+pub record Takes {R S : Type 0} (tells : S → Bool) (written : S → List ℕ) (failures : S → ℕ) (old : Feeding R S) (piece : Texts) (new : Feeding R S) : Type 0 where
+  pub writes : Writes tells old new
+  pub grew : GrewBy tells written old.sinks.now new.sinks.now (piece_alone old.channel.now.form old.address piece)
+  pub failed : Stay failures old.sinks.now new.sinks.now
+  pub committed : new.committed ≡ old.given
+  pub cut : new.cut ≡ old.cut
+
+-- why a piece wasn't taken whole, behind so many packets committed: memory was refused for its messages, or a sink failed
+abbrev pub CutsOff : {S : Type 0} → (tells : S → Bool) → (written : S → List ℕ) → (committed : ℕ) → (old new : Sinks S) → Outputs → Stop → Type 0
+CutsOff tells written committed old new piece (stop.Memory count) = (count ≡ committed) × (new ≡ old)
+CutsOff tells written committed old new piece (stop.Write output count) = (count ≡ committed) × TookPart tells written old new piece output
+CutsOff tells written committed old new piece _ = ⊥
+
+pub record Cuts {R S : Type 0} (tells : S → Bool) (written : S → List ℕ) (failures : S → ℕ) (old : Feeding R S) (piece : Texts) (new : Feeding R S) : Type 0 where
+  pub writes : Writes tells old new
+  pub why : Stop
+  pub stop : stop_of new ≡ Some why
+  pub off : CutsOff tells written old.committed old.sinks.now new.sinks.now (piece_alone old.channel.now.form old.address piece) why
+  pub failed : SinksFail why (each_of failures old.sinks.now) (each_of failures new.sinks.now)
+
+-- ---- a run
+
+-- nothing was given or taken yet
+pub record Fresh {R S : Type 0} (feeding : Feeding R S) : Type 0 where
+  pub count : feeding.capture.now.count ≡ 0
+  pub given : feeding.given ≡ 0
+  pub committed : feeding.committed ≡ 0
+  pub end : feeding.end ≡ None
+  pub cut : feeding.cut ≡ None
+
+-- A fact of a run behind a reader that has given no record, and behind the capture's header, which has grown these outputs: the text,
+-- what is left of it, and the outputs before and behind.
+abbrev pub Behind : {R S : Type 0} → (tells : R → Bool) → (unread : R → List ℕ) → (told : S → Bool) → (written : S → List ℕ) → (old new : Feeding R S)
+    → ((text left : List ℕ) → (told : Sinks Bool) → (before behind : Outputs) → Type 0) → Type 0
+Behind tells unread told written old new P =
+    IsTrue (tells old.source.now) → (read : List ℕ) (before : Outputs) → HasGiven old.capture.now read []
+    → (AllTold (each_of told old.sinks.now) → Grew before (each_of written old.sinks.now) (header_alone old.capture.now.header))
+    → P (read ++ unread old.source.now) (unread new.source.now) (each_of told old.sinks.now) before (each_of written new.sinks.now)
+
+-- the run went to the end of the reading, and a book has taken all packets
+pub record RunEnds {R S : Type 0} (tells : R → Bool) (unread : R → List ℕ) (failures : R → ℕ) (told : S → Bool) (written : S → List ℕ) (sink_failures : S → ℕ) (book : Book) (old new : Feeding R S) (last_book : Option Book) : Type 0 where
+  pub end : End
+  pub last : Book
+  pub end_is : new.end ≡ Some end
+  pub last_is : last_book ≡ Some last
+  pub job : last.job ≡ book.job
+  pub reaches : Behind tells unread told written old new (λ text left told before behind. Reaches (run_in book old.channel.now.form) old.most text left told before behind last end)
+  pub failed : BatchFails (Some end) (failures old.source.now) (failures new.source.now)
+  pub sinks_failed : Stay sink_failures old.sinks.now new.sinks.now
+
+-- it stopped before
+pub record RunStops {R S : Type 0} (tells : R → Bool) (unread : R → List ℕ) (failures : R → ℕ) (told : S → Bool) (written : S → List ℕ) (sink_failures : S → ℕ) (book : Book) (old new : Feeding R S) (why : Stop) : Type 0 where
+  pub stopped : Behind tells unread told written old new (λ text left told before behind. Stopped (run_in book old.channel.now.form) old.most text left told before behind why)
+  pub late : IsLate why
+  pub failed : StopFails why (failures old.source.now) (failures new.source.now) (each_of sink_failures old.sinks.now) (each_of sink_failures new.sinks.now)
+
+-- the end of a run whose reading has ended
+pub record Concluded {S : Type 0} (told : S → Bool) (written : S → List ℕ) (failures : S → ℕ) (book : Book) (form : Form) (end : End) (old new : Sinks S) (result : Result Report Stop) : Type 0 where
+  pub closed : IfOk result (λ report. (report.committed ≡ book.count) × (end ≡ Ok report.tail))
+  pub grew : OnOk result (Standing book (λ world. GrewBy told written old new (closing (run_in book form) world)))
+  pub stops : IfErr result (λ s. ConcludesIn told written end book form old new s)
+  pub no_failure : OnOk result (Stay failures old new)
+  pub failure : IfErr result (λ s. ConcludeFails end book.count (each_of failures old) (each_of failures new) s)

@@ -1,0 +1,221 @@
+//! The batches of a capture, and what they add on its way into the outputs.
+ghost use Rattle.std.specs.Prelude.{◌≡◌, ◌≤◌, ◌^◌, None, Some, Err, IfErr, IfSome, IsSome, OnOk};
+ghost use Rattle.pfr_commit.specs.Books.{StandsAt, job_of};
+ghost use Rattle.pfr_commit.specs.World.{opening};
+ghost use Rattle.pfr_commit.specs.Emissions.{texts_of};
+ghost use Rattle.pfr_out.specs.Outputs.{GrewBy, Stay, each_of};
+ghost use Rattle.pfr_out.specs.Taking.{SinksFail};
+ghost use Rattle.pfr_out.specs.declared.report.Stop.TheVariants.{Memory};
+
+use crate::channel::Channel;
+use crate::reading::{give_back, read_batch, wants_memory};
+use crate::report::{Output, Report, Stop};
+use crate::sinks::Sinks;
+use crate::taking::conclude;
+use pfr_capture::{Capture, CaptureError, Record, Sink, Source, Tail};
+use pfr_commit::{Book, Emitted};
+use pfr_headers::View;
+use pfr_net::Ipv4Address;
+use pfr_work::{Feed, Gate, run_workers};
+use std::alloc::{AllocGlobal, Global};
+use std::sync::Wait;
+use std::thread::Threads;
+
+/// Why a piece wasn't taken whole.
+#[derive(Clone, Copy)]
+pub(crate) enum Cut {
+    /// Memory was refused for its messages.
+    Memory,
+    /// This output wasn't written whole.
+    Write(Output),
+}
+
+/// Reads a capture, a batch at a time, and writes what each batch adds.
+#[derive(Drop)]
+pub(crate) struct Feeding<'a, R, S> {
+    pub(crate) alloc: Global,
+    pub(crate) capture: &'a mut Capture,
+    pub(crate) source: &'a mut R,
+    /// The most records of a batch.
+    pub(crate) most: usize,
+    pub(crate) channel: &'a mut Channel,
+    /// The address from which messages come.
+    pub(crate) address: Ipv4Address,
+    pub(crate) sinks: &'a mut Sinks<S>,
+    /// How many records were given, and of how many all is written that they add.
+    pub(crate) given: u64,
+    pub(crate) committed: u64,
+    /// How the reading has ended, if it has.
+    pub(crate) end: Option<Result<Tail, CaptureError>>,
+    /// Why the run stopped before that, if it did.
+    pub(crate) cut: Option<Cut>,
+    ghost batch: { (1 ≤ most) × (most ≤ 4096) },
+    ghost reading: { end ≡ None → capture.now.over ≡ None },
+    ghost counted: { (given ≤ capture.now.count) × (capture.now.count ≤ 2 ^ 40) },
+}
+
+impl<R: Source, S: Sink> Feeding<'_, R, S> {
+    ghost use Rattle.pfr_out.specs.Feedings.{CutsOff, Writes, piece_alone, stop_by};
+
+    /// Writes what a batch adds.
+    fn write(&mut self, piece: &Emitted) -> Result<(), Cut>
+        ensures writes { Writes S.told self.old self.new }
+        ensures committed { self.new.committed ≡ self.old.committed }
+        ensures cut { self.new.cut ≡ self.old.cut }
+        ensures names { (self.new.source.ghost_name ≡ self.old.source.ghost_name) × (self.new.sinks.ghost_name ≡ self.old.sinks.ghost_name) }
+        ensures grew { OnOk result (GrewBy S.told S.written self.old.sinks.now self.new.sinks.now (piece_alone self.old.channel.now.form self.old.address (texts_of piece.now))) }
+        ensures no_failure { OnOk result (Stay S.failures self.old.sinks.now self.new.sinks.now) }
+        ensures off { IfErr result (λ cut. CutsOff S.told S.written self.old.committed self.old.sinks.now self.new.sinks.now (piece_alone self.old.channel.now.form self.old.address (texts_of piece.now)) (stop_by self.old.committed cut)) }
+        ensures failure { IfErr result (λ cut. SinksFail (stop_by self.old.committed cut) (each_of S.failures self.old.sinks.now) (each_of S.failures self.new.sinks.now)) }
+    {
+        match self.channel.spell(self.address, piece.messages.as_slice()) {
+            Ok(()) => {}
+            Err(_) => return Err(Cut::Memory),
+        }
+        match self.sinks.write_batch(piece, self.channel.text()) {
+            Ok(()) => Ok(()),
+            Err(output) => Err(Cut::Write(output)),
+        }
+    }
+}
+
+impl<R: Source, S: Sink> Feed for Feeding<'_, R, S> {
+    ghost use Rattle.std.specs.Prelude.{◌&&◌};
+    ghost use Rattle.pfr_out.specs.Feedings.{Cuts, Ends, Gives, Rests, Takes};
+    ghost use Rattle.pfr_out.specs.Outputs.{all_told};
+
+    ghost gives = { λ old records new. Gives R.told R.unread R.failures old records new };
+
+    ghost ends = { λ old new. Ends R.told R.unread R.failures old new };
+
+    ghost takes = { λ old piece new. Takes S.told S.written S.failures old piece new };
+
+    ghost cuts = { λ old piece new. Cuts S.told S.written S.failures old piece new };
+
+    ghost rests = { λ old new. Rests old new };
+
+    ghost told = { λ feeding. R.told feeding.source.now && all_told S.told feeding.sinks.now };
+
+    ghost given = { λ feeding. feeding.given };
+
+    ghost names = { λ feeding. (feeding.source.ghost_name, feeding.sinks.ghost_name) };
+
+    fn batch(&mut self) -> Option<Vec<Record>> {
+        if self.end.is_some() {
+            return None;
+        }
+        let mut records = Vec::new(self.alloc);
+        // where room is refused, so is that of a record
+        let _ = records.reserve(self.most);
+        self.end = read_batch(self.capture, self.source, self.most, &mut records);
+        if records.is_empty() {
+            return None;
+        }
+        if wants_memory(&self.end) {
+            return None;
+        }
+        self.given += records.len() as u64;
+        Some(records)
+    }
+
+    fn take(&mut self, piece: Emitted) -> bool {
+        match self.write(&piece) {
+            Ok(()) => {
+                self.committed = self.given;
+                true
+            }
+            Err(cut) => {
+                self.cut = Some(cut);
+                false
+            }
+        }
+    }
+
+    fn give_back(&mut self, packets: Vec<(Record, View)>) {
+        give_back(self.capture, packets);
+    }
+
+    fn tells(&self) -> bool {
+        self.source.tells() && self.sinks.tell()
+    }
+}
+
+impl<'a, R: Source, S: Sink> Feeding<'a, R, S> {
+    ghost use Rattle.pfr_out.specs.Feedings.{Concluded, Fresh, RunEnds, RunStops, stop_of};
+
+    /// Notes that memory was refused.
+    fn without_memory(mut self) -> Feeding<'a, R, S>
+        ensures names { (result.source.ghost_name ≡ self.entry.source.ghost_name) × (result.sinks.ghost_name ≡ self.entry.sinks.ghost_name) }
+        ensures source { result.source.now ≡ self.entry.source.now }
+        ensures sinks { result.sinks.now ≡ self.entry.sinks.now }
+        ensures form { result.channel.now.form ≡ self.entry.channel.now.form }
+        ensures stop { stop_of result ≡ Some (Memory self.entry.committed) }
+    {
+        self.cut = Some(Cut::Memory);
+        self
+    }
+
+    /// Has a book take the packets of the capture, and writes what they add, a batch at a time. So many workers evaluate the packets
+    /// of a batch ahead, if there are any. Where no stop came before the end of the reading, the book is handed back.
+    pub(crate) fn run<H: AllocGlobal + Threads + Wait + Sync, G: Gate>(
+        self,
+        rt: &H,
+        book: Book,
+        workers: u64,
+        gate: &G,
+        last: &mut Option<Book>,
+    ) -> Feeding<'a, R, S>
+        requires fresh { Fresh self }
+        requires world { StandsAt book (opening (job_of book)) }
+        requires address { self.address ≡ (job_of book).interface.address }
+        requires workers { workers ≤ 64 }
+        ensures source { result.source.ghost_name ≡ self.entry.source.ghost_name }
+        ensures sinks { result.sinks.ghost_name ≡ self.entry.sinks.ghost_name }
+        ensures told { (R.told result.source.now ≡ R.told self.entry.source.now) × (each_of S.told result.sinks.now ≡ each_of S.told self.entry.sinks.now) }
+        ensures form { result.channel.now.form ≡ self.entry.channel.now.form }
+        ensures over { result.cut ≡ None → RunEnds R.told R.unread R.failures S.told S.written S.failures book self.entry result last.new }
+        ensures stopped { IfSome (stop_of result) (λ stop. RunStops R.told R.unread R.failures S.told S.written S.failures book self.entry result stop) }
+    {
+        let (book, feeding, trace, result) = run_workers(rt, book, self, workers, gate);
+        drop(trace);
+        match result {
+            Ok(()) => {
+                *last = Some(book);
+                feeding
+            }
+            Err(_) => {
+                drop(book);
+                feeding.without_memory()
+            }
+        }
+    }
+
+    /// Why the run stopped before the end of the reading, if it did.
+    fn stop(&self) -> Option<Stop>
+        ensures { result ≡ stop_of self.now }
+    {
+        match self.cut? {
+            Cut::Memory => Some(Stop::Memory(self.committed)),
+            Cut::Write(output) => Some(Stop::Write(output, self.committed)),
+        }
+    }
+
+    /// Ends a run: where the reading has ended what stands there is written, and a stop before that is told.
+    pub(crate) fn finish(&mut self, last: Option<Book>) -> Result<Report, Stop>
+        requires over { self.old.cut ≡ None → IsSome self.old.end × IsSome last }
+        ensures source { self.new.source.ghost_name ≡ self.old.source.ghost_name }
+        ensures source_stays { self.new.source.now ≡ self.old.source.now }
+        ensures sinks { self.new.sinks.ghost_name ≡ self.old.sinks.ghost_name }
+        ensures told { each_of S.told self.new.sinks.now ≡ each_of S.told self.old.sinks.now }
+        ensures stopped { IfSome (stop_of self.old) (λ stop. (result ≡ Err stop) × (self.new.sinks.now ≡ self.old.sinks.now)) }
+        ensures concluded { self.old.cut ≡ None → IfSome last (λ book. IfSome self.old.end (λ end. Concluded S.told S.written S.failures book self.old.channel.now.form end self.old.sinks.now self.new.sinks.now result)) }
+    {
+        if let Some(stop) = self.stop() {
+            return Err(stop);
+        }
+        match (last, self.end) {
+            (Some(book), Some(end)) => conclude(book, end, self.channel, self.sinks),
+            _ => unreachable!(),
+        }
+    }
+}

@@ -1,0 +1,63 @@
+//! Where batches of records come from, and what they add goes to.
+ghost use Rattle.std.specs.Prelude.{◌≡◌, ◌≤◌, ◌+◌, ◌^◌, ℕ, Bool, true, false, IfSome, IfNone, length};
+ghost use Rattle.pfr_commit.specs.Emissions.{texts_of};
+
+use pfr_capture::Record;
+use pfr_commit::Emitted;
+use pfr_headers::View;
+
+/// Gives the records of a run, a batch at a time, and takes what each batch adds to its outputs.
+///
+/// Contracts see how it goes from one state to the next by a call: what that means of its source and its outputs is for each
+/// implementation to say.
+pub trait Feed {
+    ghost use Rattle.std.specs.Prelude.{List};
+    ghost use Rattle.pfr_capture.specs.declared.capture.Record.{Record};
+    ghost use Rattle.pfr_commit.specs.World.{Texts};
+
+    /// It gave a batch of records.
+    ghost gives: { Self → List Record → Self → Type 0 };
+    /// It gave none, as the reading ends.
+    ghost ends: { Self → Self → Type 0 };
+    /// It took a piece, and each output grew by the piece's text.
+    ghost takes: { Self → Texts → Self → Type 0 };
+    /// It took a piece in part, and each output grew by a beginning of the piece's text.
+    ghost cuts: { Self → Texts → Self → Type 0 };
+    /// It took the packets of a batch back.
+    ghost rests: { Self → Self → Type 0 };
+    /// Whether contracts speak of its records and its outputs.
+    ghost told: { Self → Bool };
+    /// How many records it has given.
+    ghost given: { Self → ℕ };
+    /// By which the references are known that it holds.
+    ghost names: { Self → ℕ × ℕ };
+
+    /// The next batch, of 1 to 4096 records. None ends the reading.
+    fn batch(&mut self) -> Option<Vec<Record>>
+        ensures some { IfSome result (λ records. gives self.old records.items self.new) }
+        ensures none { IfNone result (ends self.old self.new) }
+        ensures size { IfSome result (λ records. (1 ≤ length records.items) × (length records.items ≤ 4096)) }
+        ensures counted { IfSome result (λ records. given self.new ≡ given self.old + length records.items) }
+        ensures few { IfSome result (λ records. given self.new ≤ 2 ^ 43) }
+        ensures told { told self.new ≡ told self.old }
+        ensures names { names self.new ≡ names self.old };
+
+    /// Takes what a batch adds. It says whether it took all of it; where it didn't, the run ends.
+    fn take(&mut self, piece: Emitted) -> bool
+        ensures taken { result ≡ true → takes self.old (texts_of piece) self.new }
+        ensures cut { result ≡ false → cuts self.old (texts_of piece) self.new }
+        ensures given { given self.new ≡ given self.old }
+        ensures told { told self.new ≡ told self.old }
+        ensures names { names self.new ≡ names self.old };
+
+    /// Takes the packets of a batch back, for their room.
+    fn give_back(&mut self, packets: Vec<(Record, View)>)
+        ensures rests { rests self.old self.new }
+        ensures given { given self.new ≡ given self.old }
+        ensures told { told self.new ≡ told self.old }
+        ensures names { names self.new ≡ names self.old };
+
+    /// Whether contracts speak of its records and its outputs: one over memory tells, one over a file doesn't.
+    fn tells(&self) -> bool
+        ensures { result ≡ told self.now };
+}

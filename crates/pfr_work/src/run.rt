@@ -1,0 +1,218 @@
+//! A run of batches by workers.
+ghost use Rattle.std.specs.Prelude.{◌≡◌, ◌⊎◌, ◌≤◌, ◌<◌, ◌+◌, ◌++◌, ◌∷◌, ◌^◌, [], true, length, IfOk, OnOk, OnErr};
+ghost use Rattle.std.specs.List.{All, AllZip};
+ghost use Rattle.pfr_commit.specs.Books.{StandsAt, job_of};
+ghost use Rattle.pfr_commit.specs.Emissions.{texts_of};
+ghost use Rattle.pfr_commit.specs.Found.{IsOfJob};
+ghost use Rattle.pfr_commit.specs.World.{opening};
+ghost use Rattle.pfr_work.specs.Batches.{IsViewOf};
+ghost use Rattle.pfr_work.specs.Runs.{AddsClaims, AreViewed, Cut, MayAddClaims, Over, Refused, TakesBatch, Went};
+
+use crate::ahead::{Ahead, evaluate_ahead};
+use crate::feed::Feed;
+use crate::gate::Gate;
+use pfr_capture::Record;
+use pfr_claims::Gathered;
+use pfr_commit::{Book, Emitted, Reruns};
+use pfr_headers::{View, view};
+use pfr_record::Speculation;
+use std::alloc::{AllocError, AllocGlobal, Global};
+use std::sync::Wait;
+use std::thread::Threads;
+
+/// The claims of the batches of a run, in their order.
+#[derive(Drop)]
+pub struct Trace {
+    pub batches: Vec<Gathered>,
+}
+
+/// A gate that is told of packets that the committer evaluates, or none.
+#[derive(Drop)]
+struct Watched<'a, G> {
+    gate: Option<&'a G>,
+}
+
+impl<G: Gate> Reruns for Watched<'_, G> {
+    fn runs_again(&self, number: u64) {
+        if let Some(gate) = self.gate {
+            gate.ran_again(number);
+        }
+    }
+}
+
+/// Records of a batch, each with its view.
+type Packets = Vec<(Record, View)>;
+
+/// Records, each with its view.
+#[tactic(auto, using(crate::proofs::RunLemmas::none_viewed, crate::proofs::RunLemmas::one_viewed))]
+fn viewed(alloc: Global, records: Vec<Record>) -> Result<Packets, AllocError>
+    ensures { IfOk result (λ packets. AreViewed records.items packets.items) }
+{
+    let mut packets = Vec::with_capacity(alloc, records.len())?;
+    for packet in records {
+        let view = view(packet.link, packet.bytes.as_slice());
+        packets.push((packet, view))?;
+    }
+    Ok(packets)
+}
+
+/// Records, each with its view, which was made before.
+fn with_views(alloc: Global, records: Vec<Record>, views: &[View]) -> Result<Packets, AllocError>
+    requires { AllZip IsViewOf records.items views.now }
+    ensures { IfOk result (λ packets. AreViewed records.items packets.items) }
+{
+    let mut packets = Vec::with_capacity(alloc, records.len())?;
+    for packet in records {
+        match views.get(packets.len()) {
+            Some(view) => packets.push((packet, *view))?,
+            None => unreachable!(),
+        }
+    }
+    Ok(packets)
+}
+
+/// A batch, evaluated ahead.
+#[derive(Drop)]
+struct Evaluated {
+    packets: Packets,
+    results: Vec<Speculation>,
+}
+
+/// The packets of a batch, with what workers find out about them. Its claims are put behind the others.
+fn evaluated_batch<R: Threads + Wait + Sync, G: Gate>(
+    rt: &R,
+    alloc: Global,
+    book: &Book,
+    trace: &mut Trace,
+    records: Vec<Record>,
+    workers: u64,
+    gate: &G,
+) -> Result<Evaluated, AllocError>
+    requires count { length records.items ≤ 4096 }
+    requires workers { (0 < workers) × (workers ≤ 64) }
+    ensures packets { IfOk result (λ batch. AreViewed records.items batch.packets.items) }
+    ensures own { IfOk result (λ batch. All (IsOfJob (job_of book.now)) batch.results.items) }
+    ensures claims { OnOk result (AddsClaims workers (length records.items) trace.old.batches.items trace.new.batches.items) }
+    ensures refused { OnErr result (MayAddClaims workers (length records.items) trace.old.batches.items trace.new.batches.items) }
+{
+    trace.batches.reserve(1)?;
+    let Ahead {
+        results,
+        views,
+        gathered,
+    } = evaluate_ahead(rt, alloc, book, records.as_slice(), workers, gate)?;
+    trace.batches.push(gathered)?;
+    let packets = with_views(alloc, records, views.as_slice())?;
+    Ok(Evaluated { packets, results })
+}
+
+/// The packets of a batch, with what workers find out about them, if there are any. Its claims are put behind the others then.
+fn batch_of<R: Threads + Wait + Sync, G: Gate>(
+    rt: &R,
+    alloc: Global,
+    book: &Book,
+    trace: &mut Trace,
+    records: Vec<Record>,
+    workers: u64,
+    gate: &G,
+) -> Result<Evaluated, AllocError>
+    requires count { length records.items ≤ 4096 }
+    requires workers { workers ≤ 64 }
+    ensures packets { IfOk result (λ batch. AreViewed records.items batch.packets.items) }
+    ensures own { IfOk result (λ batch. All (IsOfJob (job_of book.now)) batch.results.items) }
+    ensures claims { OnOk result (AddsClaims workers (length records.items) trace.old.batches.items trace.new.batches.items) }
+    ensures refused { OnErr result (MayAddClaims workers (length records.items) trace.old.batches.items trace.new.batches.items) }
+{
+    if workers > 0 {
+        return evaluated_batch(rt, alloc, book, trace, records, workers, gate);
+    }
+    let packets = viewed(alloc, records)?;
+    let results = Vec::new(alloc);
+    Ok(Evaluated { packets, results })
+}
+
+/// Who is told of packets that the committer evaluates: no one where there are no workers.
+fn told<G>(gate: &G, workers: u64) -> Watched<'_, G> {
+    let gate = if workers > 0 { Some(gate) } else { None };
+    Watched { gate }
+}
+
+/// A batch that a book took, and what it adds.
+#[derive(Drop)]
+struct Taken {
+    packets: Packets,
+    piece: Emitted,
+}
+
+/// Has a book take the next batch. Workers evaluate its packets ahead, if there are any.
+fn take_batch<R: Threads + Wait + Sync, G: Gate>(
+    rt: &R,
+    alloc: Global,
+    book: &mut Book,
+    trace: &mut Trace,
+    records: Vec<Record>,
+    workers: u64,
+    gate: &G,
+) -> Result<Taken, AllocError>
+    requires count { length records.items ≤ 4096 }
+    requires workers { workers ≤ 64 }
+    requires few { book.old.count + length records.items ≤ 2 ^ 43 }
+    ensures job { book.new.job ≡ book.old.job }
+    ensures taken { IfOk result (λ taken. TakesBatch book.old book.new records.items (texts_of taken.piece)) }
+    ensures counted { OnOk result (book.new.count ≡ book.old.count + length records.items) }
+    ensures claims { OnOk result (AddsClaims workers (length records.items) trace.old.batches.items trace.new.batches.items) }
+    ensures refused { OnErr result ((book.new ≡ book.old) ⊎ (book.new.is_over ≡ true)) }
+    ensures claims_refused { OnErr result (MayAddClaims workers (length records.items) trace.old.batches.items trace.new.batches.items) }
+{
+    let Evaluated { packets, results } = batch_of(rt, alloc, book, trace, records, workers, gate)?;
+    let reruns = told(gate, workers);
+    let mut piece = Emitted::new(alloc);
+    book.commit_own_batch(packets.as_slice(), results, &reruns, &mut piece)?;
+    Ok(Taken { packets, piece })
+}
+
+/// Takes the batches of a feed one after the other, by a book that has committed nothing, and hands the feed what each adds
+/// before it asks for the next. So many workers evaluate the packets of a batch ahead, on the table that the batch before left;
+/// without workers the calling thread does all.
+///
+/// Ok comes where the reading has ended and the piece of every batch was taken, and where the feed didn't take a piece whole. The
+/// only error is that memory was refused; the batch that was begun isn't handed to the feed then. What is taken is what one
+/// thread would have emitted that takes the packets one after the other, whatever the number of workers and the order of their
+/// results.
+///
+/// With workers the trace has the claims of each batch that was committed, in order. The gate is told of each turn of a packet,
+/// with workers alone; what it does there can hold the run up, and changes nothing else.
+pub fn run_workers<R: AllocGlobal + Threads + Wait + Sync, F: Feed, G: Gate>(
+    rt: &R,
+    mut book: Book,
+    mut feed: F,
+    workers: u64,
+    gate: &G,
+) -> (Book, F, Trace, Result<(), AllocError>)
+    requires start { StandsAt book (opening (job_of book)) }
+    requires workers { workers ≤ 64 }
+    ensures job { result.0.job ≡ book.job }
+    ensures told { F.told result.1 ≡ F.told feed }
+    ensures names { F.names result.1 ≡ F.names feed }
+    ensures ok { OnOk result.3 (Went F.gives F.takes F.rests (job_of book) feed (λ rounds world mid. Over F.ends result.0 result.1 result.2 workers rounds world mid ⊎ Cut F.gives F.cuts (job_of book) result.0 result.1 result.2 workers rounds world mid)) }
+    ensures err { OnErr result.3 (Went F.gives F.takes F.rests (job_of book) feed (λ rounds world mid. Refused F.gives result.0 result.1 result.2 workers rounds world mid)) }
+{
+    let alloc = rt.alloc();
+    let mut trace = Trace {
+        batches: Vec::new(alloc),
+    };
+    loop {
+        let Some(records) = feed.batch() else {
+            return (book, feed, trace, Ok(()));
+        };
+        match take_batch(rt, alloc, &mut book, &mut trace, records, workers, gate) {
+            Ok(Taken { packets, piece }) => {
+                if !feed.take(piece) {
+                    return (book, feed, trace, Ok(()));
+                }
+                feed.give_back(packets);
+            }
+            Err(refused) => return (book, feed, trace, Err(refused)),
+        }
+    }
+}
