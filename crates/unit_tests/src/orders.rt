@@ -3,6 +3,7 @@ ghost use Rattle.std.specs.Prelude.{◌≤◌};
 
 use pfr_capture::Record;
 use pfr_commit::{Book, Emitted};
+use pfr_headers::View;
 use pfr_net::{IfName, Ipv4Address, Net};
 use pfr_packet::Job;
 use pfr_ruleset::Interface;
@@ -99,6 +100,8 @@ impl Feed for OneBatch {
 
     ghost cuts = { λ old piece new. ⊤ };
 
+    ghost rests = { λ old new. ⊤ };
+
     ghost told = { λ feed. false };
 
     ghost given = { λ feed. feed.given };
@@ -119,7 +122,7 @@ impl Feed for OneBatch {
         true
     }
 
-    fn give_back(&mut self, _record: Record) {}
+    fn give_back(&mut self, _packets: Vec<(Record, View)>) {}
 
     fn tells(&self) -> bool {
         false
