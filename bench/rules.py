@@ -21,11 +21,16 @@ sys.dont_write_bytecode = True
 from make_capture import write_capture
 from run import PROGRAM, RUNS, count_records, print_row, replay_command, tcpdump_command
 
+# found where make_capture says
+from captures.packets import LINKTYPE_ETHERNET
+
 COUNTS = [1, 10, 100, 1000, 10000]
 MOST_PACKETS = 10**5
 # packets times rules; past this the capture gets shorter, so that a row ends in reasonable time
 MOST_QUESTIONS = 10**8
 CHECKED_PACKETS = 1000
+# the bytes of both addresses and the type
+ETHERNET_HEADER = 14
 # seconds after which a command is given up
 PATIENCE = 60
 
@@ -35,11 +40,13 @@ class GivenUp(Exception):
 
 
 def ports_in(capture):
-    """The ports of a capture of whole TCP and UDP packets without IP options, in this machine's byte order."""
+    """The ports of a capture of whole TCP and UDP packets without IP options, raw or in Ethernet frames without tags,
+    in this machine's byte order."""
     ports, place = set(), 24
+    before = ETHERNET_HEADER if int.from_bytes(capture[20:24], sys.byteorder) == LINKTYPE_ETHERNET else 0
     while place < len(capture):
-        # behind the record's header and the packet's
-        ports.update(struct.unpack_from(">HH", capture, place + 16 + 20))
+        # behind the headers of the record, the frame and the packet
+        ports.update(struct.unpack_from(">HH", capture, place + 16 + before + 20))
         place += 16 + struct.unpack_from("=I", capture, place + 8)[0]
     return ports
 

@@ -7,17 +7,15 @@ Takes the program of the crate answers by its word `rulesets` unless it is given
 at lengths that double, the nanoseconds and the bytes of memory that a byte of text takes. Both should stay as they are.
 """
 
-import os
-import subprocess
 import sys
 import tempfile
-import time
 from pathlib import Path
 
 sys.dont_write_bytecode = True
 sys.path.insert(0, str(Path(__file__).resolve().parent.parent / "tests"))
 
 import building
+from run import used
 
 LENGTHS = [1 << n for n in (18, 19, 20, 21, 22)]
 RULE = b"pass in quick on em0 proto { tcp, udp } from { 10.0.0.0/8, !<bad> } to any port { 80, 443 } keep state\n"
@@ -42,15 +40,10 @@ KINDS = {
 
 def run(command, text):
     """The seconds and the greatest memory that the program takes for a text."""
-    given = tempfile.TemporaryFile()
-    given.write(len(text).to_bytes(4, "big") + text)
-    given.seek(0)
-    start = time.monotonic()
-    process = subprocess.Popen(command, stdin=given, stdout=subprocess.DEVNULL)
-    _, status, usage = os.wait4(process.pid, 0)
-    passed = time.monotonic() - start
-    if status:
-        raise SystemExit(f"{' '.join(command)}: status {status}")
+    with tempfile.TemporaryFile() as given:
+        given.write(len(text).to_bytes(4, "big") + text)
+        given.seek(0)
+        passed, usage = used(command, given)
     return passed, usage.ru_maxrss * 1024
 
 

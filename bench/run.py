@@ -78,6 +78,18 @@ def seconds(command):
     return time.perf_counter() - start
 
 
+def used(command, given=subprocess.DEVNULL):
+    """The time of one run from its start to its end, and what the system says that it used. Its peak memory there is at
+    least that of this script; `peak_memory` has its own."""
+    start = time.perf_counter()
+    process = subprocess.Popen(command, stdin=given, stdout=subprocess.DEVNULL)
+    _, status, usage = os.wait4(process.pid, 0)
+    passed = time.perf_counter() - start
+    if status:
+        sys.exit(f"{' '.join(command)}: status {os.waitstatus_to_exitcode(status)}")
+    return passed, usage
+
+
 def best_seconds(*commands):
     """The best time of each command, run in turn."""
     times = [[seconds(command) for command in commands] for _ in range(RUNS)]

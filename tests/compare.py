@@ -25,11 +25,11 @@ import building
 
 TESTS = Path(__file__).resolve().parent
 # each is a package with a module `compare`
-WORDS = ("runs", "rulesets", "expansions", "tracking", "table", "steps", "commits", "messages", "faults")
+WORDS = ("runs", "rulesets", "expansions", "tracking", "table", "steps", "commits", "messages", "workers", "faults")
 # those of which nothing is written out
-WITHOUT_MODEL_ALONE = ("table",)
+WITHOUT_MODEL_ALONE = ("table", "workers")
 # those of the program pfreplay, and of message_answers; all others are of the program `answers`
-OF_PFREPLAY = ("runs", "faults")
+OF_PFREPLAY = ("runs", "workers", "faults")
 OF_MESSAGES = ("messages",)
 
 

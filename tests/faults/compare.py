@@ -1,4 +1,5 @@
-"""Runs pfreplay with each of its allocations, reads and writes failing in turn, and judges how each run ends.
+"""Runs pfreplay with each of its allocations, reads and writes failing in turn, and judges how each run ends. It does
+so without workers, and then with two, and refuses threads to a run with four.
 
 Before that the judge of the command `run` is handed made-up endings, and some runs are asked for endings that are
 written out.
@@ -10,7 +11,7 @@ from pathlib import Path
 
 import building
 from captures.packets import capture_header, record
-from faults import judged, rows, trial
+from faults import judged, replay, rows, trial
 from faults.command import ends_lawfully
 from messages.rows import NOT_IPV4, flow, reply
 from runs.case import EXAMPLE_INSIDES, EXAMPLES, INSIDE
@@ -23,6 +24,8 @@ FILE, PEER, NOWHERE = ("messages",), (trial.PEER,), ()
 RUNS = (("gateway", "gateway", FILE), ("home", "home", FILE), ("server", "server", FILE), ("router", "router", FILE),
         ("gateway", "broken", FILE), ("home", "home", PEER), ("server", "server", NOWHERE))
 CHECKS = ("gateway", "broken")
+# the packets of a batch where a run isn't told another number, and other numbers
+BATCH, SMALL, MIDDLE = replay.BATCH, 7, 64
 CUT_LENGTH, TOO_LONG = 2000, 262145
 # of each flow a second has the first packet and its reply
 SECONDS, FLOWS, LATE = 6, 25, 200
@@ -44,18 +47,29 @@ def telling_capture():
     return capture_header() + b"".join(record(second, 0, packet) for second, packet in packets + ends)
 
 
-def run_ends_lawfully(program, capture, rules, messages=FILE):
-    """Whether the command `run` does, on the files of a capture and a ruleset, with its messages in a file, to a peer
-    or without them."""
-    print(f"run {capture.name} {rules.name} {' '.join(messages)}".rstrip())
+def run_ends_lawfully(program, capture, rules, messages=FILE, judge="replay", workers=0, batch=BATCH):
+    """Whether the command `run` does by a judge, on the files of a capture and a ruleset, with its messages in a file,
+    to a peer or without them, with so many workers and packets in a batch."""
+    print(" ".join(("run", capture.name, rules.name, *messages)) + f", {workers} workers, batches of {batch}: {judge}")
     outputs = [word for name in (*REQUIRED, *messages) for word in (f"--{name}", name)]
-    return ends_lawfully("replay", [program, "run", capture, rules, *INTERFACE,
-                                    "--inside", EXAMPLE_INSIDES.get(rules.stem, INSIDE), *outputs])
+    return ends_lawfully(judge, [program, "run", capture, rules, *INTERFACE,
+                                 "--inside", EXAMPLE_INSIDES.get(rules.stem, INSIDE), *outputs,
+                                 "--workers", str(workers), "--batch", str(batch)])
 
 
 def check_ends_lawfully(program, rules):
     print(f"check {rules}.conf")
     return ends_lawfully("check", [program, "check", EXAMPLES / f"{rules}.conf", *INTERFACE])
+
+
+def workers_end_lawfully(program, capture, rules):
+    """Of a run of two batches or more whether it does each time: with faults in batches of another size and no workers,
+    with faults beside two workers, and with threads refused to four workers."""
+    yield run_ends_lawfully(program, capture, rules, batch=MIDDLE)
+    yield run_ends_lawfully(program, EXAMPLES / "server.pcap", EXAMPLES / "server.conf", FILE, "workers", 2, SMALL)
+    yield run_ends_lawfully(program, capture, rules, FILE, "workers", 2, MIDDLE)
+    for batch in (SMALL, MIDDLE):
+        yield run_ends_lawfully(program, capture, rules, FILE, "threads", 4, batch)
 
 
 def compare(program):
@@ -71,6 +85,7 @@ def compare(program):
         capture.write_bytes(telling_capture())
         rules.write_bytes(TELLING_RULES)
         lawful += [run_ends_lawfully(program, capture, rules, messages) for messages in (FILE, PEER)]
+        lawful += workers_end_lawfully(program, capture, rules)
     lawful += [check_ends_lawfully(program, rules) for rules in CHECKS]
     return lawful.count(False)
 

@@ -1,9 +1,10 @@
-// Preloaded under a program: counts its allocations, reads and writes, and makes one of them go wrong.
+// Preloaded under a program: counts its allocations, reads, writes and threads, and makes one or some of them go wrong.
 // README.md says which variables of the environment steer it.
 #define _GNU_SOURCE
 #include <dlfcn.h>
 #include <errno.h>
 #include <fcntl.h>
+#include <pthread.h>
 #include <stdatomic.h>
 #include <stdbool.h>
 #include <stddef.h>
@@ -16,8 +17,9 @@
 #include <sys/uio.h>
 #include <unistd.h>
 
-enum call { ALLOCATION, READ, WRITE, CALLS };
-enum deed { NOTHING, FAIL, CUT, ZERO };
+enum call { ALLOCATION, READ, WRITE, THREAD, CALLS };
+// EACH is that all calls fail whose number is a multiple of the one that is told
+enum deed { NOTHING, FAIL, CUT, ZERO, EACH, DEEDS };
 
 // What the script reads after the run. It lies in a mapped file, so it is there however the program ends.
 struct report {
@@ -36,7 +38,7 @@ struct filter {
 
 static struct report unreported;
 static struct report *report = &unreported;
-static struct filter filters[CALLS] = {{0, true}, {0, true}, {0, true}};
+static struct filter filters[CALLS] = {{0, true}, {0, true}, {0, true}, {0, true}};
 static enum call wanted_call = CALLS;
 static enum deed wanted_deed;
 static uint64_t wanted_number;
@@ -57,11 +59,23 @@ static bool is_wanted_file(int descriptor)
             && named.st_ino == open_file.st_ino);
 }
 
+static bool is_transfer(enum call call)
+{
+    return call == READ || call == WRITE;
+}
+
 static bool counts(enum call call, int descriptor)
 {
     const struct filter *filter = &filters[call];
     bool named = descriptor >= 0 && descriptor < 64 && (filter->named >> descriptor & 1);
-    return active && named != filter->others && (call == ALLOCATION || is_wanted_file(descriptor));
+    return active && named != filter->others && (!is_transfer(call) || is_wanted_file(descriptor));
+}
+
+static bool is_wanted(enum call call, uint64_t number)
+{
+    if (call != wanted_call || wanted_number == 0)
+        return false;
+    return wanted_deed == EACH ? number % wanted_number == 0 : number == wanted_number;
 }
 
 // Counts a call and answers what is to happen to it.
@@ -70,10 +84,10 @@ static enum deed deed_of(enum call call, int descriptor)
     if (!counts(call, descriptor))
         return NOTHING;
     uint64_t number = atomic_fetch_add(&report->calls[call], 1) + 1;
-    if (call != wanted_call || number != wanted_number)
+    if (!is_wanted(call, number))
         return NOTHING;
     atomic_store(&report->fired, 1);
-    return wanted_deed;
+    return wanted_deed == EACH ? FAIL : wanted_deed;
 }
 
 static ssize_t moved(enum call call, int descriptor, ssize_t count)
@@ -217,6 +231,18 @@ TRANSFERS(WRITE, sendto,
           (descriptor, bytes, size, flags, to, length),
           real_sendto(descriptor, bytes, one_of(size), flags, to, length))
 
+// A thread that is refused isn't begun.
+REAL(int, pthread_create,
+     (pthread_t *thread, const pthread_attr_t *attributes, void *(*begin)(void *), void *given))
+
+int pthread_create(pthread_t *thread, const pthread_attr_t *attributes, void *(*begin)(void *), void *given)
+{
+    find_pthread_create();
+    if (deed_of(THREAD, -1) != NOTHING)
+        return EAGAIN;
+    return real_pthread_create(thread, attributes, begin, given);
+}
+
 // Descriptors as `0,3`, or all others as `!0,3`.
 static void read_filter(const char *name, struct filter *filter)
 {
@@ -259,11 +285,11 @@ static void open_report(const char *name)
 
 __attribute__((constructor)) static void start(void)
 {
-    static const char *const calls[] = {"allocation", "read", "write"};
-    static const char *const deeds[] = {"nothing", "fail", "cut", "zero"};
+    static const char *const calls[] = {"allocation", "read", "write", "thread"};
+    static const char *const deeds[] = {"nothing", "fail", "cut", "zero", "each"};
     const char *number = getenv("FAULT_NUMBER");
     wanted_call = (enum call)place_of("FAULT_CALL", calls, CALLS, CALLS);
-    wanted_deed = (enum deed)place_of("FAULT_DEED", deeds, 4, NOTHING);
+    wanted_deed = (enum deed)place_of("FAULT_DEED", deeds, DEEDS, NOTHING);
     wanted_number = number == NULL ? 0 : strtoull(number, NULL, 10);
     read_filter("FAULT_READS", &filters[READ]);
     read_filter("FAULT_WRITES", &filters[WRITE]);

@@ -1,4 +1,5 @@
-"""Made-up endings of a run of 600 packets: the judge of replays has to allow the right ones and refuse the others.
+"""Made-up endings of a run of 600 packets: the judge of replays has to allow the right ones and refuse the others, and
+so does the judge of runs with workers.
 
 The run itself is the model's, so no program is needed.
 """
@@ -7,7 +8,7 @@ import tempfile
 from typing import NamedTuple
 
 from captures.packets import capture_header, record, udp
-from faults import replay
+from faults import replay, workers
 from faults.trial import PEER, Counts, Fault, Seen, Unlawful
 from runs import model
 from runs.case import Case
@@ -208,12 +209,49 @@ def wrong_messages(pieces, target):
     yield told("other messages", 0, pieces.online(0, messages=b"E\x11"))
 
 
-def is_allowed(trial, ending):
+def right_beside_workers(pieces):
+    """Those of a run with workers that are lawful besides: outputs may hold more than belongs to what is told, as long
+    as they are beginnings."""
+    packets = pieces.whole.packets
+    yield refusing("memory far behind what is told", 0, pieces.online(COUNT))
+    yield refusing("memory at no boundary", 255, pieces.online(255))
+    yield refusing("memory behind a part of what follows", BATCH, pieces.online(TWO_BATCHES, packets=packets[:-1]))
+    yield refusing("memory for the states", COUNT, pieces.ended(states=b""))
+    yield failing("lines of a batch that isn't told", "packets", 1, pieces.online(BATCH))
+    yield reading("fewer records told than were read", 299, pieces.online(300), HEADER + 300 * RECORD)
+    yield Ending("a whole run", replay.MEMORY, "", 0, pieces.whole, b"committed 600\n")
+
+
+def wrong_beside_workers(pieces):
+    """Those of a run with workers that aren't."""
+    verdicts, packets, _, states, messages = pieces.whole
+    first = pieces.online(BATCH)
+    for name, text in (("verdicts", verdicts), ("packets", packets), ("states", states)):
+        yield refusing(f"{name} that aren't a beginning", 0, first._replace(**{name: text[1:]}))
+        yield refusing(f"{name} that go on behind the last", COUNT, pieces.ended(**{name: text + b"\n"}))
+    for name in ("verdicts", "packets", *(["messages"] if messages else [])):
+        yield refusing(f"{name} of packets that are committed are missing", BATCH,
+                       first._replace(**{name: getattr(first, name)[:-1]}))
+    yield refusing("more is committed than there is", COUNT + 1, pieces.whole)
+    yield failing("more is told at a failed write than is there", "verdicts", TWO_BATCHES, first)
+    yield reading("more is told at a failed read than is there", 300, first, HEADER + 300 * RECORD)
+    yield refusing("a file missing between others", 0, NOTHING._replace(packets=None))
+    yield Ending("another fault than came", replay.MEMORY, "write failed: verdicts, committed 0", 3, NOTHING)
+    yield Ending("the status of another end", replay.MEMORY, "no memory, committed 0", 3, NOTHING)
+    yield Ending("a signal", replay.MEMORY, "", -6, first)
+    yield Ending("a stop that isn't told", replay.WRITES["verdicts"], "", 0, first)
+    yield Ending("a run that isn't whole and tells no fault", replay.MEMORY, "", 0, pieces.ended(states=b""),
+                 b"committed 600\n")
+    yield Ending("an answer besides", replay.MEMORY, "no memory, committed 600", 4, pieces.whole, b"committed 600\n")
+    yield Ending("two lines", replay.MEMORY, "no memory, committed 0\n", 4, NOTHING)
+
+
+def is_allowed(judge, trial, ending):
     err = f"pfreplay: {ending.err.replace('RULES', trial.name_of('rules'))}\n".encode() if ending.err else b""
     files = tuple(ending.files)[:len(trial.clean.files)]
     try:
-        replay.judge(trial, Fault(ending.target, "fail", 1), Counts(True, 1, ending.moved),
-                     Seen(ending.status, ending.out, err, files))
+        judge(trial, Fault(ending.target, "fail", 1), Counts(True, 1, ending.moved),
+              Seen(ending.status, ending.out, err, files))
     except Unlawful:
         return False
     return True
@@ -227,8 +265,17 @@ def judged(trial, target):
     if target:
         right += right_messages(pieces, target)
         wrong += wrong_messages(pieces, target)
-    faults = [f"refused: {ending.name}" for ending in right if not is_allowed(trial, ending)]
-    faults += [f"allowed: {ending.name}" for ending in wrong if is_allowed(trial, ending)]
+    count, faults = judged_by(replay.judge, trial, right, wrong)
+    # what is right without workers is right with some
+    more, others = judged_by(workers.judge, trial, [*right, *right_beside_workers(pieces)],
+                             list(wrong_beside_workers(pieces)))
+    return count + more, faults + [f"with workers: {fault}" for fault in others]
+
+
+def judged_by(judge, trial, right, wrong):
+    """How many endings a judge is handed, and those that it judges wrongly."""
+    faults = [f"refused: {ending.name}" for ending in right if not is_allowed(judge, trial, ending)]
+    faults += [f"allowed: {ending.name}" for ending in wrong if is_allowed(judge, trial, ending)]
     return len(right) + len(wrong), faults
 
 

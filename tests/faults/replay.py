@@ -16,6 +16,7 @@ from runs import model
 from runs.case import NO_SEED, Case
 from runs.model import Files
 
+# the packets of a batch where the command says nothing of them
 BATCH = 256
 HEADER, RECORD_HEADER = 24, 16
 TRANSFER = ("fail", "cut", "zero")
@@ -67,10 +68,21 @@ def outputs_of(command):
 
 # What the outputs hold
 
+def flags_of(command):
+    """The flags of a command with their values."""
+    words = command[command.index("run") + 3:]
+    return dict(zip(words[::2], words[1::2]))
+
+
+def batch_of(command):
+    """The packets of a batch."""
+    return int(flags_of(command).get("--batch", BATCH))
+
+
 def case_of(command):
     """The run of a command as the model has it."""
-    capture, rules, *words = command[command.index("run") + 1:]
-    flags = dict(zip(words[::2], words[1::2]))
+    first, flags = command.index("run"), flags_of(command)
+    capture, rules = command[first + 1:first + 3]
     return Case("", Path(rules).read_bytes(), flags["--inside"], Path(capture).read_bytes(), flags["--interface"],
                 flags["--address"], flags.get("--seed", NO_SEED))
 
@@ -88,7 +100,8 @@ class Whole:
     """What a run without a fault leaves in the files, by the number of packets. `messages_end` says how many bytes of
     messages are out behind each."""
 
-    def __init__(self, files, messages_end):
+    def __init__(self, files, messages_end, batch=BATCH):
+        self.batch = batch
         self.files = texts_of(files)
         lines = self.files.verdicts.splitlines(keepends=True)
         self.count = len(lines)
@@ -120,7 +133,7 @@ class Whole:
 
     def boundaries(self):
         """The numbers of packets at which a batch ends."""
-        return sorted({*range(BATCH, self.count + 1, BATCH), self.count} - {0})
+        return sorted({*range(self.batch, self.count + 1, self.batch), self.count} - {0})
 
     def is_held(self, count, files):
         """Whether files hold at least what belongs to so many packets."""
@@ -159,7 +172,8 @@ def ends_of(words):
 
 
 def whole_of(trial):
-    return Whole(trial.clean.files, ends_of(tuple(map(str, trial.command))))
+    command = tuple(map(str, trial.command))
+    return Whole(trial.clean.files, ends_of(command), batch_of(command))
 
 
 def is_untouched(seen):
@@ -182,6 +196,11 @@ def check_beginnings(trial, seen):
 
 def judge(trial, fault, counts, seen):
     """The ending of a run with this fault, one of ENDINGS; Unlawful where it is none of the lawful ones."""
+    return judge_by(check_committed, trial, fault, counts, seen)
+
+
+def judge_by(check_outputs, trial, fault, counts, seen):
+    """The same, where a function checks what the outputs hold of the packets that are told as committed."""
     if fault.target in (CAPTURE, RULES) and fault.deed == "zero":
         return judge_shorter(trial, fault, counts, seen)
     check_beginnings(trial, seen)
@@ -190,7 +209,7 @@ def judge(trial, fault, counts, seen):
     ending, told = told_of(trial, seen)
     if ending not in LAWFUL.get((fault.target, fault.deed), {"whole"}):
         raise Unlawful(f"'{ending}' isn't lawful after this fault")
-    check_ending(trial, ending, told, counts, seen)
+    check_ending(check_outputs, trial, ending, told, counts, seen)
     return ending
 
 
@@ -205,8 +224,8 @@ def told_of(trial, seen):
     raise Unlawful("no such status and standard error")
 
 
-def check_ending(trial, ending, told, counts, seen):
-    """What is told holds of the outputs."""
+def check_ending(check_outputs, trial, ending, told, counts, seen):
+    """What is told holds of the outputs; what it says of committed packets is checked by a function."""
     if ending == "whole":
         return
     if ending == "answer failed":
@@ -220,7 +239,7 @@ def check_ending(trial, ending, told, counts, seen):
         # the ruleset is read once before a file is opened, and once more by the run
         check(not any(seen.files), "something is written, though the ruleset wasn't read")
     else:
-        check_committed(trial, ending, int(told), counts, seen)
+        check_outputs(trial, ending, int(told), counts, seen)
 
 
 def check(holds, otherwise):

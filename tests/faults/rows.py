@@ -13,7 +13,8 @@ from runs.message_rows import pieces
 from runs.model import REQUIRED
 from steps.rows import OPENING, data
 
-FLAGS = ("--interface", "em0", "--address", "192.0.2.1/24", "--inside", "10.0.0.0/8")
+# without workers, so that the call of a number is the same one in each run
+FLAGS = ("--interface", "em0", "--address", "192.0.2.1/24", "--inside", "10.0.0.0/8", "--workers", "0")
 HEADER, RECORD = 24, 16
 # the fault is at the last read of the capture, which finds its end
 LAST_READ = 0

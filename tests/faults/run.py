@@ -1,11 +1,11 @@
 #!/usr/bin/env python3
-"""Runs a command once for each fault at each of its allocations, reads and writes, and judges each run.
+"""Runs a command once for each fault at each of its calls of some kinds, and judges each run.
 
     run.py [--judge MODULE] [--calls] COMMAND WORDS.. [< INPUT]
 
-It prints how many runs ended each way, and exits with 1 where one ended in an unlawful way, and with 2 where no fault was
-reached. A word for a file that the command writes, as the judge tells, stands for a new file in each run; no file of that
-name is made. So does a word for a peer.
+The judge says which kinds: allocations, reads and writes, or threads. It prints how many runs ended each way, and exits
+with 1 where one ended in an unlawful way, and with 2 where no fault was reached. A word for a file that the command
+writes, as the judge tells, stands for a new file in each run; no file of that name is made. So does a word for a peer.
 """
 
 import argparse
@@ -27,7 +27,9 @@ from faults.trial import Fault, Trial, Unlawful
 
 MOST_SHOWN = 10
 MOST_OUTPUT = 1 << 28
-NOT_REACHED = "not reached"
+# once so many runs took too long the others aren't waited for
+MOST_SLOW = 4
+NOT_REACHED, NOT_TRIED = "not reached", "not tried"
 
 
 def count_calls(trial, targets):
@@ -47,20 +49,24 @@ def count_calls(trial, targets):
 
 
 def has_calls(trial, target):
-    """Whether a run without a fault can't do without a call of the target: each allocates, what stands in a file was
-    written, and what is answered was read."""
-    if target.call == "allocation":
+    """Whether a run without a fault can't do without a call of the target: each allocates, one that is to be refused
+    threads begins some, what stands in a file was written, and what is answered was read."""
+    if target.call in ("allocation", "thread"):
         return True
     if target.file in trial.outputs:
         return bool(trial.clean.files[trial.outputs.index(target.file)])
     return bool(target.file) and bool(trial.clean.out)
 
 
-def judged(trial, judge, fault):
-    """The ending of a run with this fault, and what is to be shown of it where it is unlawful."""
+def judged(trial, judge, fault, slow):
+    """The ending of a run with this fault, and what is to be shown of it where it is unlawful. `slow` is a list of the
+    faults with which runs took too long."""
+    if len(slow) >= MOST_SLOW:
+        return NOT_TRIED, None
     seen, counts = trial.counted(fault.target, fault)
     try:
         if seen.status is None:
+            slow.append(fault)
             raise Unlawful("it took too long")
         if not counts.fired:
             # with several threads the number of calls may vary
@@ -86,14 +92,16 @@ def run(command, source, judge):
     """Runs all faults: the calls of each target, the number of runs by ending, the unlawful ones in words."""
     with tempfile.TemporaryDirectory() as folder:
         places = judge.places(command) if hasattr(judge, "places") else {}
-        trial = Trial(command, source, folder, places, getattr(judge, "OUTPUTS", ()))
+        reference = judge.reference(command) if hasattr(judge, "reference") else command
+        trial = Trial(command, source, folder, places, getattr(judge, "OUTPUTS", ()), reference)
         # a file that the command doesn't name has no calls
         targets = [target for target in judge.TARGETS if not target.file or target.file in places]
         calls = count_calls(trial, targets)
         faults = [Fault(target, deed, number) for target in targets for deed in target.deeds
                   for number in range(1, calls[target] + 1)]
+        slow = []
         with ThreadPoolExecutor(os.cpu_count()) as pool:
-            results = list(pool.map(lambda fault: judged(trial, judge.judge, fault), faults))
+            results = list(pool.map(lambda fault: judged(trial, judge.judge, fault, slow), faults))
     return calls, Counter(ending for ending, _ in results), [text for _, text in results if text]
 
 
@@ -125,7 +133,7 @@ def main():
         print(", ".join(f"{target}: {number}" for target, number in calls.items()))
     for text in unlawful[:MOST_SHOWN]:
         print(text)
-    names = [*judge.ENDINGS, NOT_REACHED, "unlawful"]
+    names = [*judge.ENDINGS, NOT_REACHED, NOT_TRIED, "unlawful"]
     print(f"{endings.total()} runs: " + ", ".join(f"{endings[name]} {name}" for name in names if endings[name]))
     if endings[NOT_REACHED] == endings.total():
         parser.exit(2, "no fault was reached\n")

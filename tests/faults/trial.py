@@ -9,11 +9,11 @@ from typing import NamedTuple
 
 from runs.peers import Peer
 
-# seconds; other comparisons may run at the same time
-TIME_LIMIT = 30
-# as in `struct report`: loaded, fired, three counts of calls, three of bytes moved
-REPORT = struct.Struct("8Q")
-CALLS = ("allocation", "read", "write")
+# seconds, so that a wait without end is told; other comparisons may run at the same time
+TIME_LIMIT = 60
+# as in `struct report`: loaded, fired, four counts of calls, four of bytes moved
+REPORT = struct.Struct("10Q")
+CALLS = ("allocation", "read", "write", "thread")
 # the name of the word that isn't a file but a peer
 PEER = "peer"
 
@@ -44,7 +44,7 @@ class Target(NamedTuple):
 
 
 class Fault(NamedTuple):
-    """A deed at one call of a target, numbered from 1."""
+    """A deed at one call of a target, numbered from 1. The deed `each` fails all whose number is a multiple of that."""
     target: Target
     deed: str
     number: int
@@ -96,19 +96,22 @@ class Trial:
 
     `places` says by names which words of the command, the program at 0, name files or a peer. Those in `outputs` are
     written by the command: each run has files of its own for them, in a folder that is new and empty, and a peer of its
-    own.
+    own. What is to come without a fault is told by the reference: the command itself, or one with its files at the same
+    places.
     """
 
-    def __init__(self, command, source, folder, places=None, outputs=()):
+    def __init__(self, command, source, folder, places=None, outputs=(), reference=None):
         self.command = command
+        self.reference = reference or command
         self.source = source
         self.places = places or {}
         self.outputs = [name for name in outputs if name in self.places]
         self.folder = folder
         self.library = Path(folder) / "faults.so"
         code = Path(__file__).with_name("faults.c")
-        subprocess.run(["cc", "-shared", "-fPIC", "-O2", "-o", str(self.library), str(code), "-ldl"], check=True)
-        self.clean = self.without_fault()
+        subprocess.run(["cc", "-shared", "-fPIC", "-O2", "-pthread", "-o", str(self.library), str(code), "-ldl"],
+                       check=True)
+        self.clean = self.without_fault(self.reference)
         if self.clean.status is None:
             raise OSError(f"{command[0]} takes too long without any fault")
 
@@ -117,8 +120,8 @@ class Trial:
         return self.command[self.places[file]]
 
     def with_name(self, file, name):
-        """The command, but that one of its files has another name."""
-        words = list(self.command)
+        """The reference, but that one of its files has another name."""
+        words = list(self.reference)
         words[self.places[file]] = name
         return words
 
@@ -157,4 +160,4 @@ class Trial:
         if not loaded:
             raise OSError(f"{self.command[0]} didn't load the library: is it a dynamically linked program?")
         place = CALLS.index(target.call)
-        return seen, Counts(bool(fired), numbers[place], numbers[3 + place])
+        return seen, Counts(bool(fired), numbers[place], numbers[len(CALLS) + place])

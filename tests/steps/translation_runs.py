@@ -90,10 +90,10 @@ class TranslatedPackets(Packets):
         return ipv4(*ends, ICMP, summed_message(draw.choice(ERROR_TYPES), draw.choice((0, 1, 3)), bytes(4) + quoted))
 
 
-def some_run(draw, number, most, seed):
+def some_run(draw, number, most, seed, counts=COUNTS):
     """A run of some number of packets and at most so many, under a seed."""
     rules, link = some_text(draw), draw.choice(LINKS)
-    count = min(draw.randint(*COUNTS), most)
+    count = min(draw.randint(*counts), most)
     inside = INSIDE if draw.random() < 0.9 else draw.choice(OTHER_INSIDES)
     run = Run(f"random run with translation {number}", rules, [], link, inside=inside, seed=seed)
     return with_packets(draw, run, TranslatedPackets, count)

@@ -1,0 +1,153 @@
+#!/usr/bin/env python3
+"""Measures the program with workers beside itself without and prints a table for each of three captures.
+
+    workers.py [PROGRAM] [--captures NAME ..] [--packets N] [--rules N ..] [--batches N ..] [--workers N ..]
+
+The packets of the capture `stateless` are decided by a rule that makes no state, each of those of `making` makes a
+state, and those of `matching` match the states of a few connections. No rule but the last matches a packet, so each
+packet that has no state is asked about all of them. A row is of so many rules and packets in a batch. Of each number
+of workers it has the speed as a multiple of that without, and in brackets the time of processors as a multiple. Behind
+them are the peaks of memory without workers and with the last number of them.
+"""
+
+import argparse
+import os
+import shutil
+import sys
+import tempfile
+from collections import Counter
+from pathlib import Path
+from typing import Callable, NamedTuple
+
+sys.dont_write_bytecode = True
+
+from flows import outcomes
+from make_capture import write_capture
+from make_flows import write_flows
+from rules import vain_pairs
+from run import OUTPUTS, PROGRAM, RUNS, peak_memory, print_row, replay_command, seconds, used
+
+PACKETS = 200000
+COUNTS, BATCHES, WORKERS = [10, 100, 1000], [256, 4096], [1, 2, 4, 8]
+# the connections whose states are matched
+FEW = 16
+
+
+class Kind(NamedTuple):
+    """A kind of captures: the rule that decides on its packets, what writes so many of them, and how many of these are
+    decided by the rule. The others match a state."""
+    rule: str
+    write: Callable
+    decided: Callable
+
+
+KINDS = {
+    "stateless": Kind("pass all no state", write_capture, lambda count: count),
+    # each packet is the first one of its connection
+    "making": Kind("pass all keep state", lambda count, file: write_flows(count, file, count), lambda count: count),
+    "matching": Kind("pass all keep state", lambda count, file: write_flows(count, file, FEW),
+                     lambda count: min(count, FEW)),
+}
+
+
+class Best(NamedTuple):
+    """The best times of some runs in seconds: from start to end, and of processors."""
+    passed: float
+    spent: float
+
+
+class Contest:
+    """A capture and a ruleset of one length, and the program on them with each number of workers."""
+
+    def __init__(self, folder, program, kind, capture, packets, count, batch):
+        self.folder, self.program, self.kind = folder, program, kind
+        self.capture, self.packets, self.batch = capture, packets, batch
+        self.rules = folder / "rules"
+        vain = [rule for rule, _ in vain_pairs(count - 1, capture.read_bytes())]
+        self.rules.write_text("\n".join([f"set limit states {packets}", *vain, f"{kind.rule}\n"]))
+
+    def command(self, workers, **files):
+        """The words of a run; an output that isn't named goes nowhere."""
+        return [*replay_command(self.program, self.capture, self.rules, **files), "--workers", str(workers), "--batch",
+                str(self.batch)]
+
+    def best(self, numbers):
+        """The best times with each of these numbers of workers, run in turn."""
+        times = {number: [] for number in numbers}
+        for _ in range(RUNS):
+            for number in numbers:
+                passed, usage = used(self.command(number))
+                times[number].append((passed, usage.ru_utime + usage.ru_stime))
+        return {number: Best(*map(min, zip(*found))) for number, found in times.items()}
+
+    def outputs(self, workers):
+        """What a run leaves in its files."""
+        files = {name: self.folder / name for name in OUTPUTS}
+        seconds(self.command(workers, **files))
+        return files, {name: file.read_bytes() for name, file in files.items()}
+
+    def check(self, numbers):
+        """Each packet comes to what its kind says, and outputs are the same with each of these numbers of workers."""
+        files, expected = self.outputs(0)
+        decided = self.kind.decided(self.packets)
+        found = outcomes(files["verdicts"])
+        if found != +Counter({"pass rule": decided, "pass state": self.packets - decided}):
+            sys.exit(f"of {self.packets} packets came {found}")
+        for number in numbers:
+            _, seen = self.outputs(number)
+            if wrong := [name for name in OUTPUTS if seen[name] != expected[name]]:
+                sys.exit(f"with {number} workers and batches of {self.batch} these are others: {', '.join(wrong)}")
+
+
+def cell(without, found):
+    """The speed of a run as a multiple of that without workers, and the time of processors as a multiple."""
+    return f"{without.passed / found.passed:.2f} ({found.spent / without.spent:.2f})"
+
+
+def row(contest, count, workers):
+    """The measures of one ruleset and size of batches, as words."""
+    times = contest.best([0, *workers])
+    contest.check(workers)
+    peaks = [peak_memory(contest.command(number)) for number in (0, *workers[-1:])]
+    return [f"{count}", f"{contest.batch}", f"{contest.packets / times[0].passed:.0f}",
+            *(cell(times[0], times[number]) for number in workers), *peaks]
+
+
+def print_table(folder, program, name, words):
+    kind, capture = KINDS[name], folder / f"{name}.pcap"
+    with open(capture, "wb") as file:
+        kind.write(words.packets, file)
+    names = ["rules", "batch", "packets/s without", *(f"with {number}" for number in words.workers),
+             "peak MB without", *(f"with {number}" for number in words.workers[-1:])]
+    print(f"\n{name}, {words.packets} packets\n")
+    print_row(names)
+    print_row(["---:"] * len(names))
+    for count in words.rules:
+        for batch in words.batches:
+            contest = Contest(folder, program, kind, capture, words.packets, count, batch)
+            print_row(row(contest, count, words.workers))
+    capture.unlink()
+
+
+def main():
+    parser = argparse.ArgumentParser(description="Measures the program with workers beside itself without.")
+    parser.add_argument("--captures", nargs="+", choices=KINDS, default=list(KINDS), help="what the packets come to")
+    parser.add_argument("--packets", type=int, default=PACKETS, help="of each capture")
+    parser.add_argument("--rules", type=int, nargs="+", default=COUNTS)
+    parser.add_argument("--batches", type=int, nargs="+", default=BATCHES, help="the packets of a batch")
+    parser.add_argument("--workers", type=int, nargs="+", default=WORKERS, help="beside 0, which is always measured")
+    parser.add_argument("program", nargs="?", type=Path, default=PROGRAM)
+    words = parser.parse_args()
+    if not words.program.is_file():
+        sys.exit(f"{words.program} isn't there: build the program first")
+    if shutil.which("time") is None:
+        print("without the program 'time' (apt-get install -y time) no peak memory is shown")
+    print(f"load {os.getloadavg()[0]:.1f}")
+    with tempfile.TemporaryDirectory() as folder:
+        for name in words.captures:
+            print_table(Path(folder), words.program.resolve(), name, words)
+    print(f"load {os.getloadavg()[0]:.1f}")
+
+
+if __name__ == "__main__":
+    main()

@@ -1,0 +1,1 @@
+"""The built program with workers and without: its outputs never depend on them."""
