@@ -58,10 +58,11 @@ class Contest:
             sys.exit(f"of {self.count} packets the program passes {passed}, tcpdump {kept}")
 
 
-def replay_command(program, capture, rules, **files):
-    """The words that replay a capture; an output that isn't named goes nowhere."""
+def replay_command(program, capture, rules, workers=0, batch=256, **files):
+    """The words that replay a capture, by one thread unless there are workers; an output that isn't named goes nowhere."""
     outputs = [str(word) for name in OUTPUTS for word in (f"--{name}", files.get(name, os.devnull))]
-    return [str(program), "run", str(capture), str(rules), *FLAGS, *outputs]
+    return [str(program), "run", str(capture), str(rules), *FLAGS, "--workers", str(workers), "--batch", str(batch),
+            *outputs]
 
 
 def tcpdump_command(capture, passed, *filter_words):

@@ -68,8 +68,7 @@ class Contest:
 
     def command(self, workers, **files):
         """The words of a run; an output that isn't named goes nowhere."""
-        return [*replay_command(self.program, self.capture, self.rules, **files), "--workers", str(workers), "--batch",
-                str(self.batch)]
+        return replay_command(self.program, self.capture, self.rules, workers, self.batch, **files)
 
     def best(self, numbers):
         """The best times with each of these numbers of workers, run in turn."""

@@ -11,9 +11,11 @@ SEED = "0123456789abcdef" * 4
 FLAGS = {"--interface": "em0", "--address": "192.0.2.1/24", "--inside": "10.0.0.0/8",
          **{f"--{name}": name for name in REQUIRED}}
 # those that may be missing
+BATCH_FLAG, WORKERS_FLAG = ("--batch", "7"), ("--workers", "2")
 SEED_FLAG, MESSAGES_FLAG, PEER_FLAG = ("--seed", SEED), ("--messages", "messages"), ("--peer", PEER)
 # what the help and what is said of a value call its form
-FORMS = {**check_cases.FORMS, "--inside": "NETS", "--seed": "HEX", "--peer": "HOST:PORT",
+FORMS = {**check_cases.FORMS, "--inside": "NETS", "--seed": "HEX", "--batch": "1..4096", "--workers": "0..64",
+         "--peer": "HOST:PORT",
          **{f"--{name}": "FILE" for name in OUTPUTS}}
 BAD_VALUES = {
     "--interface": BAD_INTERFACES,
@@ -23,6 +25,8 @@ BAD_VALUES = {
                  "10.0.0.1 10.0.0.2", "10.0.0.1;10.0.0.2", "em0", "any", "10.0.0.0/8,em0", "10.0.0.1,10.0.0.0/4294967304"),
     "--seed": ("", "0", "0" * 63, "0" * 65, "0" * 128, "g" * 64, "0" * 63 + "G", "0x" + "0" * 62, "0" * 63 + " ",
                " " + "0" * 63, "-" + "0" * 63),
+    "--batch": ("", "0", "00", "4097", "65536", "4294967552", "18446744073709551617", "-1", "+4", "0x4", "4.0", "4 ", " 4", "four"),
+    "--workers": ("", "65", "256", "4294967296", "18446744073709551617", "-1", "+4", "0x4", "4.0", "4 ", " 4", "four"),
     "--peer": ("", ":", "9", ":9", "127.0.0.1", "127.0.0.1:", "127.0.0.1:0", "127.0.0.1:70000", "127.0.0.1:65536",
                "127.0.0.1:4294967305", "127.0.0.1:18446744073709551625", "127.0.0.1:-9", "127.0.0.1:+9", "127.0.0.1: 9",
                "127.0.0.1:9 ", "127.0.0.1:9x", "127.0.0.1:0x9", "127.0.0.1:http", "localhost", "localhost:",
@@ -61,7 +65,7 @@ def missing_words():
         others = {name: value for name, value in FLAGS.items() if name != flag}
         yield Line(run_line(others))
         yield Line(run_line(others, flag))
-    for flag in ("--seed", "--messages", "--peer"):
+    for flag in ("--seed", "--batch", "--workers", "--messages", "--peer"):
         yield Line(run_line(FLAGS, flag))
     yield Line(("run", *spelled(FLAGS)))
     yield Line(("run", CAPTURE, *spelled(FLAGS)))
@@ -71,7 +75,7 @@ def missing_words():
 
 
 def surplus_words():
-    for flag, value in (*FLAGS.items(), SEED_FLAG, MESSAGES_FLAG, PEER_FLAG):
+    for flag, value in (*FLAGS.items(), SEED_FLAG, BATCH_FLAG, WORKERS_FLAG, MESSAGES_FLAG, PEER_FLAG):
         again = {**FLAGS, flag: value}
         said = (f"the argument '{flag} <{FORMS[flag]}>' cannot be used multiple times".encode(),)
         yield Line(run_line(again, flag, value), said)
@@ -83,10 +87,10 @@ def surplus_words():
     yield Line(run_line({**dict([PEER_FLAG]), **FLAGS}, "--messages=messages"), both)
     yield Line(run_line(FLAGS, "more"))
     yield Line(("run", "more", CAPTURE, RULES, *spelled(FLAGS)))
-    for word in ("--quiet", "-x", "--bits=24", "--batch=256", "--workers=0", "--message=messages",
+    for word in ("--quiet", "-x", "--bits=24", "--batches=256", "--worker=0", "--message=messages",
                  "--peers=192.0.2.9:9"):
         yield Line(run_line(FLAGS, word))
-    yield Line(run_line(FLAGS, "--batch", "256"))
+    yield Line(run_line(FLAGS, "--worker", "0"))
     # words of no command
     yield Line((RULES, "10.0.0.0/8"))
     yield Line((RULES, "10.0.0.0/8", "packets"))
@@ -113,6 +117,9 @@ def good():
     for seed in GOOD_SEEDS:
         yield (CAPTURE, RULES, *flags, "--seed", seed), inside, seed
         yield (f"--seed={seed}", CAPTURE, RULES, *flags), inside, seed
+    for batch, workers in (("1", "0"), ("0001", "064"), ("4096", "64"), ("256", "4")):
+        yield (CAPTURE, RULES, *flags, "--batch", batch, "--workers", workers), inside, NO_SEED
+        yield (f"--workers={workers}", CAPTURE, RULES, f"--batch={batch}", *flags), inside, NO_SEED
     for networks in GOOD_INSIDES:
         yield (CAPTURE, RULES, *spelled({**FLAGS, "--inside": networks}), *MESSAGES_FLAG), networks, NO_SEED
 

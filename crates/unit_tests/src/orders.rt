@@ -196,7 +196,7 @@ fn job(alloc: Global, rules: &[u8]) -> Result<Job, AllocError> {
 }
 
 /// Runs a row by so many workers.
-fn ran<R: AllocGlobal + Threads + Wait + Sync, G: Gate>(
+fn run_row<R: AllocGlobal + Threads + Wait + Sync, G: Gate>(
     rt: &R,
     row: &Row,
     workers: u64,
@@ -238,8 +238,8 @@ fn is_same_in_all_orders<R: AllocGlobal + Threads + Wait + time::Clock + Sync>(
             places: places(order),
             answered: AtomicU64::new(0),
         };
-        let alone = ran(rt, row, 0, &gate)?;
-        let by_workers = ran(rt, row, COUNT as u64, &gate)?;
+        let alone = run_row(rt, row, 0, &gate)?;
+        let by_workers = run_row(rt, row, COUNT as u64, &gate)?;
         if alone.own != COUNT as u64
             || by_workers.own != row.again
             || by_workers.piece.verdicts.as_slice() != alone.piece.verdicts.as_slice()
