@@ -87,7 +87,7 @@ fn with_sizes<'a>(alloc: Global, command: Command<'a>) -> Result<Command<'a>, Al
     let batch =
         "How many packets are taken and written at a time; the outputs don't depend on it [default: 256]";
     let workers =
-        "How many threads evaluate packets ahead; the outputs don't depend on it [default: 4]";
+        "How many threads evaluate packets ahead; the outputs don't depend on it [default: 0]";
     let command = command.arg(flag(alloc, "batch", BATCH, batch).required(false))?;
     command.arg(flag(alloc, "workers", WORKERS, workers).required(false))
 }
