@@ -20,8 +20,6 @@ mod elements;
 #[cfg(test)]
 mod frames;
 #[cfg(test)]
-mod orders;
-#[cfg(test)]
 mod rewriting;
 #[cfg(test)]
 mod runs;
