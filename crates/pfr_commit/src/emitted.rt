@@ -1,5 +1,5 @@
 //! What packets add to the outputs of a run.
-ghost use Rattle.std.specs.Prelude.{◌≡◌, ◌≤◌, ◌+◌, ◌++◌, length, take, drop, IfSome, OnOk, OnErr};
+ghost use Rattle.std.specs.Prelude.{◌≡◌, ◌≤◌, ◌+◌, [], ◌++◌, length, take, drop, IfSome, OnOk, OnErr};
 ghost use Rattle.pfr_headers.specs.declared.packet.View.TheVariants.{Ipv4};
 ghost use Rattle.pfr_headers.specs.View.{view_of};
 ghost use Rattle.pfr_commit.specs.Emissions.{frame_of, texts_of};
@@ -71,6 +71,16 @@ fn put_packet(packets: &mut Vec<u8>, packet: &Record, outcome: &Outcome) -> Resu
     }
 }
 
+/// No bytes, with room for so many. Where that is refused, room is made as they come.
+fn room_for(alloc: Global, bytes: usize) -> Vec<u8>
+    ensures { result.items ≡ [] }
+{
+    match Vec::with_capacity(alloc, bytes) {
+        Ok(list) => list,
+        Err(_) => Vec::new(alloc),
+    }
+}
+
 impl Emitted {
     /// Nothing yet.
     pub fn new(alloc: Global) -> Emitted
@@ -79,6 +89,17 @@ impl Emitted {
         Emitted {
             verdicts: Vec::new(alloc),
             packets: Vec::new(alloc),
+            messages: Vec::new(alloc),
+        }
+    }
+
+    /// Nothing yet, with room for so many bytes of verdict lines and of records. Where that is refused, room is made as they come.
+    pub fn with_room(alloc: Global, verdicts: usize, packets: usize) -> Emitted
+        ensures { texts_of result ≡ spec.no_texts }
+    {
+        Emitted {
+            verdicts: room_for(alloc, verdicts),
+            packets: room_for(alloc, packets),
             messages: Vec::new(alloc),
         }
     }
