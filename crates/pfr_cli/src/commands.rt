@@ -85,9 +85,9 @@ fn with_choices<'a>(alloc: Global, command: Command<'a>) -> Result<Command<'a>, 
 /// A command with the flags that say how the work is shared.
 fn with_sizes<'a>(alloc: Global, command: Command<'a>) -> Result<Command<'a>, AllocError> {
     let batch =
-        "How many packets are taken and written at a time; the outputs don't depend on it [default: 256]";
+        "How many packets are taken and written at a time; a whole run's outputs don't depend on it [default: 256]";
     let workers =
-        "How many threads evaluate packets ahead; the outputs don't depend on it [default: 0]";
+        "How many threads evaluate packets ahead; the outputs don't depend on it [default: 4]";
     let command = command.arg(flag(alloc, "batch", BATCH, batch).required(false))?;
     command.arg(flag(alloc, "workers", WORKERS, workers).required(false))
 }

@@ -46,8 +46,8 @@ pub struct RunWords<'a> {
 /// How many packets are taken and written at a time where the words don't say.
 const BATCH: usize = 256;
 
-/// How many workers evaluate them ahead where the words don't say: none, as they don't pay where packets ask few rules.
-const WORKERS: u64 = 0;
+/// How many workers evaluate them ahead where the words don't say. Where they don't pay they rest.
+const WORKERS: u64 = 4;
 
 /// The files that a run writes, and where its messages go.
 #[derive(Clone, Copy)]

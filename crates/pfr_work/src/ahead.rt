@@ -1,5 +1,5 @@
 //! Packets of a batch, evaluated ahead by workers.
-ghost use Rattle.std.specs.Prelude.{◌≡◌, ◌≤◌, ◌<◌, IfOk, Some, length};
+ghost use Rattle.std.specs.Prelude.{◌≡◌, ◌≤◌, ◌<◌, IfOk, OnOk, Some, length};
 ghost use Rattle.std.specs.Arc.{arc_value};
 ghost use Rattle.std.specs.List.{All, AllZip};
 ghost use Rattle.pfr_commit.specs.Books.{job_of};
@@ -86,21 +86,44 @@ impl<'a, J: OfRun + Send + Sync, G: Gate> Work for Speculating<'a, J, G> {
         Some(found)
     }
 
-    fn sent(&self, place: u64) {
+    fn answered(&self, place: u64) {
         self.gate.answered(self.number_at(place));
     }
+}
+
+/// Puts the speculations of what a worker found out behind others.
+fn put_speculations<J: OfRun>(
+    results: &mut Vec<Speculation>,
+    group: Vec<FoundOut<J>>,
+) -> Result<(), AllocError>
+    requires { All (λ speculation. J.job ≡ Some (arc_value speculation.job)) results.old.items }
+    ensures { OnOk result (All (λ speculation. J.job ≡ Some (arc_value speculation.job)) results.new.items) }
+{
+    for FoundOut { speculation, of: _ } in group {
+        results.push(speculation)?;
+    }
+    Ok(())
+}
+
+/// How many results there are in some groups.
+fn count_of<A: Drop>(groups: &[Vec<A>]) -> usize {
+    let mut count = 0usize;
+    for group in groups {
+        count = count.saturating_add(group.len());
+    }
+    count
 }
 
 /// The speculations of what workers found out.
 fn speculations<J: OfRun>(
     alloc: Global,
-    found: Vec<FoundOut<J>>,
+    groups: Vec<Vec<FoundOut<J>>>,
 ) -> Result<Vec<Speculation>, AllocError>
     ensures { IfOk result (λ results. All (λ speculation. J.job ≡ Some (arc_value speculation.job)) results.items) }
 {
-    let mut results = Vec::with_capacity(alloc, found.len())?;
-    for FoundOut { speculation, of: _ } in found {
-        results.push(speculation)?;
+    let mut results = Vec::with_capacity(alloc, count_of(groups.as_slice()))?;
+    for group in groups {
+        put_speculations(&mut results, group)?;
     }
     Ok(results)
 }
@@ -145,7 +168,7 @@ fn ahead_in<J: OfRun + Send + Sync, R: Threads + Wait + Sync, G: Gate>(
     };
     let count = records.len() as u64;
     let Answered {
-        answers,
+        groups,
         gathered,
         beside,
     } = answered_beside(
@@ -157,14 +180,14 @@ fn ahead_in<J: OfRun + Send + Sync, R: Threads + Wait + Sync, G: Gate>(
         || views(rt, alloc, records),
     )?;
     Ok(Ahead {
-        results: speculations(alloc, answers)?,
+        results: speculations(alloc, groups)?,
         views: beside?,
         gathered,
     })
 }
 
 /// Has the packets that come next to a book evaluated by workers on its table. Each worker draws packets until all are drawn.
-/// The gate is told of each before it is evaluated, and once its result is sent. Beside them the calling thread makes the views
+/// The gate is told of each before it is evaluated, and once it has a result. Beside them the calling thread makes the views
 /// of the records.
 ///
 /// Results may be missing: of a packet for which memory is refused, or which asks much of the table, and of one that a thread

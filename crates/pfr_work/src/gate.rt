@@ -6,7 +6,8 @@ pub trait Gate: Sync {
     /// A worker has drawn a packet, and evaluates it next.
     fn starts(&self, number: u64);
 
-    /// A worker has sent what it found out about a packet.
+    /// A worker has found out about a packet. It hands that on with what it finds out about its next packets, or when it has drawn its
+    /// last.
     fn answered(&self, number: u64);
 
     /// The committer evaluates a packet itself next, as no result of it holds.

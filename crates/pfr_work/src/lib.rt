@@ -9,6 +9,7 @@ pub mod feed;
 mod found;
 pub mod gate;
 pub mod laws;
+mod pace;
 pub mod run;
 mod views;
 

@@ -4,17 +4,20 @@ ghost use Rattle.std.specs.List.{All, AllZip};
 ghost use Rattle.pfr_commit.specs.Books.{StandsAt, job_of};
 ghost use Rattle.pfr_commit.specs.Emissions.{texts_of};
 ghost use Rattle.pfr_commit.specs.Found.{IsOfJob};
-ghost use Rattle.pfr_commit.specs.World.{opening};
+ghost use Rattle.pfr_commit.specs.World.{no_texts, opening};
 ghost use Rattle.pfr_work.specs.Batches.{IsViewOf};
 ghost use Rattle.pfr_work.specs.Runs.{AddsClaims, AreViewed, Cut, MayAddClaims, Over, Refused, TakesBatch, Went};
 
 use crate::ahead::{Ahead, evaluate_ahead};
 use crate::feed::Feed;
 use crate::gate::Gate;
+use crate::pace::Pace;
 use pfr_capture::Record;
 use pfr_claims::Gathered;
 use pfr_commit::{Book, Emitted, Reruns};
+use pfr_crew::draw_alone;
 use pfr_headers::{View, view};
+use pfr_packet::Job;
 use pfr_record::Speculation;
 use std::alloc::{AllocError, AllocGlobal, Global};
 use std::sync::Wait;
@@ -71,6 +74,66 @@ fn with_views(alloc: Global, records: Vec<Record>, views: &[View]) -> Result<Pac
     Ok(packets)
 }
 
+/// How many bytes of verdict lines and of records a piece has.
+#[derive(Clone, Copy)]
+struct Room {
+    verdicts: usize,
+    packets: usize,
+}
+
+impl Room {
+    /// What a piece has, and an eighth more.
+    fn of(piece: &Emitted) -> Room {
+        let (verdicts, packets) = (piece.verdicts.len(), piece.packets.len());
+        Room {
+            verdicts: verdicts.saturating_add(verdicts / 8),
+            packets: packets.saturating_add(packets / 8),
+        }
+    }
+
+    /// An empty piece with so much room.
+    fn piece(self, alloc: Global) -> Emitted
+        ensures { texts_of result ≡ no_texts }
+    {
+        Emitted::with_room(alloc, self.verdicts, self.packets)
+    }
+}
+
+/// What a run knows of the batches so far.
+#[derive(Drop)]
+struct Course {
+    trace: Trace,
+    pace: Pace,
+    /// The room of the next piece.
+    room: Room,
+}
+
+impl Course {
+    /// No batch so far.
+    fn new(alloc: Global, job: &Job, workers: u64) -> Course
+        ensures { result.trace.batches.items ≡ [] }
+    {
+        Course {
+            trace: Trace {
+                batches: Vec::new(alloc),
+            },
+            pace: Pace::new(job, workers),
+            room: Room {
+                verdicts: 0,
+                packets: 0,
+            },
+        }
+    }
+
+    /// Takes note of a batch: of so many packets, of which the committer evaluated so many, and its piece.
+    fn note(&mut self, count: usize, own: u64, piece: &Emitted)
+        ensures { self.new.trace.batches.items ≡ self.old.trace.batches.items }
+    {
+        self.pace.note(count as u64, own);
+        self.room = Room::of(piece);
+    }
+}
+
 /// A batch, evaluated ahead.
 #[derive(Drop)]
 struct Evaluated {
@@ -78,40 +141,23 @@ struct Evaluated {
     results: Vec<Speculation>,
 }
 
-/// The packets of a batch, with what workers find out about them. Its claims are put behind the others.
-fn evaluated_batch<R: Threads + Wait + Sync, G: Gate>(
-    rt: &R,
-    alloc: Global,
-    book: &Book,
-    trace: &mut Trace,
-    records: Vec<Record>,
-    workers: u64,
-    gate: &G,
-) -> Result<Evaluated, AllocError>
-    requires count { length records.items ≤ 4096 }
-    requires workers { (0 < workers) × (workers ≤ 64) }
+/// A batch of which nothing is found out ahead.
+fn unevaluated(alloc: Global, records: Vec<Record>) -> Result<Evaluated, AllocError>
     ensures packets { IfOk result (λ batch. AreViewed records.items batch.packets.items) }
-    ensures own { IfOk result (λ batch. All (IsOfJob (job_of book.now)) batch.results.items) }
-    ensures claims { OnOk result (AddsClaims workers (length records.items) trace.old.batches.items trace.new.batches.items) }
-    ensures refused { OnErr result (MayAddClaims workers (length records.items) trace.old.batches.items trace.new.batches.items) }
+    ensures none { IfOk result (λ batch. batch.results.items ≡ []) }
 {
-    trace.batches.reserve(1)?;
-    let Ahead {
-        results,
-        views,
-        gathered,
-    } = evaluate_ahead(rt, alloc, book, records.as_slice(), workers, gate)?;
-    trace.batches.push(gathered)?;
-    let packets = with_views(alloc, records, views.as_slice())?;
+    let packets = viewed(alloc, records)?;
+    let results = Vec::new(alloc);
     Ok(Evaluated { packets, results })
 }
 
-/// The packets of a batch, with what workers find out about them, if there are any. Its claims are put behind the others then.
+/// The packets of a batch, with what workers find out about them, if there are any and they don't rest. Its claims are put behind
+/// the others then. While workers rest, the numbers of the batch are drawn here, and nothing is found out.
 fn batch_of<R: Threads + Wait + Sync, G: Gate>(
     rt: &R,
     alloc: Global,
     book: &Book,
-    trace: &mut Trace,
+    course: &mut Course,
     records: Vec<Record>,
     workers: u64,
     gate: &G,
@@ -120,19 +166,30 @@ fn batch_of<R: Threads + Wait + Sync, G: Gate>(
     requires workers { workers ≤ 64 }
     ensures packets { IfOk result (λ batch. AreViewed records.items batch.packets.items) }
     ensures own { IfOk result (λ batch. All (IsOfJob (job_of book.now)) batch.results.items) }
-    ensures claims { OnOk result (AddsClaims workers (length records.items) trace.old.batches.items trace.new.batches.items) }
-    ensures refused { OnErr result (MayAddClaims workers (length records.items) trace.old.batches.items trace.new.batches.items) }
+    ensures claims { OnOk result (AddsClaims workers (length records.items) course.old.trace.batches.items course.new.trace.batches.items) }
+    ensures refused { OnErr result (MayAddClaims workers (length records.items) course.old.trace.batches.items course.new.trace.batches.items) }
 {
-    if workers > 0 {
-        return evaluated_batch(rt, alloc, book, trace, records, workers, gate);
+    if workers == 0 {
+        return unevaluated(alloc, records);
     }
-    let packets = viewed(alloc, records)?;
-    let results = Vec::new(alloc);
+    course.trace.batches.reserve(1)?;
+    if course.pace.rests() {
+        let gathered = draw_alone(alloc, records.len() as u64, workers)?;
+        course.trace.batches.push(gathered)?;
+        return unevaluated(alloc, records);
+    }
+    let Ahead {
+        results,
+        views,
+        gathered,
+    } = evaluate_ahead(rt, alloc, book, records.as_slice(), workers, gate)?;
+    course.trace.batches.push(gathered)?;
+    let packets = with_views(alloc, records, views.as_slice())?;
     Ok(Evaluated { packets, results })
 }
 
 /// Who is told of packets that the committer evaluates: no one where there are no workers.
-fn told<G>(gate: &G, workers: u64) -> Watched<'_, G> {
+fn watched<G>(gate: &G, workers: u64) -> Watched<'_, G> {
     let gate = if workers > 0 { Some(gate) } else { None };
     Watched { gate }
 }
@@ -149,7 +206,7 @@ fn take_batch<R: Threads + Wait + Sync, G: Gate>(
     rt: &R,
     alloc: Global,
     book: &mut Book,
-    trace: &mut Trace,
+    course: &mut Course,
     records: Vec<Record>,
     workers: u64,
     gate: &G,
@@ -160,20 +217,23 @@ fn take_batch<R: Threads + Wait + Sync, G: Gate>(
     ensures job { book.new.job ≡ book.old.job }
     ensures taken { IfOk result (λ taken. TakesBatch book.old book.new records.items (texts_of taken.piece)) }
     ensures counted { OnOk result (book.new.count ≡ book.old.count + length records.items) }
-    ensures claims { OnOk result (AddsClaims workers (length records.items) trace.old.batches.items trace.new.batches.items) }
+    ensures claims { OnOk result (AddsClaims workers (length records.items) course.old.trace.batches.items course.new.trace.batches.items) }
     ensures refused { OnErr result ((book.new ≡ book.old) ⊎ (book.new.is_over ≡ true)) }
-    ensures claims_refused { OnErr result (MayAddClaims workers (length records.items) trace.old.batches.items trace.new.batches.items) }
+    ensures claims_refused { OnErr result (MayAddClaims workers (length records.items) course.old.trace.batches.items course.new.trace.batches.items) }
 {
-    let Evaluated { packets, results } = batch_of(rt, alloc, book, trace, records, workers, gate)?;
-    let reruns = told(gate, workers);
-    let mut piece = Emitted::new(alloc);
+    let Evaluated { packets, results } = batch_of(rt, alloc, book, course, records, workers, gate)?;
+    let reruns = watched(gate, workers);
+    let own = book.own();
+    let mut piece = course.room.piece(alloc);
     book.commit_own_batch(packets.as_slice(), results, &reruns, &mut piece)?;
+    course.note(packets.len(), book.own().saturating_sub(own), &piece);
     Ok(Taken { packets, piece })
 }
 
 /// Takes the batches of a feed one after the other, by a book that has committed nothing, and hands the feed what each adds
 /// before it asks for the next. So many workers evaluate the packets of a batch ahead, on the table that the batch before left;
-/// without workers the calling thread does all.
+/// without workers the calling thread does all. Where that doesn't pay they rest for some batches: the calling thread draws the
+/// numbers of such a batch, and evaluates its packets.
 ///
 /// Ok comes where the reading has ended and the piece of every batch was taken, and where the feed didn't take a piece whole. The
 /// only error is that memory was refused; the batch that was begun isn't handed to the feed then. What is taken is what one
@@ -198,21 +258,19 @@ pub fn run_workers<R: AllocGlobal + Threads + Wait + Sync, F: Feed, G: Gate>(
     ensures err { OnErr result.3 (Went F.gives F.takes F.rests (job_of book) feed (λ rounds world mid. Refused F.gives result.0 result.1 result.2 workers rounds world mid)) }
 {
     let alloc = rt.alloc();
-    let mut trace = Trace {
-        batches: Vec::new(alloc),
-    };
+    let mut course = Course::new(alloc, book.job(), workers);
     loop {
         let Some(records) = feed.batch() else {
-            return (book, feed, trace, Ok(()));
+            return (book, feed, course.trace, Ok(()));
         };
-        match take_batch(rt, alloc, &mut book, &mut trace, records, workers, gate) {
+        match take_batch(rt, alloc, &mut book, &mut course, records, workers, gate) {
             Ok(Taken { packets, piece }) => {
                 if !feed.take(piece) {
-                    return (book, feed, trace, Ok(()));
+                    return (book, feed, course.trace, Ok(()));
                 }
                 feed.give_back(packets);
             }
-            Err(refused) => return (book, feed, trace, Err(refused)),
+            Err(refused) => return (book, feed, course.trace, Err(refused)),
         }
     }
 }

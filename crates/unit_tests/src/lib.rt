@@ -1,10 +1,9 @@
-//! The unit tests of all crates: vectors from outside, printed texts, and each public function once with ample memory.
+//! The unit tests of the crates below a run's: vectors from outside, printed texts, and each public function once with ample
+//! memory. Those of runs stand in run_tests.
 //!
 //! What a contract says of every input, and what the models of the folder `tests` answer, isn't asked here again.
 #![tactic(auto)]
 
-#[cfg(test)]
-mod ahead;
 #[cfg(test)]
 mod captures;
 #[cfg(test)]
@@ -21,8 +20,6 @@ mod elements;
 mod frames;
 #[cfg(test)]
 mod rewriting;
-#[cfg(test)]
-mod runs;
 #[cfg(test)]
 mod states;
 #[cfg(test)]

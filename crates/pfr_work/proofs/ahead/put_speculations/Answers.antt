@@ -3,7 +3,7 @@ use Rattle.std.specs.Arc.{arc_value}
 use Rattle.std.specs.List.{All}
 use Rattle.std.proofs.lemmas.List.Elements.{All-push}
 use Rattle.pfr_record.specs.declared.speculation.Speculation.{Speculation}
-use Rattle.pfr_work.proofs.ahead.speculations.Goals as goal
+use Rattle.pfr_work.proofs.ahead.put_speculations.Goals as goal
 
 pub loop-speculation-preserved : goal.loop-speculation-preserved
 loop-speculation-preserved g c =

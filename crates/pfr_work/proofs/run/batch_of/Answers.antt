@@ -1,7 +1,7 @@
 use Rattle.std.proofs.Common.{inr}
 use Rattle.pfr_commit.proofs.BookLemmas.{on_err}
 use Rattle.pfr_work.proofs.RunLemmas.{adds_one}
-use Rattle.pfr_work.proofs.run.evaluated_batch.Goals as goal
+use Rattle.pfr_work.proofs.run.batch_of.Goals as goal
 
 pub returns-in_err-packets-clause-refused : goal.returns-in_err-packets-clause-refused
 returns-in_err-packets-clause-refused g c =

@@ -1,0 +1,11 @@
+//! The unit tests of whole runs: packets that workers evaluate ahead, and runs over devices that fail.
+//!
+//! What a contract says of every input, and what the models of the folder `tests` answer, isn't asked here again.
+#![tactic(auto)]
+
+#[cfg(test)]
+mod ahead;
+#[cfg(test)]
+mod orders;
+#[cfg(test)]
+mod runs;
