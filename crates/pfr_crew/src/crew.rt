@@ -25,11 +25,12 @@ impl Promise<Turn> for PassOf {
     ghost kept_by = { λ promise turn. batch_of_turn turn ≡ promise.0.value };
 }
 
-/// What comes of a batch: the answers in the order in which they arrived, the batch with all its passes ended, and what
-/// the calling thread's own part answered.
+/// What comes of a batch: the groups of answers in the order in which they arrived, the batch with all its passes
+/// ended, and what the calling thread's own part answered. A group has answers of one worker, in the order of their
+/// numbers.
 #[derive(Drop)]
 pub struct Answered<A, T> {
-    pub answers: Vec<A>,
+    pub groups: Vec<Vec<A>>,
     pub gathered: Gathered,
     pub beside: T,
 }
@@ -77,7 +78,7 @@ fn finish<R: Threads>(
 }
 
 /// Starts a worker for each pass, does the calling thread's part beside them, and joins them. The pass of a worker that
-/// can't be started is drawn to its end once the answers have been received, so that it takes no number from the others.
+/// can't be started is drawn to its end once the groups have been received, so that it takes no number from the others.
 fn work_beside<'s, E, R: Threads + Wait + Sync, W: Work, T, B: FnOnce() -> T + Drop>(
     scope: &Scope<'s, E>,
     rt: &'s R,
@@ -142,9 +143,10 @@ fn in_scope<R: Threads + Wait + Sync, W: Work, T, B: FnOnce() -> T + Drop>(
 /// Has the numbers of a batch answered by workers while the calling thread does something else.
 ///
 /// The batch has `count` numbers, at most 4096, for 1 to 64 `workers`, each a thread of its own that ends before this
-/// returns. `beside` runs once, in the calling thread. The only error is that memory was refused before any of that began,
-/// and then nothing was done. Later on, a worker whose thread is refused answers nothing, and its numbers are drawn by the
-/// others. An answer that there is no memory for is let go of.
+/// returns. `beside` runs once, in the calling thread. The only error is that memory was refused before any of that
+/// began, and then nothing was done. Later on, a worker whose thread is refused answers nothing, and its numbers are
+/// drawn by the others. Workers send their answers in groups. An answer is let go of where there is no memory to keep
+/// it, and a whole group where there is none to send or to receive it.
 pub fn answered_beside<R: Threads + Wait + Sync, W: Work, T, B: FnOnce() -> T + Drop>(
     rt: &R,
     alloc: Global,
@@ -170,12 +172,12 @@ pub fn answered_beside<R: Threads + Wait + Sync, W: Work, T, B: FnOnce() -> T + 
         ended,
     };
     let Returned {
-        answers,
+        groups,
         ended,
         beside,
     } = in_scope(rt, &claims, &slots, work, passes, desk);
     Ok(Answered {
-        answers,
+        groups,
         gathered: claims.gather(ended),
         beside,
     })

@@ -6,30 +6,30 @@ use pfr_claims::EndedPass;
 use std::alloc::Global;
 use std::sync::Wait;
 
-/// What the calling thread has before it: its own part, the channel of the answers, and a list with room for the ended
-/// passes.
+/// What the calling thread has before it: its own part, the channel of the groups of answers, and a list with room for
+/// the ended passes.
 #[derive(Drop)]
 pub(crate) struct Desk<B: Drop, A: Drop> {
     pub(crate) alloc: Global,
     pub(crate) beside: B,
-    pub(crate) inbox: Receiver<A>,
+    pub(crate) inbox: Receiver<Vec<A>>,
     pub(crate) ended: Vec<EndedPass>,
 }
 
 /// What has come back to the calling thread.
 pub(crate) struct Returned<A, T> {
-    pub(crate) answers: Vec<A>,
+    pub(crate) groups: Vec<Vec<A>>,
     pub(crate) ended: Vec<EndedPass>,
     pub(crate) beside: T,
 }
 
-/// Receives answers until the last sender is gone. An answer that there is no memory for is let go of.
-fn receive<R: Wait, A: Drop>(rt: &R, alloc: Global, inbox: Receiver<A>) -> Vec<A> {
-    let mut answers = Vec::new(alloc);
-    for answer in inbox.iter(rt) {
-        let _kept = answers.push(answer);
+/// Receives groups of answers until the last sender is gone. A group that there is no memory for is let go of.
+fn receive<R: Wait, A: Drop>(rt: &R, alloc: Global, inbox: Receiver<Vec<A>>) -> Vec<Vec<A>> {
+    let mut groups = Vec::new(alloc);
+    for group in inbox.iter(rt) {
+        let _kept = groups.push(group);
     }
-    answers
+    groups
 }
 
 impl<B: Drop, A: Drop> Desk<B, A> {
@@ -48,9 +48,9 @@ impl<B: Drop, A: Drop> Desk<B, A> {
             ended,
         } = self;
         let beside = beside();
-        let answers = receive(rt, alloc, inbox);
+        let groups = receive(rt, alloc, inbox);
         Returned {
-            answers,
+            groups,
             ended,
             beside,
         }
@@ -67,13 +67,13 @@ impl<A, T> Returned<A, T> {
         ensures beside { result.beside ≡ self.beside }
     {
         let Returned {
-            answers,
+            groups,
             mut ended,
             beside,
         } = self;
         ended.push_reserved(pass);
         Returned {
-            answers,
+            groups,
             ended,
             beside,
         }

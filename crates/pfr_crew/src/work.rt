@@ -2,13 +2,13 @@
 ghost use Rattle.std.specs.Prelude.{◌≡◌};
 ghost use Rattle.pfr_crew.specs.Turns.{batch_of_turn};
 
+use crate::outbox::Outbox;
 use crate::senders::SenderSlot;
-use crossbeam_channel::Sender;
 use pfr_claims::{Claim, ClaimPass, Claims, EndedPass};
 use std::sync::Wait;
 
-/// What all workers of a batch share: how a number of the batch is answered. A number is a place in the batch, from 0, and
-/// below its count.
+/// What all workers of a batch share: how a number of the batch is answered. A number is a place in the batch, from 0,
+/// and below its count.
 pub trait Work: Sync {
     /// What is found out about a number. What a caller may rely on stands in the type's own ghost fields.
     type Answer: Send + Drop;
@@ -16,8 +16,11 @@ pub trait Work: Sync {
     /// Answers a number, or finds nothing to say about it.
     fn answer(&self, number: u64) -> Option<Self::Answer>;
 
-    /// Is called once the answer of a number was sent, by the worker that sent it.
-    fn sent(&self, number: u64);
+    /// Is called once a number's answer is kept to be sent: it goes with the next ones, or when the pass ends. The
+    /// worker that answered the number calls this before it draws another one, so who is told may hold a later number
+    /// up until this one is answered. It isn't called where there was no memory to keep the answer. An answer that is
+    /// kept may still be let go of later, where there is no memory to send its group or to receive it.
+    fn answered(&self, number: u64);
 }
 
 /// What a worker gives back of its turn: its pass, drawn to the end, or not used where it had no sender.
@@ -40,13 +43,14 @@ impl Turn {
     }
 }
 
-/// Answers one number. An answer that can't be sent for want of memory is let go of.
-fn answer_number<R: Wait, W: Work>(rt: &R, work: &W, sender: &Sender<W::Answer>, number: u64) {
+/// Answers one number, and says that it is answered before a group is sent.
+fn answer_number<R: Wait, W: Work>(rt: &R, work: &W, outbox: &mut Outbox<W::Answer>, number: u64) {
     let Some(answer) = work.answer(number) else {
         return;
     };
-    if sender.send(rt, answer).is_ok() {
-        work.sent(number);
+    if outbox.put(answer) {
+        work.answered(number);
+        outbox.send_full(rt);
     }
 }
 
@@ -54,7 +58,7 @@ fn answer_number<R: Wait, W: Work>(rt: &R, work: &W, sender: &Sender<W::Answer>,
 fn answer_numbers<R: Wait, W: Work>(
     rt: &R,
     claims: &Claims,
-    sender: &Sender<W::Answer>,
+    outbox: &mut Outbox<W::Answer>,
     work: &W,
     pass: ClaimPass,
 ) -> EndedPass
@@ -65,7 +69,7 @@ fn answer_numbers<R: Wait, W: Work>(
     'draws: loop {
         match claims.claim(live) {
             Claim::Number(number, pass) => {
-                answer_number(rt, work, sender, number);
+                answer_number(rt, work, outbox, number);
                 live = pass;
             }
             Claim::Ended(pass) => return pass,
@@ -73,7 +77,8 @@ fn answer_numbers<R: Wait, W: Work>(
     }
 }
 
-/// A worker's turn. It lets go of its sender when its pass has ended. With no sender it draws nothing.
+/// A worker's turn. When its pass has ended, it sends the answers that are left and lets go of its sender. With no
+/// sender it draws nothing.
 pub(crate) fn take_turn<R: Wait, W: Work>(
     rt: &R,
     claims: &Claims,
@@ -85,7 +90,11 @@ pub(crate) fn take_turn<R: Wait, W: Work>(
     ensures { batch_of_turn result ≡ claims.now }
 {
     match slot.take(rt) {
-        Some(sender) => Turn::Ended(answer_numbers(rt, claims, &sender, work, pass)),
+        Some(mut outbox) => {
+            let ended = answer_numbers(rt, claims, &mut outbox, work, pass);
+            outbox.close(rt);
+            Turn::Ended(ended)
+        }
         None => Turn::Unused(pass),
     }
 }
