@@ -1,6 +1,7 @@
 //! A batch whose workers answer beside the calling thread.
-ghost use Rattle.std.specs.Prelude.{◌≡◌, ◌+◌, ◌<◌, ◌≤◌, IfOk, IfErr, length, vec_len, vec_capacity};
+ghost use Rattle.std.specs.Prelude.{◌≡◌, ◌+◌, ◌<◌, ◌≤◌, [], IfOk, IfErr, length, vec_len, vec_capacity};
 ghost use Rattle.std.specs.List.{All};
+ghost use Rattle.pfr_claims.specs.Batches.{held};
 ghost use Rattle.pfr_crew.specs.Turns.{batch_of_turn};
 
 use crate::desk::{Desk, Returned};
@@ -181,4 +182,33 @@ pub fn answered_beside<R: Threads + Wait + Sync, W: Work, T, B: FnOnce() -> T + 
         gathered: claims.gather(ended),
         beside,
     })
+}
+
+/// Draws passes of a batch to their ends, one after the other.
+fn drain_all(
+    alloc: Global,
+    claims: &Claims,
+    mut passes: Vec<ClaimPass>,
+) -> Result<Vec<EndedPass>, AllocError>
+    requires { All (λ pass. pass ≡ held claims.now []) passes.items }
+    ensures own { IfOk result (λ ended. All (λ pass. pass.batch ≡ claims.now) ended.items) }
+    ensures whole { IfOk result (λ ended. vec_len ended ≡ vec_len passes) }
+{
+    let mut ended = Vec::with_capacity(alloc, passes.len())?;
+    while let Some(pass) = passes.pop() {
+        ended.push(claims.drain(pass))?;
+    }
+    Ok(ended)
+}
+
+/// Draws the numbers of a batch in the calling thread, one after the other, by the passes of so many workers. Nothing answers
+/// them. The only error is that memory was refused.
+pub fn draw_alone(alloc: Global, count: u64, workers: u64) -> Result<Gathered, AllocError>
+    requires count { count ≤ 4096 }
+    requires workers { (0 < workers) × (workers ≤ 64) }
+    ensures { IfOk result (λ gathered. (gathered.sizes.count ≡ count) × (gathered.sizes.workers ≡ workers)) }
+{
+    let (claims, passes) = Claims::new(alloc, count, workers)?;
+    let ended = drain_all(alloc, &claims, passes)?;
+    Ok(claims.gather(ended))
 }

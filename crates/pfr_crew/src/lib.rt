@@ -12,5 +12,5 @@ mod outbox;
 mod senders;
 mod work;
 
-pub use crew::{Answered, answered_beside};
+pub use crew::{Answered, answered_beside, draw_alone};
 pub use work::Work;

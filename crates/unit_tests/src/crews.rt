@@ -1,7 +1,7 @@
 //! Batches whose numbers workers answer beside the calling thread.
 ghost use Rattle.std.specs.Prelude.{◌≡◌, ◌+◌, ◌<◌, ◌≤◌};
 
-use pfr_crew::{Work, answered_beside};
+use pfr_crew::{Work, answered_beside, draw_alone};
 use std::alloc::{AllocError, Global};
 use std::sync::Wait;
 use std::sync::atomic::{AtomicBool, AtomicU64, Ordering};
@@ -20,27 +20,36 @@ fn wait_for<R: Clock>(rt: &R, flag: &AtomicBool) -> bool {
     false
 }
 
-/// Answers number 0 once number 1 was sent.
+/// Answers number 0 once number 1 was answered.
 #[derive(Drop)]
 struct LastFirst<'a, R: Clock + Sync> {
     rt: &'a R,
-    sent: AtomicBool,
+    answered: AtomicBool,
 }
 
 impl<'a, R: Clock + Sync> Work for LastFirst<'a, R> {
     type Answer = (u64, bool);
 
     fn answer(&self, number: u64) -> Option<(u64, bool)> {
-        Some((number, number == 0 && wait_for(self.rt, &self.sent)))
+        Some((number, number == 0 && wait_for(self.rt, &self.answered)))
     }
 
-    fn sent(&self, number: u64) {
+    fn answered(&self, number: u64) {
         if number == 1 {
-            self.sent.store(true, Ordering::SeqCst);
-            // An answer that is only sent after this call arrives behind the other one.
-            sleep(self.rt, Duration::from_millis(50));
+            self.answered.store(true, Ordering::SeqCst);
         }
     }
+}
+
+/// How often an answer is in some groups.
+fn times_in(groups: &[Vec<(u64, bool)>], wanted: (u64, bool)) -> u64 {
+    let mut times = 0u64;
+    for group in groups {
+        for answer in group {
+            times = times.saturating_add(u64::from(*answer == wanted));
+        }
+    }
+    times
 }
 
 /// Two workers answer beside each other, and beside the calling thread.
@@ -48,12 +57,13 @@ impl<'a, R: Clock + Sync> Work for LastFirst<'a, R> {
 fn workers_answer_beside_each_other(rt: HostRuntime) -> Result<(), Fail> {
     let work = LastFirst {
         rt: &rt,
-        sent: AtomicBool::new(false),
+        answered: AtomicBool::new(false),
     };
-    let beside = || wait_for(&rt, &work.sent);
+    let beside = || wait_for(&rt, &work.answered);
     let answered = answered_beside(&rt, rt.alloc(), 2, 2, &work, beside)?;
-    assert!(rt; answered.beside && answered.answers.len() == 2);
-    assert!(rt; answered.answers[0] == (1, false) && answered.answers[1] == (0, true));
+    assert!(rt; answered.beside && answered.groups.len() == 2);
+    assert!(rt; times_in(answered.groups.as_slice(), (1, false)) == 1);
+    assert!(rt; times_in(answered.groups.as_slice(), (0, true)) == 1);
     Ok(())
 }
 
@@ -72,11 +82,11 @@ fn number_of(answer: &Doubled) -> u64
     answer.double - answer.number
 }
 
-/// How often one number was answered, was sent, and arrived.
+/// How often one number was asked, was answered, and its answer arrived.
 #[derive(Drop)]
 struct Times {
+    asked: AtomicU64,
     answered: AtomicU64,
-    sent: AtomicU64,
     arrived: AtomicU64,
 }
 
@@ -91,8 +101,8 @@ impl Tally {
         let mut times = Vec::new(alloc);
         for _number in 0..numbers {
             times.push(Times {
+                asked: AtomicU64::new(0),
                 answered: AtomicU64::new(0),
-                sent: AtomicU64::new(0),
                 arrived: AtomicU64::new(0),
             })?;
         }
@@ -100,22 +110,22 @@ impl Tally {
     }
 
     /// Counts what has arrived.
-    fn arrive(&self, answers: &[Doubled]) {
-        for answer in answers {
+    fn arrive(&self, group: &[Doubled]) {
+        for answer in group {
             if let Some(times) = self.times.get(number_of(answer) as usize) {
                 times.arrived.fetch_add(1, Ordering::SeqCst);
             }
         }
     }
 
-    /// Whether each number was answered once, and each answer sent once and received once.
+    /// Whether each number was asked once, and each answer told once and received once.
     fn is_whole(&self) -> bool {
         for (index, times) in self.times.iter().enumerate() {
             let wanted = u64::from(index % 3 != 0);
+            let asked = times.asked.load(Ordering::SeqCst);
             let answered = times.answered.load(Ordering::SeqCst);
-            let sent = times.sent.load(Ordering::SeqCst);
             let arrived = times.arrived.load(Ordering::SeqCst);
-            if answered != 1 || sent != wanted || arrived != wanted {
+            if asked != 1 || answered != wanted || arrived != wanted {
                 return false;
             }
         }
@@ -128,7 +138,7 @@ impl Work for Tally {
 
     fn answer(&self, number: u64) -> Option<Doubled> {
         if let Some(times) = self.times.get(number as usize) {
-            times.answered.fetch_add(1, Ordering::SeqCst);
+            times.asked.fetch_add(1, Ordering::SeqCst);
         }
         if number % 3 == 0 {
             return None;
@@ -137,9 +147,9 @@ impl Work for Tally {
         Some(Doubled { number, double })
     }
 
-    fn sent(&self, number: u64) {
+    fn answered(&self, number: u64) {
         if let Some(times) = self.times.get(number as usize) {
-            times.sent.fetch_add(1, Ordering::SeqCst);
+            times.answered.fetch_add(1, Ordering::SeqCst);
         }
     }
 }
@@ -158,17 +168,29 @@ fn play<R: Threads + Wait + Sync>(
     let calls = AtomicU64::new(0);
     let beside = || calls.fetch_add(1, Ordering::SeqCst);
     let answered = answered_beside(rt, alloc, numbers, workers, tally, beside)?;
-    tally.arrive(&answered.answers);
+    for group in &answered.groups {
+        tally.arrive(group);
+    }
     Ok((calls.load(Ordering::SeqCst), answered.gathered.word))
 }
 
-/// Each number is answered once, whoever draws it, and each answer is sent once and arrives.
+/// Each number is asked once, whoever draws it, and each answer is told once and arrives: also where there are several groups of
+/// one worker.
 #[test]
 fn each_number_is_answered_once(rt: HostRuntime) -> Result<(), Fail> {
-    for (numbers, workers, word) in [(64, 4, 68), (64, 1, 65), (0, 3, 3), (5, 64, 69)] {
+    for (numbers, workers, word) in [(64, 4, 68), (200, 1, 201), (0, 3, 3), (5, 64, 69)] {
         let tally = Tally::new(rt.alloc(), numbers)?;
         let played = play(&rt, rt.alloc(), numbers, workers, &tally)?;
         assert!(rt; played == (1, word) && tally.is_whole());
+    }
+    Ok(())
+}
+
+/// The numbers of a batch that nobody answers are drawn, each by some pass.
+#[test]
+fn numbers_are_drawn_alone(rt: HostRuntime) -> Result<(), Fail> {
+    for (numbers, workers, word) in [(256, 4, 260), (0, 1, 1), (5, 64, 69)] {
+        assert!(rt; draw_alone(rt.alloc(), numbers, workers)?.word == word);
     }
     Ok(())
 }
