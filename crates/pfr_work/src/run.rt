@@ -189,7 +189,7 @@ fn batch_of<R: Threads + Wait + Sync, G: Gate>(
 }
 
 /// Who is told of packets that the committer evaluates: no one where there are no workers.
-fn watched<G>(gate: &G, workers: u64) -> Watched<'_, G> {
+fn whose_gate<G>(gate: &G, workers: u64) -> Watched<'_, G> {
     let gate = if workers > 0 { Some(gate) } else { None };
     Watched { gate }
 }
@@ -222,7 +222,7 @@ fn take_batch<R: Threads + Wait + Sync, G: Gate>(
     ensures claims_refused { OnErr result (MayAddClaims workers (length records.items) course.old.trace.batches.items course.new.trace.batches.items) }
 {
     let Evaluated { packets, results } = batch_of(rt, alloc, book, course, records, workers, gate)?;
-    let reruns = watched(gate, workers);
+    let reruns = whose_gate(gate, workers);
     let own = book.own();
     let mut piece = course.room.piece(alloc);
     book.commit_own_batch(packets.as_slice(), results, &reruns, &mut piece)?;
