@@ -3,7 +3,8 @@
 Workers evaluate the packets of a batch on the table as it was before. So the cases are such that packets often change
 what one close behind them meets. Most are those of other comparisons: few connections with their packets close
 together, tables of a few states, ranges of a few ports, states that run out on the way. Here come runs that fill a
-range of ports again and again, limits of states, and packets that come twice.
+range of ports again and again, runs that are so long that workers rest in them, limits of states, and packets that come
+twice.
 """
 
 import random
@@ -30,6 +31,8 @@ LIMITED, LIMITS = 0.4, (1, 2, 3, 5, 8, 20)
 # of a run that fills a range: the ports, and how many flows more or fewer begin in a round
 RANGE_LENGTHS, SURPLUS = (1, 2, 3, 8, 30, 120), (-2, -1, 0, 0, 1, 2, 10)
 ROUNDS = 2, 6
+# packets of a run in which workers rest, and are tried again
+RESTING = 20_000
 # seconds between two rounds, and of the timeouts, so that in some rounds all ports are free, and in some none is
 ROUND_WAITS, SECONDS = (0, 0, 1, 4, 5, 6, 30), (1, 5, 5, 20, 60)
 UDP_TIMEOUTS = ("udp.first", "udp.single", "udp.multiple")
@@ -38,6 +41,13 @@ UDP_TIMEOUTS = ("udp.first", "udp.single", "udp.multiple")
 def plain_run(draw, number):
     count = draw.randint(*draw.choice(LENGTHS))
     return steps.random_runs.some_run(draw, number, count, (count, count))
+
+
+def resting_run(draw, number):
+    """The packets of a run again and again, so often that workers rest where they don't pay, and are tried again."""
+    run = plain_run(draw, number)
+    times = RESTING // max(len(run.records), 1) + 1
+    return run._replace(records=(list(run.records) * times)[:RESTING])
 
 
 def translated_run(draw, number):
@@ -87,7 +97,8 @@ def with_some_again(draw, records):
     return made
 
 
-KINDS = (plain_run, translated_run, telling_run, full_run, moving_run, translated_run, message_cases.together_run)
+KINDS = (plain_run, translated_run, telling_run, full_run, moving_run, translated_run, message_cases.together_run,
+         resting_run)
 
 
 def is_fit(run):
