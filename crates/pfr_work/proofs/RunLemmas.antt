@@ -1,5 +1,5 @@
 -- How a run of batches goes on.
-use Rattle.std.proofs.Common.{◌≡◌, ◌∙◌, ◌<◌, ℕ, true, ◌⊎◌, inl, inr, List, [], ◌∷◌, ◌++◌, length, map, get_or, refl, sym, ap, subst, arith}
+use Rattle.std.proofs.Common.{◌≡◌, ◌∙◌, ◌<◌, ℕ, true, ◌⊎◌, inl, inr, Result, Ok, Err, OnOk, List, [], ◌∷◌, ◌++◌, length, map, get_or, refl, sym, ap, subst, arith}
 use Rattle.std.specs.List.{AllZip}
 use Rattle.std.proofs.lemmas.List.{length-map, map-append}
 use Rattle.std.proofs.lemmas.List.Elements.{All-nil, All-push}
@@ -18,6 +18,11 @@ use Rattle.pfr_work.specs.Batches.{IsViewOf}
 use Rattle.pfr_work.specs.declared.run.Trace.{Trace}
 use Rattle.pfr_work.specs.Runs.{AddsClaims, AreClaims, AreViewed, Cut, IsPiece, MayAddClaims, Over, Refused, Round, Rounds, TakesBatch, Went, behind, counts_of}
 use Rattle.pfr_work.proofs.ViewLemmas.{one_more}
+
+-- what holds in any case holds where the answer is Ok
+pub on_ok : {X E : Type 0} (r : Result X E) (P : Type 0) → P → OnOk r P
+on_ok (Ok x) P h = h
+on_ok (Err e) P h = tt
 
 -- ---- a book's batch
 

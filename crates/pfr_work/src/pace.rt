@@ -4,6 +4,7 @@ use pfr_packet::Job;
 
 /// To hand a result over takes about as long as to ask a packet so many rules, and so does to start a worker.
 const HANDING: u64 = 64;
+
 const STARTING: u64 = 1500;
 
 /// So many packets are evaluated ahead before workers rest.
@@ -11,6 +12,7 @@ const TRIED: u64 = 1024;
 
 /// For how many packets workers rest at first, and at most. Each rest takes four times as many as the one before.
 const FIRST_REST: u64 = 16_384;
+
 const LONGEST_REST: u64 = 262_144;
 
 /// Says of each batch whether workers evaluate its packets ahead, or rest.

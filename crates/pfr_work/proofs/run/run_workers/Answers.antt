@@ -13,7 +13,7 @@ loop-records-init g c =
       few = omega (arith, none);
       told = refl;
       names = refl;
-      so_far = so_far_first _ _ _ (job_of c.args.book) c.args.book c.args.feed _ c.args.workers c.requires.start c.new.ensures.items;
+      so_far = so_far_first _ _ _ (job_of c.args.book) c.args.book c.args.feed _ c.args.workers c.requires.start c.new-course.ensures;
     }
 
 pub loop-records-preserved : goal.loop-records-preserved
@@ -29,18 +29,18 @@ loop-records-preserved g c =
       few = omega arith;
       told = c.give_back.ensures.told ∙ c.take.ensures.told ∙ c.batch.ensures.told ∙ i.told;
       names = c.give_back.ensures.names ∙ c.take.ensures.names ∙ c.batch.ensures.names ∙ i.names;
-      so_far = so_far_next g.F.Feed.gives g.F.Feed.takes g.F.Feed.rests (job_of c.args.book) c.args.feed c.loop-records.book c.take_batch.new.book c.loop-records.feed c.batch.new.self c.take.new.self c.give_back.new.self c.loop-records.trace c.take_batch.new.trace c.args.workers
+      so_far = so_far_next g.F.Feed.gives g.F.Feed.takes g.F.Feed.rests (job_of c.args.book) c.args.feed c.loop-records.book c.take_batch.new.book c.loop-records.feed c.batch.new.self c.take.new.self c.give_back.new.self c.loop-records.course.trace c.take_batch.new.course.trace c.args.workers
           c.in-Some.records.items (texts_of c.in-Ok.field-0.piece) i.so_far (same_job c.loop-records.book c.args.book i.job) c.in-Some.ensures.some c.in-Ok.ensures.taken (c.take.ensures.taken c.if-not-take.false) c.give_back.ensures.rests c.in-Ok.ensures.claims;
     }
 
 pub returns-then-not-take-clause-ok : goal.returns-then-not-take-clause-ok
 returns-then-not-take-clause-ok g c =
     let i = c.loop-records.invariant in
-    cut_off g.F.Feed.gives g.F.Feed.takes g.F.Feed.cuts g.F.Feed.ends g.F.Feed.rests (job_of c.args.book) c.args.feed c.loop-records.book c.take_batch.new.book c.loop-records.feed c.batch.new.self c.take.new.self c.loop-records.trace c.take_batch.new.trace c.args.workers
+    cut_off g.F.Feed.gives g.F.Feed.takes g.F.Feed.cuts g.F.Feed.ends g.F.Feed.rests (job_of c.args.book) c.args.feed c.loop-records.book c.take_batch.new.book c.loop-records.feed c.batch.new.self c.take.new.self c.loop-records.course.trace c.take_batch.new.course.trace c.args.workers
     c.in-Some.records.items (texts_of c.in-Ok.field-0.piece) i.so_far (same_job c.loop-records.book c.args.book i.job) c.in-Some.ensures.some c.in-Ok.ensures.taken (c.take.ensures.cut c.if-not-take.true) c.in-Ok.ensures.claims
 
 pub returns-in-Err-clause-err : goal.returns-in-Err-clause-err
 returns-in-Err-clause-err g c =
     let i = c.loop-records.invariant in
-    is_refused g.F.Feed.gives g.F.Feed.takes g.F.Feed.rests (job_of c.args.book) c.args.feed c.loop-records.book c.take_batch.new.book c.loop-records.feed c.batch.new.self c.loop-records.trace c.take_batch.new.trace c.args.workers
+    is_refused g.F.Feed.gives g.F.Feed.takes g.F.Feed.rests (job_of c.args.book) c.args.feed c.loop-records.book c.take_batch.new.book c.loop-records.feed c.batch.new.self c.loop-records.course.trace c.take_batch.new.course.trace c.args.workers
     c.in-Some.records.items i.so_far c.in-Some.ensures.some c.in-Err.ensures.refused c.in-Err.ensures.claims_refused

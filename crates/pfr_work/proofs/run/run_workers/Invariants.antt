@@ -9,7 +9,7 @@ invariant-loop-records g l = record {
   few : l.book.count ≤ g.F.Feed.given l.feed;
   told : g.F.Feed.told l.feed ≡ g.F.Feed.told l.fn.feed;
   names : g.F.Feed.names l.feed ≡ g.F.Feed.names l.fn.feed;
-  so_far : SoFar g.F.Feed.gives g.F.Feed.takes g.F.Feed.rests (job_of l.fn.book) l.fn.feed l.book l.feed l.trace l.workers;
+  so_far : SoFar g.F.Feed.gives g.F.Feed.takes g.F.Feed.rests (job_of l.fn.book) l.fn.feed l.book l.feed l.course.trace l.workers;
 }
 
 abbrev pub decreases-loop-records : goal.decreases-loop-records
