@@ -3,4 +3,5 @@ pub mod CommitLemmas
 pub mod LeadLemmas
 pub mod ReachLemmas
 pub mod RunLemmas
+pub mod TieLemmas
 pub mod ViewLemmas

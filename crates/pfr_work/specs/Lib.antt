@@ -1,3 +1,4 @@
 pub mod Batches
 pub mod Ends
 pub mod Runs
+pub mod Ties
