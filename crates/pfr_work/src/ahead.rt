@@ -45,8 +45,9 @@ struct Speculating<'a, J: OfRun, G> {
     records: &'a [Record],
     /// The clock at each record.
     clocks: &'a [Clock],
-    /// The number of the first packet.
+    /// The number of the first packet, and how many are evaluated.
     first: u64,
+    most: u64,
     gate: &'a G,
     of: PhantomData<J>,
     ghost own: { J.job ≡ Some (arc_value job.now) },
@@ -79,6 +80,9 @@ impl<'a, J: OfRun + Send + Sync, G: Gate> Work for Speculating<'a, J, G> {
 
     fn answer(&self, place: u64) -> Option<FoundOut<J>> {
         self.gate.starts(self.number_at(place));
+        if place >= self.most {
+            return None;
+        }
         let found = self.speculation_at(place)?;
         if found.speculation.questions() > MOST_QUESTIONS {
             return None;
@@ -139,12 +143,13 @@ fn clocks(alloc: Global, clock: Clock, records: &[Record]) -> Result<Vec<Clock>,
     Ok(clocks)
 }
 
-/// Has the packets of a batch evaluated by workers, under the job that is named.
+/// Has the first packets of a batch evaluated by workers, so many, under the job that is named.
 fn ahead_in<J: OfRun + Send + Sync, R: Threads + Wait + Sync, G: Gate>(
     rt: &R,
     alloc: Global,
     book: &Book,
     records: &[Record],
+    most: u64,
     workers: u64,
     gate: &G,
 ) -> Result<Ahead, AllocError>
@@ -163,6 +168,7 @@ fn ahead_in<J: OfRun + Send + Sync, R: Threads + Wait + Sync, G: Gate>(
         records,
         clocks: clocks.as_slice(),
         first: book.committed().saturating_add(1),
+        most,
         gate,
         of: PhantomData,
     };
@@ -186,17 +192,18 @@ fn ahead_in<J: OfRun + Send + Sync, R: Threads + Wait + Sync, G: Gate>(
     })
 }
 
-/// Has the packets that come next to a book evaluated by workers on its table. Each worker draws packets until all are drawn.
-/// The gate is told of each before it is evaluated, and once it has a result. Beside them the calling thread makes the views
-/// of the records.
+/// Has the packets that come next to a book evaluated by workers on its table, but at most so many of them, the first ones. Each
+/// worker draws packets until all are drawn. The gate is told of each that is drawn, before it is evaluated, and once it has a
+/// result. Beside them the calling thread makes the views of the records.
 ///
-/// Results may be missing: of a packet for which memory is refused, or which asks much of the table, and of one that a thread
-/// which can't be started would have drawn. The only error is that memory was refused.
+/// Results may be missing also of the first packets: of one for which memory is refused, or which asks much of the table, and of
+/// one that a thread which can't be started would have drawn. The only error is that memory was refused.
 pub fn evaluate_ahead<R: Threads + Wait + Sync, G: Gate>(
     rt: &R,
     alloc: Global,
     book: &Book,
     records: &[Record],
+    most: u64,
     workers: u64,
     gate: &G,
 ) -> Result<Ahead, AllocError>
@@ -206,5 +213,5 @@ pub fn evaluate_ahead<R: Threads + Wait + Sync, G: Gate>(
     ensures views { IfOk result (λ ahead. AllZip IsViewOf records.now ahead.views.items) }
     ensures sizes { IfOk result (λ ahead. (ahead.gathered.sizes.count ≡ length records.now) × (ahead.gathered.sizes.workers ≡ workers)) }
 {
-    ahead_in::<Brand, R, G>(rt, alloc, book, records, workers, gate)
+    ahead_in::<Brand, R, G>(rt, alloc, book, records, most, workers, gate)
 }

@@ -1,21 +1,23 @@
-//! Whether it pays to have packets evaluated ahead.
+//! How many packets it pays to have evaluated ahead.
 
 use pfr_packet::Job;
 
 /// To hand a result over takes about as long as to ask a packet so many rules, and so does to start a worker.
-const HANDING: u64 = 64;
+const HANDING: u64 = 400;
 
 const STARTING: u64 = 1500;
 
-/// So many packets are evaluated ahead before workers rest.
-const TRIED: u64 = 1024;
+/// So many packets of a run are always evaluated ahead, and so many of a batch that comes behind a rest.
+const FIRST: u64 = 1024;
+
+const TRIAL: u64 = 256;
 
 /// For how many packets workers rest at first, and at most. Each rest takes four times as many as the one before.
 const FIRST_REST: u64 = 16_384;
 
 const LONGEST_REST: u64 = 262_144;
 
-/// Says of each batch whether workers evaluate its packets ahead, or rest.
+/// Says of each batch how many of its packets workers evaluate ahead.
 ///
 /// A result that holds saves asking the rules, but each result has to be handed over, and each worker to be started. So workers pay
 /// where there are many rules and results hold, and not where packets go by the states that packets of the same batch change.
@@ -26,8 +28,9 @@ pub(crate) struct Pace {
     workers: u64,
     /// What evaluating a packet ahead saves where its result holds, in rules.
     saves: u64,
-    /// How many packets were evaluated ahead so far.
-    tried: u64,
+    /// How many packets were evaluated ahead so far, and whether it paid the last time.
+    evaluated: u64,
+    pays: bool,
     /// For how many packets workers rest from here on, and for how many they do the next time.
     rests: u64,
     next_rest: u64,
@@ -42,23 +45,30 @@ impl Pace {
             workers,
             // one worker alone, for whom the committer waits, saves nothing
             saves: rules.saturating_sub(rules / workers.max(1)),
-            tried: 0,
+            evaluated: 0,
+            pays: false,
             rests: 0,
             next_rest: FIRST_REST,
         }
     }
 
-    /// Whether workers rest in the next batch.
-    pub(crate) fn rests(&self) -> bool {
-        self.rests > 0
+    /// How many packets of the next batch are evaluated ahead, its first ones: none while workers rest, and few as long as it isn't
+    /// known that it pays.
+    pub(crate) fn ahead(&self) -> u64 {
+        if self.rests > 0 {
+            0
+        } else if self.pays {
+            u64::MAX
+        } else {
+            FIRST.saturating_sub(self.evaluated).max(TRIAL)
+        }
     }
 
-    /// Whether a batch paid, of so many packets of which so many were evaluated by the committer.
-    fn paid(&self, count: u64, own: u64) -> bool {
-        let saved = count.saturating_sub(own).saturating_mul(self.saves);
-        let handing = count.saturating_mul(HANDING);
+    /// Whether it paid to evaluate so many packets of a batch ahead, of whose results so many held.
+    fn paid(&self, evaluated: u64, held: u64) -> bool {
+        let handing = evaluated.saturating_mul(HANDING);
         let starting = self.workers.saturating_mul(STARTING);
-        saved >= handing.saturating_add(starting)
+        held.saturating_mul(self.saves) >= handing.saturating_add(starting)
     }
 
     /// Takes note of a batch, of so many packets of which so many were evaluated by the committer.
@@ -67,12 +77,17 @@ impl Pace {
             self.rests = self.rests.saturating_sub(count);
             return;
         }
-        self.tried = self.tried.saturating_add(count);
-        if self.tried < TRIED || self.paid(count, own) {
-            self.next_rest = FIRST_REST;
+        let evaluated = self.ahead().min(count);
+        self.evaluated = self.evaluated.saturating_add(evaluated);
+        if self.evaluated < FIRST {
             return;
         }
-        self.rests = self.next_rest;
-        self.next_rest = self.next_rest.saturating_mul(4).min(LONGEST_REST);
+        self.pays = self.paid(evaluated, count.saturating_sub(own));
+        if self.pays {
+            self.next_rest = FIRST_REST;
+        } else {
+            self.rests = self.next_rest;
+            self.next_rest = self.next_rest.saturating_mul(4).min(LONGEST_REST);
+        }
     }
 }

@@ -151,8 +151,8 @@ fn unevaluated(alloc: Global, records: Vec<Record>) -> Result<Evaluated, AllocEr
     Ok(Evaluated { packets, results })
 }
 
-/// The packets of a batch, with what workers find out about them, if there are any and they don't rest. Its claims are put behind
-/// the others then. While workers rest, the numbers of the batch are drawn here, and nothing is found out.
+/// The packets of a batch, with what workers find out about as many of them as it pays for, if there are workers. Its claims are
+/// put behind the others then. While workers rest, the numbers of the batch are drawn here, and nothing is found out.
 fn batch_of<R: Threads + Wait + Sync, G: Gate>(
     rt: &R,
     alloc: Global,
@@ -173,7 +173,8 @@ fn batch_of<R: Threads + Wait + Sync, G: Gate>(
         return unevaluated(alloc, records);
     }
     course.trace.batches.reserve(1)?;
-    if course.pace.rests() {
+    let most = course.pace.ahead();
+    if most == 0 {
         let gathered = draw_alone(alloc, records.len() as u64, workers)?;
         course.trace.batches.push(gathered)?;
         return unevaluated(alloc, records);
@@ -182,7 +183,7 @@ fn batch_of<R: Threads + Wait + Sync, G: Gate>(
         results,
         views,
         gathered,
-    } = evaluate_ahead(rt, alloc, book, records.as_slice(), workers, gate)?;
+    } = evaluate_ahead(rt, alloc, book, records.as_slice(), most, workers, gate)?;
     course.trace.batches.push(gathered)?;
     let packets = with_views(alloc, records, views.as_slice())?;
     Ok(Evaluated { packets, results })
@@ -233,7 +234,8 @@ fn take_batch<R: Threads + Wait + Sync, G: Gate>(
 /// Takes the batches of a feed one after the other, by a book that has committed nothing, and hands the feed what each adds
 /// before it asks for the next. So many workers evaluate the packets of a batch ahead, on the table that the batch before left;
 /// without workers the calling thread does all. Where that doesn't pay they rest for some batches: the calling thread draws the
-/// numbers of such a batch, and evaluates its packets.
+/// numbers of such a batch, and evaluates its packets. As long as it isn't known that it pays, they evaluate but the first packets
+/// of a batch.
 ///
 /// Ok comes where the reading has ended and the piece of every batch was taken, and where the feed didn't take a piece whole. The
 /// only error is that memory was refused; the batch that was begun isn't handed to the feed then. What is taken is what one
