@@ -1,12 +1,19 @@
 -- What was found out ahead about packets, at their places.
-use Rattle.std.specs.Prelude.{◌≡◌, ℕ, true, IfSome, Option, None, get_or}
+use Rattle.std.specs.Prelude.{◌≡◌, ◌<◌, ◌+◌, ℕ, true, IfSome, List, Option, None, get_or}
+use Rattle.std.specs.List.{find}
 use Rattle.std.specs.Arc.{arc_value}
 use Rattle.pfr_packet.specs.Job.{RunJob}
 use Rattle.pfr_record.specs.declared.speculation.Speculation.{Speculation}
 use Rattle.pfr_commit.specs.declared.results.Found.{Found}
+use Rattle.pfr_commit.specs.Results.{is_of, result_at}
 
+-- what isn't there stands for none
 abbrev pub found_at : ℕ → Found → Option Speculation
-found_at place found = get_or found.places.items place None
+found_at place found = result_at found.results.items (get_or found.places.items place None)
+
+-- at each of so many places stands the first result of its packet, if there is one; `first` is the number of the packet at the first
+abbrev pub AreFound : List Speculation → (first count : ℕ) → Found → Type 0
+AreFound results first count found = (place : ℕ) → place < count → found_at place found ≡ find (is_of (first + place)) results
 
 -- it is of a job
 abbrev pub IsOfJob : RunJob → Speculation → Type 0

@@ -76,13 +76,7 @@ impl Book {
         if self.is_over {
             return Err(AllocError);
         }
-        let mut found = match in_places(
-            self.alloc,
-            results,
-            self.count + 1,
-            packets.len(),
-            are_own,
-        ) {
+        let found = match in_places(self.alloc, results, self.count + 1, packets.len(), are_own) {
             Ok(found) => found,
             Err(refused) => {
                 self.is_over = true;
@@ -98,7 +92,7 @@ impl Book {
             self.take(
                 record,
                 view,
-                &mut found,
+                &found,
                 index,
                 hints[index % AHEAD],
                 reruns,

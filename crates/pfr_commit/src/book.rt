@@ -1,5 +1,5 @@
 //! The committer.
-ghost use Rattle.std.specs.Prelude.{◌≡◌, ◌<◌, ◌≤◌, ◌+◌, ◌^◌, ℕ, false, true, max, IfOk, IfSome, IsSome, IsTrue, ◌↔◌, OnOk, OnErr, None};
+ghost use Rattle.std.specs.Prelude.{◌≡◌, ◌<◌, ◌≤◌, ◌+◌, ◌^◌, ℕ, false, true, max, IfNone, IfOk, IfSome, IsSome, ◌↔◌, OnOk, OnErr, None};
 ghost use Rattle.std.specs.Arc.{arc_value};
 ghost use Rattle.std.specs.Option.{option_to_list};
 ghost use Rattle.pfr_headers.specs.declared.packet.View.TheVariants.{Ipv4};
@@ -51,6 +51,15 @@ pub struct Book {
     /// Whether memory was refused.
     pub(crate) is_over: bool,
     ghost few: { own ≤ count },
+}
+
+/// What came of a packet: its outcome, if a speculation holds, and how many were evaluated here, none or one. The state by which it
+/// goes may stand at a place that was found.
+#[derive(Clone, Copy)]
+struct Evaluated<'r> {
+    held: Option<&'r Outcome>,
+    own: u64,
+    found: Option<Place>,
 }
 
 /// The later of a clock and a record's second.
@@ -129,58 +138,24 @@ impl Book {
         &self.table
     }
 
-    /// The outcome of a speculation that may be used for a packet. It may be known to be of the book's own job, and the state by
-    /// which the packet goes may stand at a place that is named.
-    fn usable_outcome(
+    /// The outcome of the speculation at a place, where it may be used for a packet. The state by which the packet goes may stand at a
+    /// place that is named.
+    fn usable_outcome<'r>(
         &self,
         number: u64,
         clock: Clock,
         view: &View,
-        speculation: Option<Speculation>,
-        is_own: bool,
-        hint: Option<Place>,
-    ) -> Option<Outcome>
-        requires { is_own ≡ true → IfSome speculation (IsOfJob (job_of self.now)) }
-        ensures some { IsSome result ↔ MayUse speculation (job_of self.now) number clock view.now self.now.table }
-        ensures outcome { IfSome result (λ outcome. outcome ≡ step_of (job_of self.now) number clock view.now self.now.table) }
-    {
-        let speculation = speculation?;
-        if is_own {
-            speculation.outcome_of_own(&self.job, number, clock, view, &self.table, hint)
-        } else {
-            speculation.outcome_for(&self.job, number, clock, view, &self.table)
-        }
-    }
-
-    /// Takes the speculation at a place out, and writes its outcome over another where it may be used for a packet. It says whether
-    /// it did.
-    // A call of its own: its locals are large, and cleared where they join a way that has none.
-    #[inline(never)]
-    fn use_result(
-        &self,
-        number: u64,
-        clock: Clock,
-        view: &View,
-        results: &mut Found,
+        results: &'r Found,
         place: usize,
         hint: Option<Place>,
-        outcome: &mut Outcome,
-    ) -> bool
-        requires { IsOwnAt (job_of self.now) place results.old }
-        ensures used { IsTrue result ↔ MayUse (found_at place results.old) (job_of self.now) number clock view.now self.now.table }
-        ensures outcome { IsTrue result → outcome.new ≡ step_of (job_of self.now) number clock view.now self.now.table }
-        ensures same { result ≡ false → outcome.new ≡ outcome.old }
-        ensures others { (other : ℕ) → place < other → found_at other results.new ≡ found_at other results.old }
-        ensures own { results.new.are_own ≡ results.old.are_own }
+    ) -> Option<&'r Outcome>
+        requires { IsOwnAt (job_of self.now) place results.now }
+        ensures some { IsSome result ↔ MayUse (found_at place results.now) (job_of self.now) number clock view.now self.now.table }
+        ensures outcome { IfSome result (λ outcome. outcome.now ≡ step_of (job_of self.now) number clock view.now self.now.table) }
     {
+        let speculation = results.at(place)?;
         let is_own = results.are_own;
-        match self.usable_outcome(number, clock, view, results.take_at(place), is_own, hint) {
-            Some(found) => {
-                *outcome = found;
-                true
-            }
-            None => false,
-        }
+        speculation.outcome_near(is_own, &self.job, number, clock, view, &self.table, hint)
     }
 
     /// Evaluates a packet, and writes what it comes to over a fresh outcome. The state by which it goes may stand at a place that is
@@ -215,36 +190,40 @@ impl Book {
         Ok(answers.found)
     }
 
-    /// Writes what a packet comes to over a fresh outcome, by the speculation at a place or evaluated here. It answers how many
-    /// were evaluated, none or one, and where the state may stand by which it goes; so may the place that is named. The speculation
-    /// is taken out. Where there is none, no room for one is cleared or copied.
-    fn evaluate<R: Reruns>(
+    /// What a packet comes to: by the speculation at a place, or evaluated here and written over a fresh outcome. The state by which it
+    /// goes may stand at the place that is named.
+    fn evaluate<'r, R: Reruns>(
         &self,
         number: u64,
         clock: Clock,
         view: &View,
-        results: &mut Found,
+        results: &'r Found,
         place: usize,
         hint: Option<Place>,
         reruns: &R,
-        outcome: &mut Outcome,
-    ) -> Result<(u64, Option<Place>), AllocError>
-        requires outcome { outcome.old ≡ fresh }
-        requires own { IsOwnAt (job_of self.now) place results.old }
-        ensures outcome { OnOk result (outcome.new ≡ step_of (job_of self.now) number clock view.now self.now.table) }
-        ensures used { IfOk result (λ evaluated. MayUse (found_at place results.old) (job_of self.now) number clock view.now self.now.table → evaluated.0 ≡ 0) }
-        ensures evaluated { IfOk result (λ evaluated. (MayUse (found_at place results.old) (job_of self.now) number clock view.now self.now.table → ⊥) → evaluated.0 ≡ 1) }
-        ensures few { IfOk result (λ evaluated. evaluated.0 ≤ 1) }
-        ensures others { (other : ℕ) → place < other → found_at other results.new ≡ found_at other results.old }
-        ensures own { results.new.are_own ≡ results.old.are_own }
+        own: &mut Outcome,
+    ) -> Result<Evaluated<'r>, AllocError>
+        requires outcome { own.old ≡ fresh }
+        requires own { IsOwnAt (job_of self.now) place results.now }
+        ensures held { IfOk result (λ evaluated. IfSome evaluated.held (λ outcome. outcome.now ≡ step_of (job_of self.now) number clock view.now self.now.table)) }
+        ensures here { IfOk result (λ evaluated. IfNone evaluated.held (own.new ≡ step_of (job_of self.now) number clock view.now self.now.table)) }
+        ensures used { IfOk result (λ evaluated. MayUse (found_at place results.now) (job_of self.now) number clock view.now self.now.table → evaluated.own ≡ 0) }
+        ensures evaluated { IfOk result (λ evaluated. (MayUse (found_at place results.now) (job_of self.now) number clock view.now self.now.table → ⊥) → evaluated.own ≡ 1) }
+        ensures few { IfOk result (λ evaluated. evaluated.own ≤ 1) }
     {
-        if results.is_taken(place)
-            && self.use_result(number, clock, view, results, place, hint, outcome)
-        {
-            return Ok((0, hint));
+        let held = self.usable_outcome(number, clock, view, results, place, hint);
+        if held.is_some() {
+            let own = 0;
+            return Ok(Evaluated {
+                held,
+                own,
+                found: hint,
+            });
         }
         reruns.runs_again(number);
-        Ok((1, self.run(number, clock, view, hint, outcome)?))
+        let found = self.run(number, clock, view, hint, own)?;
+        let own = 1;
+        Ok(Evaluated { held, own, found })
     }
 
     /// Takes over what the next packet came to at a clock, and puts what it adds behind what was emitted. Where memory is
@@ -288,7 +267,7 @@ impl Book {
         &mut self,
         packet: &Record,
         view: &View,
-        results: &mut Found,
+        results: &Found,
         place: usize,
         hint: Option<Place>,
         reruns: &R,
@@ -297,16 +276,14 @@ impl Book {
         requires view { view.now ≡ view_of packet.now.link packet.now.bytes.items }
         requires few { self.old.count < 2 ^ 43 }
         requires open { self.old.is_over ≡ false }
-        requires own { IsOwnAt (job_of self.old) place results.old }
+        requires own { IsOwnAt (job_of self.old) place results.now }
         ensures world { OnOk result (world_with self.new out.new ≡ untold (spec.after (job_of self.old) (world_with self.old out.old) (frame_of packet.now))) }
         ensures told { OnOk result (LeadsTo self.old self.new out.old out.new (λ world. spec.after (job_of self.old) world (frame_of packet.now))) }
         ensures job { self.new.job ≡ self.old.job }
         ensures counted { OnOk result (self.new.count ≡ self.old.count + 1) }
         ensures kept { OnErr result ((self.new.count ≡ self.old.count) × (texts_of out.new ≡ texts_of out.old)) }
-        ensures used { OnOk result (MayUseNext (found_at place results.old) self.old packet.now view.now → self.new.own ≡ self.old.own) }
-        ensures evaluated { OnOk result ((MayUseNext (found_at place results.old) self.old packet.now view.now → ⊥) → self.new.own ≡ self.old.own + 1) }
-        ensures others { (other : ℕ) → place < other → found_at other results.new ≡ found_at other results.old }
-        ensures own { results.new.are_own ≡ results.old.are_own }
+        ensures used { OnOk result (MayUseNext (found_at place results.now) self.old packet.now view.now → self.new.own ≡ self.old.own) }
+        ensures evaluated { OnOk result ((MayUseNext (found_at place results.now) self.old packet.now view.now → ⊥) → self.new.own ≡ self.old.own + 1) }
         ensures ok { OnOk result (self.new.is_over ≡ false) }
         ensures err { OnErr result (self.new.is_over ≡ true) }
     {
@@ -315,25 +292,19 @@ impl Book {
         let clock = later(self.clock, packet.seconds);
         // what is asked of the table at this clock is answered at once then
         self.table.settle(clock);
-        let mut outcome = Outcome::new(self.alloc);
-        let (evaluated, found) = self.evaluate(
-            number,
-            clock,
-            view,
-            results,
-            place,
-            hint,
-            reruns,
-            &mut outcome,
+        let mut here = Outcome::new(self.alloc);
+        let Evaluated { held, own, found } = self.evaluate(
+            number, clock, view, results, place, hint, reruns, &mut here,
         )?;
+        let outcome = held.unwrap_or(&here);
         // what `take_outcome` asks of an outcome is so of each that an evaluation has
         no_change_is_refused();
         every_change_is_of_the_named_state();
         what_is_written_is_of_the_packet();
         // whatever the table is asked, its states are those of a table
         let _ = self.table.len();
-        self.take_outcome(clock, packet, view, &outcome, found, out)?;
-        self.own += evaluated;
+        self.take_outcome(clock, packet, view, outcome, found, out)?;
+        self.own += own;
         self.is_over = false;
         Ok(())
     }
@@ -364,7 +335,7 @@ impl Book {
         if self.is_over {
             return Err(AllocError);
         }
-        let mut results = match of_one(self.alloc, speculation) {
+        let results = match of_one(self.alloc, speculation) {
             Ok(results) => results,
             Err(refused) => {
                 self.is_over = true;
@@ -372,7 +343,7 @@ impl Book {
             }
         };
         let mut out = Emitted::new(self.alloc);
-        self.take(packet, &view, &mut results, 0, None, &Unwatched, &mut out)?;
+        self.take(packet, &view, &results, 0, None, &Unwatched, &mut out)?;
         Ok(out)
     }
 

@@ -148,23 +148,24 @@ impl Speculation {
         }
     }
 
-    /// The same where it is known that this is of the job, which isn't compared then. The state that was asked for first may stand
-    /// at a place that is named, as by [`Table::place_by`]; nothing rests on it that it stands there.
-    pub fn outcome_of_own(
-        self,
+    /// The same, with this left where it is. It may be known that this is of the job, which isn't compared then. The state that was
+    /// asked for first may stand at a place that is named, as by [`Table::place_by`]; nothing rests on it that it stands there.
+    pub fn outcome_near(
+        &self,
+        is_of_job: bool,
         job: &Job,
         number: u64,
         clock: Clock,
         view: &View,
         table: &Table,
         hint: Option<Place>,
-    ) -> Option<Outcome>
-        requires { arc_value self.job ≡ job.now }
-        ensures some { IsSome result ↔ Fits self job.now number clock view.now table.now }
-        ensures outcome { IfSome result (λ outcome. outcome ≡ step_of job.now number clock view.now table.now) }
+    ) -> Option<&Outcome>
+        requires { is_of_job ≡ true → arc_value self.now.job ≡ job.now }
+        ensures some { IsSome result ↔ Fits self.now job.now number clock view.now table.now }
+        ensures outcome { IfSome result (λ outcome. outcome.now ≡ step_of job.now number clock view.now table.now) }
     {
-        if self.fits(true, job, number, clock, view, table, hint) {
-            Some(self.outcome)
+        if self.fits(is_of_job, job, number, clock, view, table, hint) {
+            Some(&self.outcome)
         } else {
             None
         }

@@ -6,15 +6,16 @@ use Rattle.pfr_packet.specs.declared.outcome.Outcome.{Outcome}
 use Rattle.pfr_commit.specs.Books.{job_of, untold, world_in, world_with}
 use Rattle.pfr_commit.specs.Emissions.{frame_of}
 use Rattle.pfr_commit.specs.World.{with_outcome}
-use Rattle.pfr_commit.proofs.BookLemmas.{if_some}
+use Rattle.pfr_commit.proofs.BookLemmas.{by_either, if_some}
 use Rattle.pfr_commit.proofs.StandLemmas.{taken_leads}
 use Rattle.pfr_commit.proofs.WorldLemmas.{after_is}
 use Rattle.pfr_commit.proofs.book.Book.take.Goals as goal
 
 pub take_outcome-requires-clause-bytes : goal.take_outcome-requires-clause-bytes
 take_outcome-requires-clause-bytes g c =
-    if_some _ c.evaluate.new.outcome.bytes (λ (change : Change) is.
-    sym c.requires.view ∙ c.what_is_written_is_of_the_packet.ensures _ _ _ c.args.view.now _ change (ap (λ (o : Outcome). o.bytes) (sym c.in_ok-evaluated.ensures.outcome) ∙ is))
+    let outcome_is = by_either c.in_ok-held.field-0.held _ c.unwrap_or-outcome.result _ c.unwrap_or-outcome.ensures c.in_ok-held.ensures.held c.in_ok-held.ensures.here in
+    if_some _ c.unwrap_or-outcome.result.now.bytes (λ (change : Change) is.
+    sym c.requires.view ∙ c.what_is_written_is_of_the_packet.ensures _ _ _ c.args.view.now _ change (ap (λ (o : Outcome). o.bytes) (sym outcome_is) ∙ is))
 
 pub returns-clause-world : goal.returns-clause-world
 returns-clause-world g c =
@@ -22,9 +23,9 @@ returns-clause-world g c =
     let frame = frame_of c.args.packet.now in
     let clock = c.later-clock.result in
     let view = c.args.view.now in
-    let outcome = c.evaluate.new.outcome in
+    let outcome = c.unwrap_or-outcome.result.now in
     let settled = ap (λ (t : StateTable). untold (with_outcome (record before { table = t }) frame clock outcome)) c.settle.ensures in
-    let outcome_is = c.in_ok-evaluated.ensures.outcome ∙ ap (λ (t : StateTable). step_of (job_of c.args.self.now) (c.args.self.now.count + 1) clock view t) c.settle.ensures in
+    let outcome_is = by_either c.in_ok-held.field-0.held _ c.unwrap_or-outcome.result _ c.unwrap_or-outcome.ensures c.in_ok-held.ensures.held c.in_ok-held.ensures.here ∙ ap (λ (t : StateTable). step_of (job_of c.args.self.now) (c.args.self.now.count + 1) clock view t) c.settle.ensures in
     c.in_ok-take_outcome.ensures.world ∙ settled ∙ ap untold (after_is (job_of c.args.self.now) before frame clock view outcome c.later-clock.ensures c.requires.view outcome_is)
 
 pub returns-clause-told : goal.returns-clause-told
@@ -32,8 +33,8 @@ returns-clause-told g c =
     let clock = c.later-clock.result in
     let view = c.args.view.now in
     let settled = ap (λ (t : StateTable). record (world_in c.args.self.now) { table = t }) c.settle.ensures in
-    let outcome_is = c.in_ok-evaluated.ensures.outcome ∙ ap (λ (t : StateTable). step_of (job_of c.args.self.now) (c.args.self.now.count + 1) clock view t) c.settle.ensures in
-    taken_leads c.args.self.now _ c.take_outcome.new.self _ c.args.out.now c.take_outcome.new.out (frame_of c.args.packet.now) clock view c.evaluate.new.outcome
+    let outcome_is = by_either c.in_ok-held.field-0.held _ c.unwrap_or-outcome.result _ c.unwrap_or-outcome.ensures c.in_ok-held.ensures.held c.in_ok-held.ensures.here ∙ ap (λ (t : StateTable). step_of (job_of c.args.self.now) (c.args.self.now.count + 1) clock view t) c.settle.ensures in
+    taken_leads c.args.self.now _ c.take_outcome.new.self _ c.args.out.now c.take_outcome.new.out (frame_of c.args.packet.now) clock view c.unwrap_or-outcome.result.now
     settled refl refl refl refl refl c.later-clock.ensures c.requires.view outcome_is c.in_ok-take_outcome.ensures.told
 
 pub returns-clause-used : goal.returns-clause-used

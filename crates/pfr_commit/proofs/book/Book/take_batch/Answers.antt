@@ -35,8 +35,6 @@ loop-index-init g c = record {
   counted = omega arith;
   is_open = c.if-self.false;
   own = refl;
-  tried = λ place _ below. c.in-Ok.ensures.places place below;
-  are_own = c.in-Ok.ensures.own;
   world = ap untold (sym (world_none (job_of c.args.self.now) (world_with c.args.self.now c.args.out.now)));
   told = leads_none c.args.self.now c.args.out.now [] refl;
 }
@@ -46,9 +44,9 @@ take-requires-clause-own g c = λ known.
     let i = c.loop-index.invariant in
     let test = c.loop-index-test.true in
     let below : c.loop-index.index < length c.args.packets.now = search rules in
-    let own = own_found (job_of c.args.self.now) (is_of (c.args.self.now.count + 1 + c.loop-index.index)) c.args.results.items (c.requires.own (sym i.are_own ∙ known)) in
-    subst (λ (job : RunJob). IfSome (found_at c.loop-index.index c.loop-index.found) (IsOfJob job)) (sym (same_job c.loop-index.self c.args.self.now i.job))
-    (subst (λ (held : Option Speculation). IfSome held (IsOfJob (job_of c.args.self.now))) (sym (i.tried c.loop-index.index (omega arith) below)) own)
+    let own = own_found (job_of c.args.self.now) (is_of (c.args.self.now.count + 1 + c.loop-index.index)) c.args.results.items (c.requires.own (sym c.in-Ok.ensures.own ∙ known)) in
+    subst (λ (job : RunJob). IfSome (found_at c.loop-index.index c.in-Ok.found) (IsOfJob job)) (sym (same_job c.loop-index.self c.args.self.now i.job))
+    (subst (λ (held : Option Speculation). IfSome held (IsOfJob (job_of c.args.self.now))) (sym (c.in-Ok.ensures.places c.loop-index.index below)) own)
 
 pub returns-in_err-take-clause-part : goal.returns-in_err-take-clause-part
 returns-in_err-take-clause-part g c =
@@ -77,13 +75,11 @@ loop-index-preserved g c =
       is_open = c.in_ok-take.ensures.ok;
       own =
           let number : c.args.self.now.count + 1 + c.loop-index.index ≡ c.loop-index.self.count + 1 = omega arith in
-          let held = i.tried c.loop-index.index (omega arith) below ∙ ap (λ (n : ℕ). find (is_of n) c.args.results.items) number in
+          let held = c.in-Ok.ensures.places c.loop-index.index below ∙ ap (λ (n : ℕ). find (is_of n) c.args.results.items) number in
           rises_next (job_of c.args.self.now) (world_with c.args.self.now c.args.out.now) c.args.results.items c.args.packets.now c.loop-index.index c.index-packets-index.result
           c.args.self.now.own c.loop-index.self.own c.take.new.self.own below i.own
-          (rises_by (job_of c.args.self.now) (job_of c.loop-index.self) _ (world_with c.loop-index.self c.loop-index.out) c.args.results.items c.index-packets-index.result _ (found_at c.loop-index.index c.loop-index.found)
+          (rises_by (job_of c.args.self.now) (job_of c.loop-index.self) _ (world_with c.loop-index.self c.loop-index.out) c.args.results.items c.index-packets-index.result _ (found_at c.loop-index.index c.in-Ok.found)
           c.loop-index.self.own c.take.new.self.own job_is i.world c.index-packets-index.is held c.in_ok-take.ensures.used c.in_ok-take.ensures.evaluated);
-      are_own = c.take.ensures.own ∙ i.are_own;
-      tried = λ place from within. c.take.ensures.others place (omega arith) ∙ i.tried place (omega arith) within;
       world = c.in_ok-take.ensures.world
           ∙ batch_next (job_of c.args.self.now) (job_of c.loop-index.self) (world_with c.args.self.now c.args.out.now) (world_with c.loop-index.self c.loop-index.out) (λ packet. frame_of packet.0) c.args.packets.now c.loop-index.index
           c.index-packets-index.result c.index-packets-index.result job_is i.world c.index-packets-index.is below;

@@ -1,9 +1,6 @@
-use Rattle.std.proofs.Common.{◌≡◌, ◌≤◌, ◌<◌, ◌+◌, ℕ, false, map, take, length}
-use Rattle.std.specs.List.{find}
+use Rattle.std.proofs.Common.{◌≡◌, ◌+◌, false, map, take}
 use Rattle.pfr_commit.specs.Books.{LeadsTo, RisesOver, job_of, untold, world_with}
 use Rattle.pfr_commit.specs.Emissions.{frame_of}
-use Rattle.pfr_commit.specs.Found.{found_at}
-use Rattle.pfr_commit.specs.Results.{is_of}
 use Rattle.pfr_commit.specs.World.{world_after}
 use Rattle.pfr_commit.proofs.book.Book.take_batch.Given as goal
 
@@ -13,8 +10,6 @@ invariant-loop-index g l = record {
   counted : l.self.count ≡ l.fn.self.count + l.index;
   is_open : l.self.is_over ≡ false;
   own : RisesOver (job_of l.fn.self) (world_with l.fn.self l.fn.out) l.fn.results.items (take l.index l.packets) l.fn.self.own l.self.own;
-  are_own : l.found.are_own ≡ l.are_own;
-  tried : (place : ℕ) → l.index ≤ place → place < length l.packets → found_at place l.found ≡ find (is_of (l.fn.self.count + 1 + place)) l.fn.results.items;
   world : world_with l.self l.out ≡ untold (world_after (job_of l.fn.self) (world_with l.fn.self l.fn.out) (map (λ packet. frame_of packet.0) (take l.index l.packets)));
   told : LeadsTo l.fn.self l.self l.fn.out l.out (λ world. world_after (job_of l.fn.self) world (map (λ packet. frame_of packet.0) (take l.index l.packets)));
 }

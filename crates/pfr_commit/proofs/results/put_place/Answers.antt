@@ -1,5 +1,5 @@
 use Rattle.std.proofs.Common.{rules}
-use Rattle.pfr_commit.proofs.results.put_result.Goals as goal
+use Rattle.pfr_commit.proofs.results.put_place.Goals as goal
 
 pub returns-then-is_free : goal.returns-then-is_free
 returns-then-is_free c = search rules
