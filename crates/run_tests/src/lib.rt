@@ -9,3 +9,5 @@ mod ahead;
 mod orders;
 #[cfg(test)]
 mod runs;
+#[cfg(test)]
+mod told;

@@ -20,7 +20,7 @@ fn wait_for<R: Clock>(rt: &R, flag: &AtomicBool) -> bool {
     false
 }
 
-/// Answers number 0 once number 1 was answered.
+/// Answers the other numbers once number 1 was answered.
 #[derive(Drop)]
 struct LastFirst<'a, R: Clock + Sync> {
     rt: &'a R,
@@ -31,7 +31,7 @@ impl<'a, R: Clock + Sync> Work for LastFirst<'a, R> {
     type Answer = (u64, bool);
 
     fn answer(&self, number: u64) -> Option<(u64, bool)> {
-        Some((number, number == 0 && wait_for(self.rt, &self.answered)))
+        Some((number, number != 1 && wait_for(self.rt, &self.answered)))
     }
 
     fn answered(&self, number: u64) {
@@ -52,7 +52,7 @@ fn times_in(groups: &[Vec<(u64, bool)>], wanted: (u64, bool)) -> u64 {
     times
 }
 
-/// Two workers answer beside each other, and beside the calling thread.
+/// Two workers answer beside each other, and beside the calling thread. Who answers a number says so before it draws the next one.
 #[test]
 fn workers_answer_beside_each_other(rt: HostRuntime) -> Result<(), Fail> {
     let work = LastFirst {
@@ -60,10 +60,48 @@ fn workers_answer_beside_each_other(rt: HostRuntime) -> Result<(), Fail> {
         answered: AtomicBool::new(false),
     };
     let beside = || wait_for(&rt, &work.answered);
-    let answered = answered_beside(&rt, rt.alloc(), 2, 2, &work, beside)?;
+    let answered = answered_beside(&rt, rt.alloc(), 3, 2, &work, beside)?;
     assert!(rt; answered.beside && answered.groups.len() == 2);
     assert!(rt; times_in(answered.groups.as_slice(), (1, false)) == 1);
     assert!(rt; times_in(answered.groups.as_slice(), (0, true)) == 1);
+    assert!(rt; times_in(answered.groups.as_slice(), (2, true)) == 1);
+    Ok(())
+}
+
+/// Answers a number once four were asked.
+#[derive(Drop)]
+struct AllFour<'a, R: Clock + Sync> {
+    rt: &'a R,
+    asked: AtomicU64,
+    all: AtomicBool,
+}
+
+impl<'a, R: Clock + Sync> Work for AllFour<'a, R> {
+    type Answer = (u64, bool);
+
+    fn answer(&self, number: u64) -> Option<(u64, bool)> {
+        if self.asked.fetch_add(1, Ordering::SeqCst) == 3 {
+            self.all.store(true, Ordering::SeqCst);
+        }
+        Some((number, wait_for(self.rt, &self.all)))
+    }
+
+    fn answered(&self, _number: u64) {}
+}
+
+/// Each of four workers has a thread.
+#[test]
+fn all_workers_answer_beside_one_another(rt: HostRuntime) -> Result<(), Fail> {
+    let work = AllFour {
+        rt: &rt,
+        asked: AtomicU64::new(0),
+        all: AtomicBool::new(false),
+    };
+    let beside = || wait_for(&rt, &work.all);
+    let answered = answered_beside(&rt, rt.alloc(), 4, 4, &work, beside)?;
+    for number in 0..4 {
+        assert!(rt; times_in(answered.groups.as_slice(), (number, true)) == 1);
+    }
     Ok(())
 }
 
@@ -183,6 +221,16 @@ fn each_number_is_answered_once(rt: HostRuntime) -> Result<(), Fail> {
         let played = play(&rt, rt.alloc(), numbers, workers, &tally)?;
         assert!(rt; played == (1, word) && tally.is_whole());
     }
+    Ok(())
+}
+
+/// One worker sends its 133 answers in four groups of 32, and the rest in one.
+#[test]
+fn answers_are_sent_in_groups(rt: HostRuntime) -> Result<(), Fail> {
+    let tally = Tally::new(rt.alloc(), 200)?;
+    let beside = || tally.is_whole();
+    let answered = answered_beside(&rt, rt.alloc(), 200, 1, &tally, beside)?;
+    assert!(rt; answered.groups.len() == 5);
     Ok(())
 }
 
