@@ -135,7 +135,15 @@ fn take<R: Threads + Wait + Sync, G: Gate>(
     if records.len() > MOST {
         return Err(AllocError);
     }
-    let found = evaluate_ahead(rt, alloc, &book, records.as_slice(), MOST as u64, workers, gate)?;
+    let found = evaluate_ahead(
+        rt,
+        alloc,
+        &book,
+        records.as_slice(),
+        MOST as u64,
+        workers,
+        gate,
+    )?;
     let mut packets = Packets {
         items: Vec::new(alloc),
     };
