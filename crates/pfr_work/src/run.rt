@@ -231,6 +231,16 @@ fn take_batch<R: Threads + Wait + Sync, G: Gate>(
     Ok(Taken { packets, piece })
 }
 
+/// So many bytes are asked for and let go of at the start of a run with workers.
+const KEPT: usize = 1 << 24;
+
+/// Has the system's allocator keep the memory of a batch for the next one. It gives memory back to the system where more is free
+/// than twice the greatest piece that was let go of before (mallopt(3)), and each batch would begin with pages that have to be
+/// cleared. Nothing is written into this piece, so it takes no memory.
+fn keep_memory(alloc: Global) {
+    drop(Vec::<u8>::with_capacity(alloc, KEPT));
+}
+
 /// Takes the batches of a feed one after the other, by a book that has committed nothing, and hands the feed what each adds
 /// before it asks for the next. So many workers evaluate the packets of a batch ahead, on the table that the batch before left;
 /// without workers the calling thread does all. Where that doesn't pay they rest for some batches: the calling thread draws the
@@ -260,6 +270,9 @@ pub fn run_workers<R: AllocGlobal + Threads + Wait + Sync, F: Feed, G: Gate>(
     ensures err { OnErr result.3 (Went F.gives F.takes F.rests (job_of book) feed (λ rounds world mid. Refused F.gives result.0 result.1 result.2 workers rounds world mid)) }
 {
     let alloc = rt.alloc();
+    if workers > 0 {
+        keep_memory(alloc);
+    }
     let mut course = Course::new(alloc, book.job(), workers);
     loop {
         let Some(records) = feed.batch() else {
