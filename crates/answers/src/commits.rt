@@ -30,7 +30,7 @@ use crate::commits::packets::Packets;
 use crate::given::{Given, Words};
 use crate::printing::{put_bytes, put_fault};
 use pfr_capture::Record;
-use pfr_commit::{Book, Emitted};
+use pfr_commit::{Book, Emitted, Ending};
 use pfr_net::{IfName, Ipv4Address, Net};
 use pfr_packet::Job;
 use pfr_record::{Speculation, speculate};
@@ -156,9 +156,29 @@ fn put_emitted(
     writeln!(out, "own {}, committed {}", book.own(), book.committed())
 }
 
-/// Ends a book's run.
-fn put_ending(alloc: Global, out: &mut String, book: Book) -> Result<(), AllocError> {
-    match book.finish() {
+/// Prints what a packet emitted that was committed alone.
+fn put_committed(
+    alloc: Global,
+    out: &mut String,
+    emitted: &Result<Emitted, AllocError>,
+    book: &Book,
+) -> Result<(), AllocError> {
+    match emitted {
+        Ok(emitted) => put_emitted(alloc, out, emitted, Place::START, book),
+        Err(_) => {
+            out.push_str("refused\n")?;
+            put_emitted(alloc, out, &Emitted::new(alloc), Place::START, book)
+        }
+    }
+}
+
+/// Prints what a book says at the end of its run.
+fn put_ending(
+    alloc: Global,
+    out: &mut String,
+    ending: &Result<Ending, AllocError>,
+) -> Result<(), AllocError> {
+    match ending {
         Ok(ending) => {
             put_messages(alloc, out, "message", ending.message.as_slice())?;
             put_bytes(out, ending.counters.as_slice())?;
@@ -208,27 +228,26 @@ impl Run {
     fn job(&self, out: &mut String, words: &mut Words<'_>) -> Result<Option<Arc<Job>>, AllocError> {
         let seed = [words.number().unwrap_or(0); 32];
         let text = bytes(self.alloc, words)?;
-        match Job::new(
-            self.alloc,
-            text.as_slice(),
-            self.interface,
-            self.inside.as_slice(),
-            seed,
-        ) {
+        let inside = self.inside.as_slice();
+        match Job::new(self.alloc, text.as_slice(), self.interface, inside, seed) {
             Ok(job) => Ok(Some(Arc::new(self.alloc, job)?)),
-            Err(fault) => {
-                put_fault(out, &fault)?;
-                Ok(None)
-            }
+            Err(fault) => put_fault(out, &fault).and(Ok(None)),
         }
+    }
+
+    /// Makes the book, if this is the first job.
+    fn make_book(&mut self, job: &Option<Arc<Job>>) -> Result<(), AllocError> {
+        if let (true, Some(first)) = (self.jobs.is_empty(), job) {
+            let book = Book::new(self.alloc, Arc::try_clone(first)?)?;
+            self.book = Some(book);
+        }
+        Ok(())
     }
 
     /// Adds a job, and makes the book of the first.
     fn add_job(&mut self, out: &mut String, words: &mut Words<'_>) -> Result<(), AllocError> {
         let job = self.job(out, words)?;
-        if let (true, Some(first)) = (self.jobs.is_empty(), &job) {
-            self.book = Some(Book::new(self.alloc, Arc::try_clone(first)?)?);
-        }
+        self.make_book(&job)?;
         self.jobs.push(job)?;
         Ok(())
     }
@@ -314,10 +333,8 @@ impl Run {
             return Ok(());
         }
         let place = Place::behind(&self.emitted);
-        if book
-            .commit_batch(packets, results, &mut self.emitted)
-            .is_err()
-        {
+        let committed = book.commit_batch(packets, results, &mut self.emitted);
+        if committed.is_err() {
             out.push_str("refused\n")?;
         }
         put_emitted(self.alloc, out, &self.emitted, place, book)
@@ -334,48 +351,49 @@ impl Run {
         if book.committed() > MOST {
             return Ok(());
         }
-        match book.commit(record, *view, result) {
-            Ok(emitted) => put_emitted(self.alloc, out, &emitted, Place::START, book),
-            Err(_) => {
-                out.push_str("refused\n")?;
-                let emitted = Emitted::new(self.alloc);
-                put_emitted(self.alloc, out, &emitted, Place::START, book)
-            }
-        }
+        let emitted = book.commit(record, *view, result);
+        let answered = put_committed(self.alloc, out, &emitted, book);
+        drop(emitted);
+        answered
     }
 
     fn finish(&mut self, out: &mut String) -> Result<(), AllocError> {
         if let Some(book) = self.book.take() {
-            put_ending(self.alloc, out, book)?;
+            let ending = book.finish();
+            put_ending(self.alloc, out, &ending)?;
         }
         out.push_str("end\n")
     }
 
-    /// Does what a line says, and answers whether it is the end of the run.
-    fn obey(&mut self, out: &mut String, words: &mut Words<'_>) -> Result<bool, AllocError> {
-        match words.word() {
-            "interface" => self.set_interface(words),
-            "inside" => self.add_network(words)?,
-            "job" => self.add_job(out, words)?,
-            "packet" => self.add_packet(words)?,
-            "speculate" => self.keep_speculation(out, words)?,
-            "holds" => self.put_holds(out, words)?,
-            "batch" => self.batch(out, words)?,
-            "commit" => self.commit(out, words)?,
-            "clear" => self.emitted.clear(),
-            "end" => {
-                self.finish(out)?;
-                return Ok(true);
-            }
-            _ => out.push_str("no call\n")?,
+    /// Does what a line of this word says.
+    fn obey(
+        &mut self,
+        out: &mut String,
+        word: &str,
+        words: &mut Words<'_>,
+    ) -> Result<(), AllocError> {
+        match word {
+            "interface" => Ok(self.set_interface(words)),
+            "inside" => self.add_network(words),
+            "job" => self.add_job(out, words),
+            "packet" => self.add_packet(words),
+            "speculate" => self.keep_speculation(out, words),
+            "holds" => self.put_holds(out, words),
+            "batch" => self.batch(out, words),
+            "commit" => self.commit(out, words),
+            "clear" => Ok(self.emitted.clear()),
+            "end" => self.finish(out),
+            _ => out.push_str("no call\n"),
         }
-        Ok(false)
     }
 
     /// Does what the lines say up to the end of the run, and answers whether it came.
     fn follow(&mut self, out: &mut String, lines: &mut Lines<'_>) -> Result<bool, AllocError> {
         for line in lines {
-            if self.obey(out, &mut Words::of(line))? {
+            let mut words = Words::of(line);
+            let word = words.word();
+            self.obey(out, word, &mut words)?;
+            if word == "end" {
                 return Ok(true);
             }
         }
@@ -385,7 +403,10 @@ impl Run {
 
 /// Puts the answer to the next run, and answers whether a whole one was left.
 fn put_next(alloc: Global, out: &mut String, lines: &mut Lines<'_>) -> Result<bool, AllocError> {
-    Run::new(alloc).follow(out, lines)
+    let mut run = Run::new(alloc);
+    let followed = run.follow(out, lines);
+    drop(run);
+    followed
 }
 
 /// Answers all runs of a text.

@@ -1,7 +1,8 @@
 //! How translation rules are printed.
 use crate::expansions::terms::put_match;
 use crate::printing::{put_address, word_if};
-use pfr_ruleset::{FlatTranslation, PortChange, Translations};
+use pfr_net::Ipv4Address;
+use pfr_ruleset::{FlatTranslation, NatAddress, PortChange, RdrAddress, Translations};
 use std::alloc::AllocError;
 
 /// What a translation rule of this kind says before its target.
@@ -22,36 +23,59 @@ fn put_target(out: &mut String, address: u32) -> Result<(), AllocError> {
     put_address(out, address)
 }
 
-/// The translation rules, kind by kind.
-pub(crate) fn put_translations(
+fn put_nat_address(out: &mut String, target: NatAddress) -> Result<(), AllocError> {
+    put_target(out, target.address.0)?;
+    if let Some(ports) = target.ports {
+        write!(out, " port {}:{}", ports.low, ports.high)?;
+    }
+    out.push_str(word_if(target.static_port, " static-port", ""))
+}
+
+fn put_rdr_target(out: &mut String, target: RdrAddress) -> Result<(), AllocError> {
+    put_target(out, target.address.0)?;
+    match target.port {
+        PortChange::Kept => Ok(()),
+        PortChange::To(port) => write!(out, " port {port}"),
+        PortChange::From(port) => write!(out, " port {port}:*"),
+    }
+}
+
+fn put_nats(
     out: &mut String,
     names: &[&[u8]],
-    translations: &Translations,
+    rules: &[FlatTranslation<NatAddress>],
 ) -> Result<(), AllocError> {
-    for rule in translations.nats.as_slice() {
+    for rule in rules {
         put_translation(out, names, "nat", rule)?;
         if let Some(target) = rule.target {
-            put_target(out, target.address.0)?;
-            if let Some(ports) = target.ports {
-                write!(out, " port {}:{}", ports.low, ports.high)?;
-            }
-            out.push_str(word_if(target.static_port, " static-port", ""))?;
+            put_nat_address(out, target)?;
         }
         out.push('\n')?;
     }
-    for rule in translations.rdrs.as_slice() {
+    Ok(())
+}
+
+fn put_rdrs(
+    out: &mut String,
+    names: &[&[u8]],
+    rules: &[FlatTranslation<RdrAddress>],
+) -> Result<(), AllocError> {
+    for rule in rules {
         put_translation(out, names, "rdr", rule)?;
         if let Some(target) = rule.target {
-            put_target(out, target.address.0)?;
-            match target.port {
-                PortChange::Kept => {}
-                PortChange::To(port) => write!(out, " port {port}")?,
-                PortChange::From(port) => write!(out, " port {port}:*")?,
-            }
+            put_rdr_target(out, target)?;
         }
         out.push('\n')?;
     }
-    for rule in translations.binats.as_slice() {
+    Ok(())
+}
+
+fn put_binats(
+    out: &mut String,
+    names: &[&[u8]],
+    rules: &[FlatTranslation<Ipv4Address>],
+) -> Result<(), AllocError> {
+    for rule in rules {
         put_translation(out, names, "binat", rule)?;
         if let Some(address) = rule.target {
             put_target(out, address.0)?;
@@ -59,4 +83,15 @@ pub(crate) fn put_translations(
         out.push('\n')?;
     }
     Ok(())
+}
+
+/// The translation rules, kind by kind.
+pub(crate) fn put_translations(
+    out: &mut String,
+    names: &[&[u8]],
+    translations: &Translations,
+) -> Result<(), AllocError> {
+    put_nats(out, names, translations.nats.as_slice())?;
+    put_rdrs(out, names, translations.rdrs.as_slice())?;
+    put_binats(out, names, translations.binats.as_slice())
 }
