@@ -87,6 +87,41 @@ fn record(alloc: Global, words: &mut Words<'_>) -> Result<Record, AllocError> {
     })
 }
 
+fn interface(words: &mut Words<'_>) -> Interface {
+    let name = IfName::new(words.word().as_bytes());
+    let address = Ipv4Address(words.number().unwrap_or(0));
+    let bits = words.number().unwrap_or(0);
+    Interface {
+        name,
+        address,
+        bits,
+    }
+}
+
+fn add_network(inside: &mut Vec<Net>, words: &mut Words<'_>) -> Result<(), AllocError> {
+    let address = Ipv4Address(words.number().unwrap_or(0));
+    let bits = words.number().unwrap_or(0);
+    inside.push(Net { address, bits })?;
+    Ok(())
+}
+
+fn add_packet(
+    alloc: Global,
+    packets: &mut Packets,
+    words: &mut Words<'_>,
+) -> Result<(), AllocError> {
+    let record = record(alloc, words)?;
+    packets.put(record)
+}
+
+/// Takes out what is kept under a number.
+fn taken(kept: &mut [Option<Speculation>], number: usize) -> Option<Speculation> {
+    match kept.get_mut(number) {
+        Some(kept) => kept.take(),
+        None => None,
+    }
+}
+
 /// How much was emitted: bytes of verdicts and of packets, and messages.
 #[derive(Clone, Copy)]
 struct Place {
@@ -206,24 +241,6 @@ impl Run {
         }
     }
 
-    fn set_interface(&mut self, words: &mut Words<'_>) {
-        let name = IfName::new(words.word().as_bytes());
-        let address = Ipv4Address(words.number().unwrap_or(0));
-        let bits = words.number().unwrap_or(0);
-        self.interface = Interface {
-            name,
-            address,
-            bits,
-        };
-    }
-
-    fn add_network(&mut self, words: &mut Words<'_>) -> Result<(), AllocError> {
-        let address = Ipv4Address(words.number().unwrap_or(0));
-        let bits = words.number().unwrap_or(0);
-        self.inside.push(Net { address, bits })?;
-        Ok(())
-    }
-
     /// The job of a line, if its ruleset isn't refused.
     fn job(&self, out: &mut String, words: &mut Words<'_>) -> Result<Option<Arc<Job>>, AllocError> {
         let seed = [words.number().unwrap_or(0); 32];
@@ -239,7 +256,7 @@ impl Run {
     fn make_book(&mut self, job: &Option<Arc<Job>>) -> Result<(), AllocError> {
         if let (true, Some(first)) = (self.jobs.is_empty(), job) {
             let book = Book::new(self.alloc, Arc::try_clone(first)?)?;
-            self.book = Some(book);
+            drop(self.book.replace(book));
         }
         Ok(())
     }
@@ -252,11 +269,6 @@ impl Run {
         Ok(())
     }
 
-    fn add_packet(&mut self, words: &mut Words<'_>) -> Result<(), AllocError> {
-        let record = record(self.alloc, words)?;
-        self.packets.put(record)
-    }
-
     /// What is found out as a line says; nothing without a book or that job.
     fn speculation(&self, words: &mut Words<'_>) -> Result<Option<Speculation>, AllocError> {
         let job = self.jobs.get(words.number().unwrap_or(0));
@@ -265,8 +277,7 @@ impl Run {
         let clock = Clock(words.number().unwrap_or(0));
         match (&self.book, job) {
             (Some(book), Some(Some(job))) => {
-                let found = speculate(self.alloc, job, number, clock, view, book.table())?;
-                Ok(Some(found))
+                speculate(self.alloc, job, number, clock, view, book.table()).map(Some)
             }
             _ => Ok(None),
         }
@@ -300,14 +311,6 @@ impl Run {
         }
     }
 
-    /// Takes out what is kept under a number.
-    fn taken(&mut self, number: usize) -> Option<Speculation> {
-        match self.kept.get_mut(number) {
-            Some(kept) => kept.take(),
-            None => None,
-        }
-    }
-
     /// Takes out all that is kept under the numbers of a line, in their order.
     fn results(&mut self, words: &mut Words<'_>) -> Result<Vec<Speculation>, AllocError> {
         let mut results = Vec::new(self.alloc);
@@ -315,7 +318,7 @@ impl Run {
             let Some(number) = words.number() else {
                 break;
             };
-            if let Some(result) = self.taken(number) {
+            if let Some(result) = taken(&mut self.kept, number) {
                 results.push(result)?;
             }
         }
@@ -340,8 +343,12 @@ impl Run {
         put_emitted(self.alloc, out, &self.emitted, place, book)
     }
 
-    fn commit(&mut self, out: &mut String, words: &mut Words<'_>) -> Result<(), AllocError> {
-        let result = self.taken(words.number().unwrap_or(usize::MAX));
+    /// Commits the next packet with a speculation, if there is a book and a packet.
+    fn commit_with(
+        &mut self,
+        out: &mut String,
+        speculation: &mut Option<Speculation>,
+    ) -> Result<(), AllocError> {
         let Some(book) = &mut self.book else {
             return Ok(());
         };
@@ -351,9 +358,16 @@ impl Run {
         if book.committed() > MOST {
             return Ok(());
         }
-        let emitted = book.commit(record, *view, result);
+        let emitted = book.commit(record, *view, speculation.take());
         let answered = put_committed(self.alloc, out, &emitted, book);
         drop(emitted);
+        answered
+    }
+
+    fn commit(&mut self, out: &mut String, words: &mut Words<'_>) -> Result<(), AllocError> {
+        let mut speculation = taken(&mut self.kept, words.number().unwrap_or(usize::MAX));
+        let answered = self.commit_with(out, &mut speculation);
+        drop(speculation);
         answered
     }
 
@@ -373,15 +387,21 @@ impl Run {
         words: &mut Words<'_>,
     ) -> Result<(), AllocError> {
         match word {
-            "interface" => Ok(self.set_interface(words)),
-            "inside" => self.add_network(words),
+            "interface" => {
+                self.interface = interface(words);
+                Ok(())
+            },
+            "inside" => add_network(&mut self.inside, words),
             "job" => self.add_job(out, words),
-            "packet" => self.add_packet(words),
+            "packet" => add_packet(self.alloc, &mut self.packets, words),
             "speculate" => self.keep_speculation(out, words),
             "holds" => self.put_holds(out, words),
             "batch" => self.batch(out, words),
             "commit" => self.commit(out, words),
-            "clear" => Ok(self.emitted.clear()),
+            "clear" => {
+                self.emitted.clear();
+                Ok(())
+            },
             "end" => self.finish(out),
             _ => out.push_str("no call\n"),
         }

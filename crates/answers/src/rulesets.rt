@@ -5,77 +5,38 @@ use crate::printing::put_fault;
 use pfr_conf::{ConfError, FilterStatement, Statement, Statements, read};
 use std::alloc::{AllocError, Global};
 
-/// Puts the bodies of these statements behind those that wait.
-fn add_bodies<'s, 'a>(
-    waiting: &mut Vec<&'s [FilterStatement<'a>]>,
-    statements: &'s [FilterStatement<'a>],
-) -> Result<(), AllocError> {
+/// How many statements these are, with those of their bodies.
+fn count_filter(statements: &[FilterStatement<'_>]) -> usize {
+    let mut count = statements.len();
     for statement in statements {
         if let FilterStatement::Anchor(_, body) = statement {
-            waiting.push(body.as_slice())?;
+            let within = count_filter(body.as_slice());
+            count = count.saturating_add(within);
         }
     }
-    Ok(())
+    count
 }
 
-/// Puts the bodies of the anchors among some statements behind those that wait.
-fn add_bodies_of<'s, 'a>(
-    waiting: &mut Vec<&'s [FilterStatement<'a>]>,
-    statements: &'s [Statement<'a>],
-) -> Result<(), AllocError> {
+/// How many statements a ruleset has, with those of bodies.
+fn count(found: &Statements<'_>) -> usize {
+    let statements = found.statements.as_slice();
+    let mut count = statements.len();
     for statement in statements {
         if let Statement::Filter(FilterStatement::Anchor(_, body)) = statement {
-            waiting.push(body.as_slice())?;
+            let within = count_filter(body.as_slice());
+            count = count.saturating_add(within);
         }
     }
-    Ok(())
-}
-
-/// How many statements stand in the bodies that wait, in those within them too.
-fn count_in(waiting: &mut Vec<&[FilterStatement<'_>]>) -> Result<usize, AllocError> {
-    let mut count: usize = 0;
-    for _turn in 0..u64::MAX {
-        let Some(body) = waiting.pop() else {
-            break;
-        };
-        count = count.saturating_add(body.len());
-        add_bodies(waiting, body)?;
-    }
-    Ok(count)
-}
-
-/// How many statements stand in the bodies of some; no body waits yet.
-fn count_within<'s, 'a>(
-    waiting: &mut Vec<&'s [FilterStatement<'a>]>,
-    statements: &'s [Statement<'a>],
-) -> Result<usize, AllocError> {
-    add_bodies_of(waiting, statements)?;
-    count_in(waiting)
-}
-
-/// How many statements there are, those of bodies too.
-fn count(alloc: Global, statements: &[Statement<'_>]) -> Result<usize, AllocError> {
-    let within = count_within(&mut Vec::new(alloc), statements)?;
-    Ok(statements.len().saturating_add(within))
-}
-
-fn put_count(
-    alloc: Global,
-    out: &mut String,
-    statements: &[Statement<'_>],
-) -> Result<(), AllocError> {
-    let count = count(alloc, statements)?;
-    writeln!(out, "{count} statements")
+    count
 }
 
 /// How many statements were read, or the first fault.
 fn put_found(
-    alloc: Global,
     out: &mut String,
     found: &Result<Statements<'_>, ConfError>,
 ) -> Result<(), AllocError> {
     match found {
-        Ok(found) => put_count(alloc, out, found.statements.as_slice()),
+        Ok(found) => writeln!(out, "{} statements", count(found)),
         Err(fault) => put_fault(out, fault),
     }
 }
@@ -86,7 +47,7 @@ pub(crate) fn put_answer(
     given: &mut Given<'_>,
 ) -> Result<(), AllocError> {
     let found = read(alloc, given.text());
-    let answered = put_found(alloc, out, &found);
+    let answered = put_found(out, &found);
     drop(found);
     answered
 }

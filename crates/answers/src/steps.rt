@@ -99,12 +99,18 @@ fn put_written(out: &mut String, bytes: Option<Change>) -> Result<(), AllocError
     write!(out, ":{}", change.to.port.0)
 }
 
-/// The line of a packet, without a newline.
-fn put_outcome(alloc: Global, out: &mut String, line: VerdictLine<'_>) -> Result<(), AllocError> {
+/// A verdict line, without its newline.
+fn put_verdict(alloc: Global, out: &mut String, line: VerdictLine<'_>) -> Result<(), AllocError> {
     let mut text = Vec::new(alloc);
     line.put(&mut text)?;
     put_bytes(out, text.as_slice())?;
     let _newline = out.pop();
+    Ok(())
+}
+
+/// The line of a packet, without a newline.
+fn put_outcome(alloc: Global, out: &mut String, line: VerdictLine<'_>) -> Result<(), AllocError> {
+    put_verdict(alloc, out, line)?;
     out.push_str("; ")?;
     put_visits(alloc, out, &line.outcome.visited.filter)?;
     out.push(' ')?;

@@ -3,7 +3,7 @@ use crate::expansions::terms::put_match;
 use crate::printing::word_if;
 use pfr_net::Direction;
 use pfr_ruleset::{
-    Binding, FilterAction, FilterRules, FlagsCriterion, FlatAnchor, FlatRule, Ruleset, StateRule,
+    Binding, FilterAction, FlagsCriterion, FlatAnchor, FlatRule, Ruleset, StateRule,
 };
 use std::alloc::{AllocError, Global};
 
@@ -112,68 +112,38 @@ fn leave(round: &mut Vec<Begun>, number: usize) {
     }
 }
 
-/// Begins an anchor.
-fn begin(
-    out: &mut String,
-    names: &[&[u8]],
-    round: &mut Vec<Begun>,
-    place: usize,
-    anchor: &FlatAnchor,
-) -> Result<(), AllocError> {
-    put_anchor(out, names, place, anchor, round.last().copied())?;
-    let last = anchor.last;
-    round.push(Begun { place, last })?;
-    Ok(())
-}
-
-/// Begins the anchors whose first rule is this, from the one at a place on, and answers the place behind them.
-fn begin_anchors(
-    out: &mut String,
-    names: &[&[u8]],
-    round: &mut Vec<Begun>,
-    anchors: &[FlatAnchor],
-    first: usize,
-    number: usize,
-) -> Result<usize, AllocError> {
-    let mut place = first;
-    for _turn in 0..u64::MAX {
-        match anchors.get(place) {
-            Some(anchor) if anchor.first == number => begin(out, names, round, place, anchor)?,
-            _ => break,
-        }
-        place += 1;
-    }
-    Ok(place)
-}
-
-/// The filter rules, with the anchors that begin at a rule before it; none has begun yet.
-fn put_filter(
-    out: &mut String,
-    names: &[&[u8]],
-    round: &mut Vec<Begun>,
-    filter: &FilterRules,
-) -> Result<(), AllocError> {
-    let anchors = filter.anchors();
-    let mut place = 0;
-    for (number, rule) in filter.rules().iter().enumerate() {
-        leave(round, number);
-        place = begin_anchors(out, names, round, anchors, place, number)?;
-        put_rule(out, names, number, rule)?;
-        put_round(out, round.as_slice())?;
-    }
-    if place < anchors.len() {
-        let rest = anchors.len() - place;
-        writeln!(out, "anchors that begin at no rule: {rest}")?;
-    }
-    Ok(())
-}
-
-/// The filter rules and anchors of a ruleset.
+/// The filter rules, with the anchors that begin at a rule before it.
 pub(crate) fn put_rules(
     alloc: Global,
     out: &mut String,
     names: &[&[u8]],
     ruleset: &Ruleset,
 ) -> Result<(), AllocError> {
-    put_filter(out, names, &mut Vec::new(alloc), &ruleset.filter)
+    let anchors = ruleset.filter.anchors();
+    let mut rest = anchors;
+    let mut round = Vec::new(alloc);
+    for (number, rule) in ruleset.filter.rules().iter().enumerate() {
+        leave(&mut round, number);
+        for _turn in 0..u64::MAX {
+            let [anchor, behind @ ..] = rest else {
+                break;
+            };
+            if anchor.first != number {
+                break;
+            }
+            let place = anchors.len().saturating_sub(rest.len());
+            put_anchor(out, names, place, anchor, round.last().copied())?;
+            round.push(Begun {
+                place,
+                last: anchor.last,
+            })?;
+            rest = behind;
+        }
+        put_rule(out, names, number, rule)?;
+        put_round(out, round.as_slice())?;
+    }
+    if !rest.is_empty() {
+        writeln!(out, "anchors that begin at no rule: {}", rest.len())?;
+    }
+    Ok(())
 }

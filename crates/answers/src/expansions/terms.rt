@@ -2,10 +2,7 @@
 use crate::printing::{put_address, put_bytes, word_if};
 use pfr_conf::{Statement, Statements};
 use pfr_net::Net;
-use pfr_ruleset::{
-    Comparison, HostCriterion, HostSet, IcmpMatch, InterfaceCriterion, PacketMatch, PortMatch,
-    RangeOperator,
-};
+use pfr_ruleset::{Comparison, HostCriterion, HostSet, PacketMatch, PortMatch, RangeOperator};
 use std::alloc::{AllocError, Global};
 
 /// The names of the tables in the order of the text.
@@ -98,32 +95,23 @@ fn put_sides(out: &mut String, names: &[&[u8]], packet: PacketMatch) -> Result<(
     put_port(out, packet.destination_port)
 }
 
-fn put_interface(out: &mut String, interface: InterfaceCriterion) -> Result<(), AllocError> {
-    out.push_str(word_if(interface.is_negated, " on !", " on "))?;
-    put_bytes(out, interface.name.bytes.as_slice())
-}
-
-fn put_icmp(out: &mut String, icmp: IcmpMatch) -> Result<(), AllocError> {
-    write!(out, " icmp {}", icmp.kind)?;
-    match icmp.code {
-        Some(code) => write!(out, " code {code}"),
-        None => Ok(()),
-    }
-}
-
 pub(crate) fn put_match(
     out: &mut String,
     names: &[&[u8]],
     packet: PacketMatch,
 ) -> Result<(), AllocError> {
     if let Some(interface) = packet.interface {
-        put_interface(out, interface)?;
+        out.push_str(word_if(interface.is_negated, " on !", " on "))?;
+        put_bytes(out, interface.name.bytes.as_slice())?;
     }
     if let Some(protocol) = packet.protocol {
         write!(out, " proto {}", protocol.0)?;
     }
     if let Some(icmp) = packet.icmp {
-        put_icmp(out, icmp)?;
+        write!(out, " icmp {}", icmp.kind)?;
+        if let Some(code) = icmp.code {
+            write!(out, " code {code}")?;
+        }
     }
     put_sides(out, names, packet)
 }

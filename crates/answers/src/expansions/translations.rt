@@ -1,8 +1,7 @@
 //! How translation rules are printed.
 use crate::expansions::terms::put_match;
 use crate::printing::{put_address, word_if};
-use pfr_net::Ipv4Address;
-use pfr_ruleset::{FlatTranslation, NatAddress, PortChange, RdrAddress, Translations};
+use pfr_ruleset::{FlatTranslation, PortChange, Translations};
 use std::alloc::AllocError;
 
 /// What a translation rule of this kind says before its target.
@@ -23,59 +22,36 @@ fn put_target(out: &mut String, address: u32) -> Result<(), AllocError> {
     put_address(out, address)
 }
 
-fn put_nat_address(out: &mut String, target: NatAddress) -> Result<(), AllocError> {
-    put_target(out, target.address.0)?;
-    if let Some(ports) = target.ports {
-        write!(out, " port {}:{}", ports.low, ports.high)?;
-    }
-    out.push_str(word_if(target.static_port, " static-port", ""))
-}
-
-fn put_rdr_target(out: &mut String, target: RdrAddress) -> Result<(), AllocError> {
-    put_target(out, target.address.0)?;
-    match target.port {
-        PortChange::Kept => Ok(()),
-        PortChange::To(port) => write!(out, " port {port}"),
-        PortChange::From(port) => write!(out, " port {port}:*"),
-    }
-}
-
-fn put_nats(
+/// The translation rules, kind by kind.
+pub(crate) fn put_translations(
     out: &mut String,
     names: &[&[u8]],
-    rules: &[FlatTranslation<NatAddress>],
+    translations: &Translations,
 ) -> Result<(), AllocError> {
-    for rule in rules {
+    for rule in translations.nats.as_slice() {
         put_translation(out, names, "nat", rule)?;
         if let Some(target) = rule.target {
-            put_nat_address(out, target)?;
+            put_target(out, target.address.0)?;
+            if let Some(ports) = target.ports {
+                write!(out, " port {}:{}", ports.low, ports.high)?;
+            }
+            out.push_str(word_if(target.static_port, " static-port", ""))?;
         }
         out.push('\n')?;
     }
-    Ok(())
-}
-
-fn put_rdrs(
-    out: &mut String,
-    names: &[&[u8]],
-    rules: &[FlatTranslation<RdrAddress>],
-) -> Result<(), AllocError> {
-    for rule in rules {
+    for rule in translations.rdrs.as_slice() {
         put_translation(out, names, "rdr", rule)?;
         if let Some(target) = rule.target {
-            put_rdr_target(out, target)?;
+            put_target(out, target.address.0)?;
+            match target.port {
+                PortChange::Kept => {}
+                PortChange::To(port) => write!(out, " port {port}")?,
+                PortChange::From(port) => write!(out, " port {port}:*")?,
+            }
         }
         out.push('\n')?;
     }
-    Ok(())
-}
-
-fn put_binats(
-    out: &mut String,
-    names: &[&[u8]],
-    rules: &[FlatTranslation<Ipv4Address>],
-) -> Result<(), AllocError> {
-    for rule in rules {
+    for rule in translations.binats.as_slice() {
         put_translation(out, names, "binat", rule)?;
         if let Some(address) = rule.target {
             put_target(out, address.0)?;
@@ -83,15 +59,4 @@ fn put_binats(
         out.push('\n')?;
     }
     Ok(())
-}
-
-/// The translation rules, kind by kind.
-pub(crate) fn put_translations(
-    out: &mut String,
-    names: &[&[u8]],
-    translations: &Translations,
-) -> Result<(), AllocError> {
-    put_nats(out, names, translations.nats.as_slice())?;
-    put_rdrs(out, names, translations.rdrs.as_slice())?;
-    put_binats(out, names, translations.binats.as_slice())
 }
