@@ -30,7 +30,7 @@ use crate::commits::packets::Packets;
 use crate::given::{Given, Words};
 use crate::printing::{put_bytes, put_fault};
 use pfr_capture::Record;
-use pfr_commit::{Book, Emitted};
+use pfr_commit::{Book, Emitted, Ending};
 use pfr_net::{IfName, Ipv4Address, Net};
 use pfr_packet::Job;
 use pfr_record::{Speculation, speculate};
@@ -85,6 +85,41 @@ fn record(alloc: Global, words: &mut Words<'_>) -> Result<Record, AllocError> {
         .array(),
         bytes,
     })
+}
+
+fn interface(words: &mut Words<'_>) -> Interface {
+    let name = IfName::new(words.word().as_bytes());
+    let address = Ipv4Address(words.number().unwrap_or(0));
+    let bits = words.number().unwrap_or(0);
+    Interface {
+        name,
+        address,
+        bits,
+    }
+}
+
+fn add_network(inside: &mut Vec<Net>, words: &mut Words<'_>) -> Result<(), AllocError> {
+    let address = Ipv4Address(words.number().unwrap_or(0));
+    let bits = words.number().unwrap_or(0);
+    inside.push(Net { address, bits })?;
+    Ok(())
+}
+
+fn add_packet(
+    alloc: Global,
+    packets: &mut Packets,
+    words: &mut Words<'_>,
+) -> Result<(), AllocError> {
+    let record = record(alloc, words)?;
+    packets.put(record)
+}
+
+/// Takes out what is kept under a number.
+fn taken(kept: &mut [Option<Speculation>], number: usize) -> Option<Speculation> {
+    match kept.get_mut(number) {
+        Some(kept) => kept.take(),
+        None => None,
+    }
 }
 
 /// How much was emitted: bytes of verdicts and of packets, and messages.
@@ -156,9 +191,29 @@ fn put_emitted(
     writeln!(out, "own {}, committed {}", book.own(), book.committed())
 }
 
-/// Ends a book's run.
-fn put_ending(alloc: Global, out: &mut String, book: Book) -> Result<(), AllocError> {
-    match book.finish() {
+/// Prints what a packet emitted that was committed alone.
+fn put_committed(
+    alloc: Global,
+    out: &mut String,
+    emitted: &Result<Emitted, AllocError>,
+    book: &Book,
+) -> Result<(), AllocError> {
+    match emitted {
+        Ok(emitted) => put_emitted(alloc, out, emitted, Place::START, book),
+        Err(_) => {
+            out.push_str("refused\n")?;
+            put_emitted(alloc, out, &Emitted::new(alloc), Place::START, book)
+        }
+    }
+}
+
+/// Prints what a book says at the end of its run.
+fn put_ending(
+    alloc: Global,
+    out: &mut String,
+    ending: &Result<Ending, AllocError>,
+) -> Result<(), AllocError> {
+    match ending {
         Ok(ending) => {
             put_messages(alloc, out, "message", ending.message.as_slice())?;
             put_bytes(out, ending.counters.as_slice())?;
@@ -186,56 +241,32 @@ impl Run {
         }
     }
 
-    fn set_interface(&mut self, words: &mut Words<'_>) {
-        let name = IfName::new(words.word().as_bytes());
-        let address = Ipv4Address(words.number().unwrap_or(0));
-        let bits = words.number().unwrap_or(0);
-        self.interface = Interface {
-            name,
-            address,
-            bits,
-        };
-    }
-
-    fn add_network(&mut self, words: &mut Words<'_>) -> Result<(), AllocError> {
-        let address = Ipv4Address(words.number().unwrap_or(0));
-        let bits = words.number().unwrap_or(0);
-        self.inside.push(Net { address, bits })?;
-        Ok(())
-    }
-
     /// The job of a line, if its ruleset isn't refused.
     fn job(&self, out: &mut String, words: &mut Words<'_>) -> Result<Option<Arc<Job>>, AllocError> {
         let seed = [words.number().unwrap_or(0); 32];
         let text = bytes(self.alloc, words)?;
-        match Job::new(
-            self.alloc,
-            text.as_slice(),
-            self.interface,
-            self.inside.as_slice(),
-            seed,
-        ) {
+        let inside = self.inside.as_slice();
+        match Job::new(self.alloc, text.as_slice(), self.interface, inside, seed) {
             Ok(job) => Ok(Some(Arc::new(self.alloc, job)?)),
-            Err(fault) => {
-                put_fault(out, &fault)?;
-                Ok(None)
-            }
+            Err(fault) => put_fault(out, &fault).and(Ok(None)),
         }
+    }
+
+    /// Makes the book, if this is the first job.
+    fn make_book(&mut self, job: &Option<Arc<Job>>) -> Result<(), AllocError> {
+        if let (true, Some(first)) = (self.jobs.is_empty(), job) {
+            let book = Book::new(self.alloc, Arc::try_clone(first)?)?;
+            drop(self.book.replace(book));
+        }
+        Ok(())
     }
 
     /// Adds a job, and makes the book of the first.
     fn add_job(&mut self, out: &mut String, words: &mut Words<'_>) -> Result<(), AllocError> {
         let job = self.job(out, words)?;
-        if let (true, Some(first)) = (self.jobs.is_empty(), &job) {
-            self.book = Some(Book::new(self.alloc, Arc::try_clone(first)?)?);
-        }
+        self.make_book(&job)?;
         self.jobs.push(job)?;
         Ok(())
-    }
-
-    fn add_packet(&mut self, words: &mut Words<'_>) -> Result<(), AllocError> {
-        let record = record(self.alloc, words)?;
-        self.packets.put(record)
     }
 
     /// What is found out as a line says; nothing without a book or that job.
@@ -246,8 +277,7 @@ impl Run {
         let clock = Clock(words.number().unwrap_or(0));
         match (&self.book, job) {
             (Some(book), Some(Some(job))) => {
-                let found = speculate(self.alloc, job, number, clock, view, book.table())?;
-                Ok(Some(found))
+                speculate(self.alloc, job, number, clock, view, book.table()).map(Some)
             }
             _ => Ok(None),
         }
@@ -281,14 +311,6 @@ impl Run {
         }
     }
 
-    /// Takes out what is kept under a number.
-    fn taken(&mut self, number: usize) -> Option<Speculation> {
-        match self.kept.get_mut(number) {
-            Some(kept) => kept.take(),
-            None => None,
-        }
-    }
-
     /// Takes out all that is kept under the numbers of a line, in their order.
     fn results(&mut self, words: &mut Words<'_>) -> Result<Vec<Speculation>, AllocError> {
         let mut results = Vec::new(self.alloc);
@@ -296,7 +318,7 @@ impl Run {
             let Some(number) = words.number() else {
                 break;
             };
-            if let Some(result) = self.taken(number) {
+            if let Some(result) = taken(&mut self.kept, number) {
                 results.push(result)?;
             }
         }
@@ -314,17 +336,19 @@ impl Run {
             return Ok(());
         }
         let place = Place::behind(&self.emitted);
-        if book
-            .commit_batch(packets, results, &mut self.emitted)
-            .is_err()
-        {
+        let committed = book.commit_batch(packets, results, &mut self.emitted);
+        if committed.is_err() {
             out.push_str("refused\n")?;
         }
         put_emitted(self.alloc, out, &self.emitted, place, book)
     }
 
-    fn commit(&mut self, out: &mut String, words: &mut Words<'_>) -> Result<(), AllocError> {
-        let result = self.taken(words.number().unwrap_or(usize::MAX));
+    /// Commits the next packet with a speculation, if there is a book and a packet.
+    fn commit_with(
+        &mut self,
+        out: &mut String,
+        speculation: &mut Option<Speculation>,
+    ) -> Result<(), AllocError> {
         let Some(book) = &mut self.book else {
             return Ok(());
         };
@@ -334,48 +358,62 @@ impl Run {
         if book.committed() > MOST {
             return Ok(());
         }
-        match book.commit(record, *view, result) {
-            Ok(emitted) => put_emitted(self.alloc, out, &emitted, Place::START, book),
-            Err(_) => {
-                out.push_str("refused\n")?;
-                let emitted = Emitted::new(self.alloc);
-                put_emitted(self.alloc, out, &emitted, Place::START, book)
-            }
-        }
+        let emitted = book.commit(record, *view, speculation.take());
+        let answered = put_committed(self.alloc, out, &emitted, book);
+        drop(emitted);
+        answered
+    }
+
+    fn commit(&mut self, out: &mut String, words: &mut Words<'_>) -> Result<(), AllocError> {
+        let mut speculation = taken(&mut self.kept, words.number().unwrap_or(usize::MAX));
+        let answered = self.commit_with(out, &mut speculation);
+        drop(speculation);
+        answered
     }
 
     fn finish(&mut self, out: &mut String) -> Result<(), AllocError> {
         if let Some(book) = self.book.take() {
-            put_ending(self.alloc, out, book)?;
+            let ending = book.finish();
+            put_ending(self.alloc, out, &ending)?;
         }
         out.push_str("end\n")
     }
 
-    /// Does what a line says, and answers whether it is the end of the run.
-    fn obey(&mut self, out: &mut String, words: &mut Words<'_>) -> Result<bool, AllocError> {
-        match words.word() {
-            "interface" => self.set_interface(words),
-            "inside" => self.add_network(words)?,
-            "job" => self.add_job(out, words)?,
-            "packet" => self.add_packet(words)?,
-            "speculate" => self.keep_speculation(out, words)?,
-            "holds" => self.put_holds(out, words)?,
-            "batch" => self.batch(out, words)?,
-            "commit" => self.commit(out, words)?,
-            "clear" => self.emitted.clear(),
-            "end" => {
-                self.finish(out)?;
-                return Ok(true);
-            }
-            _ => out.push_str("no call\n")?,
+    /// Does what a line of this word says.
+    fn obey(
+        &mut self,
+        out: &mut String,
+        word: &str,
+        words: &mut Words<'_>,
+    ) -> Result<(), AllocError> {
+        match word {
+            "interface" => {
+                self.interface = interface(words);
+                Ok(())
+            },
+            "inside" => add_network(&mut self.inside, words),
+            "job" => self.add_job(out, words),
+            "packet" => add_packet(self.alloc, &mut self.packets, words),
+            "speculate" => self.keep_speculation(out, words),
+            "holds" => self.put_holds(out, words),
+            "batch" => self.batch(out, words),
+            "commit" => self.commit(out, words),
+            "clear" => {
+                self.emitted.clear();
+                Ok(())
+            },
+            "end" => self.finish(out),
+            _ => out.push_str("no call\n"),
         }
-        Ok(false)
     }
 
     /// Does what the lines say up to the end of the run, and answers whether it came.
     fn follow(&mut self, out: &mut String, lines: &mut Lines<'_>) -> Result<bool, AllocError> {
         for line in lines {
-            if self.obey(out, &mut Words::of(line))? {
+            let mut words = Words::of(line);
+            let word = words.word();
+            self.obey(out, word, &mut words)?;
+            if word == "end" {
                 return Ok(true);
             }
         }
@@ -385,7 +423,10 @@ impl Run {
 
 /// Puts the answer to the next run, and answers whether a whole one was left.
 fn put_next(alloc: Global, out: &mut String, lines: &mut Lines<'_>) -> Result<bool, AllocError> {
-    Run::new(alloc).follow(out, lines)
+    let mut run = Run::new(alloc);
+    let followed = run.follow(out, lines);
+    drop(run);
+    followed
 }
 
 /// Answers all runs of a text.

@@ -14,7 +14,7 @@ use crate::expansions::terms::{put_network, put_table_name, table_names};
 use crate::expansions::translations::put_translations;
 use crate::given::Given;
 use crate::printing::{put_fault, word_if};
-use pfr_conf::{Statements, read};
+use pfr_conf::{ConfError, Statements, read};
 use pfr_expand::expand;
 use pfr_ruleset::{AddressTable, Interface, Ruleset};
 use std::alloc::{AllocError, Global};
@@ -72,6 +72,20 @@ fn put_asked(
     put_ruleset(alloc, out, names.as_slice(), ruleset)
 }
 
+/// What is asked for of what some statements mean, or their first fault.
+fn put_expanded(
+    alloc: Global,
+    out: &mut String,
+    counts_alone: bool,
+    statements: &Statements<'_>,
+    expanded: &Result<Ruleset, ConfError>,
+) -> Result<(), AllocError> {
+    match expanded {
+        Ok(ruleset) => put_asked(alloc, out, counts_alone, statements, ruleset),
+        Err(fault) => put_fault(out, fault),
+    }
+}
+
 /// What statements mean, or their first fault.
 fn put_meaning(
     alloc: Global,
@@ -80,9 +94,23 @@ fn put_meaning(
     interface: &Interface,
     statements: &Statements<'_>,
 ) -> Result<(), AllocError> {
-    match expand(alloc, statements, interface) {
-        Ok(ruleset) => put_asked(alloc, out, counts_alone, statements, &ruleset),
-        Err(fault) => put_fault(out, &fault),
+    let expanded = expand(alloc, statements, interface);
+    let answered = put_expanded(alloc, out, counts_alone, statements, &expanded);
+    drop(expanded);
+    answered
+}
+
+/// What the statements that were read mean, or the first fault.
+fn put_found(
+    alloc: Global,
+    out: &mut String,
+    counts_alone: bool,
+    interface: &Interface,
+    found: &Result<Statements<'_>, ConfError>,
+) -> Result<(), AllocError> {
+    match found {
+        Ok(statements) => put_meaning(alloc, out, counts_alone, interface, statements),
+        Err(fault) => put_fault(out, fault),
     }
 }
 
@@ -94,10 +122,10 @@ fn put_text(
     interface: &Interface,
     text: &[u8],
 ) -> Result<(), AllocError> {
-    match read(alloc, text) {
-        Ok(statements) => put_meaning(alloc, out, counts_alone, interface, &statements),
-        Err(fault) => put_fault(out, &fault),
-    }
+    let found = read(alloc, text);
+    let answered = put_found(alloc, out, counts_alone, interface, &found);
+    drop(found);
+    answered
 }
 
 pub(crate) fn put_answer(

@@ -2,62 +2,43 @@
 //! number of its statements, those of bodies too, or its first fault.
 use crate::given::Given;
 use crate::printing::put_fault;
-use pfr_conf::{FilterStatement, Statement, read};
+use pfr_conf::{ConfError, FilterStatement, Statement, Statements, read};
 use std::alloc::{AllocError, Global};
 
-/// Puts the bodies of these statements behind those that wait.
-fn add_bodies<'s, 'a>(
-    waiting: &mut Vec<&'s [FilterStatement<'a>]>,
-    statements: &'s [FilterStatement<'a>],
-) -> Result<(), AllocError> {
+/// How many statements these are, with those of their bodies.
+fn count_filter(statements: &[FilterStatement<'_>]) -> usize {
+    let mut count = statements.len();
     for statement in statements {
         if let FilterStatement::Anchor(_, body) = statement {
-            waiting.push(body.as_slice())?;
+            let within = count_filter(body.as_slice());
+            count = count.saturating_add(within);
         }
     }
-    Ok(())
+    count
 }
 
-/// The bodies of the anchors among some statements.
-fn bodies_of<'s, 'a>(
-    alloc: Global,
-    statements: &'s [Statement<'a>],
-) -> Result<Vec<&'s [FilterStatement<'a>]>, AllocError> {
-    let mut bodies = Vec::new(alloc);
+/// How many statements a ruleset has, with those of bodies.
+fn count(found: &Statements<'_>) -> usize {
+    let statements = found.statements.as_slice();
+    let mut count = statements.len();
     for statement in statements {
         if let Statement::Filter(FilterStatement::Anchor(_, body)) = statement {
-            bodies.push(body.as_slice())?;
+            let within = count_filter(body.as_slice());
+            count = count.saturating_add(within);
         }
     }
-    Ok(bodies)
+    count
 }
 
-/// How many statements stand in these bodies, in those within them too.
-fn count_in(mut waiting: Vec<&[FilterStatement<'_>]>) -> Result<usize, AllocError> {
-    let mut count: usize = 0;
-    for _turn in 0..u64::MAX {
-        let Some(body) = waiting.pop() else {
-            break;
-        };
-        count = count.saturating_add(body.len());
-        add_bodies(&mut waiting, body)?;
-    }
-    Ok(count)
-}
-
-/// How many statements there are, those of bodies too.
-fn count(alloc: Global, statements: &[Statement<'_>]) -> Result<usize, AllocError> {
-    let within = count_in(bodies_of(alloc, statements)?)?;
-    Ok(statements.len().saturating_add(within))
-}
-
-fn put_count(
-    alloc: Global,
+/// How many statements were read, or the first fault.
+fn put_found(
     out: &mut String,
-    statements: &[Statement<'_>],
+    found: &Result<Statements<'_>, ConfError>,
 ) -> Result<(), AllocError> {
-    let count = count(alloc, statements)?;
-    writeln!(out, "{count} statements")
+    match found {
+        Ok(found) => writeln!(out, "{} statements", count(found)),
+        Err(fault) => put_fault(out, fault),
+    }
 }
 
 pub(crate) fn put_answer(
@@ -65,8 +46,8 @@ pub(crate) fn put_answer(
     out: &mut String,
     given: &mut Given<'_>,
 ) -> Result<(), AllocError> {
-    match read(alloc, given.text()) {
-        Ok(found) => put_count(alloc, out, found.statements.as_slice()),
-        Err(fault) => put_fault(out, &fault),
-    }
+    let found = read(alloc, given.text());
+    let answered = put_found(out, &found);
+    drop(found);
+    answered
 }

@@ -99,12 +99,18 @@ fn put_written(out: &mut String, bytes: Option<Change>) -> Result<(), AllocError
     write!(out, ":{}", change.to.port.0)
 }
 
-/// The line of a packet, without a newline.
-fn put_outcome(alloc: Global, out: &mut String, line: VerdictLine<'_>) -> Result<(), AllocError> {
+/// A verdict line, without its newline.
+fn put_verdict(alloc: Global, out: &mut String, line: VerdictLine<'_>) -> Result<(), AllocError> {
     let mut text = Vec::new(alloc);
     line.put(&mut text)?;
     put_bytes(out, text.as_slice())?;
     let _newline = out.pop();
+    Ok(())
+}
+
+/// The line of a packet, without a newline.
+fn put_outcome(alloc: Global, out: &mut String, line: VerdictLine<'_>) -> Result<(), AllocError> {
+    put_verdict(alloc, out, line)?;
     out.push_str("; ")?;
     put_visits(alloc, out, &line.outcome.visited.filter)?;
     out.push(' ')?;
@@ -146,6 +152,76 @@ fn put_states(alloc: Global, out: &mut String, table: &Table) -> Result<(), Allo
     Ok(())
 }
 
+/// What a packet comes to over a table.
+fn evaluate(
+    alloc: Global,
+    table: &Table,
+    job: &Job,
+    number: u64,
+    clock: Clock,
+    record: Record<'_>,
+) -> Result<Outcome, AllocError> {
+    let view = view(record.link, record.bytes);
+    let mut answers = Direct {
+        table,
+        clock,
+        hint: None,
+        found: None,
+    };
+    step(alloc, job, number, clock, &view, &mut answers)
+}
+
+/// The line of a packet, whose change is taken over.
+fn put_taken(
+    alloc: Global,
+    out: &mut String,
+    table: &mut Table,
+    line: VerdictLine<'_>,
+) -> Result<(), AllocError> {
+    put_outcome(alloc, out, line)?;
+    take(out, table, line.clock, line.outcome)
+}
+
+/// Replays a packet.
+fn replay_packet(
+    alloc: Global,
+    out: &mut String,
+    table: &mut Table,
+    job: &Job,
+    number: u64,
+    clock: Clock,
+    record: Record<'_>,
+) -> Result<(), AllocError> {
+    let outcome = evaluate(alloc, table, job, number, clock, record)?;
+    let line = VerdictLine {
+        number,
+        clock,
+        outcome: &outcome,
+    };
+    let answered = put_taken(alloc, out, table, line);
+    drop(outcome);
+    answered
+}
+
+/// The lines of all packets and of the states that are left, over a table that is empty.
+fn replay_over(
+    alloc: Global,
+    out: &mut String,
+    table: &mut Table,
+    given: &mut Given<'_>,
+    job: &Job,
+    records: u32,
+) -> Result<(), AllocError> {
+    let mut clock = Clock(0);
+    for place in 0..records {
+        let number = u64::from(place) + 1;
+        let record = Record::read(given);
+        clock = clock.max(Clock(record.seconds));
+        replay_packet(alloc, out, table, job, number, clock, record)?;
+    }
+    put_states(alloc, out, table)
+}
+
 /// The lines of all packets and of the states that are left.
 fn replay(
     alloc: Global,
@@ -156,28 +232,9 @@ fn replay(
 ) -> Result<(), AllocError> {
     let limit = job.rules().options.state_limit as usize;
     let mut table = Table::new(alloc, limit);
-    let mut clock = Clock(0);
-    for place in 0..records {
-        let number = u64::from(place) + 1;
-        let record = Record::read(given);
-        clock = clock.max(Clock(record.seconds));
-        let view = view(record.link, record.bytes);
-        let mut answers = Direct {
-            table: &table,
-            clock,
-            hint: None,
-            found: None,
-        };
-        let outcome = step(alloc, job, number, clock, &view, &mut answers)?;
-        let line = VerdictLine {
-            number,
-            clock,
-            outcome: &outcome,
-        };
-        put_outcome(alloc, out, line)?;
-        take(out, &mut table, clock, &outcome)?;
-    }
-    put_states(alloc, out, &table)
+    let answered = replay_over(alloc, out, &mut table, given, job, records);
+    drop(table);
+    answered
 }
 
 /// Steps over so many records.
@@ -212,19 +269,16 @@ fn put_lines(
     }
 }
 
-/// The job that a run begins with.
-fn job(alloc: Global, given: &mut Given<'_>) -> Result<Result<Job, ConfError>, AllocError> {
+/// The answer to a run, but for its end.
+fn put_run(alloc: Global, out: &mut String, given: &mut Given<'_>) -> Result<(), AllocError> {
     let interface = given.interface();
     let inside = networks(alloc, given)?;
     let text = given.text();
     let seed = [given.byte(); 32];
-    Ok(Job::new(alloc, text, interface, inside.as_slice(), seed))
-}
-
-/// The answer to a run, but for its end.
-fn put_run(alloc: Global, out: &mut String, given: &mut Given<'_>) -> Result<(), AllocError> {
-    let job = job(alloc, given)?;
-    put_lines(alloc, out, given, &job)
+    let job = Job::new(alloc, text, interface, inside.as_slice(), seed);
+    let answered = put_lines(alloc, out, given, &job);
+    drop(job);
+    answered
 }
 
 pub(crate) fn put_answer(

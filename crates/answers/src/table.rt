@@ -28,6 +28,7 @@ use pfr_track::{Clock, Deadline, Key, Peers, State, StateNumber, StateRules, Tim
 use std::alloc::{AllocError, Global};
 use std::io;
 use std::io::Write;
+use std::str::Lines;
 
 /// How many bytes the text of the answers has room for.
 const ROOM: usize = 65536;
@@ -161,19 +162,36 @@ fn put_answer(
     })
 }
 
-/// Answers all lines of a text.
-pub(crate) fn answer<W: Write>(alloc: Global, text: &str, out: &mut W) -> io::Result<()> {
-    let mut lines = text.lines();
-    let limit = lines.next().unwrap_or("").parse::<usize>().unwrap_or(0);
-    let mut table = Table::new(alloc, limit);
-    let mut answer = String::with_capacity(alloc, ROOM)?;
+/// Puts the answer to a line.
+fn put_line(out: &mut String, table: &mut Table, line: &str) -> Result<(), AllocError> {
+    match put_answer(out, table, &mut Words::of(line)) {
+        Some(done) => done,
+        None => out.push_str("no call\n"),
+    }
+}
+
+/// Answers lines, each in a text that is made for it.
+fn answer_lines<W: Write>(
+    answer: &mut String,
+    table: &mut Table,
+    lines: Lines<'_>,
+    out: &mut W,
+) -> io::Result<()> {
     for line in lines {
-        match put_answer(&mut answer, &mut table, &mut Words::of(line)) {
-            Some(done) => done?,
-            None => answer.push_str("no call\n")?,
-        }
+        put_line(answer, table, line)?;
         out.write_all(answer.as_bytes())?;
         answer.clear();
     }
     Ok(())
+}
+
+/// Answers all lines of a text.
+pub(crate) fn answer<W: Write>(alloc: Global, text: &str, out: &mut W) -> io::Result<()> {
+    let mut lines = text.lines();
+    let limit = lines.next().unwrap_or("").parse::<usize>().unwrap_or(0);
+    let mut answer = String::with_capacity(alloc, ROOM)?;
+    let mut table = Table::new(alloc, limit);
+    let answered = answer_lines(&mut answer, &mut table, lines, out);
+    drop(table);
+    answered
 }
