@@ -97,16 +97,16 @@ impl Reruns for Sum {
 fn commit(
     book: &mut Book,
     packets: &Packets,
-    groups: Vec<Vec<Speculation>>,
+    results: Vec<Speculation>,
     sum: &Sum,
     out: &mut Emitted,
 ) -> Result<(), AllocError>
-    requires { All (λ group. All (IsOfJob (job_of book.old)) group.items) groups.items }
+    requires { All (IsOfJob (job_of book.old)) results.items }
 {
     if book.committed() > MOST as u64 || packets.items.len() > MOST {
         return Err(AllocError);
     }
-    book.commit_own_batch(packets.items.as_slice(), groups, sum, out)
+    book.commit_own_batch(packets.items.as_slice(), results, sum, out)
 }
 
 /// How often a book evaluated a packet itself, the sum of the numbers that it told before, and what it emitted.
@@ -152,7 +152,7 @@ fn take<R: Threads + Wait + Sync, G: Gate>(
     }
     let sum = Sum(AtomicU64::new(0));
     let mut out = Emitted::new(alloc);
-    commit(&mut book, &packets, found.groups, &sum, &mut out)?;
+    commit(&mut book, &packets, found.results, &sum, &mut out)?;
     let (own, told) = (book.own(), sum.0.load(Ordering::SeqCst));
     Ok(Taken { own, told, out })
 }
