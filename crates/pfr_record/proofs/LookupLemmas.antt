@@ -1,6 +1,6 @@
 -- What is noted in a record keeps what was noted before.
 use Rattle.std.proofs.Common.{◌≡◌, ◌⊎◌, inl, inr, Bool, false, List, [], ◌∷◌, ◌++◌, Option, Some, None, Result, OnOk, OnErr, ap, sym, subst}
-use Rattle.std.specs.List.{All, Contains}
+use Rattle.std.specs.List.{Contains}
 use Rattle.std.specs.Map.{keys_of}
 use Rattle.std.proofs.lemmas.List.{map-append}
 use Rattle.std.proofs.lemmas.List.Elements.{All-append, All-head, All-tail, All-cons, All-nil, Contains-append_left, Contains-append_right, Contains-append_cases, Contains-push}
@@ -122,11 +122,11 @@ agree_one table q a is = All-cons (λ (e : Question × Answer). answer_of table 
 one_agrees : (table : StateTable) (q : Question) (a : Answer) → Agrees table ((q, a) ∷ []) → answer_of table q ≡ a
 one_agrees table q a h = All-head (λ (e : Question × Answer). answer_of table e.0 ≡ e.1) (q, a) [] h
 
-found_of : Answer → Option State
+abbrev found_of : Answer → Option State
 found_of (Found state) = state
 found_of (HasRoom room) = None
 
-room_said : Answer → Bool
+abbrev room_said : Answer → Bool
 room_said (Found state) = false
 room_said (HasRoom room) = room
 
@@ -134,12 +134,14 @@ pub agree_missed : (table : StateTable) (spot : Option (Side × Key)) (it : Side
 agree_missed table spot it is h = rw is (agree_one table (At it.0 it.1) (Found None) (ap (λ (o : Option State). Found o) h))
 
 pub missed_agrees : (table : StateTable) (spot : Option (Side × Key)) (it : Side × Key) → spot ≡ Some it → Agrees table (missed spot) → found_in table it.0 it.1 ≡ None
+unfolding found_in
 missed_agrees table spot it is h = ap found_of (one_agrees table (At it.0 it.1) (Found None) (rw is at h))
 
 pub agree_room : (table : StateTable) (spot : Option Bool) (room : Bool) → spot ≡ Some room → has_room_in table ≡ room → Agrees table (room_of spot)
 agree_room table spot room is h = rw is (agree_one table Room (HasRoom room) (ap (λ (r : Bool). HasRoom r) h))
 
 pub room_agrees : (table : StateTable) (spot : Option Bool) (room : Bool) → spot ≡ Some room → Agrees table (room_of spot) → has_room_in table ≡ room
+unfolding has_room_in
 room_agrees table spot room is h = ap room_said (one_agrees table Room (HasRoom room) (rw is at h))
 
 pub agree_all : (table : StateTable) (first second : Option (Side × Key)) (room : Option Bool) (others : Entries) → Agrees table (missed first) → Agrees table (missed second) → Agrees table (room_of room) → Agrees table others

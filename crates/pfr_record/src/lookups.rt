@@ -233,9 +233,15 @@ impl Lookups {
     pub(crate) fn hold_near(&self, table: &Table, clock: Clock, hint: Option<Place>) -> bool
         ensures { IsTrue result ↔ Agrees (purged_at clock table.now) self.now }
     {
-        is_missed(table, clock, hint, &self.missed)
-            && is_missed(table, clock, None, &self.missed_too)
-            && has_room_so(table, clock, &self.room)
-            && are_answered(&self.others, table, clock, hint)
+        if !is_missed(table, clock, hint, &self.missed) {
+            return false;
+        }
+        if !is_missed(table, clock, None, &self.missed_too) {
+            return false;
+        }
+        if !has_room_so(table, clock, &self.room) {
+            return false;
+        }
+        are_answered(&self.others, table, clock, hint)
     }
 }

@@ -1,4 +1,4 @@
-use Rattle.std.proofs.Common.{None, refl, subst}
+use Rattle.std.proofs.Common.{None, subst}
 use Rattle.pfr_packet.specs.declared.answers.Question.TheVariants.{At}
 use Rattle.pfr_record.specs.declared.answer.Answer.TheVariants.{Found}
 use Rattle.pfr_record.specs.Record.{Entries, Keeps, entries_of}

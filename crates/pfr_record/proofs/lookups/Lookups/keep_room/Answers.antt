@@ -1,4 +1,4 @@
-use Rattle.std.proofs.Common.{refl, subst}
+use Rattle.std.proofs.Common.{subst}
 use Rattle.pfr_packet.specs.declared.answers.Question.TheVariants.{Room}
 use Rattle.pfr_record.specs.declared.answer.Answer.TheVariants.{HasRoom}
 use Rattle.pfr_record.specs.Record.{Entries, Keeps, entries_of}
