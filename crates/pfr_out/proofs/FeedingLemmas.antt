@@ -1,15 +1,14 @@
 -- How far a run has come that reads and writes a batch at a time.
-use Rattle.std.proofs.Common.{◌≡◌, ◌∙◌, ◌+◌, ℕ, Bool, IsTrue, false, List, [], ◌∷◌, ◌++◌, length, map, Option, Some, None, is_some, true, IfSome, ◌⊎◌, Result, Ok, Err, IfErr, IfOk, inl, inr, refl, sym, ap, subst, arith}
+use Rattle.std.proofs.Common.{◌≡◌, ◌∙◌, ◌+◌, ℕ, Bool, false, List, [], ◌∷◌, ◌++◌, length, map, Option, Some, None, is_some, true, IfSome, ◌⊎◌, Ok, Err, inl, inr, refl, sym, ap, subst, arith}
 use Rattle.std.specs.List.{All}
 use Rattle.std.specs.Option.{option_map}
 use Rattle.std.proofs.lemmas.List.{length-map}
-use Rattle.std.proofs.lemmas.Result.{IfErr-weaker, IfOk-weaker}
 use Rattle.std.proofs.lemmas.List.Elements.{All-nil}
 use Rattle.pfr_net.specs.declared.address.Ipv4Address.{Ipv4Address}
 use Rattle.pfr_packet.specs.Job.{RunJob}
 use Rattle.pfr_capture.specs.declared.capture.CaptureError.TheVariants as refusal
 use Rattle.pfr_capture.specs.declared.capture.Record.{Record}
-use Rattle.pfr_capture.specs.Reading.{FieldsOf, Gave, HasGiven, Reading}
+use Rattle.pfr_capture.specs.Reading.{FieldsOf, Gave, Reading}
 use Rattle.pfr_commit.specs.declared.book.Book.{Book}
 use Rattle.pfr_commit.specs.Books.{StandsAt}
 use Rattle.pfr_commit.specs.Emissions.{frame_of}
@@ -21,19 +20,18 @@ use Rattle.pfr_work.specs.declared.run.Trace.{Trace}
 use Rattle.pfr_work.specs.Runs.{Cut, IsPiece, Over, Refused, Round, Rounds, Went, behind}
 use Rattle.pfr_out.specs.declared.feeding.Cut.{Cut as Why}
 use Rattle.pfr_out.specs.declared.feeding.Feeding.{Feeding}
-use Rattle.pfr_out.specs.declared.report.Report.{Report}
 use Rattle.pfr_out.specs.declared.report.Stop.{Stop}
 use Rattle.pfr_out.specs.declared.report.Stop.TheVariants as stop
 use Rattle.pfr_out.specs.declared.settings.Form.{Form}
 use Rattle.pfr_out.specs.declared.sinks.Sinks.{Sinks}
-use Rattle.pfr_out.specs.Feedings.{Behind, Concluded, Cuts, CutsOff, Ends, Fresh, Gives, Reads, Rests, RunEnds, RunStops, Same, Takes, Writes, piece_alone, stop_by, stop_of}
-use Rattle.pfr_out.specs.Outputs.{AllTold, Grew, GrewBy, Outputs, PartWritten, RoseAt, Stay, each_of, header_alone, texts_alone}
+use Rattle.pfr_out.specs.Feedings.{Behind, Cuts, CutsOff, Ends, Fresh, Gives, Reads, Rests, Same, Takes, Writes, piece_alone, stop_by, stop_of}
+use Rattle.pfr_out.specs.Outputs.{AllTold, Grew, Outputs, PartWritten, RoseAt, Stay, each_of, texts_alone}
 use Rattle.pfr_out.specs.Reading.{BatchFails, BatchSays, End, records_of, wants_memory}
-use Rattle.pfr_out.specs.Replay.{Replayed, StopFails, Stopped}
+use Rattle.pfr_out.specs.Replay.{StopFails, Stopped}
 use Rattle.pfr_out.specs.Spelling.{Run}
-use Rattle.pfr_out.specs.Taking.{Add, IsLate, Reaches, ReplaysOn, SinksFail, StopsOn, run_in}
+use Rattle.pfr_out.specs.Taking.{Add, IsLate, Reaches, SinksFail}
 use Rattle.pfr_out.proofs.ReadingLemmas.{gave_of}
-use Rattle.pfr_out.proofs.RunLemmas.{AtHead, concluded, concluded_stop, concludes_for, ok_and, same_run, Ended, Took, at_start, batch_cut, memory_stopped, next_head, reached, reaches, says_on}
+use Rattle.pfr_out.proofs.RunLemmas.{AtHead, Ended, Took, at_start, batch_cut, memory_stopped, next_head, reached, reaches, says_on}
 use Rattle.pfr_out.proofs.WritingLemmas.{each_output, grew_by_nothing, spelled_none}
 
 -- ---- how far

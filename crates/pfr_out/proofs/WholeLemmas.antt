@@ -1,40 +1,21 @@
 -- The whole of a run: how far it came, and what it closed or why it stopped.
-use Rattle.std.proofs.Common.{◌≡◌, ◌∙◌, ◌+◌, ℕ, Bool, IsTrue, false, List, [], ◌∷◌, ◌++◌, length, map, Option, Some, None, is_some, true, IfSome, ◌⊎◌, Result, Ok, Err, IfErr, IfOk, inl, inr, refl, sym, ap, subst, arith}
-use Rattle.std.specs.List.{All}
+use Rattle.std.proofs.Common.{◌≡◌, ◌∙◌, ℕ, Bool, IsTrue, List, [], ◌++◌, Option, Some, None, IfSome, Result, Err, IfErr, IfOk, refl, sym, subst}
 use Rattle.std.specs.Option.{option_map}
-use Rattle.std.proofs.lemmas.List.{length-map}
 use Rattle.std.proofs.lemmas.Result.{IfErr-weaker, IfOk-weaker}
-use Rattle.std.proofs.lemmas.List.Elements.{All-nil}
-use Rattle.pfr_net.specs.declared.address.Ipv4Address.{Ipv4Address}
-use Rattle.pfr_packet.specs.Job.{RunJob}
-use Rattle.pfr_capture.specs.declared.capture.CaptureError.TheVariants as refusal
-use Rattle.pfr_capture.specs.declared.capture.Record.{Record}
-use Rattle.pfr_capture.specs.Reading.{FieldsOf, Gave, HasGiven, Reading}
+use Rattle.pfr_capture.specs.Reading.{HasGiven}
 use Rattle.pfr_commit.specs.declared.book.Book.{Book}
-use Rattle.pfr_commit.specs.Books.{StandsAt}
-use Rattle.pfr_commit.specs.Emissions.{frame_of}
-use Rattle.pfr_commit.specs.World.{Texts, World, no_texts, opening, world_after}
-use Rattle.pfr_commit.specs.World.{online as written_of}
-use Rattle.pfr_commit.proofs.StandLemmas.{nothing_behind}
-use Rattle.pfr_commit.proofs.WorldLemmas.{world_count, world_none}
-use Rattle.pfr_work.specs.declared.run.Trace.{Trace}
-use Rattle.pfr_work.specs.Runs.{Cut, IsPiece, Over, Refused, Round, Rounds, Went, behind}
 use Rattle.pfr_out.specs.declared.feeding.Cut.{Cut as Why}
 use Rattle.pfr_out.specs.declared.feeding.Feeding.{Feeding}
 use Rattle.pfr_out.specs.declared.report.Report.{Report}
 use Rattle.pfr_out.specs.declared.report.Stop.{Stop}
-use Rattle.pfr_out.specs.declared.report.Stop.TheVariants as stop
-use Rattle.pfr_out.specs.declared.settings.Form.{Form}
 use Rattle.pfr_out.specs.declared.sinks.Sinks.{Sinks}
-use Rattle.pfr_out.specs.Feedings.{Behind, Concluded, Cuts, CutsOff, Ends, Fresh, Gives, Reads, Rests, RunEnds, RunStops, Same, Takes, Writes, piece_alone, stop_by, stop_of}
-use Rattle.pfr_out.specs.Outputs.{AllTold, Grew, GrewBy, Outputs, PartWritten, RoseAt, Stay, each_of, header_alone, texts_alone}
-use Rattle.pfr_out.specs.Reading.{BatchFails, BatchSays, End, records_of, wants_memory}
-use Rattle.pfr_out.specs.Replay.{Replayed, StopFails, Stopped}
+use Rattle.pfr_out.specs.Feedings.{Behind, Concluded, RunEnds, RunStops, stop_by, stop_of}
+use Rattle.pfr_out.specs.Outputs.{AllTold, Grew, GrewBy, Outputs, each_of, header_alone}
+use Rattle.pfr_out.specs.Reading.{End}
+use Rattle.pfr_out.specs.Replay.{Replayed, Stopped}
 use Rattle.pfr_out.specs.Spelling.{Run}
-use Rattle.pfr_out.specs.Taking.{Add, IsLate, Reaches, ReplaysOn, SinksFail, StopsOn, run_in}
-use Rattle.pfr_out.proofs.ReadingLemmas.{gave_of}
-use Rattle.pfr_out.proofs.RunLemmas.{AtHead, concluded, concluded_stop, concludes_for, ok_and, same_run, Ended, Took, at_start, batch_cut, memory_stopped, next_head, reached, reaches, says_on}
-use Rattle.pfr_out.proofs.WritingLemmas.{each_output, grew_by_nothing, spelled_none}
+use Rattle.pfr_out.specs.Taking.{Reaches, ReplaysOn, StopsOn, run_in}
+use Rattle.pfr_out.proofs.RunLemmas.{concluded, concluded_stop, concludes_for, ok_and, same_run}
 
 module _ {R S : Type 0} (tells : R → Bool) (unread : R → List ℕ) (failures : R → ℕ) (told : S → Bool) (written : S → List ℕ) (sink_failures : S → ℕ) (run : Run) (start : Feeding R S) where
   abbrev ReplaysFrom : Sinks S → Report → Type 0
