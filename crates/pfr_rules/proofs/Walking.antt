@@ -1,6 +1,6 @@
 -- The loop of a walk.
-use Rattle.std.proofs.Common.{◌≡◌, ◌∙◌, ◌<◌, ◌≤◌, ◌+◌, ◌-◌, ◌&&◌, ◌||◌, ◌==◌, ◌⊎◌, inl, inr, ℕ, zero, suc, Bool, true, false, not, nat_le, if◌then◌else◌, List, [], ◌∷◌, ◌++◌, length, drop, Option, Some, None, get_or, ap, sym, subst, refl, arith}
-use Rattle.std.specs.List.{All, Contains, slice_get, list_all, list_any, filter}
+use Rattle.std.proofs.Common.{◌≡◌, ◌∙◌, ◌<◌, ◌≤◌, ◌+◌, ◌&&◌, ◌||◌, ◌==◌, ◌⊎◌, inl, inr, ℕ, zero, suc, Bool, true, false, not, nat_le, if◌then◌else◌, List, [], ◌∷◌, ◌++◌, length, drop, Option, Some, None, ap, sym, subst, refl, arith}
+use Rattle.std.specs.List.{All, Contains, slice_get, list_any, filter}
 use Rattle.std.proofs.Math.Numerals.{add-one}
 use Rattle.std.proofs.lemmas.Bool.{lt-leb, le-leb, leb-true, leb-false, eqb-true, cases_lt}
 use Rattle.std.proofs.lemmas.List.{append-nil}
@@ -10,13 +10,12 @@ use Rattle.pfr_net.specs.declared.direction.Direction.{Direction}
 use Rattle.pfr_ruleset.specs.declared.flat.FlatRule.{FlatRule}
 use Rattle.pfr_ruleset.specs.declared.flat.FlatAnchor.{FlatAnchor}
 use Rattle.pfr_ruleset.specs.declared.filter_rules.RuleLists.{RuleLists}
-use Rattle.pfr_ruleset.specs.Places.{IsPlaced, Follows, AreNested, AreWithin, ArePlaced, HasOpenings}
+use Rattle.pfr_ruleset.specs.Places.{IsPlaced, Follows, AreNested, AreWithin, ArePlaced}
 use Rattle.pfr_ruleset.specs.declared.ruleset.Ruleset.{Ruleset}
 use Rattle.pfr_headers.specs.declared.packet.Packet.{Packet}
-use Rattle.pfr_rules.specs.Filter.{last_below, first_below, some_below, some_in, ends, is_inside, is_round, hits, is_quick, passes, is_stop, reach_by, stops_by, begun, up_to, anchored as anchored_of, ruled as ruled_of, reach, deciding, visited as visited_of}
+use Rattle.pfr_rules.specs.Filter.{last_below, first_below, some_in, ends, is_inside, is_round, hits, is_quick, passes, is_stop, reach_by, begun, anchored as anchored_of, ruled as ruled_of, reach, deciding, visited as visited_of}
 use Rattle.pfr_rules.specs.Numbers.{numbers_below}
-use Rattle.pfr_rules.proofs.Places.{last_within, none_after, none_at_all, last_skips, first_none, none_first, first_found, some_found}
-use Rattle.pfr_rules.proofs.Stops.{stop_is}
+use Rattle.pfr_rules.proofs.Places.{last_within, last_skips, first_none, none_first, first_found, some_found}
 
 -- an anchor isn't begun, or all behind it
 abbrev pub IsAhead : ℕ → FlatAnchor → Type 0

@@ -3,10 +3,9 @@
 -- All is said by the places of rules in a flat list. A rule hits if all that it writes holds of the packet, and all that the
 -- anchors round it write. A stop is the place of a quick rule that hits, or the place of the last rule of a quick anchor in
 -- which a rule hits. Reached are the rules up to the first stop, all of them where there is none.
-use Rattle.std.specs.Prelude.{ℕ, zero, suc, ◌+◌, ◌==◌, ◌&&◌, ◌||◌, Bool, true, false, not, nat_le, if◌then◌else◌, List, [], ◌∷◌, length, Option, Some, None}
+use Rattle.std.specs.Prelude.{ℕ, zero, suc, ◌+◌, ◌==◌, ◌&&◌, ◌||◌, Bool, false, not, nat_le, if◌then◌else◌, List, length, Option, Some, None}
 use Rattle.std.specs.List.{slice_get, list_any, list_all, filter}
 use Rattle.pfr_net.specs.declared.direction.Direction.{Direction}
-use Rattle.pfr_net.specs.declared.rule_number.RuleNumber.{RuleNumber}
 use Rattle.pfr_ruleset.specs.declared.flat.FilterAction.{FilterAction}
 use Rattle.pfr_ruleset.specs.declared.flat.FilterAction.TheVariants as action
 use Rattle.pfr_ruleset.specs.declared.flat.FlatRule.{FlatRule}

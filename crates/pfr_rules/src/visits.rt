@@ -3,7 +3,6 @@ ghost use Rattle.std.specs.Prelude.{◌≡◌, ◌<◌, ◌≤◌, ◌+◌, [], 
 ghost use Rattle.pfr_rules.specs.Counts.{raised};
 ghost use Rattle.pfr_rules.specs.Numbers.{follows, numbers_from};
 
-use crate::counts::add;
 use pfr_items::Items;
 use std::alloc::{AllocError, Global};
 use std::marker::Model;
@@ -59,12 +58,15 @@ impl Run {
         Ok(())
     }
 
-    /// Counts the numbers, each at its place.
+    /// Counts the numbers, each at its place. Which of them have one is known before, so nothing is asked from one to the next.
+    #[tactic(auto, using(crate::proofs::CountLemmas::counted_next))]
     fn count_in(self, counts: &mut [u64])
         ensures { counts.new ≡ fold raised counts.old (numbers_from self.first self.count) }
     {
-        for index in 0..self.count {
-            add(counts, self.first + index, 1);
+        let end = self.count.min(counts.len().saturating_sub(self.first));
+        for index in 0..end {
+            let place = self.first + index;
+            counts[place] = counts[place].saturating_add(1);
         }
     }
 
