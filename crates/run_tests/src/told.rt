@@ -1,36 +1,14 @@
 //! Which packets of a run workers evaluate, and which the committer does.
 ghost use Rattle.std.specs.Prelude.{◌≤◌};
 
+use crate::given::{capture, settings, sinks};
 use pfr_capture::Mem;
-use pfr_net::{IfName, Ipv4Address, Net};
-use pfr_out::{Form, Gate, Settings, Sinks, replay};
-use pfr_ruleset::Interface;
+use pfr_out::{Form, Gate, replay};
 use std::alloc::{AllocError, AllocGlobal, Global};
 use std::sync::Wait;
 use std::sync::atomic::{AtomicU64, Ordering};
 use std::test::Fail;
 use std::thread::Threads;
-
-const HEADER: [u8; 24] = [
-    0xd4, 0xc3, 0xb2, 0xa1, 2, 0, 4, 0, 0, 0, 0, 0, 0, 0, 0, 0, 0, 0, 4, 0, 101, 0, 0, 0,
-];
-
-/// A datagram from 10.0.0.5:1000 to 198.51.100.7:53, behind the second at which it was captured.
-const RECORD: [u8; 40] = [
-    0, 0, 0, 0, 28, 0, 0, 0, 28, 0, 0, 0, //
-    0x45, 0, 0, 28, 0, 1, 0, 0, 0x40, 17, 0x46, 0x91, 10, 0, 0, 5, 198, 51, 100, 7, //
-    3, 0xe8, 0, 53, 0, 8, 0xc7, 0x81,
-];
-
-/// A capture of so many such datagrams. The second of each is before that of the one before it, so the clock stands still.
-fn capture(alloc: Global, packets: u32) -> Result<Mem, AllocError> {
-    let mut bytes = Vec::from_slice(alloc, &HEADER)?;
-    for packet in 0..packets {
-        bytes.extend_from_slice(&packets.saturating_sub(packet).to_le_bytes())?;
-        bytes.extend_from_slice(&RECORD)?;
-    }
-    Ok(Mem::new(bytes))
-}
 
 /// Rules that block all, so no packet changes anything.
 fn rules(alloc: Global, count: u64) -> Result<Vec<u8>, AllocError> {
@@ -39,16 +17,6 @@ fn rules(alloc: Global, count: u64) -> Result<Vec<u8>, AllocError> {
         text.extend_from_slice(b"block\n")?;
     }
     Ok(text)
-}
-
-fn sinks(alloc: Global) -> Sinks<Mem> {
-    Sinks {
-        verdicts: Mem::new(Vec::new(alloc)),
-        packets: Mem::new(Vec::new(alloc)),
-        counters: Mem::new(Vec::new(alloc)),
-        states: Mem::new(Vec::new(alloc)),
-        messages: Mem::new(Vec::new(alloc)),
-    }
 }
 
 /// Adds the numbers of the packets that it is told of.
@@ -85,24 +53,11 @@ fn told<R: AllocGlobal + Threads + Wait + Sync>(
     requires batch { (1 ≤ batch) × (batch ≤ 4096) }
     requires workers { workers ≤ 64 }
 {
-    let text = rules(rt.alloc(), count)?;
-    let mut source = capture(rt.alloc(), packets)?;
-    let mut outputs = sinks(rt.alloc());
-    let inside = [Net {
-        address: Ipv4Address(0x0a00_0000),
-        bits: 8,
-    }];
-    let settings = Settings {
-        interface: Interface {
-            name: IfName::new(b"em0"),
-            address: Ipv4Address(0xc000_0201),
-            bits: 24,
-        },
-        inside: &inside,
-        batch,
-        workers,
-        form: Form::None,
-    };
+    let alloc = rt.alloc();
+    let text = rules(alloc, count)?;
+    let mut source = capture(alloc, packets, packets)?;
+    let mut outputs = sinks(alloc, Mem::new(Vec::new(alloc)));
+    let settings = settings(batch, workers, Form::None);
     let sums = Sums {
         starts: AtomicU64::new(0),
         answered: AtomicU64::new(0),
