@@ -30,8 +30,8 @@ const RECORD: [u8; 40] = [
     3, 0xe8, 0, 53, 0, 8, 0xc7, 0x81,
 ];
 
-/// A capture of so many such datagrams, the first of this second. Each other one is a second earlier than the one before it, or of
-/// second 0 too, so the clock stands still.
+/// A capture of so many such datagrams, the first of this second. Each other one is a second earlier than the one before it,
+/// or of second 0 too, so the clock stands still.
 pub(crate) fn capture(alloc: Global, packets: u32, second: u32) -> Result<Mem, AllocError> {
     let mut bytes = Vec::from_slice(alloc, &HEADER)?;
     for packet in 0..packets {

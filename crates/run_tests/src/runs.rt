@@ -39,8 +39,8 @@ impl Gate for Unwatched {
     fn ran_again(&self, _number: u64) {}
 }
 
-/// Replays five datagrams of one connection through `pass out`, by so many workers. Its source gives 28 bytes at most at a time, and fails behind so
-/// many reads; the verdicts fail behind so many writes.
+/// Replays a capture of five datagrams through `pass out`, by so many workers. Its source gives 28 bytes at most at a time, and
+/// fails behind so many reads; the verdicts fail behind so many writes.
 fn run<R: AllocGlobal + Threads + Wait + Sync>(
     rt: &R,
     reads: u64,
