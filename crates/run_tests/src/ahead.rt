@@ -75,33 +75,33 @@ struct Taken {
     out: Emitted,
 }
 
-/// Has a book take packets with their results.
+/// Has a book take packets with groups of their results.
 fn commit(
     book: &mut Book,
     packets: &Packets,
-    results: Vec<Speculation>,
+    groups: Vec<Vec<Speculation>>,
     taken: &mut Taken,
 ) -> Result<(), AllocError>
-    requires { All (IsOfJob (job_of book.old)) results.items }
+    requires { All (λ group. All (IsOfJob (job_of book.old)) group.items) groups.items }
 {
     if book.committed() > MOST as u64 || packets.items.len() > MOST {
         return Err(AllocError);
     }
     let sum = Sum(AtomicU64::new(0));
-    book.commit_own_batch(packets.items.as_slice(), results, &sum, &mut taken.out)?;
+    book.commit_own_batch(packets.items.as_slice(), groups, &sum, &mut taken.out)?;
     taken.own = book.own();
     taken.told = sum.0.load(Ordering::SeqCst);
     Ok(())
 }
 
-/// Has a book take the packets of records with their results.
+/// Has a book take the packets of records with groups of their results.
 fn take_packets(
     alloc: Global,
     book: &mut Book,
     records: Vec<Record>,
-    results: Vec<Speculation>,
+    groups: Vec<Vec<Speculation>>,
 ) -> Result<Taken, AllocError>
-    requires { All (IsOfJob (job_of book.old)) results.items }
+    requires { All (λ group. All (IsOfJob (job_of book.old)) group.items) groups.items }
 {
     let packets = Packets::of(alloc, records)?;
     let mut taken = Taken {
@@ -109,7 +109,7 @@ fn take_packets(
         told: 0,
         out: Emitted::new(alloc),
     };
-    let committed = commit(book, &packets, results, &mut taken);
+    let committed = commit(book, &packets, groups, &mut taken);
     drop(packets);
     committed.and(Ok(taken))
 }
@@ -121,16 +121,16 @@ fn take_found(
     records: Vec<Record>,
     found: Ahead,
 ) -> Result<Taken, AllocError>
-    requires { All (IsOfJob (job_of book.old)) found.results.items }
+    requires { All (λ group. All (IsOfJob (job_of book.old)) group.items) found.groups.items }
 {
     let Ahead {
-        results,
+        groups,
         views,
         gathered,
     } = found;
     drop(views);
     drop(gathered);
-    take_packets(alloc, book, records, results)
+    take_packets(alloc, book, records, groups)
 }
 
 /// Has workers evaluate the packets of records, and a book take them then.
