@@ -1,15 +1,15 @@
 -- What was found out ahead about packets, at their places.
-use Rattle.std.specs.Prelude.{◌≡◌, ◌<◌, ◌+◌, ℕ, true, IfSome, List, Option, None, get_or}
+use Rattle.std.specs.Prelude.{◌≡◌, ◌<◌, ◌+◌, ℕ, true, IfSome, List, Option}
 use Rattle.std.specs.List.{find}
 use Rattle.std.specs.Arc.{arc_value}
 use Rattle.pfr_packet.specs.Job.{RunJob}
 use Rattle.pfr_record.specs.declared.speculation.Speculation.{Speculation}
 use Rattle.pfr_commit.specs.declared.results.Found.{Found}
-use Rattle.pfr_commit.specs.Results.{is_of, result_at}
+use Rattle.pfr_commit.specs.Results.{held_at, is_of}
 
 -- what isn't there stands for none
 abbrev pub found_at : ℕ → Found → Option Speculation
-found_at place found = result_at found.results.items (get_or found.places.items place None)
+found_at place found = held_at found.places.items place
 
 -- at each of so many places stands the first result of its packet, if there is one; `first` is the number of the packet at the first
 abbrev pub AreFound : List Speculation → (first count : ℕ) → Found → Type 0

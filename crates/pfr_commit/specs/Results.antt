@@ -1,27 +1,43 @@
 -- What was found out ahead about the packets of a batch.
-use Rattle.std.specs.Prelude.{◌≡◌, ◌<◌, ◌+◌, ◌-◌, ℕ, Bool, ◌==◌, ◌&&◌, nat_le, nat_lt, is_none, if◌then◌else◌, List, length, get_or, slice_set, Option, Some, None}
-use Rattle.std.specs.List.{find, slice_get}
+use Rattle.std.specs.Prelude.{◌≡◌, ◌<◌, ◌+◌, ℕ, Bool, ◌==◌, ◌&&◌, nat_lt, is_none, if◌then◌else◌, List, length, get_or, Option, Some, None, Vec}
+use Rattle.std.specs.Borrow.{Bor}
+use Rattle.std.specs.List.{find, flat_map}
+use Rattle.std.specs.Option.{option_map}
+use Rattle.std.specs.declared.alloc.Global.{Global}
 use Rattle.pfr_record.specs.declared.speculation.Speculation.{Speculation}
+
+-- results that were sent together
+abbrev pub Group : Type 0
+Group = Vec Speculation Global
+
+-- the results of some groups, those of the first group first
+abbrev pub results_of : List Group → List Speculation
+results_of groups = flat_map (λ group. group.items) groups
 
 abbrev pub is_of : ℕ → Speculation → Bool
 is_of number found = found.number == number
 
--- the result that stands where it is told, if anything is told
-abbrev pub result_at : List Speculation → Option ℕ → Option Speculation
-result_at results None = None
-result_at results (Some index) = slice_get results index
+-- places for results
+abbrev pub Places : Type 0
+Places = List (Option (Bor Speculation))
 
--- each place tells where the first result of its packet stands, if there is one; `first` is the number of the packet at the first place
-abbrev pub ArePlaced : List Speculation → ℕ → List (Option ℕ) → Type 0
-ArePlaced results first places = (place : ℕ) → place < length places → result_at results (get_or places place None) ≡ find (is_of (first + place)) results
+-- the result at a place, if there is one
+abbrev pub held_at : Places → ℕ → Option Speculation
+held_at places place = option_map (λ found. found.now) (get_or places place None)
+
+-- at each place is the first result of its packet, if there is one; `first` is the number of the packet at the first place
+abbrev pub ArePlaced : List Speculation → ℕ → Places → Type 0
+ArePlaced results first places = (place : ℕ) → place < length places → held_at places place ≡ find (is_of (first + place)) results
 
 -- there is such a place, with nothing in it
-abbrev pub is_free : List (Option ℕ) → ℕ → Bool
+abbrev pub is_free : Places → ℕ → Bool
 is_free places place = nat_lt place (length places) && is_none (get_or places place None)
 
--- where a packet's result stands goes to the packet's place, unless there is one before it
-abbrev pub with_place : (first number index : ℕ) → List (Option ℕ) → List (Option ℕ)
-with_place first number index places =
-    if nat_le first number && is_free places (number - first)
-    then slice_set places (number - first) (Some index)
-    else places
+-- what is known of a packet with one result more: an earlier one stays
+abbrev pub with_result : Option Speculation → ℕ → Speculation → Option Speculation
+with_result None number found = if is_of number found then Some found else None
+with_result (Some earlier) number found = Some earlier
+
+-- a result goes to its packet's place, unless there is one before it
+abbrev pub Puts : ℕ → Speculation → (old new : Places) → Type 0
+Puts first found old new = (place : ℕ) → place < length old → held_at new place ≡ with_result (held_at old place) (first + place) found

@@ -24,6 +24,7 @@ const MANY: usize = 16_384;
 impl Book {
     ghost use Rattle.pfr_commit.specs.Books.{LeadsTo, LeavesTexts, RisesOver, frames_of, job_of, lines_of, untold, world_up_to, world_with, written};
     ghost use Rattle.pfr_commit.specs.Found.{IsOfJob};
+    ghost use Rattle.pfr_commit.specs.Results.{results_of};
 
     /// Where the states stand by which the first of these packets go, as far as they are looked up ahead. An evaluation looks there
     /// first, and so does the check of a result; nothing rests on it. What is looked at in memory comes together so, first the slots
@@ -53,20 +54,20 @@ impl Book {
     fn take_batch<R: Reruns>(
         &mut self,
         packets: &[(Record, View)],
-        results: Vec<Speculation>,
+        groups: &[Vec<Speculation>],
         are_own: bool,
         reruns: &R,
         out: &mut Emitted,
     ) -> Result<(), AllocError>
         requires views { All (λ packet. packet.1 ≡ view_of packet.0.link packet.0.bytes.items) packets.now }
         requires few { self.old.count + length packets.now ≤ 2 ^ 43 }
-        requires own { are_own ≡ true → All (IsOfJob (job_of self.old)) results.items }
+        requires own { are_own ≡ true → All (IsOfJob (job_of self.old)) (results_of groups.now) }
         ensures world { OnOk result (world_with self.new out.new ≡ untold (spec.world_after (job_of self.old) (world_with self.old out.old) (frames_of packets.now))) }
         ensures told { OnOk result (LeadsTo self.old self.new out.old out.new (λ world. spec.world_after (job_of self.old) world (frames_of packets.now))) }
         ensures part { OnErr result (lines_of out.new ≡ written (world_up_to (job_of self.old) (world_with self.old out.old) self.new.count (frames_of packets.now))) }
         ensures part_told { OnErr result (LeavesTexts self.old self.new.count out.old out.new (frames_of packets.now)) }
         ensures counted { OnOk result (self.new.count ≡ self.old.count + length packets.now) }
-        ensures own { OnOk result (RisesOver (job_of self.old) (world_with self.old out.old) results.items packets.now self.old.own self.new.own) }
+        ensures own { OnOk result (RisesOver (job_of self.old) (world_with self.old out.old) (results_of groups.now) packets.now self.old.own self.new.own) }
         ensures job { self.new.job ≡ self.old.job }
         ensures within { (self.old.count ≤ self.new.count) × (self.new.count ≤ self.old.count + length packets.now) }
         ensures ok { OnOk result ((self.old.is_over ≡ false) × (self.new.is_over ≡ false)) }
@@ -76,7 +77,7 @@ impl Book {
         if self.is_over {
             return Err(AllocError);
         }
-        let found = match in_places(self.alloc, results, self.count + 1, packets.len(), are_own) {
+        let found = match in_places(self.alloc, groups, self.count + 1, packets.len(), are_own) {
             Ok(found) => found,
             Err(refused) => {
                 self.is_over = true;
@@ -126,33 +127,33 @@ impl Book {
         ensures err { OnErr result (self.new.is_over ≡ true) }
         ensures over { self.old.is_over ≡ true → (self.new ≡ self.old) × (out.new ≡ out.old) }
     {
-        self.take_batch(packets, results, false, &Unwatched, out)
+        self.take_batch(packets, &[results], false, &Unwatched, out)
     }
 
-    /// What [`Book::commit_batch`] does with results that are known to be of the book's own job: its text isn't compared with
-    /// theirs. Before a packet is evaluated here, its number is told.
+    /// What [`Book::commit_batch`] does with results that come in groups, and are known to be of the book's own job: its
+    /// text isn't compared with theirs. Before a packet is evaluated here, its number is told.
     pub fn commit_own_batch<R: Reruns>(
         &mut self,
         packets: &[(Record, View)],
-        results: Vec<Speculation>,
+        groups: Vec<Vec<Speculation>>,
         reruns: &R,
         out: &mut Emitted,
     ) -> Result<(), AllocError>
         requires views { All (λ packet. packet.1 ≡ view_of packet.0.link packet.0.bytes.items) packets.now }
         requires few { self.old.count + length packets.now ≤ 2 ^ 43 }
-        requires own { All (IsOfJob (job_of self.old)) results.items }
+        requires own { All (λ group. All (IsOfJob (job_of self.old)) group.items) groups.items }
         ensures world { OnOk result (world_with self.new out.new ≡ untold (spec.world_after (job_of self.old) (world_with self.old out.old) (frames_of packets.now))) }
         ensures told { OnOk result (LeadsTo self.old self.new out.old out.new (λ world. spec.world_after (job_of self.old) world (frames_of packets.now))) }
         ensures part { OnErr result (lines_of out.new ≡ written (world_up_to (job_of self.old) (world_with self.old out.old) self.new.count (frames_of packets.now))) }
         ensures part_told { OnErr result (LeavesTexts self.old self.new.count out.old out.new (frames_of packets.now)) }
         ensures counted { OnOk result (self.new.count ≡ self.old.count + length packets.now) }
-        ensures own { OnOk result (RisesOver (job_of self.old) (world_with self.old out.old) results.items packets.now self.old.own self.new.own) }
+        ensures own { OnOk result (RisesOver (job_of self.old) (world_with self.old out.old) (results_of groups.items) packets.now self.old.own self.new.own) }
         ensures job { self.new.job ≡ self.old.job }
         ensures within { (self.old.count ≤ self.new.count) × (self.new.count ≤ self.old.count + length packets.now) }
         ensures ok { OnOk result ((self.old.is_over ≡ false) × (self.new.is_over ≡ false)) }
         ensures err { OnErr result (self.new.is_over ≡ true) }
         ensures over { self.old.is_over ≡ true → (self.new ≡ self.old) × (out.new ≡ out.old) }
     {
-        self.take_batch(packets, results, true, reruns, out)
+        self.take_batch(packets, groups.as_slice(), true, reruns, out)
     }
 }

@@ -145,7 +145,7 @@ impl Book {
         number: u64,
         clock: Clock,
         view: &View,
-        results: &'r Found,
+        results: &Found<'r>,
         place: usize,
         hint: Option<Place>,
     ) -> Option<&'r Outcome>
@@ -197,7 +197,7 @@ impl Book {
         number: u64,
         clock: Clock,
         view: &View,
-        results: &'r Found,
+        results: &Found<'r>,
         place: usize,
         hint: Option<Place>,
         reruns: &R,
@@ -267,7 +267,7 @@ impl Book {
         &mut self,
         packet: &Record,
         view: &View,
-        results: &Found,
+        results: &Found<'_>,
         place: usize,
         hint: Option<Place>,
         reruns: &R,
@@ -335,7 +335,7 @@ impl Book {
         if self.is_over {
             return Err(AllocError);
         }
-        let results = match of_one(self.alloc, speculation) {
+        let results = match of_one(self.alloc, speculation.as_ref()) {
             Ok(results) => results,
             Err(refused) => {
                 self.is_over = true;

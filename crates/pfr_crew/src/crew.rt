@@ -30,8 +30,8 @@ impl Promise<Turn> for PassOf {
 /// ended, and what the calling thread's own part answered. A group has answers of one worker, in the order of their
 /// numbers.
 #[derive(Drop)]
-pub struct Answered<A, T> {
-    pub groups: Vec<Vec<A>>,
+pub struct Answered<G, T> {
+    pub groups: Vec<G>,
     pub gathered: Gathered,
     pub beside: T,
 }
@@ -41,7 +41,7 @@ fn start<'s, E, R: Threads + Wait + Sync, W: Work>(
     scope: &Scope<'s, E>,
     rt: &'s R,
     claims: &'s Claims,
-    slot: &'s SenderSlot<W::Answer>,
+    slot: &'s SenderSlot<W::Group>,
     work: &'s W,
     pass: ClaimPass,
 ) -> Result<PromisedHandle<Turn, PassOf>, Turn>
@@ -84,11 +84,11 @@ fn work_beside<'s, E, R: Threads + Wait + Sync, W: Work, T, B: FnOnce() -> T + D
     scope: &Scope<'s, E>,
     rt: &'s R,
     claims: &'s Claims,
-    slots: &'s [SenderSlot<W::Answer>],
+    slots: &'s [SenderSlot<W::Group>],
     work: &'s W,
     mut passes: Vec<ClaimPass>,
-    desk: Desk<B, W::Answer>,
-) -> Returned<W::Answer, T>
+    desk: Desk<B, W::Group>,
+) -> Returned<W::Group, T>
     requires own { All (λ pass. pass.batch ≡ claims.now) passes.items }
     requires slots { vec_len passes ≤ length slots.now }
     requires ended { All (λ pass. pass.batch ≡ claims.now) desk.ended.items }
@@ -111,11 +111,11 @@ fn work_beside<'s, E, R: Threads + Wait + Sync, W: Work, T, B: FnOnce() -> T + D
 fn in_scope<R: Threads + Wait + Sync, W: Work, T, B: FnOnce() -> T + Drop>(
     rt: &R,
     claims: &Claims,
-    slots: &[SenderSlot<W::Answer>],
+    slots: &[SenderSlot<W::Group>],
     work: &W,
     passes: Vec<ClaimPass>,
-    desk: Desk<B, W::Answer>,
-) -> Returned<W::Answer, T>
+    desk: Desk<B, W::Group>,
+) -> Returned<W::Group, T>
     requires own { All (λ pass. pass.batch ≡ claims.now) passes.items }
     requires slots { vec_len passes ≤ length slots.now }
     requires ended { All (λ pass. pass.batch ≡ claims.now) desk.ended.items }
@@ -128,7 +128,7 @@ fn in_scope<R: Threads + Wait + Sync, W: Work, T, B: FnOnce() -> T + Drop>(
     thread::scope(
         thread::scope_env(),
         rt,
-        move |scope| -> Returned<W::Answer, T>
+        move |scope| -> Returned<W::Group, T>
             requires own { All (λ pass. pass.batch ≡ claims.now) passes.items }
             requires slots { vec_len passes ≤ length slots.now }
             requires ended { All (λ pass. pass.batch ≡ claims.now) desk.ended.items }
@@ -155,7 +155,7 @@ pub fn answered_beside<R: Threads + Wait + Sync, W: Work, T, B: FnOnce() -> T + 
     workers: u64,
     work: &W,
     beside: B,
-) -> Result<Answered<W::Answer, T>, AllocError>
+) -> Result<Answered<W::Group, T>, AllocError>
     requires count { count ≤ 4096 }
     requires workers { (0 < workers) × (workers ≤ 64) }
     requires beside { B.pre beside }

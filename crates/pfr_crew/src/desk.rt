@@ -9,22 +9,22 @@ use std::sync::Wait;
 /// What the calling thread has before it: its own part, the channel of the groups of answers, and a list with room for
 /// the ended passes.
 #[derive(Drop)]
-pub(crate) struct Desk<B: Drop, A: Drop> {
+pub(crate) struct Desk<B: Drop, G: Drop> {
     pub(crate) alloc: Global,
     pub(crate) beside: B,
-    pub(crate) inbox: Receiver<Vec<A>>,
+    pub(crate) inbox: Receiver<G>,
     pub(crate) ended: Vec<EndedPass>,
 }
 
 /// What has come back to the calling thread.
-pub(crate) struct Returned<A, T> {
-    pub(crate) groups: Vec<Vec<A>>,
+pub(crate) struct Returned<G, T> {
+    pub(crate) groups: Vec<G>,
     pub(crate) ended: Vec<EndedPass>,
     pub(crate) beside: T,
 }
 
 /// Receives groups of answers until the last sender is gone. A group that there is no memory for is let go of.
-fn receive<R: Wait, A: Drop>(rt: &R, alloc: Global, inbox: Receiver<Vec<A>>) -> Vec<Vec<A>> {
+fn receive<R: Wait, G: Drop>(rt: &R, alloc: Global, inbox: Receiver<G>) -> Vec<G> {
     let mut groups = Vec::new(alloc);
     for group in inbox.iter(rt) {
         let _kept = groups.push(group);
@@ -32,9 +32,9 @@ fn receive<R: Wait, A: Drop>(rt: &R, alloc: Global, inbox: Receiver<Vec<A>>) -> 
     groups
 }
 
-impl<B: Drop, A: Drop> Desk<B, A> {
+impl<B: Drop, G: Drop> Desk<B, G> {
     /// Does the caller's own part, and receives the answers then.
-    pub(crate) fn attend<R: Wait, T>(self, rt: &R) -> Returned<A, T>
+    pub(crate) fn attend<R: Wait, T>(self, rt: &R) -> Returned<G, T>
     where
         B: FnOnce() -> T,
         requires { B.pre self.beside }
@@ -57,9 +57,9 @@ impl<B: Drop, A: Drop> Desk<B, A> {
     }
 }
 
-impl<A, T> Returned<A, T> {
+impl<G, T> Returned<G, T> {
     /// The same with one more ended pass.
-    pub(crate) fn with(self, pass: EndedPass) -> Returned<A, T>
+    pub(crate) fn with(self, pass: EndedPass) -> Returned<G, T>
         requires { vec_len self.ended < vec_capacity self.ended }
         ensures ended { result.ended.items ≡ self.ended.items ++ pass ∷ [] }
         ensures len { vec_len result.ended ≡ vec_len self.ended + 1 }

@@ -1,9 +1,8 @@
 //! What a worker has answered and not sent yet.
-ghost use Rattle.std.specs.Prelude.{◌≡◌, ◌<◌, ◌∷◌, [], ◌++◌, MatchBool, vec_len};
+ghost use Rattle.std.specs.Prelude.{◌≡◌, ◌<◌};
 
+use crate::work::Work;
 use crossbeam_channel::Sender;
-use std::alloc::Global;
-use std::mem::replace;
 use std::sync::Wait;
 
 /// How many answers a worker sends at once. A send takes a lock and may wake the receiver, which costs more than
@@ -11,59 +10,64 @@ use std::sync::Wait;
 /// them.
 const GROUP: usize = 32;
 
-/// A worker's sender, and the answers that it is to send next. The list has no room of its own before its first answer
-/// comes.
+/// A worker's sender, the group that it is to send next, if one is begun, and how many answers were put into that.
 #[derive(Drop)]
-pub(crate) struct Outbox<A: Drop> {
-    alloc: Global,
-    sender: Sender<Vec<A>>,
-    group: Vec<A>,
+pub(crate) struct Outbox<G: Drop> {
+    sender: Sender<G>,
+    group: Option<G>,
+    count: usize,
 }
 
-impl<A: Drop> Outbox<A> {
-    /// An outbox with no answers.
-    pub(crate) fn new(alloc: Global, sender: Sender<Vec<A>>) -> Outbox<A>
-        ensures { result.group.items ≡ [] }
+impl<G: Drop> Outbox<G> {
+    /// An outbox with no group begun.
+    pub(crate) fn new(sender: Sender<G>) -> Outbox<G>
+        ensures { result.count ≡ 0 }
     {
         Outbox {
-            alloc,
             sender,
-            group: Vec::new(alloc),
+            group: None,
+            count: 0,
         }
     }
 
-    /// Keeps an answer to be sent, and says whether it did. For want of memory it lets go of the answer.
-    pub(crate) fn put(&mut self, answer: A) -> bool
-        ensures { MatchBool result (self.new.group.items ≡ self.old.group.items ++ answer ∷ []) (self.new.group.items ≡ self.old.group.items) }
-    {
-        if self.group.is_empty() {
-            match Vec::with_capacity(self.alloc, GROUP) {
-                Ok(group) => self.group = group,
-                Err(_) => return false,
-            }
+    /// Has a number answered into the group that is to be sent next, and says whether it was. Where no memory is left for
+    /// a group it isn't.
+    pub(crate) fn answer<W: Work<Group = G>>(&mut self, work: &W, number: u64) -> bool {
+        if self.group.is_none() {
+            self.group = work.group(GROUP);
         }
-        self.group.push(answer).is_ok()
+        let Some(group) = &mut self.group else {
+            return false;
+        };
+        if !work.answer(number, group) {
+            return false;
+        }
+        self.count = self.count.saturating_add(1);
+        true
     }
 
-    /// Sends the answers if they are a whole group. Where the send is refused for want of memory, they are let go of.
+    /// Sends the group if it is whole. Where the send is refused for want of memory, it is let go of.
     pub(crate) fn send_full<R: Wait>(&mut self, rt: &R)
-        ensures less { vec_len self.new.group < GROUP }
-        ensures same { vec_len self.old.group < GROUP → self.new.group ≡ self.old.group }
+        ensures less { self.new.count < GROUP }
     {
-        if self.group.len() >= GROUP {
-            let group = replace(&mut self.group, Vec::new(self.alloc));
-            let _sent = self.sender.send(rt, group);
+        if self.count >= GROUP {
+            self.count = 0;
+            if let Some(group) = self.group.take() {
+                let _sent = self.sender.send(rt, group);
+            }
         }
     }
 
     /// Sends the answers that are left, if there are any, and lets go of the sender.
     pub(crate) fn close<R: Wait>(self, rt: &R) {
         let Outbox {
-            alloc: _,
             sender,
             group,
+            count,
         } = self;
-        if !group.is_empty() {
+        if let Some(group) = group
+            && count > 0
+        {
             let _sent = sender.send(rt, group);
         }
     }

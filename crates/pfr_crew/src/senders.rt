@@ -7,34 +7,32 @@ use std::alloc::{AllocError, Global};
 use std::sync::{Mutex, Wait};
 
 /// Where a worker finds its sender. It is empty where no sender could be made for it, or where its thread was refused.
-/// The allocator is for the answers that the worker is to send.
 #[derive(Drop)]
-pub(crate) struct SenderSlot<A: Drop> {
-    alloc: Global,
-    sender: Mutex<Option<Sender<Vec<A>>>>,
+pub(crate) struct SenderSlot<G: Drop> {
+    sender: Mutex<Option<Sender<G>>>,
 }
 
-impl<A: Drop> SenderSlot<A> {
-    /// Takes the sender, if there is one, as an outbox with no answers.
-    pub(crate) fn take<R: Wait>(&self, rt: &R) -> Option<Outbox<A>> {
+impl<G: Drop> SenderSlot<G> {
+    /// Takes the sender, if there is one, as an outbox with no group begun.
+    pub(crate) fn take<R: Wait>(&self, rt: &R) -> Option<Outbox<G>> {
         let sender = self.sender.lock(rt).take()?;
-        Some(Outbox::new(self.alloc, sender))
+        Some(Outbox::new(sender))
     }
 }
 
 /// A slot for each worker, each with a sender as far as memory serves. The sender that they are made of is let go of,
 /// so that the channel closes once the slots' senders are gone.
-pub(crate) fn sender_slots<A: Drop>(
+pub(crate) fn sender_slots<G: Drop>(
     alloc: Global,
-    sender: Sender<Vec<A>>,
+    sender: Sender<G>,
     workers: u64,
-) -> Result<Vec<SenderSlot<A>>, AllocError>
+) -> Result<Vec<SenderSlot<G>>, AllocError>
     ensures { IfOk result (λ slots. vec_len slots ≡ workers) }
 {
     let mut slots = Vec::with_capacity(alloc, workers as usize)?;
     for _worker in 0..workers {
         let sender = Mutex::new(sender.clone().ok());
-        slots.push(SenderSlot { alloc, sender })?;
+        slots.push(SenderSlot { sender })?;
     }
     Ok(slots)
 }

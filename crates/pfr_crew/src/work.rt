@@ -10,11 +10,15 @@ use std::sync::Wait;
 /// What all workers of a batch share: how a number of the batch is answered. A number is a place in the batch, from 0,
 /// and below its count.
 pub trait Work: Sync {
-    /// What is found out about a number. What a caller may rely on stands in the type's own ghost fields.
-    type Answer: Send + Drop;
+    /// Answers of one worker that are sent together. What a caller may rely on stands in the type's own ghost fields.
+    type Group: Send + Drop;
 
-    /// Answers a number, or finds nothing to say about it.
-    fn answer(&self, number: u64) -> Option<Self::Answer>;
+    /// A group with no answers that is to take so many. There is none where memory is refused.
+    fn group(&self, room: usize) -> Option<Self::Group>;
+
+    /// Answers a number, puts the answer into a group and says so. Nothing is put into it where there is nothing to say
+    /// about the number, or no memory to keep the answer.
+    fn answer(&self, number: u64, group: &mut Self::Group) -> bool;
 
     /// Is called once a number's answer is kept to be sent: it goes with the next ones, or when the pass ends. The
     /// worker that answered the number calls this before it draws another one, so who is told may hold a later number
@@ -44,21 +48,18 @@ impl Turn {
 }
 
 /// Answers one number, and says that it is answered before a group is sent.
-fn answer_number<R: Wait, W: Work>(rt: &R, work: &W, outbox: &mut Outbox<W::Answer>, number: u64) {
-    let Some(answer) = work.answer(number) else {
-        return;
-    };
-    if outbox.put(answer) {
+fn answer_number<R: Wait, W: Work>(rt: &R, work: &W, outbox: &mut Outbox<W::Group>, number: u64) {
+    if outbox.answer(work, number) {
         work.answered(number);
-        outbox.send_full(rt);
     }
+    outbox.send_full(rt);
 }
 
 /// Draws numbers and answers them until the pass ends.
 fn answer_numbers<R: Wait, W: Work>(
     rt: &R,
     claims: &Claims,
-    outbox: &mut Outbox<W::Answer>,
+    outbox: &mut Outbox<W::Group>,
     work: &W,
     pass: ClaimPass,
 ) -> EndedPass
@@ -82,7 +83,7 @@ fn answer_numbers<R: Wait, W: Work>(
 pub(crate) fn take_turn<R: Wait, W: Work>(
     rt: &R,
     claims: &Claims,
-    slot: &SenderSlot<W::Answer>,
+    slot: &SenderSlot<W::Group>,
     work: &W,
     pass: ClaimPass,
 ) -> Turn

@@ -1,9 +1,11 @@
 -- The record of the questions that an evaluation asked, with their answers.
-use Rattle.std.specs.Prelude.{◌≡◌, ℕ, List}
+use Rattle.std.specs.Prelude.{◌≡◌, ℕ, Bool, List, [], ◌∷◌, ◌++◌, Option, Some, None}
 use Rattle.std.specs.List.{All, Contains}
 use Rattle.std.specs.Map.{keys_of}
 use Rattle.pfr_headers.specs.declared.packet.View.{View}
 use Rattle.pfr_track.specs.declared.time.Clock.{Clock}
+use Rattle.pfr_track.specs.declared.state.Key.{Key}
+use Rattle.pfr_states.specs.declared.change.Side.{Side}
 use Rattle.pfr_states.specs.States.{StateTable}
 use Rattle.pfr_packet.specs.declared.answers.Question.{Question}
 use Rattle.pfr_packet.specs.declared.answers.Question.TheVariants.{At, Room}
@@ -29,6 +31,24 @@ Agrees table entries = All (λ entry. answer_of table entry.0 ≡ entry.1) entri
 -- a question is one of a record's
 abbrev pub IsKept : Entries → Question → Type 0
 IsKept entries question = Contains (keys_of entries) question
+
+-- the entry of a key that no state has, if there is one
+abbrev pub missed : Option (Side × Key) → Entries
+missed None = []
+missed (Some at) = (At at.0 at.1, Found None) ∷ []
+
+-- the entry of whether there is room, if there is one
+abbrev pub room_of : Option Bool → Entries
+room_of None = []
+room_of (Some room) = (Room, HasRoom room) ∷ []
+
+abbrev pub entries_of : (first second : Option (Side × Key)) → Option Bool → (others : Entries) → Entries
+entries_of first second room others = missed first ++ missed second ++ room_of room ++ others
+
+-- No question of a record is lost, and a table that agrees with it, and gives an answer to a question, agrees with the new one.
+abbrev pub Keeps : (old new : Entries) → Question → Answer → Type 0
+Keeps old new question answer = ((other : Question) → IsKept old other → IsKept new other)
+    × ((table : StateTable) → answer_of table question ≡ answer → Agrees table old → Agrees table new)
 
 -- over every table that agrees with the record, the packet comes to this outcome, and all that is asked of the table is in the
 -- record

@@ -15,4 +15,4 @@ pub record Fits (speculation : Speculation) (job : RunJob) (number : ℕ) (clock
   pub number_is : speculation.number ≡ number
   pub clock_is : speculation.clock ≡ clock
   pub view_is : speculation.view ≡ view
-  pub agrees : Agrees (purged_at clock table) speculation.answers.entries
+  pub agrees : Agrees (purged_at clock table) speculation.answers

@@ -5,6 +5,7 @@
 #![tactic(auto)]
 
 pub mod answer;
+mod lookups;
 mod recorder;
 mod speculating;
 pub mod speculation;

@@ -5,19 +5,19 @@ ghost use Rattle.pfr_packet.specs.Plan.{purged_at};
 ghost use Rattle.pfr_record.specs.Record.{Agrees, IsKept, answer_of};
 
 use crate::answer::Answer;
-use indexmap::IndexMap;
+use crate::lookups::Lookups;
 use pfr_packet::{Answers, Question};
 use pfr_states::{Side, Table};
 use pfr_track::{Clock, Key, State};
 use std::alloc::{AllocError, Global};
 
-/// The answers of a table at a clock, with a record of what was asked and answered, in the order in which it was asked first.
+/// The answers of a table at a clock, with a record of what was asked and answered.
 #[derive(Drop)]
 pub(crate) struct Recorder<'a> {
     table: &'a Table,
     clock: Clock,
-    pub(crate) answers: IndexMap<Question, Answer>,
-    ghost agrees: { Agrees (purged_at clock table.now) answers.entries },
+    pub(crate) answers: Lookups,
+    ghost agrees: { Agrees (purged_at clock table.now) answers },
 }
 
 impl<'a> Recorder<'a> {
@@ -30,7 +30,7 @@ impl<'a> Recorder<'a> {
         Recorder {
             table,
             clock,
-            answers: IndexMap::new(alloc),
+            answers: Lookups::new(alloc),
         }
     }
 
@@ -38,18 +38,17 @@ impl<'a> Recorder<'a> {
     fn keep(&mut self, question: Question, answer: Answer) -> Result<(), AllocError>
         requires { answer_of (purged_at self.old.clock self.old.table.now) question ≡ answer }
         ensures seen { purged_at self.new.clock self.new.table.now ≡ purged_at self.old.clock self.old.table.now }
-        ensures asked { OnOk result (IsKept self.new.answers.entries question) }
-        ensures kept { (other : Question) → IsKept self.old.answers.entries other → IsKept self.new.answers.entries other }
+        ensures asked { OnOk result (IsKept self.new.answers question) }
+        ensures kept { (other : Question) → IsKept self.old.answers other → IsKept self.new.answers other }
     {
-        self.answers.insert(question, answer)?;
-        Ok(())
+        self.answers.keep(question, answer)
     }
 }
 
 impl Answers for Recorder<'_> {
     ghost seen = { λ recorder. purged_at recorder.clock recorder.table.now };
 
-    ghost asked = { λ recorder question. IsKept recorder.answers.entries question };
+    ghost asked = { λ recorder question. IsKept recorder.answers question };
 
     #[tactic(auto, unfolding(pfr_packet::specs::Plan::found_in, pfr_packet::specs::Plan::purged_at))]
     fn at(&mut self, side: Side, key: &Key) -> Result<Option<State>, AllocError> {

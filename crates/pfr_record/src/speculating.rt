@@ -24,7 +24,7 @@ pub fn speculate(
 ) -> Result<Speculation, AllocError>
     ensures job { IfOk result (λ s. arc_value s.job ≡ arc_value job.now) }
     ensures packet { IfOk result (λ s. (s.number ≡ number) × (s.clock ≡ clock) × (s.view ≡ view)) }
-    ensures agrees { IfOk result (λ s. Agrees (purged_at clock table.now) s.answers.entries) }
+    ensures agrees { IfOk result (λ s. Agrees (purged_at clock table.now) s.answers) }
 {
     let mut recorder = Recorder::new(alloc, table, clock);
     let outcome = step(alloc, job, number, clock, &view, &mut recorder)?;

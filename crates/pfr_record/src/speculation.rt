@@ -1,15 +1,13 @@
 //! Outcomes of packets that were evaluated ahead.
-ghost use Rattle.std.specs.Prelude.{◌≡◌, ◌<◌, ◌↔◌, true, IsTrue, IsSome, IfSome, length};
-ghost use Rattle.std.specs.List.{HoldsAt};
+ghost use Rattle.std.specs.Prelude.{◌≡◌, ◌↔◌, true, IsTrue, IsSome, IfSome, length};
 ghost use Rattle.std.specs.Arc.{arc_value};
 ghost use Rattle.pfr_packet.specs.Plan.{purged_at};
 ghost use Rattle.pfr_packet.specs.Steps.{step_of};
-ghost use Rattle.pfr_record.specs.Record.{Agrees, IsSound, answer_of};
+ghost use Rattle.pfr_record.specs.Record.{Agrees, IsSound};
 
-use crate::answer::{Answer, is_same_find};
-use indexmap::IndexMap;
+use crate::lookups::Lookups;
 use pfr_headers::View;
-use pfr_packet::{Answers, Job, Outcome, Question};
+use pfr_packet::{Job, Outcome};
 use pfr_states::{Place, Table};
 use pfr_track::Clock;
 use std::sync::Arc;
@@ -23,28 +21,8 @@ pub struct Speculation {
     pub(crate) clock: Clock,
     pub(crate) view: View,
     pub(crate) outcome: Outcome,
-    pub(crate) answers: IndexMap<Question, Answer>,
-    ghost sound: { IsSound (arc_value job) number clock view outcome answers.entries },
-}
-
-/// Whether a table answers a question so at a clock. The state that is asked for is looked for where a hint says first.
-#[tactic(auto, unfolding(pfr_packet::specs::Plan::found_in, pfr_packet::specs::Plan::has_room_in, pfr_packet::specs::Plan::purged_at))]
-fn is_answered(
-    table: &Table,
-    clock: Clock,
-    hint: Option<Place>,
-    question: &Question,
-    answer: &Answer,
-) -> bool
-    ensures { IsTrue result ↔ (answer_of (purged_at clock table.now) question.now ≡ answer.now) }
-{
-    match (question, answer) {
-        (Question::At(side, key), Answer::Found(recorded)) => {
-            is_same_find(&table.find_near(*side, key, clock, hint), recorded)
-        }
-        (Question::Room, Answer::HasRoom(room)) => table.room(clock) == *room,
-        _ => false,
-    }
+    pub(crate) answers: Lookups,
+    ghost sound: { IsSound (arc_value job) number clock view outcome answers },
 }
 
 fn is_same_view(first: &View, second: &View) -> bool
@@ -66,42 +44,22 @@ impl Speculation {
     /// How many questions its record has. A pick among many taken ports asks one for each of them, so a record may grow large,
     /// and who makes many may let go of such a one.
     pub fn questions(&self) -> usize
-        ensures { result ≡ length self.now.answers.entries }
+        ensures { result ≡ length self.now.answers }
     {
         self.answers.len()
     }
 
-    /// Whether a table gives at a clock the answer that stands at a place of the record.
-    #[tactic(auto, using(crate::proofs::RecordLemmas::answered_at, crate::proofs::RecordLemmas::answered_of_all))]
-    fn is_answered_at(&self, index: usize, table: &Table, clock: Clock, hint: Option<Place>) -> bool
-        requires { index < length self.now.answers.entries }
-        ensures held { IsTrue result → HoldsAt (λ entry. answer_of (purged_at clock table.now) entry.0 ≡ entry.1) self.now.answers.entries index }
-        ensures of_all { Agrees (purged_at clock table.now) self.now.answers.entries → IsTrue result }
-    {
-        match self.answers.get_index(index) {
-            Some((question, answer)) => is_answered(table, clock, hint, question, answer),
-            None => false,
-        }
-    }
-
     /// Whether a table gives at a clock each answer that was recorded: states are the same in all that they hold. The state that
     /// was asked for first is looked for where a hint says first.
-    #[tactic(auto, using(crate::proofs::RecordLemmas::agrees_more, crate::proofs::RecordLemmas::agrees_all))]
     fn holds_near(&self, table: &Table, clock: Clock, hint: Option<Place>) -> bool
-        ensures { IsTrue result ↔ Agrees (purged_at clock table.now) self.now.answers.entries }
+        ensures { IsTrue result ↔ Agrees (purged_at clock table.now) self.now.answers }
     {
-        for index in 0..self.answers.len() {
-            let hint = if index == 0 { hint } else { None };
-            if !self.is_answered_at(index, table, clock, hint) {
-                return false;
-            }
-        }
-        true
+        self.answers.hold_near(table, clock, hint)
     }
 
     /// Whether a table gives at a clock each answer that was recorded: states are the same in all that they hold.
     pub fn holds_in(&self, table: &Table, clock: Clock) -> bool
-        ensures { IsTrue result ↔ Agrees (purged_at clock table.now) self.now.answers.entries }
+        ensures { IsTrue result ↔ Agrees (purged_at clock table.now) self.now.answers }
     {
         self.holds_near(table, clock, None)
     }

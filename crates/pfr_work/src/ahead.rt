@@ -1,5 +1,5 @@
 //! Packets of a batch, evaluated ahead by workers.
-ghost use Rattle.std.specs.Prelude.{◌≡◌, ◌≤◌, ◌<◌, IfOk, OnOk, Some, length};
+ghost use Rattle.std.specs.Prelude.{◌≡◌, ◌≤◌, ◌<◌, IfOk, IfSome, Some, length};
 ghost use Rattle.std.specs.Arc.{arc_value};
 ghost use Rattle.std.specs.List.{All, AllZip};
 ghost use Rattle.pfr_commit.specs.Books.{job_of};
@@ -27,11 +27,11 @@ use std::thread::Threads;
 /// packet is evaluated by the committer.
 const MOST_QUESTIONS: usize = 1024;
 
-/// What was found out ahead about the packets of a batch: results in the order in which they came, the views of all records in
-/// theirs, and which worker drew which packets.
+/// What was found out ahead about the packets of a batch: results in the groups in which they came, the views of all records in
+/// their order, and which worker drew which packets.
 #[derive(Drop)]
 pub struct Ahead {
-    pub results: Vec<Speculation>,
+    pub groups: Vec<Vec<Speculation>>,
     pub views: Vec<View>,
     pub gathered: Gathered,
 }
@@ -60,34 +60,39 @@ impl<'a, J: OfRun, G> Speculating<'a, J, G> {
     }
 
     /// What is found out about the packet at a place.
-    fn speculation_at(&self, place: u64) -> Option<FoundOut<J>> {
+    fn speculation_at(&self, place: u64) -> Option<Speculation>
+        ensures { IfSome result (λ speculation. J.job ≡ Some (arc_value speculation.job)) }
+    {
         let record = self.records.get(place as usize)?;
         let clock = self.clocks.get(place as usize)?;
         let view = view(record.link, record.bytes.as_slice());
         let number = self.number_at(place);
-        match speculate(self.alloc, self.job, number, *clock, view, self.table) {
-            Ok(speculation) => Some(FoundOut {
-                speculation,
-                of: PhantomData,
-            }),
-            Err(_) => None,
-        }
+        speculate(self.alloc, self.job, number, *clock, view, self.table).ok()
     }
 }
 
 impl<'a, J: OfRun + Send + Sync, G: Gate> Work for Speculating<'a, J, G> {
-    type Answer = FoundOut<J>;
+    type Group = FoundOut<J>;
 
-    fn answer(&self, place: u64) -> Option<FoundOut<J>> {
-        self.gate.starts(self.number_at(place));
+    fn group(&self, room: usize) -> Option<FoundOut<J>> {
+        let speculations = Vec::with_capacity(self.alloc, room).ok()?;
+        Some(FoundOut {
+            speculations,
+            of: PhantomData,
+        })
+    }
+
+    fn answer(&self, place: u64, group: &mut FoundOut<J>) -> bool {
         if place >= self.most {
-            return None;
+            return false;
         }
-        let found = self.speculation_at(place)?;
-        if found.speculation.questions() > MOST_QUESTIONS {
-            return None;
+        self.gate.starts(self.number_at(place));
+        match self.speculation_at(place) {
+            Some(speculation) if speculation.questions() <= MOST_QUESTIONS => {
+                group.put(speculation)
+            }
+            _ => false,
         }
-        Some(found)
     }
 
     fn answered(&self, place: u64) {
@@ -95,41 +100,22 @@ impl<'a, J: OfRun + Send + Sync, G: Gate> Work for Speculating<'a, J, G> {
     }
 }
 
-/// Puts the speculations of what a worker found out behind others.
-fn put_speculations<J: OfRun>(
-    results: &mut Vec<Speculation>,
-    group: Vec<FoundOut<J>>,
-) -> Result<(), AllocError>
-    requires { All (λ speculation. J.job ≡ Some (arc_value speculation.job)) results.old.items }
-    ensures { OnOk result (All (λ speculation. J.job ≡ Some (arc_value speculation.job)) results.new.items) }
-{
-    for FoundOut { speculation, of: _ } in group {
-        results.push(speculation)?;
-    }
-    Ok(())
-}
-
-/// How many results there are in some groups.
-fn count_of<A: Drop>(groups: &[Vec<A>]) -> usize {
-    let mut count = 0usize;
-    for group in groups {
-        count = count.saturating_add(group.len());
-    }
-    count
-}
-
 /// The speculations of what workers found out.
 fn speculations<J: OfRun>(
     alloc: Global,
-    groups: Vec<Vec<FoundOut<J>>>,
-) -> Result<Vec<Speculation>, AllocError>
-    ensures { IfOk result (λ results. All (λ speculation. J.job ≡ Some (arc_value speculation.job)) results.items) }
+    found: Vec<FoundOut<J>>,
+) -> Result<Vec<Vec<Speculation>>, AllocError>
+    ensures { IfOk result (λ groups. All (λ group. All (λ speculation. J.job ≡ Some (arc_value speculation.job)) group.items) groups.items) }
 {
-    let mut results = Vec::with_capacity(alloc, count_of(groups.as_slice()))?;
-    for group in groups {
-        put_speculations(&mut results, group)?;
+    let mut groups = Vec::with_capacity(alloc, found.len())?;
+    for FoundOut {
+        speculations,
+        of: _,
+    } in found
+    {
+        groups.push(speculations)?;
     }
-    Ok(results)
+    Ok(groups)
 }
 
 /// The clock at each record behind one: the greatest second so far.
@@ -156,7 +142,7 @@ fn ahead_in<J: OfRun + Send + Sync, R: Threads + Wait + Sync, G: Gate>(
     requires job { J.job ≡ Some (job_of book.now) }
     requires count { length records.now ≤ 4096 }
     requires workers { (0 < workers) × (workers ≤ 64) }
-    ensures own { IfOk result (λ ahead. All (IsOfJob (job_of book.now)) ahead.results.items) }
+    ensures own { IfOk result (λ ahead. All (λ group. All (IsOfJob (job_of book.now)) group.items) ahead.groups.items) }
     ensures views { IfOk result (λ ahead. AllZip IsViewOf records.now ahead.views.items) }
     ensures sizes { IfOk result (λ ahead. (ahead.gathered.sizes.count ≡ length records.now) × (ahead.gathered.sizes.workers ≡ workers)) }
 {
@@ -186,15 +172,14 @@ fn ahead_in<J: OfRun + Send + Sync, R: Threads + Wait + Sync, G: Gate>(
         || views(rt, alloc, records),
     )?;
     Ok(Ahead {
-        results: speculations(alloc, groups)?,
+        groups: speculations(alloc, groups)?,
         views: beside?,
         gathered,
     })
 }
 
 /// Has the packets that come next to a book evaluated by workers on its table, but at most so many of them, the first ones. Each
-/// worker draws packets until all are drawn. The gate is told of each that is drawn, before it is evaluated, and once it has a
-/// result. Beside them the calling thread makes the views of the records.
+/// worker draws packets until all are drawn. The gate is told of each of these before it is evaluated, and once it has a result. Beside them the calling thread makes the views of the records.
 ///
 /// Results may be missing also of the first packets: of one for which memory is refused, or which asks much of the table, and of
 /// one that a thread which can't be started would have drawn. The only error is that memory was refused.
@@ -209,7 +194,7 @@ pub fn evaluate_ahead<R: Threads + Wait + Sync, G: Gate>(
 ) -> Result<Ahead, AllocError>
     requires count { length records.now ≤ 4096 }
     requires workers { (0 < workers) × (workers ≤ 64) }
-    ensures own { IfOk result (λ ahead. All (IsOfJob (job_of book.now)) ahead.results.items) }
+    ensures own { IfOk result (λ ahead. All (λ group. All (IsOfJob (job_of book.now)) group.items) ahead.groups.items) }
     ensures views { IfOk result (λ ahead. AllZip IsViewOf records.now ahead.views.items) }
     ensures sizes { IfOk result (λ ahead. (ahead.gathered.sizes.count ≡ length records.now) × (ahead.gathered.sizes.workers ≡ workers)) }
 {

@@ -1,6 +1,7 @@
 //! What workers find out about packets, known to be of the run's job.
 ghost use Rattle.std.specs.Prelude.{◌≡◌, Some};
 ghost use Rattle.std.specs.Arc.{arc_value};
+ghost use Rattle.std.specs.List.{All};
 ghost use Rattle.pfr_packet.specs.Job.{RunJob};
 
 use pfr_record::Speculation;
@@ -20,10 +21,19 @@ impl OfRun for Brand {
     ghost job = { None };
 }
 
-/// What a worker found out about a packet of the run's job.
+/// What a worker found out about packets of the run's job.
 #[derive(Drop)]
 pub(crate) struct FoundOut<J: OfRun> {
-    pub(crate) speculation: Speculation,
+    pub(crate) speculations: Vec<Speculation>,
     pub(crate) of: PhantomData<J>,
-    pub ghost own: { J.job ≡ Some (arc_value speculation.job) },
+    pub ghost own: { All (λ speculation. J.job ≡ Some (arc_value speculation.job)) speculations.items },
+}
+
+impl<J: OfRun> FoundOut<J> {
+    /// Puts what was found out about one packet more behind the others, and says whether there was memory for it.
+    pub(crate) fn put(&mut self, speculation: Speculation) -> bool
+        requires { J.job ≡ Some (arc_value speculation.job) }
+    {
+        self.speculations.push(speculation).is_ok()
+    }
 }

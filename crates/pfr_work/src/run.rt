@@ -138,17 +138,17 @@ impl Course {
 #[derive(Drop)]
 struct Evaluated {
     packets: Packets,
-    results: Vec<Speculation>,
+    groups: Vec<Vec<Speculation>>,
 }
 
 /// A batch of which nothing is found out ahead.
 fn unevaluated(alloc: Global, records: Vec<Record>) -> Result<Evaluated, AllocError>
     ensures packets { IfOk result (λ batch. AreViewed records.items batch.packets.items) }
-    ensures none { IfOk result (λ batch. batch.results.items ≡ []) }
+    ensures none { IfOk result (λ batch. batch.groups.items ≡ []) }
 {
     let packets = viewed(alloc, records)?;
-    let results = Vec::new(alloc);
-    Ok(Evaluated { packets, results })
+    let groups = Vec::new(alloc);
+    Ok(Evaluated { packets, groups })
 }
 
 /// The packets of a batch, with what workers find out about as many of them as it pays for, if there are workers. Its claims are
@@ -165,7 +165,7 @@ fn batch_of<R: Threads + Wait + Sync, G: Gate>(
     requires count { length records.items ≤ 4096 }
     requires workers { workers ≤ 64 }
     ensures packets { IfOk result (λ batch. AreViewed records.items batch.packets.items) }
-    ensures own { IfOk result (λ batch. All (IsOfJob (job_of book.now)) batch.results.items) }
+    ensures own { IfOk result (λ batch. All (λ group. All (IsOfJob (job_of book.now)) group.items) batch.groups.items) }
     ensures claims { OnOk result (AddsClaims workers (length records.items) course.old.trace.batches.items course.new.trace.batches.items) }
     ensures refused { OnErr result (MayAddClaims workers (length records.items) course.old.trace.batches.items course.new.trace.batches.items) }
 {
@@ -180,13 +180,13 @@ fn batch_of<R: Threads + Wait + Sync, G: Gate>(
         return unevaluated(alloc, records);
     }
     let Ahead {
-        results,
+        groups,
         views,
         gathered,
     } = evaluate_ahead(rt, alloc, book, records.as_slice(), most, workers, gate)?;
     course.trace.batches.push(gathered)?;
     let packets = with_views(alloc, records, views.as_slice())?;
-    Ok(Evaluated { packets, results })
+    Ok(Evaluated { packets, groups })
 }
 
 /// Who is told of packets that the committer evaluates: no one where there are no workers.
@@ -222,11 +222,11 @@ fn take_batch<R: Threads + Wait + Sync, G: Gate>(
     ensures refused { OnErr result ((book.new ≡ book.old) ⊎ (book.new.is_over ≡ true)) }
     ensures claims_refused { OnErr result (MayAddClaims workers (length records.items) course.old.trace.batches.items course.new.trace.batches.items) }
 {
-    let Evaluated { packets, results } = batch_of(rt, alloc, book, course, records, workers, gate)?;
+    let Evaluated { packets, groups } = batch_of(rt, alloc, book, course, records, workers, gate)?;
     let reruns = whose_gate(gate, workers);
     let own = book.own();
     let mut piece = course.room.piece(alloc);
-    book.commit_own_batch(packets.as_slice(), results, &reruns, &mut piece)?;
+    book.commit_own_batch(packets.as_slice(), groups, &reruns, &mut piece)?;
     course.note(packets.len(), book.own().saturating_sub(own), &piece);
     Ok(Taken { packets, piece })
 }

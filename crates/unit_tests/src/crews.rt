@@ -23,15 +23,21 @@ fn wait_for<R: Clock>(rt: &R, flag: &AtomicBool) -> bool {
 /// Answers the other numbers once number 1 was answered.
 #[derive(Drop)]
 struct LastFirst<'a, R: Clock + Sync> {
+    alloc: Global,
     rt: &'a R,
     answered: AtomicBool,
 }
 
 impl<'a, R: Clock + Sync> Work for LastFirst<'a, R> {
-    type Answer = (u64, bool);
+    type Group = Vec<(u64, bool)>;
 
-    fn answer(&self, number: u64) -> Option<(u64, bool)> {
-        Some((number, number != 1 && wait_for(self.rt, &self.answered)))
+    fn group(&self, room: usize) -> Option<Vec<(u64, bool)>> {
+        Vec::with_capacity(self.alloc, room).ok()
+    }
+
+    fn answer(&self, number: u64, group: &mut Vec<(u64, bool)>) -> bool {
+        let waited = number != 1 && wait_for(self.rt, &self.answered);
+        group.push((number, waited)).is_ok()
     }
 
     fn answered(&self, number: u64) {
@@ -56,6 +62,7 @@ fn times_in(groups: &[Vec<(u64, bool)>], wanted: (u64, bool)) -> u64 {
 #[test]
 fn workers_answer_beside_each_other(rt: HostRuntime) -> Result<(), Fail> {
     let work = LastFirst {
+        alloc: rt.alloc(),
         rt: &rt,
         answered: AtomicBool::new(false),
     };
@@ -71,19 +78,24 @@ fn workers_answer_beside_each_other(rt: HostRuntime) -> Result<(), Fail> {
 /// Answers a number once four were asked.
 #[derive(Drop)]
 struct AllFour<'a, R: Clock + Sync> {
+    alloc: Global,
     rt: &'a R,
     asked: AtomicU64,
     all: AtomicBool,
 }
 
 impl<'a, R: Clock + Sync> Work for AllFour<'a, R> {
-    type Answer = (u64, bool);
+    type Group = Vec<(u64, bool)>;
 
-    fn answer(&self, number: u64) -> Option<(u64, bool)> {
+    fn group(&self, room: usize) -> Option<Vec<(u64, bool)>> {
+        Vec::with_capacity(self.alloc, room).ok()
+    }
+
+    fn answer(&self, number: u64, group: &mut Vec<(u64, bool)>) -> bool {
         if self.asked.fetch_add(1, Ordering::SeqCst) == 3 {
             self.all.store(true, Ordering::SeqCst);
         }
-        Some((number, wait_for(self.rt, &self.all)))
+        group.push((number, wait_for(self.rt, &self.all))).is_ok()
     }
 
     fn answered(&self, _number: u64) {}
@@ -93,6 +105,7 @@ impl<'a, R: Clock + Sync> Work for AllFour<'a, R> {
 #[test]
 fn all_workers_answer_beside_one_another(rt: HostRuntime) -> Result<(), Fail> {
     let work = AllFour {
+        alloc: rt.alloc(),
         rt: &rt,
         asked: AtomicU64::new(0),
         all: AtomicBool::new(false),
@@ -131,6 +144,7 @@ struct Times {
 /// Counts what becomes of each number. Every third one from 0 has no answer.
 #[derive(Drop)]
 struct Tally {
+    alloc: Global,
     times: Vec<Times>,
 }
 
@@ -144,7 +158,7 @@ impl Tally {
                 arrived: AtomicU64::new(0),
             })?;
         }
-        Ok(Tally { times })
+        Ok(Tally { alloc, times })
     }
 
     /// Counts what has arrived.
@@ -172,17 +186,23 @@ impl Tally {
 }
 
 impl Work for Tally {
-    type Answer = Doubled;
+    type Group = Vec<Doubled>;
 
-    fn answer(&self, number: u64) -> Option<Doubled> {
+    fn group(&self, room: usize) -> Option<Vec<Doubled>> {
+        Vec::with_capacity(self.alloc, room).ok()
+    }
+
+    fn answer(&self, number: u64, group: &mut Vec<Doubled>) -> bool {
         if let Some(times) = self.times.get(number as usize) {
             times.asked.fetch_add(1, Ordering::SeqCst);
         }
         if number % 3 == 0 {
-            return None;
+            return false;
         }
-        let double = number.checked_add(number)?;
-        Some(Doubled { number, double })
+        match number.checked_add(number) {
+            Some(double) => group.push(Doubled { number, double }).is_ok(),
+            None => false,
+        }
     }
 
     fn answered(&self, number: u64) {

@@ -3,5 +3,5 @@ use Rattle.std.specs.Arc.{arc_value}
 use Rattle.std.specs.List.{All}
 use Rattle.pfr_work.proofs.ahead.speculations.Given as goal
 
-abbrev pub invariant-loop-group : goal.invariant-loop-group
-invariant-loop-group g l = All (λ speculation. g.J.OfRun.job ≡ Some (arc_value speculation.job)) l.results.items
+abbrev pub invariant-loop-speculations : goal.invariant-loop-speculations
+invariant-loop-speculations g l = All (λ group. All (λ speculation. g.J.OfRun.job ≡ Some (arc_value speculation.job)) group.items) l.groups.items

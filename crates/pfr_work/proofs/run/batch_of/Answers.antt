@@ -18,11 +18,11 @@ returns-then-most-eq0-clause-refused g c =
 pub returns-in_err-packets-clause-refused : goal.returns-in_err-packets-clause-refused
 returns-in_err-packets-clause-refused g c =
     let some : 0 < c.args.workers = omega (arith, c.if-workers-eq0.false) in
-    on_err c.from_residual-in_err-packets.result _ (inr (adds_one _ _ _ _ _ c.in_ok-results.field-0.gathered some c.in_ok-reserve.ensures.items c.in_ok-push-2.ensures.items
-    (rw (← c.as_slice.ensures.value) c.in_ok-results.ensures.sizes.0) c.in_ok-results.ensures.sizes.1))
+    on_err c.from_residual-in_err-packets.result _ (inr (adds_one _ _ _ _ _ c.in_ok-groups.field-0.gathered some c.in_ok-reserve.ensures.items c.in_ok-push-2.ensures.items
+    (rw (← c.as_slice.ensures.value) c.in_ok-groups.ensures.sizes.0) c.in_ok-groups.ensures.sizes.1))
 
 pub returns-clause-claims : goal.returns-clause-claims
 returns-clause-claims g c =
     let some : 0 < c.args.workers = omega (arith, c.if-workers-eq0.false) in
-    adds_one _ _ _ _ _ c.in_ok-results.field-0.gathered some c.in_ok-reserve.ensures.items c.in_ok-push-2.ensures.items
-    (rw (← c.as_slice.ensures.value) c.in_ok-results.ensures.sizes.0) c.in_ok-results.ensures.sizes.1
+    adds_one _ _ _ _ _ c.in_ok-groups.field-0.gathered some c.in_ok-reserve.ensures.items c.in_ok-push-2.ensures.items
+    (rw (← c.as_slice.ensures.value) c.in_ok-groups.ensures.sizes.0) c.in_ok-groups.ensures.sizes.1

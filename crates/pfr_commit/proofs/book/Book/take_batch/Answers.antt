@@ -8,7 +8,7 @@ use Rattle.pfr_capture.specs.declared.capture.Record.{Record}
 use Rattle.pfr_commit.specs.Books.{LeadsTo, job_of, untold, world_with, written}
 use Rattle.pfr_commit.specs.Emissions.{frame_of}
 use Rattle.pfr_commit.specs.Found.{IsOfJob, found_at}
-use Rattle.pfr_commit.specs.Results.{is_of}
+use Rattle.pfr_commit.specs.Results.{is_of, results_of}
 use Rattle.pfr_commit.specs.World.{Texts, world_after}
 use Rattle.pfr_commit.proofs.BatchLemmas.{rises_by, rises_next}
 use Rattle.pfr_commit.proofs.BookLemmas.{on_err, same_job}
@@ -44,7 +44,7 @@ take-requires-clause-own g c = λ known.
     let i = c.loop-index.invariant in
     let test = c.loop-index-test.true in
     let below : c.loop-index.index < length c.args.packets.now = search rules in
-    let own = own_found (job_of c.args.self.now) (is_of (c.args.self.now.count + 1 + c.loop-index.index)) c.args.results.items (c.requires.own (sym c.in-Ok.ensures.own ∙ known)) in
+    let own = own_found (job_of c.args.self.now) (is_of (c.args.self.now.count + 1 + c.loop-index.index)) (results_of c.args.groups.now) (c.requires.own (sym c.in-Ok.ensures.own ∙ known)) in
     subst (λ (job : RunJob). IfSome (found_at c.loop-index.index c.in-Ok.found) (IsOfJob job)) (sym (same_job c.loop-index.self c.args.self.now i.job))
     (subst (λ (held : Option Speculation). IfSome held (IsOfJob (job_of c.args.self.now))) (sym (c.in-Ok.ensures.places c.loop-index.index below)) own)
 
@@ -75,10 +75,10 @@ loop-index-preserved g c =
       is_open = c.in_ok-take.ensures.ok;
       own =
           let number : c.args.self.now.count + 1 + c.loop-index.index ≡ c.loop-index.self.count + 1 = omega arith in
-          let held = c.in-Ok.ensures.places c.loop-index.index below ∙ ap (λ (n : ℕ). find (is_of n) c.args.results.items) number in
-          rises_next (job_of c.args.self.now) (world_with c.args.self.now c.args.out.now) c.args.results.items c.args.packets.now c.loop-index.index c.index-packets-index.result
+          let held = c.in-Ok.ensures.places c.loop-index.index below ∙ ap (λ (n : ℕ). find (is_of n) (results_of c.args.groups.now)) number in
+          rises_next (job_of c.args.self.now) (world_with c.args.self.now c.args.out.now) (results_of c.args.groups.now) c.args.packets.now c.loop-index.index c.index-packets-index.result
           c.args.self.now.own c.loop-index.self.own c.take.new.self.own below i.own
-          (rises_by (job_of c.args.self.now) (job_of c.loop-index.self) _ (world_with c.loop-index.self c.loop-index.out) c.args.results.items c.index-packets-index.result _ (found_at c.loop-index.index c.in-Ok.found)
+          (rises_by (job_of c.args.self.now) (job_of c.loop-index.self) _ (world_with c.loop-index.self c.loop-index.out) (results_of c.args.groups.now) c.index-packets-index.result _ (found_at c.loop-index.index c.in-Ok.found)
           c.loop-index.self.own c.take.new.self.own job_is i.world c.index-packets-index.is held c.in_ok-take.ensures.used c.in_ok-take.ensures.evaluated);
       world = c.in_ok-take.ensures.world
           ∙ batch_next (job_of c.args.self.now) (job_of c.loop-index.self) (world_with c.args.self.now c.args.out.now) (world_with c.loop-index.self c.loop-index.out) (λ packet. frame_of packet.0) c.args.packets.now c.loop-index.index

@@ -1,0 +1,225 @@
+//! What was asked of a table, and answered.
+ghost use Rattle.std.specs.Prelude.{◌≡◌, ◌↔◌, ◌<◌, true, IsTrue, None, Some, OnOk, [], length};
+ghost use Rattle.std.specs.List.{HoldsAt};
+ghost use Rattle.pfr_states.specs.States.{StateTable};
+ghost use Rattle.pfr_packet.specs.declared.answers.Question.TheVariants.{At, Room};
+ghost use Rattle.pfr_packet.specs.Plan.{purged_at};
+ghost use Rattle.pfr_record.specs.declared.answer.Answer.TheVariants.{Found, HasRoom};
+ghost use Rattle.pfr_record.specs.Record.{Agrees, IsKept, Keeps, answer_of, missed, room_of};
+
+use crate::answer::{Answer, is_same_find};
+use indexmap::IndexMap;
+use pfr_packet::Question;
+use pfr_states::{Place, Side, Table};
+use pfr_track::{Clock, Key};
+use std::alloc::{AllocError, Global};
+use std::marker::Model;
+
+/// A key that no state has on a side, if there was one.
+type Missed = Option<(Side, Key)>;
+
+/// The questions that were asked of a table, each with its answer; contracts see the list of them. Two keys that no state has, and
+/// whether there is room, take no memory of their own: most packets ask no more than that.
+#[derive(Drop)]
+pub struct Lookups {
+    missed: Missed,
+    missed_too: Missed,
+    room: Option<bool>,
+    others: IndexMap<Question, Answer>,
+}
+
+impl Model for Lookups {
+    ghost use Rattle.pfr_record.specs.Record.{Entries, entries_of};
+
+    ghost Value = { Entries };
+
+    ghost view = { λ l. entries_of l.missed l.missed_too l.room l.others.entries };
+}
+
+/// Notes a key that no state has, unless another one is noted here. It says whether this one is.
+fn note_missed(place: &mut Missed, side: Side, key: &Key) -> bool
+    ensures noted { result ≡ true → IsKept (missed place.new) (At side key.now) }
+    ensures keeps { Keeps (missed place.old) (missed place.new) (At side key.now) (Found None) }
+{
+    match place {
+        Some((its_side, its_key)) => *its_side == side && is_same_key(its_key, key),
+        None => {
+            *place = Some((side, *key));
+            true
+        }
+    }
+}
+
+/// Notes whether there is room, unless it is noted. It says whether it is noted so.
+fn note_room(place: &mut Option<bool>, room: bool) -> bool
+    ensures noted { result ≡ true → IsKept (room_of place.new) Room }
+    ensures keeps { Keeps (room_of place.old) (room_of place.new) Room (HasRoom room) }
+{
+    match place {
+        Some(its) => *its == room,
+        None => {
+            *place = Some(room);
+            true
+        }
+    }
+}
+
+fn is_same_key(first: &Key, second: &Key) -> bool
+    ensures { IsTrue result ↔ (first.now ≡ second.now) }
+{
+    first == second
+}
+
+/// Whether no state of a table has a key that was missed. It is looked for where a hint says first.
+#[tactic(auto, unfolding(pfr_packet::specs::Plan::found_in, pfr_packet::specs::Plan::purged_at))]
+fn is_missed(table: &Table, clock: Clock, hint: Option<Place>, missed: &Missed) -> bool
+    ensures { IsTrue result ↔ Agrees (purged_at clock table.now) (spec.missed missed.now) }
+{
+    match missed {
+        Some((side, key)) => table.find_near(*side, key, clock, hint).is_none(),
+        None => true,
+    }
+}
+
+/// Whether a table has room as was noted, if it was.
+#[tactic(auto, unfolding(pfr_packet::specs::Plan::has_room_in, pfr_packet::specs::Plan::purged_at))]
+fn has_room_so(table: &Table, clock: Clock, room: &Option<bool>) -> bool
+    ensures { IsTrue result ↔ Agrees (purged_at clock table.now) (room_of room.now) }
+{
+    match room {
+        Some(room) => table.room(clock) == *room,
+        None => true,
+    }
+}
+
+/// Whether a table answers a question so at a clock. The state that is asked for is looked for where a hint says first.
+#[tactic(auto, unfolding(pfr_packet::specs::Plan::found_in, pfr_packet::specs::Plan::has_room_in, pfr_packet::specs::Plan::purged_at))]
+fn is_answered(
+    table: &Table,
+    clock: Clock,
+    hint: Option<Place>,
+    question: &Question,
+    answer: &Answer,
+) -> bool
+    ensures { IsTrue result ↔ (answer_of (purged_at clock table.now) question.now ≡ answer.now) }
+{
+    match (question, answer) {
+        (Question::At(side, key), Answer::Found(recorded)) => {
+            is_same_find(&table.find_near(*side, key, clock, hint), recorded)
+        }
+        (Question::Room, Answer::HasRoom(room)) => table.room(clock) == *room,
+        _ => false,
+    }
+}
+
+/// Whether a table gives at a clock the answer that stands at a place.
+#[tactic(auto, using(crate::proofs::RecordLemmas::answered_at, crate::proofs::RecordLemmas::answered_of_all))]
+fn is_answered_at(
+    answers: &IndexMap<Question, Answer>,
+    index: usize,
+    table: &Table,
+    clock: Clock,
+    hint: Option<Place>,
+) -> bool
+    requires { index < length answers.now.entries }
+    ensures held { IsTrue result → HoldsAt (λ entry. answer_of (purged_at clock table.now) entry.0 ≡ entry.1) answers.now.entries index }
+    ensures of_all { Agrees (purged_at clock table.now) answers.now.entries → IsTrue result }
+{
+    match answers.get_index(index) {
+        Some((question, answer)) => is_answered(table, clock, hint, question, answer),
+        None => false,
+    }
+}
+
+/// Whether a table gives at a clock all these answers. The state that was asked for first is looked for where a hint says first.
+#[tactic(auto, using(crate::proofs::RecordLemmas::agrees_more, crate::proofs::RecordLemmas::agrees_all))]
+fn are_answered(
+    answers: &IndexMap<Question, Answer>,
+    table: &Table,
+    clock: Clock,
+    hint: Option<Place>,
+) -> bool
+    ensures { IsTrue result ↔ Agrees (purged_at clock table.now) answers.now.entries }
+{
+    for index in 0..answers.len() {
+        let hint = if index == 0 { hint } else { None };
+        if !is_answered_at(answers, index, table, clock, hint) {
+            return false;
+        }
+    }
+    true
+}
+
+impl Lookups {
+    /// Nothing was asked so far.
+    pub(crate) fn new(alloc: Global) -> Lookups
+        ensures { result ≡ [] }
+    {
+        Lookups {
+            missed: None,
+            missed_too: None,
+            room: None,
+            others: IndexMap::new(alloc),
+        }
+    }
+
+    /// How many questions there are.
+    pub(crate) fn len(&self) -> usize
+        ensures { result ≡ length self.now }
+    {
+        let missed = usize::from(self.missed.is_some()) + usize::from(self.missed_too.is_some());
+        missed + usize::from(self.room.is_some()) + self.others.len()
+    }
+
+    /// Notes that no state has a key, as long as that takes no memory. It says whether that is noted.
+    fn keep_missed(&mut self, side: Side, key: &Key) -> bool
+        ensures noted { result ≡ true → IsKept self.new (At side key.now) }
+        ensures keeps { Keeps self.old self.new (At side key.now) (Found None) }
+    {
+        note_missed(&mut self.missed, side, key) || note_missed(&mut self.missed_too, side, key)
+    }
+
+    /// Notes whether there is room, unless it is noted. It says whether it is noted so.
+    fn keep_room(&mut self, room: bool) -> bool
+        ensures noted { result ≡ true → IsKept self.new Room }
+        ensures keeps { Keeps self.old self.new Room (HasRoom room) }
+    {
+        note_room(&mut self.room, room)
+    }
+
+    /// Notes any answer. Where memory is refused no other is lost.
+    fn keep_other(&mut self, question: Question, answer: Answer) -> Result<(), AllocError>
+        ensures noted { OnOk result (IsKept self.new question) }
+        ensures keeps { Keeps self.old self.new question answer }
+    {
+        self.others.insert(question, answer)?;
+        Ok(())
+    }
+
+    /// Notes an answer. Where memory is refused no other is lost.
+    pub(crate) fn keep(&mut self, question: Question, answer: Answer) -> Result<(), AllocError>
+        ensures noted { OnOk result (IsKept self.new question) }
+        ensures keeps { Keeps self.old self.new question answer }
+    {
+        let is_noted = match (&question, &answer) {
+            (Question::At(side, key), Answer::Found(None)) => self.keep_missed(*side, key),
+            (Question::Room, Answer::HasRoom(room)) => self.keep_room(*room),
+            _ => false,
+        };
+        if is_noted {
+            return Ok(());
+        }
+        self.keep_other(question, answer)
+    }
+
+    /// Whether a table gives at a clock each answer: states are the same in all that they hold. The state that was asked for first is
+    /// looked for where a hint says first.
+    pub(crate) fn hold_near(&self, table: &Table, clock: Clock, hint: Option<Place>) -> bool
+        ensures { IsTrue result ↔ Agrees (purged_at clock table.now) self.now }
+    {
+        is_missed(table, clock, hint, &self.missed)
+            && is_missed(table, clock, None, &self.missed_too)
+            && has_room_so(table, clock, &self.room)
+            && are_answered(&self.others, table, clock, hint)
+    }
+}
