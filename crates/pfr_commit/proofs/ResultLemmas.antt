@@ -1,6 +1,6 @@
 -- Where the results of packets stand.
-use Rattle.std.proofs.Common.{◌≡◌, ◌<◌, ◌≤◌, ◌+◌, ◌-◌, ◌==◌, ◌&&◌, ℕ, Bool, true, false, nat_lt, is_none, List, [], ◌∷◌, ◌++◌, length, replicate, take, get_or, Option, Some, None, IfSome, Bor, inl, inr, refl, sym, ◌∙◌, ap, subst, arith}
-use Rattle.std.specs.List.{All, find, flat_map}
+use Rattle.std.proofs.Common.{◌≡◌, ◌<◌, ◌≤◌, ◌+◌, ◌-◌, ◌==◌, ℕ, Bool, true, false, is_none, List, [], ◌∷◌, ◌++◌, length, replicate, take, get_or, Option, Some, None, IfSome, Bor, inl, inr, refl, sym, ◌∙◌, ap, subst, arith}
+use Rattle.std.specs.List.{All, find}
 use Rattle.std.specs.Option.{option_map}
 use lib.ListN.{set}
 use Rattle.std.proofs.lemmas.Bool.{and_from, cases_Bool, eqb-true, eq-eqb, false≢true, lt-ltb}
@@ -27,11 +27,11 @@ puts_more so_far found first old new len are puts = λ place below.
     puts place within ∙ ap (λ (held : Option Speculation). with_result held (first + place) found) (are place within) ∙ sym (find_by so_far found (first + place) (find (is_of (first + place)) so_far) refl)
 
 -- the next one of a group
-pub puts_next : (before group : List Speculation) (first i : ℕ) (d : Speculation) (old new : Places) → i < length group → length new ≡ length old → ArePlaced (before ++ take i group) first old → Puts first (get_or group i d) old new
-    → ArePlaced (before ++ take (i + 1) group) first new
-puts_next before group first i d old new below len are puts =
-    subst (λ (all : List Speculation). ArePlaced all first new) (append_assoc before (take i group) (get_or group i d ∷ []) ∙ ap (λ (these : List Speculation). before ++ these) (sym (take_more group i d below)))
-    (puts_more (before ++ take i group) (get_or group i d) first old new len are puts)
+pub puts_next : (before group : List Speculation) (first i : ℕ) (found : Speculation) (old new : Places) → i < length group → found ≡ get_or group i found → length new ≡ length old → ArePlaced (before ++ take i group) first old
+    → Puts first found old new → ArePlaced (before ++ take (i + 1) group) first new
+puts_next before group first i found old new below is len are puts =
+    subst (λ (all : List Speculation). ArePlaced all first new) (append_assoc before (take i group) (found ∷ []) ∙ ap (λ (these : List Speculation). before ++ these) (sym (take_more group i found below ∙ (rw (← is) refl))))
+    (puts_more (before ++ take i group) found first old new len are puts)
 
 pub puts_all : (before group : List Speculation) (first i : ℕ) (places : Places) → length group ≤ i → ArePlaced (before ++ take i group) first places → ArePlaced (before ++ group) first places
 puts_all before group first i places past are = rw (take_all i group past) at are

@@ -1,15 +1,14 @@
 -- How far a run has come that reads and writes a batch at a time.
-use Rattle.std.proofs.Common.{◌≡◌, ◌∙◌, ◌+◌, ℕ, Bool, IsTrue, false, List, [], ◌∷◌, ◌++◌, length, map, Option, Some, None, is_some, true, IfSome, ◌⊎◌, Result, Ok, Err, IfErr, IfOk, inl, inr, refl, sym, ap, subst, arith}
+use Rattle.std.proofs.Common.{◌≡◌, ◌∙◌, ◌+◌, ℕ, Bool, false, List, [], ◌∷◌, ◌++◌, length, map, Option, Some, None, is_some, true, IfSome, ◌⊎◌, Ok, Err, inl, inr, refl, sym, ap, subst, arith}
 use Rattle.std.specs.List.{All}
 use Rattle.std.specs.Option.{option_map}
 use Rattle.std.proofs.lemmas.List.{length-map}
-use Rattle.std.proofs.lemmas.Result.{IfErr-weaker, IfOk-weaker}
 use Rattle.std.proofs.lemmas.List.Elements.{All-nil}
 use Rattle.pfr_net.specs.declared.address.Ipv4Address.{Ipv4Address}
 use Rattle.pfr_packet.specs.Job.{RunJob}
 use Rattle.pfr_capture.specs.declared.capture.CaptureError.TheVariants as refusal
 use Rattle.pfr_capture.specs.declared.capture.Record.{Record}
-use Rattle.pfr_capture.specs.Reading.{FieldsOf, Gave, HasGiven, Reading}
+use Rattle.pfr_capture.specs.Reading.{FieldsOf, Gave, Reading}
 use Rattle.pfr_commit.specs.declared.book.Book.{Book}
 use Rattle.pfr_commit.specs.Books.{StandsAt}
 use Rattle.pfr_commit.specs.Emissions.{frame_of}
@@ -21,19 +20,18 @@ use Rattle.pfr_work.specs.declared.run.Trace.{Trace}
 use Rattle.pfr_work.specs.Runs.{Cut, IsPiece, Over, Refused, Round, Rounds, Went, behind}
 use Rattle.pfr_out.specs.declared.feeding.Cut.{Cut as Why}
 use Rattle.pfr_out.specs.declared.feeding.Feeding.{Feeding}
-use Rattle.pfr_out.specs.declared.report.Report.{Report}
 use Rattle.pfr_out.specs.declared.report.Stop.{Stop}
 use Rattle.pfr_out.specs.declared.report.Stop.TheVariants as stop
 use Rattle.pfr_out.specs.declared.settings.Form.{Form}
 use Rattle.pfr_out.specs.declared.sinks.Sinks.{Sinks}
-use Rattle.pfr_out.specs.Feedings.{Behind, Concluded, Cuts, CutsOff, Ends, Fresh, Gives, Reads, Rests, RunEnds, RunStops, Same, Takes, Writes, piece_alone, stop_by, stop_of}
-use Rattle.pfr_out.specs.Outputs.{AllTold, Grew, GrewBy, Outputs, PartWritten, RoseAt, Stay, each_of, header_alone, texts_alone}
+use Rattle.pfr_out.specs.Feedings.{Behind, Cuts, CutsOff, Ends, Fresh, Gives, Reads, Rests, Same, Takes, Writes, piece_alone, stop_by, stop_of}
+use Rattle.pfr_out.specs.Outputs.{AllTold, Grew, Outputs, PartWritten, RoseAt, Stay, each_of, texts_alone}
 use Rattle.pfr_out.specs.Reading.{BatchFails, BatchSays, End, records_of, wants_memory}
-use Rattle.pfr_out.specs.Replay.{Replayed, StopFails, Stopped}
+use Rattle.pfr_out.specs.Replay.{StopFails, Stopped}
 use Rattle.pfr_out.specs.Spelling.{Run}
-use Rattle.pfr_out.specs.Taking.{Add, IsLate, Reaches, ReplaysOn, SinksFail, StopsOn, run_in}
+use Rattle.pfr_out.specs.Taking.{Add, IsLate, Reaches, SinksFail}
 use Rattle.pfr_out.proofs.ReadingLemmas.{gave_of}
-use Rattle.pfr_out.proofs.RunLemmas.{AtHead, concluded, concluded_stop, concludes_for, ok_and, same_run, Ended, Took, at_start, batch_cut, memory_stopped, next_head, reached, reaches, says_on}
+use Rattle.pfr_out.proofs.RunLemmas.{AtHead, Ended, Took, at_start, batch_cut, memory_stopped, next_head, reached, reaches, says_on}
 use Rattle.pfr_out.proofs.WritingLemmas.{each_output, grew_by_nothing, spelled_none}
 
 -- ---- how far
@@ -394,111 +392,3 @@ module _ {R S : Type 0} (tells : R → Bool) (unread : R → List ℕ) (failures
       → Kept new
   kept_err last new trace workers fresh w =
       kept_given w.mid new w.world w.then.records (rounds_on start w.mid w.rounds (opening run.job) w.world w.went (at_first fresh)) w.then.gave
-
--- ---- the whole of a run
-
-module _ {R S : Type 0} (tells : R → Bool) (unread : R → List ℕ) (failures : R → ℕ) (told : S → Bool) (written : S → List ℕ) (sink_failures : S → ℕ) (run : Run) (start : Feeding R S) where
-  abbrev ReplaysFrom : Sinks S → Report → Type 0
-  ReplaysFrom sinks' report = IsTrue (tells start.source.now) → (read : List ℕ) (before : Outputs) → HasGiven start.capture.now read []
-      → (AllTold (each_of told start.sinks.now) → Grew before (each_of written start.sinks.now) (header_alone start.capture.now.header))
-      → Replayed run (read ++ unread start.source.now) (each_of told start.sinks.now) before (each_of written sinks') report
-
-  abbrev StopsFrom : R → Sinks S → Stop → Type 0
-  StopsFrom source' sinks' s = IsTrue (tells start.source.now) → (read : List ℕ) (before : Outputs) → HasGiven start.capture.now read []
-      → (AllTold (each_of told start.sinks.now) → Grew before (each_of written start.sinks.now) (header_alone start.capture.now.header))
-      → Stopped run start.most (read ++ unread start.source.now) (unread source') (each_of told start.sinks.now) before (each_of written sinks') s
-
-  finished_ok : (book : Book) (ran : Feeding R S) (sinks' : Sinks S) (result : Result Report Stop) (last : Book) (end : End) → run ≡ run_in book start.channel.now.form → ran.channel.now.form ≡ start.channel.now.form
-      → each_of told ran.sinks.now ≡ each_of told start.sinks.now → last.job ≡ book.job
-      → Behind tells unread told written start ran (λ text left told before behind. Reaches (run_in book start.channel.now.form) start.most text left told before behind last end)
-      → Concluded told written sink_failures last ran.channel.now.form end ran.sinks.now sinks' result
-      → IfOk result (ReplaysFrom sinks')
-  finished_ok book ran sinks' result last end run_is form_same told_same job_is reaches_it c =
-      ok_and result _ (ReplaysFrom sinks') _ (λ (report : Report) closed writes t read before h grew.
-      concluded run start.most (read ++ unread start.source.now) (unread ran.source.now) (each_of told start.sinks.now) before (each_of written ran.sinks.now) (each_of written sinks') last ran.channel.now.form end report
-      (same_run last book ran.channel.now.form start.channel.now.form job_is form_same ∙ sym run_is)
-      (subst (λ (r : Run). Reaches r start.most (read ++ unread start.source.now) (unread ran.source.now) (each_of told start.sinks.now) before (each_of written ran.sinks.now) last end) (sym run_is) (reaches_it t read before h grew))
-      closed.0 closed.1 (λ world stands u. writes world stands (subst (λ (tl : Sinks Bool). AllTold tl) (sym told_same) u)))
-      c.closed c.grew
-
-  finishes_ok : (book : Book) (ran : Feeding R S) (last : Option Book) (sinks' : Sinks S) (result : Result Report Stop) → run ≡ run_in book start.channel.now.form → ran.channel.now.form ≡ start.channel.now.form
-      → each_of told ran.sinks.now ≡ each_of told start.sinks.now
-      → (ran.cut ≡ None → RunEnds tells unread failures told written sink_failures book start ran last)
-      → IfSome (stop_of ran) (λ stop. (result ≡ Err stop) × (sinks' ≡ ran.sinks.now))
-      → (ran.cut ≡ None → IfSome last (λ b. IfSome ran.end (λ end. Concluded told written sink_failures b ran.channel.now.form end ran.sinks.now sinks' result)))
-      → IfOk result (ReplaysFrom sinks')
-  finishes_ok book ran last sinks' result run_is form_same told_same ends_it stopped concludes_it = by_cut ran.cut refl
-    where
-      by_cut : (o : Option Why) → ran.cut ≡ o → IfOk result (ReplaysFrom sinks')
-      by_cut None is =
-          let e = ends_it is in
-          let c = subst (λ (x : Option End). IfSome x (λ end. Concluded told written sink_failures e.last ran.channel.now.form end ran.sinks.now sinks' result)) e.end_is
-          (subst (λ (x : Option Book). IfSome x (λ b. IfSome ran.end (λ end. Concluded told written sink_failures b ran.channel.now.form end ran.sinks.now sinks' result))) e.last_is (concludes_it is)) in
-          finished_ok book ran sinks' result e.last e.end run_is form_same told_same e.job e.reaches c
-      by_cut (Some why) is =
-          let s = subst (λ (o : Option Why). IfSome (option_map (stop_by ran.committed) o) (λ stop. (result ≡ Err stop) × (sinks' ≡ ran.sinks.now))) is stopped in
-          subst (λ (r : Result Report Stop). IfOk r (ReplaysFrom sinks')) (sym s.0) tt
-
-  finished_stopped : (book : Book) (ran : Feeding R S) (sinks' : Sinks S) (result : Result Report Stop) (last : Book) (end : End) → run ≡ run_in book start.channel.now.form → ran.channel.now.form ≡ start.channel.now.form
-      → each_of told ran.sinks.now ≡ each_of told start.sinks.now → last.job ≡ book.job
-      → Behind tells unread told written start ran (λ text left told before behind. Reaches (run_in book start.channel.now.form) start.most text left told before behind last end)
-      → Concluded told written sink_failures last ran.channel.now.form end ran.sinks.now sinks' result
-      → IfErr result (StopsFrom ran.source.now sinks')
-  finished_stopped book ran sinks' result last end run_is form_same told_same job_is reaches_it c =
-      IfErr-weaker result _ (StopsFrom ran.source.now sinks') (λ (s : Stop) stops t read before h grew.
-      concluded_stop run start.most (read ++ unread start.source.now) (unread ran.source.now) (each_of told start.sinks.now) before (each_of written ran.sinks.now) (each_of written sinks') last ran.channel.now.form end s
-      (same_run last book ran.channel.now.form start.channel.now.form job_is form_same ∙ sym run_is)
-      (subst (λ (r : Run). Reaches r start.most (read ++ unread start.source.now) (unread ran.source.now) (each_of told start.sinks.now) before (each_of written ran.sinks.now) last end) (sym run_is) (reaches_it t read before h grew))
-      (concludes_for end last ran.channel.now.form _ _ _ _ s told_same stops))
-      c.stops
-
-  finishes_stopped : (book : Book) (ran : Feeding R S) (last : Option Book) (sinks' : Sinks S) (result : Result Report Stop) → run ≡ run_in book start.channel.now.form → ran.channel.now.form ≡ start.channel.now.form
-      → each_of told ran.sinks.now ≡ each_of told start.sinks.now
-      → (ran.cut ≡ None → RunEnds tells unread failures told written sink_failures book start ran last)
-      → IfSome (stop_of ran) (λ why. RunStops tells unread failures told written sink_failures book start ran why)
-      → IfSome (stop_of ran) (λ stop. (result ≡ Err stop) × (sinks' ≡ ran.sinks.now))
-      → (ran.cut ≡ None → IfSome last (λ b. IfSome ran.end (λ end. Concluded told written sink_failures b ran.channel.now.form end ran.sinks.now sinks' result)))
-      → IfErr result (StopsFrom ran.source.now sinks')
-  finishes_stopped book ran last sinks' result run_is form_same told_same ends_it stops_it stopped concludes_it = by_cut ran.cut refl
-    where
-      by_cut : (o : Option Why) → ran.cut ≡ o → IfErr result (StopsFrom ran.source.now sinks')
-      by_cut None is =
-          let e = ends_it is in
-          let c = subst (λ (x : Option End). IfSome x (λ end. Concluded told written sink_failures e.last ran.channel.now.form end ran.sinks.now sinks' result)) e.end_is
-          (subst (λ (x : Option Book). IfSome x (λ b. IfSome ran.end (λ end. Concluded told written sink_failures b ran.channel.now.form end ran.sinks.now sinks' result))) e.last_is (concludes_it is)) in
-          finished_stopped book ran sinks' result e.last e.end run_is form_same told_same e.job e.reaches c
-      by_cut (Some why) is =
-          let s = subst (λ (o : Option Why). IfSome (option_map (stop_by ran.committed) o) (λ stop. (result ≡ Err stop) × (sinks' ≡ ran.sinks.now))) is stopped in
-          let r = subst (λ (o : Option Why). IfSome (option_map (stop_by ran.committed) o) (λ stop. RunStops tells unread failures told written sink_failures book start ran stop)) is stops_it in
-          subst (λ (x : Result Report Stop). IfErr x (StopsFrom ran.source.now sinks')) (sym s.0)
-          (λ t read before h grew. rw s.1 (subst (λ (u : Run). Stopped u start.most (read ++ unread start.source.now) (unread ran.source.now) (each_of told start.sinks.now) before (each_of written ran.sinks.now) (stop_by ran.committed why)) (sym run_is) (r.stopped t read before h grew)))
-
-  -- the same behind the header
-  pub replays_on : (book : Book) (ran : Feeding R S) (last : Option Book) (sinks sinks' : Sinks S) (result : Result Report Stop)
-      → (ran.cut ≡ None → RunEnds tells unread failures told written sink_failures book start ran last)
-      → IfSome (stop_of ran) (λ stop. (result ≡ Err stop) × (sinks' ≡ ran.sinks.now))
-      → (ran.cut ≡ None → IfSome last (λ b. IfSome ran.end (λ end. Concluded told written sink_failures b ran.channel.now.form end ran.sinks.now sinks' result)))
-      → ran.channel.now.form ≡ start.channel.now.form → each_of told ran.sinks.now ≡ each_of told start.sinks.now → run ≡ run_in book start.channel.now.form
-      → each_of told start.sinks.now ≡ each_of told sinks → GrewBy told written sinks start.sinks.now (header_alone start.capture.now.header)
-      → IfOk result (λ report. ReplaysOn tells unread told written run start.capture.now start.source.now sinks sinks' report)
-  replays_on book ran last sinks sinks' result ends_it stopped concludes_it form_same told_same run_is told_is header =
-      IfOk-weaker result (ReplaysFrom sinks') (λ report. ReplaysOn tells unread told written run start.capture.now start.source.now sinks sinks' report) (λ (report : Report) p t read h.
-      subst (λ (tl : Sinks Bool). Replayed run (read ++ unread start.source.now) tl (each_of written sinks) (each_of written sinks') report) told_is
-      (p t read (each_of written sinks) h (λ u. header (subst (λ (tl : Sinks Bool). AllTold tl) told_is u))))
-      (finishes_ok book ran last sinks' result run_is form_same told_same ends_it stopped concludes_it)
-
-  pub stops_on : (book : Book) (ran : Feeding R S) (last : Option Book) (source' : R) (sinks sinks' : Sinks S) (result : Result Report Stop)
-      → (ran.cut ≡ None → RunEnds tells unread failures told written sink_failures book start ran last)
-      → IfSome (stop_of ran) (λ why. RunStops tells unread failures told written sink_failures book start ran why)
-      → IfSome (stop_of ran) (λ stop. (result ≡ Err stop) × (sinks' ≡ ran.sinks.now))
-      → (ran.cut ≡ None → IfSome last (λ b. IfSome ran.end (λ end. Concluded told written sink_failures b ran.channel.now.form end ran.sinks.now sinks' result)))
-      → source' ≡ ran.source.now
-      → ran.channel.now.form ≡ start.channel.now.form → each_of told ran.sinks.now ≡ each_of told start.sinks.now → run ≡ run_in book start.channel.now.form
-      → each_of told start.sinks.now ≡ each_of told sinks → GrewBy told written sinks start.sinks.now (header_alone start.capture.now.header)
-      → IfErr result (λ s. StopsOn tells unread told written run start.most start.capture.now start.source.now source' sinks sinks' s)
-  stops_on book ran last source' sinks sinks' result ends_it stops_it stopped concludes_it source_is form_same told_same run_is told_is header =
-      IfErr-weaker result (StopsFrom ran.source.now sinks') (λ s. StopsOn tells unread told written run start.most start.capture.now start.source.now source' sinks sinks' s) (λ (s : Stop) p t read h.
-      rw source_is
-      (subst (λ (tl : Sinks Bool). Stopped run start.most (read ++ unread start.source.now) (unread ran.source.now) tl (each_of written sinks) (each_of written sinks') s) told_is
-      (p t read (each_of written sinks) h (λ u. header (subst (λ (tl : Sinks Bool). AllTold tl) told_is u)))))
-      (finishes_stopped book ran last sinks' result run_is form_same told_same ends_it stops_it stopped concludes_it)

@@ -3,3 +3,4 @@ pub mod FeedingLemmas
 pub mod ReadingLemmas
 pub mod RunLemmas
 pub mod WritingLemmas
+pub mod WholeLemmas

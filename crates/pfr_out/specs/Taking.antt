@@ -82,13 +82,8 @@ IsLate s = ⊤
 
 -- ---- by what the devices show
 
--- Behind a reader that has given no record, where the source tells its bytes: the packets are taken and written as far as the reading
--- came, they were to the end, or a stop came before.
-abbrev pub ReachesOn : {R S : Type 0} → (tells : R → Bool) → (unread : R → List ℕ) → (told : S → Bool) → (written : S → List ℕ) → Run → ℕ → Book → Reading → (source source' : R) → (sinks sinks' : Sinks S) → Result Tail CaptureError → Type 0
-ReachesOn tells unread told written run batch book capture source source' sinks sinks' end =
-    IsTrue (tells source) → (read : List ℕ) → HasGiven capture read []
-    → Reaches run batch (read ++ unread source) (unread source') (each_of told sinks) (each_of written sinks) (each_of written sinks') book end
-
+-- Behind a reader that has given no record, where the source tells its bytes: the packets are taken and written to the end, or a stop
+-- came before.
 abbrev pub ReplaysOn : {R S : Type 0} → (tells : R → Bool) → (unread : R → List ℕ) → (told : S → Bool) → (written : S → List ℕ) → Run → Reading → R → (sinks sinks' : Sinks S) → Report → Type 0
 ReplaysOn tells unread told written run capture source sinks sinks' report =
     IsTrue (tells source) → (read : List ℕ) → HasGiven capture read []

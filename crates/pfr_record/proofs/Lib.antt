@@ -1,2 +1,3 @@
+pub mod LookupLemmas
 pub mod RecordLemmas
 pub mod SoundLemmas

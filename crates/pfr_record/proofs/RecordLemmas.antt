@@ -43,6 +43,10 @@ pub kept_stays : (entries : Entries) (q other : Question) (a : Answer) → IsKep
 kept_stays entries q other a h = subst (λ (ks : List Question). Contains ks other) (sym (keys_insert_entry ghosts.eq entries q a)) (stays_in (keys_of entries) q other h)
 
 -- after an insertion, whether memory was refused for it or not
+pub stays_after : {T F : Type 0} (r : Result T F) (old new : Entries) (q : Question) (a : Answer) → OnOk r (new ≡ insert_entry ghosts.eq old q a) → OnErr r (new ≡ old) → (other : Question) → IsKept old other → IsKept new other
+stays_after (Ok t) old new q a ok err other h = subst (λ (es : Entries). IsKept es other) (sym ok) (kept_stays old q other a h)
+stays_after (Err e) old new q a ok err other h = subst (λ (es : Entries). IsKept es other) (sym err) h
+
 pub agrees_after : {T F : Type 0} (r : Result T F) (table : StateTable) (old new : Entries) (q : Question) (a : Answer) → answer_of table q ≡ a
     → OnOk r (new ≡ insert_entry ghosts.eq old q a) → OnErr r (new ≡ old) → Agrees table old → Agrees table new
 agrees_after (Ok t) table old new q a is ok err h = subst (λ (es : Entries). Agrees table es) (sym ok) (agrees_insert table q a is old h)

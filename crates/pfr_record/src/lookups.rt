@@ -3,9 +3,10 @@ ghost use Rattle.std.specs.Prelude.{◌≡◌, ◌↔◌, ◌<◌, true, IsTrue,
 ghost use Rattle.std.specs.List.{HoldsAt};
 ghost use Rattle.pfr_states.specs.States.{StateTable};
 ghost use Rattle.pfr_packet.specs.declared.answers.Question.TheVariants.{At, Room};
-ghost use Rattle.pfr_packet.specs.Plan.{purged_at};
+ghost use Rattle.pfr_packet.specs.Plan.{found_in, has_room_in, purged_at};
 ghost use Rattle.pfr_record.specs.declared.answer.Answer.TheVariants.{Found, HasRoom};
-ghost use Rattle.pfr_record.specs.Record.{Agrees, IsKept, Keeps, answer_of, missed, room_of};
+ghost use Rattle.pfr_record.specs.Record.{Agrees, IsKept, Keeps, answer_of};
+ghost use Rattle.pfr_record.specs.Record as spec;
 
 use crate::answer::{Answer, is_same_find};
 use indexmap::IndexMap;
@@ -38,30 +39,26 @@ impl Model for Lookups {
 
 /// Notes a key that no state has, unless another one is noted here. It says whether this one is.
 fn note_missed(place: &mut Missed, side: Side, key: &Key) -> bool
-    ensures noted { result ≡ true → IsKept (missed place.new) (At side key.now) }
-    ensures keeps { Keeps (missed place.old) (missed place.new) (At side key.now) (Found None) }
+    ensures noted { result ≡ true → IsKept (spec.missed place.new) (At side key.now) }
+    ensures keeps { Keeps (spec.missed place.old) (spec.missed place.new) (At side key.now) (Found None) }
 {
-    match place {
-        Some((its_side, its_key)) => *its_side == side && is_same_key(its_key, key),
-        None => {
-            *place = Some((side, *key));
-            true
-        }
+    if let Some((its_side, its_key)) = place {
+        return *its_side == side && is_same_key(its_key, key);
     }
+    *place = Some((side, *key));
+    true
 }
 
 /// Notes whether there is room, unless it is noted. It says whether it is noted so.
 fn note_room(place: &mut Option<bool>, room: bool) -> bool
-    ensures noted { result ≡ true → IsKept (room_of place.new) Room }
-    ensures keeps { Keeps (room_of place.old) (room_of place.new) Room (HasRoom room) }
+    ensures noted { result ≡ true → IsKept (spec.room_of place.new) Room }
+    ensures keeps { Keeps (spec.room_of place.old) (spec.room_of place.new) Room (HasRoom room) }
 {
-    match place {
-        Some(its) => *its == room,
-        None => {
-            *place = Some(room);
-            true
-        }
+    if let Some(its_room) = *place {
+        return its_room == room;
     }
+    *place = Some(room);
+    true
 }
 
 fn is_same_key(first: &Key, second: &Key) -> bool
@@ -70,24 +67,38 @@ fn is_same_key(first: &Key, second: &Key) -> bool
     first == second
 }
 
-/// Whether no state of a table has a key that was missed. It is looked for where a hint says first.
+/// Whether no state of a table has a key. It is looked for where a hint says first.
 #[tactic(auto, unfolding(pfr_packet::specs::Plan::found_in, pfr_packet::specs::Plan::purged_at))]
+fn is_none_at(table: &Table, clock: Clock, hint: Option<Place>, side: Side, key: &Key) -> bool
+    ensures { IsTrue result ↔ (found_in (purged_at clock table.now) side key.now ≡ None) }
+{
+    table.find_near(side, key, clock, hint).is_none()
+}
+
+/// Whether a key that was noted has still no state.
 fn is_missed(table: &Table, clock: Clock, hint: Option<Place>, missed: &Missed) -> bool
     ensures { IsTrue result ↔ Agrees (purged_at clock table.now) (spec.missed missed.now) }
 {
     match missed {
-        Some((side, key)) => table.find_near(*side, key, clock, hint).is_none(),
+        Some((side, key)) => is_none_at(table, clock, hint, *side, key),
         None => true,
     }
 }
 
-/// Whether a table has room as was noted, if it was.
+/// Whether a table has room, or has none, as is said.
 #[tactic(auto, unfolding(pfr_packet::specs::Plan::has_room_in, pfr_packet::specs::Plan::purged_at))]
+fn has_room(table: &Table, clock: Clock, room: bool) -> bool
+    ensures { IsTrue result ↔ (has_room_in (purged_at clock table.now) ≡ room) }
+{
+    table.room(clock) == room
+}
+
+/// Whether a table has room as was noted, if it was.
 fn has_room_so(table: &Table, clock: Clock, room: &Option<bool>) -> bool
-    ensures { IsTrue result ↔ Agrees (purged_at clock table.now) (room_of room.now) }
+    ensures { IsTrue result ↔ Agrees (purged_at clock table.now) (spec.room_of room.now) }
 {
     match room {
-        Some(room) => table.room(clock) == *room,
+        Some(room) => has_room(table, clock, *room),
         None => true,
     }
 }
@@ -171,22 +182,6 @@ impl Lookups {
         missed + usize::from(self.room.is_some()) + self.others.len()
     }
 
-    /// Notes that no state has a key, as long as that takes no memory. It says whether that is noted.
-    fn keep_missed(&mut self, side: Side, key: &Key) -> bool
-        ensures noted { result ≡ true → IsKept self.new (At side key.now) }
-        ensures keeps { Keeps self.old self.new (At side key.now) (Found None) }
-    {
-        note_missed(&mut self.missed, side, key) || note_missed(&mut self.missed_too, side, key)
-    }
-
-    /// Notes whether there is room, unless it is noted. It says whether it is noted so.
-    fn keep_room(&mut self, room: bool) -> bool
-        ensures noted { result ≡ true → IsKept self.new Room }
-        ensures keeps { Keeps self.old self.new Room (HasRoom room) }
-    {
-        note_room(&mut self.room, room)
-    }
-
     /// Notes any answer. Where memory is refused no other is lost.
     fn keep_other(&mut self, question: Question, answer: Answer) -> Result<(), AllocError>
         ensures noted { OnOk result (IsKept self.new question) }
@@ -196,20 +191,41 @@ impl Lookups {
         Ok(())
     }
 
+    /// Notes that no state has a key, in place if there is one left.
+    fn keep_missed(&mut self, side: Side, key: Key) -> Result<(), AllocError>
+        ensures noted { OnOk result (IsKept self.new (At side key)) }
+        ensures keeps { Keeps self.old self.new (At side key) (Found None) }
+    {
+        if note_missed(&mut self.missed, side, &key) {
+            return Ok(());
+        }
+        if note_missed(&mut self.missed_too, side, &key) {
+            return Ok(());
+        }
+        self.keep_other(Question::At(side, key), Answer::Found(None))
+    }
+
+    /// Notes whether there is room, in place if it is the first such answer.
+    fn keep_room(&mut self, room: bool) -> Result<(), AllocError>
+        ensures noted { OnOk result (IsKept self.new Room) }
+        ensures keeps { Keeps self.old self.new Room (HasRoom room) }
+    {
+        if note_room(&mut self.room, room) {
+            return Ok(());
+        }
+        self.keep_other(Question::Room, Answer::HasRoom(room))
+    }
+
     /// Notes an answer. Where memory is refused no other is lost.
     pub(crate) fn keep(&mut self, question: Question, answer: Answer) -> Result<(), AllocError>
         ensures noted { OnOk result (IsKept self.new question) }
         ensures keeps { Keeps self.old self.new question answer }
     {
-        let is_noted = match (&question, &answer) {
-            (Question::At(side, key), Answer::Found(None)) => self.keep_missed(*side, key),
-            (Question::Room, Answer::HasRoom(room)) => self.keep_room(*room),
-            _ => false,
-        };
-        if is_noted {
-            return Ok(());
+        match (question, answer) {
+            (Question::At(side, key), Answer::Found(None)) => self.keep_missed(side, key),
+            (Question::Room, Answer::HasRoom(room)) => self.keep_room(room),
+            _ => self.keep_other(question, answer),
         }
-        self.keep_other(question, answer)
     }
 
     /// Whether a table gives at a clock each answer: states are the same in all that they hold. The state that was asked for first is
@@ -217,9 +233,15 @@ impl Lookups {
     pub(crate) fn hold_near(&self, table: &Table, clock: Clock, hint: Option<Place>) -> bool
         ensures { IsTrue result ↔ Agrees (purged_at clock table.now) self.now }
     {
-        is_missed(table, clock, hint, &self.missed)
-            && is_missed(table, clock, None, &self.missed_too)
-            && has_room_so(table, clock, &self.room)
-            && are_answered(&self.others, table, clock, hint)
+        if !is_missed(table, clock, hint, &self.missed) {
+            return false;
+        }
+        if !is_missed(table, clock, None, &self.missed_too) {
+            return false;
+        }
+        if !has_room_so(table, clock, &self.room) {
+            return false;
+        }
+        are_answered(&self.others, table, clock, hint)
     }
 }

@@ -1,4 +1,5 @@
 pub mod BatchLemmas
+pub mod FoundLemmas
 pub mod CommitLemmas
 pub mod LeadLemmas
 pub mod ReachLemmas

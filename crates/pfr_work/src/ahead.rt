@@ -111,8 +111,7 @@ fn speculations<J: OfRun>(
     for FoundOut {
         speculations,
         of: _,
-    } in found
-    {
+    } in found {
         groups.push(speculations)?;
     }
     Ok(groups)

@@ -5,7 +5,8 @@ use Rattle.pfr_commit.proofs.results.put_group.Goals as goal
 pub loop-index-preserved : goal.loop-index-preserved
 loop-index-preserved c = (
   c.put_result.ensures.length ∙ c.loop-index.invariant.0,
-  λ before are. puts_next before c.args.group.now c.args.first c.loop-index.index _ c.loop-index.places.items c.put_result.new.places.items c.loop-index-test.true c.put_result.ensures.length
+  λ before are. puts_next before c.args.group.now c.args.first c.loop-index.index c.index-group-index.result c.loop-index.places.items c.put_result.new.places.items c.loop-index-test.true c.index-group-index.is
+      c.put_result.ensures.length
       (c.loop-index.invariant.1 before are) c.put_result.ensures.placed,
 )
 

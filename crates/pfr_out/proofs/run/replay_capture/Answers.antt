@@ -1,6 +1,6 @@
 use Rattle.std.proofs.Common.{rules, ◌≡◌, refl}
 use Rattle.pfr_out.specs.Taking.{run_in}
-use Rattle.pfr_out.proofs.FeedingLemmas.{replays_on, stops_on}
+use Rattle.pfr_out.proofs.WholeLemmas.{replays_on, stops_on}
 use Rattle.pfr_out.proofs.RunLemmas.{header_stopped}
 use Rattle.pfr_out.proofs.run.replay_capture.Goals as goal
 
