@@ -1,16 +1,17 @@
 //! What runs are given.
-ghost use Rattle.std.specs.Prelude.{◌≡◌, IfOk};
+ghost use Rattle.std.specs.Prelude.{◌≤◌, IfOk};
 ghost use Rattle.pfr_commit.specs.Books.{StandsAt, job_of};
 ghost use Rattle.pfr_commit.specs.World.{opening};
 
 use pfr_capture::{Mem, Record};
 use pfr_commit::Book;
 use pfr_net::{IfName, Ipv4Address, Net};
-use pfr_out::{Form, Settings, Sinks};
+use pfr_out::{Form, Gate, Report, Settings, Sinks, Stop, replay};
 use pfr_packet::Job;
 use pfr_ruleset::Interface;
-use std::alloc::{AllocError, Global};
-use std::sync::Arc;
+use std::alloc::{AllocError, AllocGlobal, Global};
+use std::sync::{Arc, Wait};
+use std::thread::Threads;
 
 /// The networks whose packets go out.
 static INSIDE: [Net; 1] = [Net {
@@ -87,20 +88,6 @@ pub(crate) fn book(alloc: Global, rules: &[u8]) -> Result<Book, AllocError>
     Book::new(alloc, Arc::new(alloc, job(alloc, rules)?)?)
 }
 
-/// How a capture is replayed: so many packets at a time, by so many workers.
-pub(crate) fn settings(batch: usize, workers: u64, form: Form) -> Settings<'static>
-    ensures batch { result.batch ≡ batch }
-    ensures workers { result.workers ≡ workers }
-{
-    Settings {
-        interface: interface(),
-        inside: &INSIDE,
-        batch,
-        workers,
-        form,
-    }
-}
-
 /// Outputs in memory, with this device for the verdicts.
 pub(crate) fn sinks(alloc: Global, verdicts: Mem) -> Sinks<Mem> {
     Sinks {
@@ -110,4 +97,28 @@ pub(crate) fn sinks(alloc: Global, verdicts: Mem) -> Sinks<Mem> {
         states: Mem::new(Vec::new(alloc)),
         messages: Mem::new(Vec::new(alloc)),
     }
+}
+
+/// Replays a capture by these rules, so many packets at a time and by so many workers.
+pub(crate) fn replay_in_memory<R: AllocGlobal + Threads + Wait + Sync, G: Gate>(
+    rt: &R,
+    source: &mut Mem,
+    rules: &[u8],
+    batch: usize,
+    workers: u64,
+    form: Form,
+    outputs: &mut Sinks<Mem>,
+    gate: &G,
+) -> Result<Report, Stop>
+    requires batch { (1 ≤ batch) × (batch ≤ 4096) }
+    requires workers { workers ≤ 64 }
+{
+    let settings = Settings {
+        interface: interface(),
+        inside: &INSIDE,
+        batch,
+        workers,
+        form,
+    };
+    replay(rt, source, rules, [0; 32], &settings, outputs, gate)
 }

@@ -1,9 +1,9 @@
 //! Runs over devices in memory, one of which fails.
 ghost use Rattle.std.specs.Prelude.{◌≤◌};
 
-use crate::given::{capture, settings, sinks};
+use crate::given::{capture, replay_in_memory, sinks};
 use pfr_capture::{Mem, Tail};
-use pfr_out::{Form, Gate, Output, Report, Stop, replay};
+use pfr_out::{Form, Gate, Output, Report, Sinks, Stop};
 use std::alloc::{AllocError, AllocGlobal};
 use std::sync::Wait;
 use std::test::Fail;
@@ -26,6 +26,20 @@ struct Left {
     counters: usize,
     messages: usize,
     counts_all: bool,
+}
+
+impl Left {
+    /// What a run left that ended so.
+    fn of(end: Result<Report, Stop>, outputs: &Sinks<Mem>) -> Left {
+        Left {
+            end,
+            has_two_lines: outputs.verdicts.bytes() == TWO_LINES,
+            packets: outputs.packets.bytes().len(),
+            counters: outputs.counters.bytes().len(),
+            messages: outputs.messages.bytes().len(),
+            counts_all: outputs.counters.bytes() == COUNTERS,
+        }
+    }
 }
 
 /// Who waits for no packet's turn.
@@ -55,24 +69,20 @@ fn run<R: AllocGlobal + Threads + Wait + Sync>(
     let mut source = capture(alloc, 5, 0)?.at_most(28).failing_after(reads);
     let verdicts = Mem::new(Vec::new(alloc)).failing_after(writes);
     let mut outputs = sinks(alloc, verdicts);
-    let settings = settings(batch, workers, Form::File);
-    let end = replay(
+    let end = replay_in_memory(
         rt,
         &mut source,
         b"pass out\n",
-        [0; 32],
-        &settings,
+        batch,
+        workers,
+        Form::File,
         &mut outputs,
         &Unwatched,
     );
-    Ok(Left {
-        end,
-        has_two_lines: outputs.verdicts.bytes() == TWO_LINES,
-        packets: outputs.packets.bytes().len(),
-        counters: outputs.counters.bytes().len(),
-        messages: outputs.messages.bytes().len(),
-        counts_all: outputs.counters.bytes() == COUNTERS,
-    })
+    drop(source);
+    let left = Left::of(end, &outputs);
+    drop(outputs);
+    Ok(left)
 }
 
 #[test]

@@ -1,9 +1,9 @@
 //! Which packets of a run workers evaluate, and which the committer does.
 ghost use Rattle.std.specs.Prelude.{◌≤◌};
 
-use crate::given::{capture, settings, sinks};
+use crate::given::{capture, replay_in_memory, sinks};
 use pfr_capture::Mem;
-use pfr_out::{Form, Gate, replay};
+use pfr_out::{Form, Gate};
 use std::alloc::{AllocError, AllocGlobal, Global};
 use std::sync::Wait;
 use std::sync::atomic::{AtomicU64, Ordering};
@@ -25,6 +25,24 @@ struct Sums {
     starts: AtomicU64,
     answered: AtomicU64,
     again: AtomicU64,
+}
+
+impl Sums {
+    fn new() -> Sums {
+        Sums {
+            starts: AtomicU64::new(0),
+            answered: AtomicU64::new(0),
+            again: AtomicU64::new(0),
+        }
+    }
+
+    fn told(&self) -> (u64, u64, u64) {
+        (
+            self.starts.load(Ordering::SeqCst),
+            self.answered.load(Ordering::SeqCst),
+            self.again.load(Ordering::SeqCst),
+        )
+    }
 }
 
 impl Gate for Sums {
@@ -57,29 +75,24 @@ fn told<R: AllocGlobal + Threads + Wait + Sync>(
     let text = rules(alloc, count)?;
     let mut source = capture(alloc, packets, packets)?;
     let mut outputs = sinks(alloc, Mem::new(Vec::new(alloc)));
-    let settings = settings(batch, workers, Form::None);
-    let sums = Sums {
-        starts: AtomicU64::new(0),
-        answered: AtomicU64::new(0),
-        again: AtomicU64::new(0),
-    };
-    let end = replay(
+    let sums = Sums::new();
+    let end = replay_in_memory(
         rt,
         &mut source,
         text.as_slice(),
-        [0; 32],
-        &settings,
+        batch,
+        workers,
+        Form::None,
         &mut outputs,
         &sums,
     );
-    if end.is_err() {
-        return Err(AllocError);
+    drop(text);
+    drop(source);
+    drop(outputs);
+    match end {
+        Ok(_) => Ok(sums.told()),
+        Err(_) => Err(AllocError),
     }
-    Ok((
-        sums.starts.load(Ordering::SeqCst),
-        sums.answered.load(Ordering::SeqCst),
-        sums.again.load(Ordering::SeqCst),
-    ))
 }
 
 /// The sum of the numbers from one up to another, which is left out.
