@@ -208,11 +208,11 @@ impl Gate for Counts {
 #[test]
 fn none_is_evaluated_again(rt: HostRuntime) -> Result<(), Fail> {
     let counts = Counts::new();
-    let mut packets = [(0u16, 0u32); 64];
-    for index in 0..64usize {
-        packets[index] = (1000 + index as u16, 0);
+    let mut packets = Vec::new(rt.alloc());
+    for port in 1000..1064 {
+        packets.push((port, 0))?;
     }
-    let taken = take(&rt, rt.alloc(), &packets, 4, &counts)?;
+    let taken = take(&rt, rt.alloc(), packets.as_slice(), 4, &counts)?;
     assert!(rt; taken.own == 0 && taken.told == 0);
     assert!(rt; counts.starts.load(Ordering::SeqCst) == 64);
     assert!(rt; counts.answered.load(Ordering::SeqCst) == 64);

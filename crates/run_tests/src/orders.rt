@@ -117,6 +117,15 @@ impl<'a, R: time::Clock + Sync> Gate for InOrder<'a, R> {
     fn ran_again(&self, _number: u64) {}
 }
 
+/// Moves the places from one on by one.
+fn make_room(places: &mut [u64], place: u64) {
+    for earlier in places {
+        if *earlier >= place {
+            *earlier = earlier.saturating_add(1);
+        }
+    }
+}
+
 /// The place of each packet in an order, of which there are 120.
 fn places(order: usize) -> [u64; COUNT] {
     let mut places = [0u64; COUNT];
@@ -124,11 +133,7 @@ fn places(order: usize) -> [u64; COUNT] {
     for packet in 0..COUNT {
         let place = (rest % (packet + 1)) as u64;
         rest /= packet + 1;
-        for earlier in 0..packet {
-            if places[earlier] >= place {
-                places[earlier] = places[earlier].saturating_add(1);
-            }
-        }
+        make_room(&mut places[..packet], place);
         places[packet] = place;
     }
     places
@@ -159,6 +164,18 @@ impl Ran {
                 Err(AllocError)
             }
         }
+    }
+}
+
+impl Row {
+    /// Whether a run without workers and one with them came to what is expected: as many packets were evaluated by the committer,
+    /// and both emitted the same.
+    fn expects(&self, alone: &Ran, by_workers: &Ran) -> bool {
+        alone.own == COUNT as u64
+            && by_workers.own == self.again
+            && by_workers.piece.verdicts.as_slice() == alone.piece.verdicts.as_slice()
+            && by_workers.piece.packets.as_slice() == alone.piece.packets.as_slice()
+            && by_workers.piece.messages.len() == alone.piece.messages.len()
     }
 }
 
@@ -195,9 +212,8 @@ fn run_row<R: AllocGlobal + Threads + Wait + Sync, G: Gate>(
     }
 }
 
-/// Whether a row comes to the same in an order, by as many workers as it has packets, as by one thread; and whether as many
-/// packets as expected are evaluated again.
-fn is_same_in_order<R: AllocGlobal + Threads + Wait + time::Clock + Sync>(
+/// Whether a row comes to what is expected where its packets are evaluated in an order, by as many workers as there are packets.
+fn is_expected_in_order<R: AllocGlobal + Threads + Wait + time::Clock + Sync>(
     rt: &R,
     row: &Row,
     order: usize,
@@ -209,13 +225,7 @@ fn is_same_in_order<R: AllocGlobal + Threads + Wait + time::Clock + Sync>(
     };
     let alone = run_row(rt, row, 0, &gate)?;
     let by_workers = run_row(rt, row, COUNT as u64, &gate)?;
-    Ok(
-        alone.own == COUNT as u64
-            && by_workers.own == row.again
-            && by_workers.piece.verdicts.as_slice() == alone.piece.verdicts.as_slice()
-            && by_workers.piece.packets.as_slice() == alone.piece.packets.as_slice()
-            && by_workers.piece.messages.len() == alone.piece.messages.len(),
-    )
+    Ok(row.expects(&alone, &by_workers))
 }
 
 /// Sees that a row comes to the same in all orders.
@@ -224,7 +234,7 @@ fn see_all_orders<R: Abort + AllocGlobal + Threads + Wait + time::Clock + Sync>(
     row: Row,
 ) -> Result<(), AllocError> {
     for order in 0..ORDERS {
-        assert!(rt; is_same_in_order(rt, &row, order)?, "in order {order}");
+        assert!(rt; is_expected_in_order(rt, &row, order)?, "in order {order}");
     }
     Ok(())
 }
