@@ -5,18 +5,15 @@ ghost use Rattle.pfr_commit.specs.Books.{job_of};
 ghost use Rattle.pfr_commit.specs.Found.{IsOfJob};
 ghost use Rattle.pfr_headers.specs.View.{view_of};
 
+use crate::given::{book, datagrams};
 use pfr_capture::Record;
 use pfr_commit::{Book, Emitted, Reruns};
-use pfr_conf::ConfError;
 use pfr_headers::{View, view};
-use pfr_net::{IfName, Ipv4Address, Net};
-use pfr_packet::Job;
 use pfr_record::Speculation;
-use pfr_ruleset::Interface;
-use pfr_work::{Gate, evaluate_ahead};
+use pfr_work::{Ahead, Gate, evaluate_ahead};
 use std::alloc::{AllocError, Global};
+use std::sync::Wait;
 use std::sync::atomic::{AtomicBool, AtomicU64, Ordering};
-use std::sync::{Arc, Wait};
 use std::test::Fail;
 use std::thread::{Threads, sleep};
 use std::time::{self, Duration};
@@ -36,51 +33,28 @@ struct Packets {
 }
 
 impl Packets {
+    /// The packets of records.
+    fn of(alloc: Global, records: Vec<Record>) -> Result<Packets, AllocError> {
+        let mut packets = Packets {
+            items: Vec::new(alloc),
+        };
+        packets.put_all(records).and(Ok(packets))
+    }
+
     /// Puts a packet behind the others.
     fn put(&mut self, record: Record) -> Result<(), AllocError> {
         let view = view(record.link, record.bytes.as_slice());
         self.items.push((record, view))?;
         Ok(())
     }
-}
 
-/// A datagram from a port of 10.0.0.5 to 198.51.100.7:53.
-fn datagram(alloc: Global, port: u16) -> Result<Record, AllocError> {
-    let mut bytes = Vec::with_capacity(alloc, 28)?;
-    bytes.extend_from_slice(&[0x45, 0, 0, 28, 0, 1, 0, 0, 0x40, 17, 0x46, 0x91])?;
-    bytes.extend_from_slice(&[10, 0, 0, 5, 198, 51, 100, 7])?;
-    bytes.extend_from_slice(&port.to_be_bytes())?;
-    bytes.extend_from_slice(&[0, 53, 0, 8, 0, 0])?;
-    Ok(Record {
-        link: 101,
-        seconds: 0,
-        fraction: 0,
-        header: [0; 16],
-        bytes,
-    })
-}
-
-/// A datagram from each of some ports.
-fn datagrams(alloc: Global, ports: &[u16]) -> Result<Vec<Record>, AllocError> {
-    let mut records = Vec::new(alloc);
-    for port in ports {
-        records.push(datagram(alloc, *port)?)?;
+    /// Puts packets behind the others.
+    fn put_all(&mut self, records: Vec<Record>) -> Result<(), AllocError> {
+        for record in records {
+            self.put(record)?;
+        }
+        Ok(())
     }
-    Ok(records)
-}
-
-/// The job of `pass out` on one interface.
-fn job(alloc: Global) -> Result<Job, ConfError> {
-    let interface = Interface {
-        name: IfName::new(b"em0"),
-        address: Ipv4Address(0xc000_0201),
-        bits: 24,
-    };
-    let inside = [Net {
-        address: Ipv4Address(0x0a00_0000),
-        bits: 8,
-    }];
-    Job::new(alloc, b"pass out\n", interface, &inside, [0; 32])
 }
 
 /// Adds the numbers of the packets that a book evaluates itself.
@@ -93,22 +67,6 @@ impl Reruns for Sum {
     }
 }
 
-/// Has a book take packets with their results.
-fn commit(
-    book: &mut Book,
-    packets: &Packets,
-    results: Vec<Speculation>,
-    sum: &Sum,
-    out: &mut Emitted,
-) -> Result<(), AllocError>
-    requires { All (IsOfJob (job_of book.old)) results.items }
-{
-    if book.committed() > MOST as u64 || packets.items.len() > MOST {
-        return Err(AllocError);
-    }
-    book.commit_own_batch(packets.items.as_slice(), results, sum, out)
-}
-
 /// How often a book evaluated a packet itself, the sum of the numbers that it told before, and what it emitted.
 #[derive(Drop)]
 struct Taken {
@@ -117,44 +75,105 @@ struct Taken {
     out: Emitted,
 }
 
-/// Has workers evaluate a datagram from each of some ports, and a book take them then.
-fn take<R: Threads + Wait + Sync, G: Gate>(
+/// Has a book take packets with groups of their results.
+fn commit(
+    book: &mut Book,
+    packets: &Packets,
+    groups: Vec<Vec<Speculation>>,
+    taken: &mut Taken,
+) -> Result<(), AllocError>
+    requires { All (λ group. All (IsOfJob (job_of book.old)) group.items) groups.items }
+{
+    if book.committed() > MOST as u64 || packets.items.len() > MOST {
+        return Err(AllocError);
+    }
+    let sum = Sum(AtomicU64::new(0));
+    book.commit_own_batch(packets.items.as_slice(), groups, &sum, &mut taken.out)?;
+    taken.own = book.own();
+    taken.told = sum.0.load(Ordering::SeqCst);
+    Ok(())
+}
+
+/// Has a book take the packets of records with groups of their results.
+fn take_packets(
+    alloc: Global,
+    book: &mut Book,
+    records: Vec<Record>,
+    groups: Vec<Vec<Speculation>>,
+) -> Result<Taken, AllocError>
+    requires { All (λ group. All (IsOfJob (job_of book.old)) group.items) groups.items }
+{
+    let packets = Packets::of(alloc, records)?;
+    let mut taken = Taken {
+        own: 0,
+        told: 0,
+        out: Emitted::new(alloc),
+    };
+    let committed = commit(book, &packets, groups, &mut taken);
+    drop(packets);
+    committed.and(Ok(taken))
+}
+
+/// Has a book take the packets of records with what was found out about them.
+fn take_found(
+    alloc: Global,
+    book: &mut Book,
+    records: Vec<Record>,
+    found: Ahead,
+) -> Result<Taken, AllocError>
+    requires { All (λ group. All (IsOfJob (job_of book.old)) group.items) found.groups.items }
+{
+    let Ahead {
+        groups,
+        views,
+        gathered,
+    } = found;
+    drop(views);
+    drop(gathered);
+    take_packets(alloc, book, records, groups)
+}
+
+/// Has workers evaluate the packets of records, and a book take them then.
+fn take_records<R: Threads + Wait + Sync, G: Gate>(
     rt: &R,
     alloc: Global,
-    ports: &[u16],
+    book: &mut Book,
+    records: Vec<Record>,
     workers: u64,
     gate: &G,
 ) -> Result<Taken, AllocError>
     requires workers { (0 < workers) × (workers ≤ 64) }
 {
-    let Ok(job) = job(alloc) else {
-        return Err(AllocError);
-    };
-    let mut book = Book::new(alloc, Arc::new(alloc, job)?)?;
-    let records = datagrams(alloc, ports)?;
     if records.len() > MOST {
         return Err(AllocError);
     }
     let found = evaluate_ahead(
         rt,
         alloc,
-        &book,
+        book,
         records.as_slice(),
         MOST as u64,
         workers,
         gate,
     )?;
-    let mut packets = Packets {
-        items: Vec::new(alloc),
-    };
-    for record in records {
-        packets.put(record)?;
-    }
-    let sum = Sum(AtomicU64::new(0));
-    let mut out = Emitted::new(alloc);
-    commit(&mut book, &packets, found.results, &sum, &mut out)?;
-    let (own, told) = (book.own(), sum.0.load(Ordering::SeqCst));
-    Ok(Taken { own, told, out })
+    take_found(alloc, book, records, found)
+}
+
+/// Has workers evaluate datagrams by `pass out`, each from a port and of a second, and a book take them then.
+fn take<R: Threads + Wait + Sync, G: Gate>(
+    rt: &R,
+    alloc: Global,
+    packets: &[(u16, u32)],
+    workers: u64,
+    gate: &G,
+) -> Result<Taken, AllocError>
+    requires workers { (0 < workers) × (workers ≤ 64) }
+{
+    let records = datagrams(alloc, packets)?;
+    let mut book = book(alloc, b"pass out\n")?;
+    let taken = take_records(rt, alloc, &mut book, records, workers, gate);
+    drop(book);
+    taken
 }
 
 /// Counts the packets that are started and answered.
@@ -189,11 +208,11 @@ impl Gate for Counts {
 #[test]
 fn none_is_evaluated_again(rt: HostRuntime) -> Result<(), Fail> {
     let counts = Counts::new();
-    let mut ports = [0u16; 64];
-    for index in 0..64usize {
-        ports[index] = 1000 + index as u16;
+    let mut packets = Vec::new(rt.alloc());
+    for port in 1000..1064 {
+        packets.push((port, 0))?;
     }
-    let taken = take(&rt, rt.alloc(), &ports, 4, &counts)?;
+    let taken = take(&rt, rt.alloc(), packets.as_slice(), 4, &counts)?;
     assert!(rt; taken.own == 0 && taken.told == 0);
     assert!(rt; counts.starts.load(Ordering::SeqCst) == 64);
     assert!(rt; counts.answered.load(Ordering::SeqCst) == 64);
@@ -203,7 +222,8 @@ fn none_is_evaluated_again(rt: HostRuntime) -> Result<(), Fail> {
 /// The third packet goes by the state that the first makes, which no table had when it was evaluated.
 #[test]
 fn a_result_that_no_longer_holds_is_told_and_dropped(rt: HostRuntime) -> Result<(), Fail> {
-    let taken = take(&rt, rt.alloc(), &[1000, 1001, 1000], 2, &Counts::new())?;
+    let packets = [(1000, 0), (1001, 0), (1000, 0)];
+    let taken = take(&rt, rt.alloc(), &packets, 2, &Counts::new())?;
     assert!(rt; taken.own == 1 && taken.told == 3);
     assert!(rt; taken.out.verdicts.as_slice() == LINES);
     Ok(())
@@ -248,7 +268,7 @@ fn the_second_packet_is_answered_first(rt: HostRuntime) -> Result<(), Fail> {
         sent: AtomicBool::new(false),
         crossed: AtomicBool::new(false),
     };
-    let taken = take(&rt, rt.alloc(), &[1000, 1001], 2, &gate)?;
+    let taken = take(&rt, rt.alloc(), &[(1000, 0), (1001, 0)], 2, &gate)?;
     assert!(rt; gate.crossed.load(Ordering::SeqCst));
     assert!(rt; taken.own == 0);
     Ok(())

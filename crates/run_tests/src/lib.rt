@@ -6,6 +6,8 @@
 #[cfg(test)]
 mod ahead;
 #[cfg(test)]
+mod given;
+#[cfg(test)]
 mod orders;
 #[cfg(test)]
 mod runs;

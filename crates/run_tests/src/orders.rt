@@ -1,17 +1,15 @@
 //! Packets that workers evaluate in every order.
 ghost use Rattle.std.specs.Prelude.{◌≤◌};
 
+use crate::given::{book, datagrams};
 use pfr_capture::Record;
 use pfr_commit::{Book, Emitted};
 use pfr_headers::View;
-use pfr_net::{IfName, Ipv4Address, Net};
-use pfr_packet::Job;
-use pfr_ruleset::Interface;
-use pfr_work::{Feed, Gate, run_workers};
+use pfr_work::{Feed, Gate, Trace, run_workers};
 use std::alloc::{AllocError, AllocGlobal, Global};
+use std::process::Abort;
+use std::sync::Wait;
 use std::sync::atomic::{AtomicU64, Ordering};
-use std::sync::{Arc, Wait};
-use std::test::Fail;
 use std::thread::{Threads, sleep};
 use std::time::{self, Duration};
 
@@ -29,56 +27,6 @@ struct Row {
     packets: [(u16, u32); COUNT],
     /// How many of them the committer has to evaluate again, since the table has changed by then.
     again: u64,
-}
-
-/// All packets are of one connection, of which no table had a state at first.
-const CONNECTION: Row = Row {
-    rules: b"pass out\n",
-    packets: [(1000, 0), (1000, 0), (1000, 1), (1000, 2), (1000, 2)],
-    again: 4,
-};
-
-/// There is room for two states. From the third packet on there is none, and each found some.
-const FULL: Row = Row {
-    rules: b"set limit states 2\npass out\n",
-    packets: [(1000, 0), (1001, 0), (1002, 0), (1003, 0), (1004, 0)],
-    again: 3,
-};
-
-/// The third packet is the first one again.
-const TWICE: Row = Row {
-    rules: b"pass out\n",
-    packets: [(1000, 0), (1001, 0), (1000, 0), (1002, 0), (1003, 0)],
-    again: 1,
-};
-
-/// When the third packet comes, the state of the first one has run out: it finds none, as when it was evaluated.
-const RUN_OUT: Row = Row {
-    rules: b"pass out\n",
-    packets: [
-        (1000, 0),
-        (1001, 0),
-        (1000, 100_000),
-        (1002, 100_000),
-        (1003, 100_000),
-    ],
-    again: 0,
-};
-
-/// A datagram from a port of 10.0.0.5 to 198.51.100.7:53.
-fn datagram(alloc: Global, port: u16, seconds: u32) -> Result<Record, AllocError> {
-    let mut bytes = Vec::with_capacity(alloc, 28)?;
-    bytes.extend_from_slice(&[0x45, 0, 0, 28, 0, 1, 0, 0, 0x40, 17, 0x46, 0x91])?;
-    bytes.extend_from_slice(&[10, 0, 0, 5, 198, 51, 100, 7])?;
-    bytes.extend_from_slice(&port.to_be_bytes())?;
-    bytes.extend_from_slice(&[0, 53, 0, 8, 0, 0])?;
-    Ok(Record {
-        link: 101,
-        seconds,
-        fraction: 0,
-        header: [0; 16],
-        bytes,
-    })
 }
 
 /// Gives one batch, and keeps what it adds.
@@ -169,6 +117,15 @@ impl<'a, R: time::Clock + Sync> Gate for InOrder<'a, R> {
     fn ran_again(&self, _number: u64) {}
 }
 
+/// Moves the places from one on by one.
+fn make_room(places: &mut [u64], place: u64) {
+    for earlier in places {
+        if *earlier >= place {
+            *earlier = earlier.saturating_add(1);
+        }
+    }
+}
+
 /// The place of each packet in an order, of which there are 120.
 fn places(order: usize) -> [u64; COUNT] {
     let mut places = [0u64; COUNT];
@@ -176,11 +133,7 @@ fn places(order: usize) -> [u64; COUNT] {
     for packet in 0..COUNT {
         let place = (rest % (packet + 1)) as u64;
         rest /= packet + 1;
-        for earlier in 0..packet {
-            if places[earlier] >= place {
-                places[earlier] = places[earlier].saturating_add(1);
-            }
-        }
+        make_room(&mut places[..packet], place);
         places[packet] = place;
     }
     places
@@ -193,18 +146,47 @@ struct Ran {
     piece: Emitted,
 }
 
-/// The job of a row on one interface.
-fn job(alloc: Global, rules: &[u8]) -> Result<Job, AllocError> {
-    let interface = Interface {
-        name: IfName::new(b"em0"),
-        address: Ipv4Address(0xc000_0201),
-        bits: 24,
-    };
-    let inside = [Net {
-        address: Ipv4Address(0x0a00_0000),
-        bits: 8,
-    }];
-    Job::new(alloc, rules, interface, &inside, [0; 32]).map_err(|_| AllocError)
+impl Ran {
+    /// What a run came to, if it took its batch.
+    fn of(
+        book: Book,
+        feed: OneBatch,
+        trace: Trace,
+        outcome: Result<(), AllocError>,
+    ) -> Result<Ran, AllocError> {
+        drop(trace);
+        let own = book.own();
+        drop(book);
+        match (outcome, feed.into_piece()) {
+            (Ok(()), Some(piece)) => Ok(Ran { own, piece }),
+            (_, piece) => {
+                drop(piece);
+                Err(AllocError)
+            }
+        }
+    }
+}
+
+impl Row {
+    /// Whether a run without workers and one with them came to what is expected: as many packets were evaluated by the committer,
+    /// and both emitted the same.
+    fn expects(&self, alone: &Ran, by_workers: &Ran) -> bool {
+        alone.own == COUNT as u64
+            && by_workers.own == self.again
+            && by_workers.piece.verdicts.as_slice() == alone.piece.verdicts.as_slice()
+            && by_workers.piece.packets.as_slice() == alone.piece.packets.as_slice()
+            && by_workers.piece.messages.len() == alone.piece.messages.len()
+    }
+}
+
+/// A feed that gives the packets of a row.
+fn feed(alloc: Global, row: &Row) -> Result<OneBatch, AllocError> {
+    let records = datagrams(alloc, &row.packets)?;
+    Ok(OneBatch {
+        records: Some(records),
+        given: 0,
+        piece: None,
+    })
 }
 
 /// Runs a row by so many workers.
@@ -217,71 +199,92 @@ fn run_row<R: AllocGlobal + Threads + Wait + Sync, G: Gate>(
     requires workers { workers ≤ 64 }
 {
     let alloc = rt.alloc();
-    let mut records = Vec::new(alloc);
-    for (port, seconds) in &row.packets {
-        records.push(datagram(alloc, *port, *seconds)?)?;
-    }
-    let feed = OneBatch {
-        records: Some(records),
-        given: 0,
-        piece: None,
-    };
-    let book = Book::new(alloc, Arc::new(alloc, job(alloc, row.rules)?)?)?;
-    let (book, feed, _trace, result) = run_workers(rt, book, feed, workers, gate);
-    result?;
-    let own = book.own();
-    match feed.into_piece() {
-        Some(piece) => Ok(Ran { own, piece }),
-        None => Err(AllocError),
-    }
-}
-
-/// Whether a row comes to the same in all orders, by as many workers as it has packets, as by one thread; and whether as many
-/// packets as expected are evaluated again in each.
-fn is_same_in_all_orders<R: AllocGlobal + Threads + Wait + time::Clock + Sync>(
-    rt: &R,
-    row: &Row,
-) -> Result<bool, AllocError> {
-    for order in 0..ORDERS {
-        let gate = InOrder {
-            rt,
-            places: places(order),
-            answered: AtomicU64::new(0),
-        };
-        let alone = run_row(rt, row, 0, &gate)?;
-        let by_workers = run_row(rt, row, COUNT as u64, &gate)?;
-        if alone.own != COUNT as u64
-            || by_workers.own != row.again
-            || by_workers.piece.verdicts.as_slice() != alone.piece.verdicts.as_slice()
-            || by_workers.piece.packets.as_slice() != alone.piece.packets.as_slice()
-            || by_workers.piece.messages.len() != alone.piece.messages.len()
-        {
-            return Ok(false);
+    let feed = feed(alloc, row)?;
+    match book(alloc, row.rules) {
+        Ok(book) => {
+            let (book, feed, trace, outcome) = run_workers(rt, book, feed, workers, gate);
+            Ran::of(book, feed, trace, outcome)
+        }
+        Err(refused) => {
+            drop(feed);
+            Err(refused)
         }
     }
-    Ok(true)
 }
 
-#[test]
-fn a_connection_is_the_same_in_all_orders(rt: HostRuntime) -> Result<(), Fail> {
-    assert!(rt; is_same_in_all_orders(&rt, &CONNECTION)?);
+/// Whether a row comes to what is expected where its packets are evaluated in an order, by as many workers as there are packets.
+fn is_expected_in_order<R: AllocGlobal + Threads + Wait + time::Clock + Sync>(
+    rt: &R,
+    row: &Row,
+    order: usize,
+) -> Result<bool, AllocError> {
+    let gate = InOrder {
+        rt,
+        places: places(order),
+        answered: AtomicU64::new(0),
+    };
+    let alone = run_row(rt, row, 0, &gate)?;
+    let by_workers = run_row(rt, row, COUNT as u64, &gate)?;
+    Ok(row.expects(&alone, &by_workers))
+}
+
+/// Sees that a row comes to the same in all orders.
+fn see_all_orders<R: Abort + AllocGlobal + Threads + Wait + time::Clock + Sync>(
+    rt: &R,
+    row: Row,
+) -> Result<(), AllocError> {
+    for order in 0..ORDERS {
+        assert!(rt; is_expected_in_order(rt, &row, order)?, "in order {order}");
+    }
     Ok(())
 }
 
+/// All packets are of one connection, of which no table had a state at first.
 #[test]
-fn a_full_table_is_the_same_in_all_orders(rt: HostRuntime) -> Result<(), Fail> {
-    assert!(rt; is_same_in_all_orders(&rt, &FULL)?);
-    Ok(())
+fn a_connection_is_the_same_in_all_orders(rt: HostRuntime) -> Result<(), AllocError> {
+    let row = Row {
+        rules: b"pass out\n",
+        packets: [(1000, 0), (1000, 0), (1000, 1), (1000, 2), (1000, 2)],
+        again: 4,
+    };
+    see_all_orders(&rt, row)
 }
 
+/// There is room for two states. From the third packet on there is none, and each found some.
 #[test]
-fn a_packet_twice_is_the_same_in_all_orders(rt: HostRuntime) -> Result<(), Fail> {
-    assert!(rt; is_same_in_all_orders(&rt, &TWICE)?);
-    Ok(())
+fn a_full_table_is_the_same_in_all_orders(rt: HostRuntime) -> Result<(), AllocError> {
+    let row = Row {
+        rules: b"set limit states 2\npass out\n",
+        packets: [(1000, 0), (1001, 0), (1002, 0), (1003, 0), (1004, 0)],
+        again: 3,
+    };
+    see_all_orders(&rt, row)
 }
 
+/// The third packet is the first one again.
 #[test]
-fn a_state_that_runs_out_is_the_same_in_all_orders(rt: HostRuntime) -> Result<(), Fail> {
-    assert!(rt; is_same_in_all_orders(&rt, &RUN_OUT)?);
-    Ok(())
+fn a_packet_twice_is_the_same_in_all_orders(rt: HostRuntime) -> Result<(), AllocError> {
+    let row = Row {
+        rules: b"pass out\n",
+        packets: [(1000, 0), (1001, 0), (1000, 0), (1002, 0), (1003, 0)],
+        again: 1,
+    };
+    see_all_orders(&rt, row)
+}
+
+/// When the third packet comes, the state of the first one has run out: it finds none, as when it was evaluated.
+#[test]
+fn a_state_that_runs_out_is_the_same_in_all_orders(rt: HostRuntime) -> Result<(), AllocError> {
+    let row = Row {
+        rules: b"pass out\n",
+        packets: [
+            (1000, 0),
+            (1001, 0),
+            (1000, 100_000),
+            (1002, 100_000),
+            (1003, 100_000),
+        ],
+        again: 0,
+    };
+    see_all_orders(&rt, row)
 }

@@ -1,25 +1,13 @@
 //! Runs over devices in memory, one of which fails.
 ghost use Rattle.std.specs.Prelude.{◌≤◌};
 
+use crate::given::{capture, replay_in_memory, sinks};
 use pfr_capture::{Mem, Tail};
-use pfr_net::{IfName, Ipv4Address, Net};
-use pfr_out::{Form, Gate, Output, Report, Settings, Sinks, Stop, replay};
-use pfr_ruleset::Interface;
-use std::alloc::{AllocError, AllocGlobal, Global};
+use pfr_out::{Form, Gate, Output, Report, Sinks, Stop};
+use std::alloc::{AllocError, AllocGlobal};
 use std::sync::Wait;
 use std::test::Fail;
 use std::thread::Threads;
-
-const HEADER: [u8; 24] = [
-    0xd4, 0xc3, 0xb2, 0xa1, 2, 0, 4, 0, 0, 0, 0, 0, 0, 0, 0, 0, 0, 0, 4, 0, 101, 0, 0, 0,
-];
-
-/// A datagram from 10.0.0.5:1000 to 198.51.100.7:53, captured at second 0.
-const RECORD: [u8; 44] = [
-    0, 0, 0, 0, 0, 0, 0, 0, 28, 0, 0, 0, 28, 0, 0, 0, //
-    0x45, 0, 0, 28, 0, 1, 0, 0, 0x40, 17, 0x46, 0x91, 10, 0, 0, 5, 198, 51, 100, 7, //
-    3, 0xe8, 0, 53, 0, 8, 0xc7, 0x81,
-];
 
 const TWO_LINES: &[u8] = b"1 0 out pass rule r=0 t=- s=1\n2 0 out pass state r=0 t=- s=1\n";
 
@@ -27,26 +15,6 @@ const COUNTERS: &[u8] = b"filter 0 1 5 140\ntotal 5 5 0 0 0\n";
 
 /// The bytes of a message with one INS, behind its IP header.
 const MESSAGE: usize = 290;
-
-/// A capture of five such datagrams.
-fn capture(alloc: Global) -> Result<Mem, AllocError> {
-    let mut bytes = Vec::from_slice(alloc, &HEADER)?;
-    for _record in 0..5 {
-        bytes.extend_from_slice(&RECORD)?;
-    }
-    Ok(Mem::new(bytes))
-}
-
-/// Outputs of which the first fails at a write behind so many.
-fn sinks(alloc: Global, writes: u64) -> Sinks<Mem> {
-    Sinks {
-        verdicts: Mem::new(Vec::new(alloc)).failing_after(writes),
-        packets: Mem::new(Vec::new(alloc)),
-        counters: Mem::new(Vec::new(alloc)),
-        states: Mem::new(Vec::new(alloc)),
-        messages: Mem::new(Vec::new(alloc)),
-    }
-}
 
 /// How a run ended, and what it left: whether the lines of the first two packets alone, how many bytes of packets, of counters
 /// and of messages, and whether the counters are those of all.
@@ -60,6 +28,20 @@ struct Left {
     counts_all: bool,
 }
 
+impl Left {
+    /// What a run left that ended so.
+    fn of(end: Result<Report, Stop>, outputs: &Sinks<Mem>) -> Left {
+        Left {
+            end,
+            has_two_lines: outputs.verdicts.bytes() == TWO_LINES,
+            packets: outputs.packets.bytes().len(),
+            counters: outputs.counters.bytes().len(),
+            messages: outputs.messages.bytes().len(),
+            counts_all: outputs.counters.bytes() == COUNTERS,
+        }
+    }
+}
+
 /// Who waits for no packet's turn.
 struct Unwatched;
 
@@ -71,8 +53,8 @@ impl Gate for Unwatched {
     fn ran_again(&self, _number: u64) {}
 }
 
-/// Replays the capture through `pass out`, by so many workers. Its source gives 28 bytes at most at a time, and fails behind so
-/// many reads; the verdicts fail behind so many writes.
+/// Replays a capture of five datagrams through `pass out`, by so many workers. Its source gives 28 bytes at most at a time, and
+/// fails behind so many reads; the verdicts fail behind so many writes.
 fn run<R: AllocGlobal + Threads + Wait + Sync>(
     rt: &R,
     reads: u64,
@@ -83,40 +65,24 @@ fn run<R: AllocGlobal + Threads + Wait + Sync>(
     requires batch { (1 ≤ batch) × (batch ≤ 4096) }
     requires workers { workers ≤ 64 }
 {
-    let mut source = capture(rt.alloc())?.at_most(28).failing_after(reads);
-    let mut outputs = sinks(rt.alloc(), writes);
-    let inside = [Net {
-        address: Ipv4Address(0x0a00_0000),
-        bits: 8,
-    }];
-    let settings = Settings {
-        interface: Interface {
-            name: IfName::new(b"em0"),
-            address: Ipv4Address(0xc000_0201),
-            bits: 24,
-        },
-        inside: &inside,
-        batch,
-        workers,
-        form: Form::File,
-    };
-    let end = replay(
+    let alloc = rt.alloc();
+    let mut source = capture(alloc, 5, 0)?.at_most(28).failing_after(reads);
+    let verdicts = Mem::new(Vec::new(alloc)).failing_after(writes);
+    let mut outputs = sinks(alloc, verdicts);
+    let end = replay_in_memory(
         rt,
         &mut source,
         b"pass out\n",
-        [0; 32],
-        &settings,
+        batch,
+        workers,
+        Form::File,
         &mut outputs,
         &Unwatched,
     );
-    Ok(Left {
-        end,
-        has_two_lines: outputs.verdicts.bytes() == TWO_LINES,
-        packets: outputs.packets.bytes().len(),
-        counters: outputs.counters.bytes().len(),
-        messages: outputs.messages.bytes().len(),
-        counts_all: outputs.counters.bytes() == COUNTERS,
-    })
+    drop(source);
+    let left = Left::of(end, &outputs);
+    drop(outputs);
+    Ok(left)
 }
 
 #[test]
