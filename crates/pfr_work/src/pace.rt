@@ -3,7 +3,7 @@
 use pfr_packet::Job;
 
 /// To hand a result over takes about as long as to ask a packet so many rules, and so does to start a worker.
-const HANDING: u64 = 100;
+const HANDING: u64 = 60;
 
 const STARTING: u64 = 1500;
 
