@@ -71,12 +71,20 @@ impl Naming for Brand {
     ghost limit = { 0 };
 }
 
-/// An empty list, which has no name yet.
+/// An empty list, which has no name yet. Contracts see which one it is.
 pub struct Opened {
     head: Word<Change, u64, Law>,
     seen: Seen<Change, u64, Law>,
     ghost empty: { seen.log ≡ [] },
     ghost head_is: { head ≡ head_of seen.book },
+}
+
+impl Model for Opened {
+    ghost use Rattle.logbook.specs.Pages.{Book};
+
+    ghost Value = { Book };
+
+    ghost view = { λ opened. opened.seen.book };
 }
 
 impl Opened {
@@ -91,7 +99,7 @@ impl Opened {
 
     /// The list under a name.
     pub fn named<J: Naming>(self) -> Book<J>
-        requires { self.seen.book ≡ J.book }
+        requires { self ≡ J.book }
     {
         let Opened { head, seen } = self;
         Book {
@@ -115,7 +123,7 @@ pub struct Book<J: Naming> {
 
 impl<J: Naming> Book<J> {
     /// The beginning of the list that has no change.
-    pub fn start(&self) -> Front<J>
+    pub(crate) fn start(&self) -> Front<J>
         ensures { result ≡ [] }
     {
         Front {
@@ -190,7 +198,7 @@ impl<J: Naming> Front<J> {
 
     /// Adds a change behind these, and says whether it did. It did not where the list was longer already, or is as long as
     /// 64 bits can say.
-    pub fn add(&mut self, book: &Book<J>, change: &Change) -> bool
+    pub(crate) fn add(&mut self, book: &Book<J>, change: &Change) -> bool
         ensures { MatchBool result (self.new ≡ self.old ++ change.now ∷ []) (IsPrefix self.old self.new) }
     {
         let entries = self.entries;

@@ -6,11 +6,11 @@
 //! table of before.
 #![tactic(auto)]
 
-pub mod change;
-pub mod history;
-pub mod published;
-pub mod store;
-pub mod viewer;
+mod change;
+mod history;
+mod published;
+mod store;
+mod viewer;
 
 pub use change::Change;
 pub use history::{Book, Front, Naming, Opened};

@@ -17,8 +17,8 @@ pub type StoreWriter<J> = Writer<Store<J>, Entry<J>, (), Unruled>;
 
 /// A table that is changed while others look at it. It is not `Drop`: end it by [`Published::close`].
 pub struct Published<W> {
-    pub writer: W,
-    pub refused: bool,
+    writer: W,
+    refused: bool,
 }
 
 /// Adds changes to the list, and has the writer keep them. It answers whether all were.
@@ -44,6 +44,8 @@ fn append_all<J: Naming>(writer: &mut StoreWriter<J>, book: &Book<J>, changes: &
 }
 
 impl<J: Naming> Published<StoreWriter<J>> {
+    ghost use Rattle.pfr_published.specs.Ends.{list_of};
+
     /// The empty table, for so many states and so many viewers at once. Only memory can be refused.
     pub fn new(
         alloc: Global,
@@ -53,7 +55,7 @@ impl<J: Naming> Published<StoreWriter<J>> {
     ) -> Result<Published<StoreWriter<J>>, AllocError>
         requires limit { limit ≡ J.limit }
         requires viewers { (0 < viewers) × (viewers < 2 ^ 32) }
-        ensures { IfOk result (λ published. (published.writer.desk.shown.value.front ≡ []) × (published.refused ≡ false)) }
+        ensures { IfOk result (λ published. (list_of published ≡ []) × (published.refused ≡ false)) }
     {
         let first = Store::new(alloc, limit, book.start());
         let second = Store::new(alloc, limit, book.start());
@@ -66,23 +68,16 @@ impl<J: Naming> Published<StoreWriter<J>> {
 
     /// How far the list has come that is published.
     pub fn tell(&self) -> Told<J>
-        ensures { result.front ≡ self.now.writer.desk.shown.value.front }
+        ensures { result ≡ list_of self.now }
     {
         Told {
             front: self.writer.published().front.again(),
         }
     }
 
-    /// The table that is published.
-    pub fn table(&self) -> &Table
-        ensures { result.now ≡ table_of J.limit self.now.writer.desk.shown.value.front }
-    {
-        &self.writer.published().table
-    }
-
     /// A viewer that knows nothing yet. It is refused where there are as many as there may be, or there is no memory.
     pub fn viewer(&self, book: &Book<J>) -> Result<Viewer<J>, AllocError>
-        ensures { IfOk result (λ viewer. viewer.known ≡ []) }
+        ensures { IfOk result (λ viewer. viewer ≡ []) }
     {
         Ok(Viewer {
             reader: self.writer.factory().reader()?,
@@ -97,7 +92,7 @@ impl<J: Naming> Published<StoreWriter<J>> {
         book: &Book<J>,
         changes: &[Change],
     ) -> (Published<StoreWriter<J>>, Result<(), AllocError>)
-        ensures list { MatchResult result.1 (λ _. result.0.writer.desk.shown.value.front ≡ self.writer.desk.shown.value.front ++ changes.now) (λ _. (result.0.writer.desk.shown.value.front ≡ self.writer.desk.shown.value.front) × (result.0.refused ≡ true)) }
+        ensures list { MatchResult result.1 (λ _. (list_of result.0 ≡ list_of self ++ changes.now) × (result.0.refused ≡ false)) (λ _. (list_of result.0 ≡ list_of self) × (result.0.refused ≡ true)) }
         ensures refused { self.refused ≡ true → IsErr result.1 }
     {
         let Published {
@@ -121,7 +116,7 @@ impl<J: Naming> Published<StoreWriter<J>> {
 
     /// The table as it was published last. It waits until nobody looks at it any more; viewers are shown none from then on.
     pub fn close<R: Wait>(self, rt: &R) -> Table
-        ensures { result ≡ table_of J.limit self.writer.desk.shown.value.front }
+        ensures { result ≡ table_of J.limit (list_of self) }
     {
         let Published { writer, refused: _ } = self;
         let Store { table, front: _ } = Box::into_inner(writer.take(rt));

@@ -8,32 +8,61 @@ use crate::store::Store;
 use crossbeam_utils::rule::Unruled;
 use left_right::reader::{Reader, Reading};
 use pfr_states::Table;
+use std::marker::Model;
 
-/// How far the list had come when it was told.
+/// How far the list had come when it was told. Contracts see the changes.
 #[derive(Drop)]
 pub struct Told<J: Naming> {
-    pub front: Front<J>,
+    pub(crate) front: Front<J>,
 }
 
-/// Someone who may look at the table, and the changes that are known to be in it.
+impl<J: Naming> Model for Told<J> {
+    ghost use Rattle.std.specs.Prelude.{List};
+    ghost use Rattle.pfr_published.specs.declared.change.Change.{Change};
+
+    ghost Value = { List Change };
+
+    ghost view = { λ told. told.front };
+}
+
+/// Someone who may look at the table. Contracts see the changes that are known to be in it.
 #[derive(Drop)]
 pub struct Viewer<J: Naming> {
     pub(crate) reader: Reader<Store<J>, (), Unruled>,
-    pub known: Front<J>,
+    pub(crate) known: Front<J>,
 }
 
-/// A viewer while it looks at the table. The table stays the same until [`Showing::leave`].
+impl<J: Naming> Model for Viewer<J> {
+    ghost use Rattle.std.specs.Prelude.{List};
+    ghost use Rattle.pfr_published.specs.declared.change.Change.{Change};
+
+    ghost Value = { List Change };
+
+    ghost view = { λ viewer. viewer.known };
+}
+
+/// A viewer while it looks at the table, which stays the same until [`Showing::leave`]. Contracts see the changes that are in it.
 pub struct Showing<J: Naming> {
     reading: Reading<Store<J>, (), Unruled>,
-    pub known: Front<J>,
-    ghost shown: { known ≡ reading.part.value.front },
+    known: Front<J>,
+}
+
+impl<J: Naming> Model for Showing<J> {
+    ghost use Rattle.std.specs.Prelude.{◌≡◌, List};
+    ghost use Rattle.pfr_published.specs.declared.change.Change.{Change};
+
+    ghost Value = { List Change };
+
+    ghost view = { λ showing. showing.known };
+
+    ghost invariant = { λ showing. showing.known ≡ showing.reading.part.value.front };
 }
 
 impl<J: Naming> Viewer<J> {
     /// Learns how far the list had come. What was known stays known, also where that was more.
     pub fn learn(&mut self, told: Told<J>)
-        ensures kept { IsPrefix self.old.known self.new.known }
-        ensures told { IsPrefix told.front self.new.known }
+        ensures kept { IsPrefix self.old self.new }
+        ensures told { IsPrefix told self.new }
     {
         self.known = self.known.longer(&told.front);
     }
@@ -41,9 +70,8 @@ impl<J: Naming> Viewer<J> {
     /// Looks at the table that is published last. It has all changes that were known to the viewer, and these are known from
     /// now on. Where the table is no more, the viewer comes back as it was.
     pub fn enter(self) -> Result<Showing<J>, Viewer<J>>
-        ensures begins { IfOk result (λ showing. IsPrefix self.known showing.known) }
-        ensures table { IfOk result (λ showing. showing.reading.part.value.table ≡ table_of J.limit showing.known) }
-        ensures kept { IfErr result (λ viewer. viewer.known ≡ self.known) }
+        ensures begins { IfOk result (λ showing. IsPrefix self showing) }
+        ensures kept { IfErr result (λ viewer. viewer ≡ self) }
     {
         let Viewer { reader, known } = self;
         match reader.enter_as::<Unruled>() {
@@ -69,14 +97,14 @@ impl<J: Naming> Viewer<J> {
 impl<J: Naming> Showing<J> {
     /// The table: what the changes that are known make of the empty one.
     pub fn table(&self) -> &Table
-        ensures { result.now ≡ table_of J.limit self.now.known }
+        ensures { result.now ≡ table_of J.limit self.now }
     {
         &self.reading.get().table
     }
 
     /// Looks away. What is known stays known.
     pub fn leave(self) -> Viewer<J>
-        ensures { result.known ≡ self.known }
+        ensures { result ≡ self }
     {
         let Showing { reading, known } = self;
         Viewer {
