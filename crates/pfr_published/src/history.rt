@@ -8,9 +8,9 @@ use logbook::{Gain, Offer, Plain, Play, Rule, Seen, Start, Word};
 use std::marker::{Brand, Model, PhantomData};
 
 /// The rule of the list: the word that threads share is its length.
-pub struct Law;
+pub struct Grows;
 
-impl Rule<Change, u64> for Law {
+impl Rule<Change, u64> for Grows {
     ghost use Rattle.std.specs.Prelude.{[]};
     ghost use base.Fml.{ftrue};
     ghost use Rattle.pfr_published.specs.Adding.{IsKept};
@@ -60,21 +60,21 @@ pub trait Naming {
     ghost use Rattle.std.specs.Prelude.{ℕ};
     ghost use Rattle.logbook.specs.Pages.{Book};
 
-    ghost book: { Book };
+    ghost history: { Book };
 
     ghost limit: { ℕ };
 }
 
 impl Naming for Brand {
-    ghost book = { record { number = 0; log_name = 0; cells_name = 0 } };
+    ghost history = { record { number = 0; log_name = 0; cells_name = 0 } };
 
     ghost limit = { 0 };
 }
 
 /// An empty list, which has no name yet. Contracts see which one it is.
 pub struct Opened {
-    head: Word<Change, u64, Law>,
-    seen: Seen<Change, u64, Law>,
+    head: Word<Change, u64, Grows>,
+    seen: Seen<Change, u64, Grows>,
     ghost empty: { seen.log ≡ [] },
     ghost head_is: { head ≡ head_of seen.book },
 }
@@ -98,11 +98,11 @@ impl Opened {
     }
 
     /// The list under a name.
-    pub fn named<J: Naming>(self) -> Book<J>
-        requires { self ≡ J.book }
+    pub fn named<J: Naming>(self) -> History<J>
+        requires { self ≡ J.history }
     {
         let Opened { head, seen } = self;
-        Book {
+        History {
             head,
             seen,
             of: PhantomData,
@@ -112,22 +112,22 @@ impl Opened {
 
 /// The list of this name, to which changes are added.
 #[derive(Drop)]
-pub struct Book<J: Naming> {
-    head: Word<Change, u64, Law>,
-    seen: Seen<Change, u64, Law>,
+pub struct History<J: Naming> {
+    head: Word<Change, u64, Grows>,
+    seen: Seen<Change, u64, Grows>,
     of: PhantomData<J>,
     ghost empty: { seen.log ≡ [] },
-    ghost seen_is: { seen.book ≡ J.book },
-    ghost head_is: { head ≡ head_of J.book },
+    ghost seen_is: { seen.book ≡ J.history },
+    ghost head_is: { head ≡ head_of J.history },
 }
 
-impl<J: Naming> Book<J> {
+impl<J: Naming> History<J> {
     /// The beginning of the list that has no change.
     pub(crate) fn start(&self) -> Front<J>
         ensures { result ≡ [] }
     {
         Front {
-            entries: 0,
+            count: 0,
             seen: self.seen.again(),
             of: PhantomData,
         }
@@ -137,8 +137,8 @@ impl<J: Naming> Book<J> {
 /// A beginning of the list. Contracts see it as its changes.
 #[derive(Drop)]
 pub struct Front<J: Naming> {
-    entries: u64,
-    seen: Seen<Change, u64, Law>,
+    count: u64,
+    seen: Seen<Change, u64, Grows>,
     of: PhantomData<J>,
 }
 
@@ -150,7 +150,7 @@ impl<J: Naming> Model for Front<J> {
 
     ghost view = { λ f. f.seen.log };
 
-    ghost invariant = { λ f. (f.entries ≡ length f.seen.log) × (f.seen.book ≡ J.book) };
+    ghost invariant = { λ f. (f.count ≡ length f.seen.log) × (f.seen.book ≡ J.history) };
 }
 
 impl<J: Naming> Front<J> {
@@ -158,7 +158,7 @@ impl<J: Naming> Front<J> {
     pub fn len(&self) -> u64
         ensures { result ≡ length self.now }
     {
-        self.entries
+        self.count
     }
 
     /// A copy.
@@ -166,7 +166,7 @@ impl<J: Naming> Front<J> {
         ensures { result ≡ self.now }
     {
         Front {
-            entries: self.entries,
+            count: self.count,
             seen: self.seen.again(),
             of: PhantomData,
         }
@@ -180,7 +180,7 @@ impl<J: Naming> Front<J> {
     {
         let mut both = self.seen.again();
         both.learn(&other.seen);
-        if self.entries < other.entries {
+        if self.count < other.count {
             other.again()
         } else {
             self.again()
@@ -193,32 +193,32 @@ impl<J: Naming> Front<J> {
     {
         let mut both = self.seen.again();
         both.learn(&other.seen);
-        self.entries <= other.entries
+        self.count <= other.count
     }
 
     /// Adds a change behind these, and says whether it did. It did not where the list was longer already, or is as long as
     /// 64 bits can say.
-    pub(crate) fn add(&mut self, book: &Book<J>, change: &Change) -> bool
+    pub(crate) fn add(&mut self, history: &History<J>, change: &Change) -> bool
         ensures { MatchBool result (self.new ≡ self.old ++ change.now ∷ []) (IsPrefix self.old self.new) }
     {
-        let entries = self.entries;
-        if entries == u64::MAX {
+        let count = self.count;
+        if count == u64::MAX {
             return false;
         }
-        let mut offer: Offer<Change, u64, Law, Nothing> = self
+        let mut offer: Offer<Change, u64, Grows, Nothing> = self
             .seen
             .plain::<Nothing, Change, Add>(change);
         let mut pen = self.seen.no_pen();
-        let found = book
+        let found = history
             .head
             .compare_exchange::<Add, Nothing>(
-                entries,
-                entries + 1,
+                count,
+                count + 1,
                 &mut self.seen,
                 &mut offer,
                 &mut pen,
             );
-        self.entries = if found == entries { entries + 1 } else { found };
-        found == entries
+        self.count = if found == count { count + 1 } else { found };
+        found == count
     }
 }

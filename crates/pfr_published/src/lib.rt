@@ -1,6 +1,6 @@
 //! The published table of states: one thread changes it, and others look at it meanwhile.
 //!
-//! Each change of the table is an entry of one list, which only grows. A table that is shown is what a beginning of that list
+//! Each change of the table is added to one list, which only grows. A table that is shown is what a beginning of that list
 //! makes of the empty table. The list stands in the proofs alone: no memory is taken for it. [`Published`] adds changes and
 //! shows the table behind them, and [`Told`] says how far the list had come. A [`Viewer`] that has learned it is shown no
 //! table of before.
@@ -13,7 +13,7 @@ mod store;
 mod viewer;
 
 pub use change::Change;
-pub use history::{Book, Front, Naming, Opened};
+pub use history::{Front, History, Naming, Opened};
 pub use published::{Published, StoreWriter};
-pub use store::{Entry, Store};
+pub use store::{Added, Store};
 pub use viewer::{Showing, Told, Viewer};

@@ -9,9 +9,9 @@ use left_right::Absorb;
 use pfr_states::{Table, TableError};
 use std::alloc::{AllocError, Global};
 
-/// A change, and the beginning of the list that ends with it.
+/// A change that was added, and the beginning of the list that ends with it.
 #[derive(Drop)]
-pub struct Entry<J: Naming> {
+pub struct Added<J: Naming> {
     pub(crate) change: Change,
     pub(crate) front: Front<J>,
     ghost last: { slice_get front (length front - 1) ≡ Some change },
@@ -26,7 +26,7 @@ pub struct Store<J: Naming> {
 }
 
 /// Does to a table what a change says. Where the table refuses it, it stays as it was.
-fn step(table: &mut Table, change: &Change) -> Result<(), TableError>
+fn apply(table: &mut Table, change: &Change) -> Result<(), TableError>
     ensures { MatchResult result (λ _. table.new ≡ stepped table.old change.now) (λ _. table.new ≡ table.old) }
 {
     match change {
@@ -52,27 +52,27 @@ impl<J: Naming> Store<J> {
     }
 
     /// Takes over the change behind those that it has. Where that is refused, the table stays as it was.
-    fn take(&mut self, entry: &Entry<J>) -> Result<(), TableError>
-        requires { length entry.now.front ≡ length self.old.front + 1 }
-        ensures taken { MatchResult result (λ _. self.new.front ≡ entry.now.front) (λ _. (self.new.table ≡ self.old.table) × (self.new.front ≡ self.old.front)) }
+    fn take(&mut self, added: &Added<J>) -> Result<(), TableError>
+        requires { length added.now.front ≡ length self.old.front + 1 }
+        ensures taken { MatchResult result (λ _. self.new.front ≡ added.now.front) (λ _. (self.new.table ≡ self.old.table) × (self.new.front ≡ self.old.front)) }
     {
-        step(&mut self.table, &entry.change)?;
-        self.front = self.front.longer(&entry.front);
+        apply(&mut self.table, &added.change)?;
+        self.front = self.front.longer(&added.front);
         Ok(())
     }
 }
 
-impl<J: Naming> Absorb<Entry<J>> for Store<J> {
+impl<J: Naming> Absorb<Added<J>> for Store<J> {
     type State = [Change; 0];
 
     ghost state = { λ store. store.front };
 
-    ghost applied = { λ before entry. entry.front };
+    ghost applied = { λ before added. added.front };
 
-    fn absorb_first(&mut self, entry: &Entry<J>, _other: &Store<J>) -> Result<(), AllocError> {
-        if self.front.len().checked_add(1) != Some(entry.front.len()) {
+    fn absorb_first(&mut self, added: &Added<J>, _other: &Store<J>) -> Result<(), AllocError> {
+        if self.front.len().checked_add(1) != Some(added.front.len()) {
             return Err(AllocError);
         }
-        self.take(entry).map_err(|_refusal| AllocError)
+        self.take(added).map_err(|_refusal| AllocError)
     }
 }

@@ -2,7 +2,7 @@
 ghost use Rattle.std.specs.Prelude.{◌≡◌};
 
 use pfr_net::{Direction, Endpoint, Ipv4Address, Port, Protocol};
-use pfr_published::{Book, Change, Naming, Opened, Published, StoreWriter, Told, Viewer};
+use pfr_published::{Change, Naming, Opened, Published, StoreWriter, Told, Viewer};
 use pfr_states::TableChange;
 use pfr_track::{Clock, Deadline, Key, Peers, State, StateNumber, StateRules, Timeout, Traffic};
 use std::alloc::Global;
@@ -13,10 +13,10 @@ use std::thread::{Threads, sleep, spawn};
 use std::time::Duration;
 
 /// The making of a state whose keys no state of another number has.
-fn made(number: u64, deadline: u64) -> Change {
+fn made(number: u16, deadline: u64) -> Change {
     let end = Endpoint {
         address: Ipv4Address(0xc000_0201),
-        port: Port(number as u16),
+        port: Port(number),
     };
     let key = Key {
         protocol: Protocol::UDP,
@@ -28,7 +28,7 @@ fn made(number: u64, deadline: u64) -> Change {
         bytes: 28,
     };
     Change::Apply(TableChange::Made(State {
-        number: StateNumber(number),
+        number: StateNumber(u64::from(number)),
         direction: Direction::In,
         wire: key,
         stack: key,
@@ -101,12 +101,12 @@ fn seen_beside<
     J: Naming + Send + Sync + 'static,
     R: Threads + Wait + Abort + std::time::Clock + Copy + Send + 'static,
 >(rt: R, alloc: Global, opened: Opened, limit: usize) -> (usize, u64)
-    requires book { opened ≡ J.book }
+    requires history { opened ≡ J.history }
     requires limit { limit ≡ J.limit }
 {
-    let book = opened.named::<J>();
-    let published = Published::new(alloc, &book, limit, 1).expect(&rt, "memory");
-    let viewer = published.viewer(&book).expect(&rt, "a place");
+    let history = opened.named::<J>();
+    let published = Published::new(alloc, &history, limit, 1).expect(&rt, "memory");
+    let viewer = published.viewer(&history).expect(&rt, "a place");
     let told = Arc::new(alloc, Mutex::new(None)).expect(&rt, "memory");
     let theirs = Arc::try_clone(&told).expect(&rt, "memory");
     let child = spawn(&rt, move || look_when_told(&rt, &theirs, viewer)).ok();
@@ -116,7 +116,7 @@ fn seen_beside<
         Change::Purge(Clock(60)),
         made(3, 90),
     ];
-    let (published, outcome) = published.publish(&rt, &book, &changes);
+    let (published, outcome) = published.publish(&rt, &history, &changes);
     *told.lock(&rt) = Some(published.tell());
     let seen = child.expect(&rt, "a thread").join(&rt);
     let table = published.close(&rt);
@@ -132,15 +132,15 @@ fn another_thread_sees_what_is_published(rt: HostRuntime) {
 }
 
 fn learns_late<J: Naming, R: Wait + Abort>(rt: &R, alloc: Global, opened: Opened, limit: usize)
-    requires book { opened ≡ J.book }
+    requires history { opened ≡ J.history }
     requires limit { limit ≡ J.limit }
 {
-    let book = opened.named::<J>();
-    let published = Published::new(alloc, &book, limit, 1).expect(rt, "memory");
-    let mut viewer = published.viewer(&book).expect(rt, "a place");
-    let (published, first) = published.publish(rt, &book, &[made(1, 60)]);
+    let history = opened.named::<J>();
+    let published = Published::new(alloc, &history, limit, 1).expect(rt, "memory");
+    let mut viewer = published.viewer(&history).expect(rt, "a place");
+    let (published, first) = published.publish(rt, &history, &[made(1, 60)]);
     let early = published.tell();
-    let (published, second) = published.publish(rt, &book, &[made(2, 60), made(3, 60)]);
+    let (published, second) = published.publish(rt, &history, &[made(2, 60), made(3, 60)]);
     let late = published.tell();
     assert!(rt; first.is_ok() && second.is_ok());
     viewer.learn(late);
@@ -158,15 +158,15 @@ fn a_viewer_learns_late_and_out_of_order(rt: HostRuntime) {
 }
 
 fn refuses<J: Naming, R: Wait + Abort>(rt: &R, alloc: Global, opened: Opened, limit: usize)
-    requires book { opened ≡ J.book }
+    requires history { opened ≡ J.history }
     requires limit { limit ≡ J.limit }
 {
-    let book = opened.named::<J>();
-    let published = Published::new(alloc, &book, limit, 1).expect(rt, "memory");
-    let mut viewer = published.viewer(&book).expect(rt, "a place");
-    let (published, first) = published.publish(rt, &book, &[made(1, 60)]);
-    let (published, full) = published.publish(rt, &book, &[Change::Purge(Clock(9)), made(2, 60)]);
-    let (published, later) = published.publish(rt, &book, &[Change::Purge(Clock(60))]);
+    let history = opened.named::<J>();
+    let published = Published::new(alloc, &history, limit, 1).expect(rt, "memory");
+    let mut viewer = published.viewer(&history).expect(rt, "a place");
+    let (published, first) = published.publish(rt, &history, &[made(1, 60)]);
+    let (published, full) = published.publish(rt, &history, &[Change::Purge(Clock(9)), made(2, 60)]);
+    let (published, later) = published.publish(rt, &history, &[Change::Purge(Clock(60))]);
     assert!(rt; first.is_ok() && full.is_err() && later.is_err());
     viewer.learn(published.tell());
     let (viewer, seen) = look(viewer);
