@@ -136,8 +136,10 @@ fn learns_late<J: Naming, R: Wait + Abort>(rt: &R, alloc: Global, opened: Opened
     requires limit { limit ≡ J.limit }
 {
     let history = opened.named::<J>();
-    let published = Published::new(alloc, &history, limit, 1).expect(rt, "memory");
+    let published = Published::new(alloc, &history, limit, 2).expect(rt, "memory");
     let mut viewer = published.viewer(&history).expect(rt, "a place");
+    let other = published.viewer(&history).expect(rt, "another place");
+    assert!(rt; published.viewer(&history).is_err());
     let (published, first) = published.publish(rt, &history, &[made(1, 60)]);
     let early = published.tell();
     let (published, second) = published.publish(rt, &history, &[made(2, 60), made(3, 60)]);
@@ -145,13 +147,11 @@ fn learns_late<J: Naming, R: Wait + Abort>(rt: &R, alloc: Global, opened: Opened
     assert!(rt; first.is_ok() && second.is_ok());
     viewer.learn(late);
     viewer.learn(early);
-    let (viewer, seen) = look(viewer);
-    assert!(rt; seen == (3, 1));
-    drop(viewer);
+    assert!(rt; look(viewer).1 == (3, 1) && look(other).1 == (3, 1));
     drop(published.close(rt));
 }
 
-/// What was told first is learned last.
+/// What was told first is learned last. There are two viewers, and no place for a third one.
 #[test]
 fn a_viewer_learns_late_and_out_of_order(rt: HostRuntime) {
     learns_late::<Brand, _>(&rt, rt.alloc(), Opened::new(), 4);
@@ -165,7 +165,11 @@ fn refuses<J: Naming, R: Wait + Abort>(rt: &R, alloc: Global, opened: Opened, li
     let published = Published::new(alloc, &history, limit, 1).expect(rt, "memory");
     let mut viewer = published.viewer(&history).expect(rt, "a place");
     let (published, first) = published.publish(rt, &history, &[made(1, 60)]);
-    let (published, full) = published.publish(rt, &history, &[Change::Purge(Clock(9)), made(2, 60)]);
+    let (published, full) = published.publish(
+        rt,
+        &history,
+        &[Change::Purge(Clock(9)), made(2, 60)],
+    );
     let (published, later) = published.publish(rt, &history, &[Change::Purge(Clock(60))]);
     assert!(rt; first.is_ok() && full.is_err() && later.is_err());
     viewer.learn(published.tell());
