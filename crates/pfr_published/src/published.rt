@@ -63,9 +63,9 @@ impl<J: Naming> Published<StoreWriter<J>> {
         })
     }
 
-    /// Adds changes and shows the table behind them, or adds none. It is refused where a change is, or memory; then nothing can
-    /// be published any more, and viewers are shown the table that they were shown before. It waits for those who still look at
-    /// a table before the one that is shown when it is called.
+    /// Adds changes, all of them or none, and shows the table behind them. It is refused where a change is, or memory. Then
+    /// nothing is published any more, and viewers are shown the table that they were shown before. It waits for those who
+    /// still look at a table before the one that is shown when it is called.
     pub fn publish<R: Wait>(
         self,
         rt: &R,

@@ -1,6 +1,5 @@
 //! One copy of the table, with how far the list of changes has come in it.
-ghost use Rattle.std.specs.Prelude.{◌≡◌, ◌+◌, ◌-◌, ◌++◌, ◌∷◌, [], length, Some, IsOk, MatchResult, OnErr, slice_get};
-ghost use Rattle.pfr_states.specs.States.{StateTable};
+ghost use Rattle.std.specs.Prelude.{◌≡◌, ◌+◌, ◌-◌, [], length, Some, MatchResult, slice_get};
 ghost use Rattle.pfr_published.specs.Stepping.{stepped, table_of};
 
 use crate::change::Change;

@@ -41,7 +41,8 @@ impl<J: Naming> Model for Viewer<J> {
     ghost view = { λ viewer. viewer.known };
 }
 
-/// A viewer while it looks at the table, which stays the same until [`Showing::leave`]. Contracts see the changes that are in it.
+/// A viewer while it looks at the table, which stays the same until it leaves. Contracts see the changes that are in it.
+/// It is not `Drop`: end it by [`Showing::leave`].
 pub struct Showing<J: Naming> {
     reading: Reading<Store<J>, (), Unruled>,
     known: Front<J>,
