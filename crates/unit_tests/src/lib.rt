@@ -19,6 +19,8 @@ mod elements;
 #[cfg(test)]
 mod frames;
 #[cfg(test)]
+mod published;
+#[cfg(test)]
 mod rewriting;
 #[cfg(test)]
 mod states;

@@ -1,0 +1,224 @@
+//! The one list of changes, which only grows. It stands in the proofs alone: a running program has its length.
+ghost use Rattle.std.specs.Prelude.{◌≡◌, ◌⊎◌, ◌↔◌, ◌++◌, ◌∷◌, [], length, IsTrue, MatchBool};
+ghost use mathlib.Core.List.{IsPrefix};
+ghost use Rattle.pfr_published.specs.Adding.{head_of};
+
+use crate::change::Change;
+use logbook::{Gain, Offer, Plain, Play, Rule, Seen, Start, Word};
+use std::marker::{Brand, Model, PhantomData};
+
+/// The rule of the list: the word that threads share is its length.
+pub struct Grows;
+
+impl Rule<Change, u64> for Grows {
+    ghost use Rattle.std.specs.Prelude.{[]};
+    ghost use base.Fml.{ftrue};
+    ghost use Rattle.pfr_published.specs.Adding.{IsKept};
+
+    ghost holds = { λ cells log. IsKept cells log };
+
+    ghost first = { [] };
+
+    ghost hinted = { λ n log. Unit {0} };
+
+    ghost shows = { λ log. [] };
+
+    ghost keeps = { λ names log. ftrue };
+
+    ghost moves = { λ ask before after answer. Unit {0} };
+}
+
+/// Callers trade nothing.
+pub struct Nothing;
+
+impl Gain<Change, u64> for Nothing {
+    ghost use base.Fml.{ftrue};
+
+    ghost after = { λ names about answer. ftrue };
+}
+
+/// The step that adds a change.
+pub struct Add;
+
+impl Play<Change, u64> for Add {
+    ghost use Rattle.pfr_published.specs.Adding.{Adds};
+
+    ghost then = { Adds };
+}
+
+/// What the step asks for: the change.
+impl Plain<Change, Change, u64> for Add {
+    ghost use Rattle.std.specs.Prelude.{None};
+
+    ghost ask = { λ change. change };
+
+    ghost state = { λ change. None };
+}
+
+/// Which list it is, and how many states its tables may have. A call of a program picks both.
+pub trait Naming {
+    ghost use Rattle.std.specs.Prelude.{ℕ};
+    ghost use Rattle.logbook.specs.Pages.{Book};
+
+    ghost history: { Book };
+
+    ghost limit: { ℕ };
+}
+
+impl Naming for Brand {
+    ghost history = { record { number = 0; log_name = 0; cells_name = 0 } };
+
+    ghost limit = { 0 };
+}
+
+/// An empty list, which has no name yet. Contracts see which one it is.
+pub struct Opened {
+    head: Word<Change, u64, Grows>,
+    seen: Seen<Change, u64, Grows>,
+    ghost empty: { seen.log ≡ [] },
+    ghost head_is: { head ≡ head_of seen.book },
+}
+
+impl Model for Opened {
+    ghost use Rattle.logbook.specs.Pages.{Book};
+
+    ghost Value = { Book };
+
+    ghost view = { λ opened. opened.seen.book };
+}
+
+impl Opened {
+    /// A new list.
+    pub fn new() -> Opened {
+        let (seen, mut first, _second) = Seen::open(Start::alone(), 0, 0);
+        Opened {
+            head: Word::tracked(0, &mut first),
+            seen,
+        }
+    }
+
+    /// The list under a name.
+    pub fn named<J: Naming>(self) -> History<J>
+        requires { self ≡ J.history }
+    {
+        let Opened { head, seen } = self;
+        History {
+            head,
+            seen,
+            of: PhantomData,
+        }
+    }
+}
+
+/// The list of this name, to which changes are added.
+#[derive(Drop)]
+pub struct History<J: Naming> {
+    head: Word<Change, u64, Grows>,
+    seen: Seen<Change, u64, Grows>,
+    of: PhantomData<J>,
+    ghost empty: { seen.log ≡ [] },
+    ghost seen_is: { seen.book ≡ J.history },
+    ghost head_is: { head ≡ head_of J.history },
+}
+
+impl<J: Naming> History<J> {
+    /// The beginning of the list that has no change.
+    pub(crate) fn start(&self) -> Front<J>
+        ensures { result ≡ [] }
+    {
+        Front {
+            count: 0,
+            seen: self.seen.again(),
+            of: PhantomData,
+        }
+    }
+}
+
+/// A beginning of the list. Contracts see it as its changes.
+#[derive(Drop)]
+pub struct Front<J: Naming> {
+    count: u64,
+    seen: Seen<Change, u64, Grows>,
+    of: PhantomData<J>,
+}
+
+impl<J: Naming> Model for Front<J> {
+    ghost use Rattle.std.specs.Prelude.{◌≡◌, List, length};
+    ghost use Rattle.pfr_published.specs.declared.change.Change.{Change};
+
+    ghost Value = { List Change };
+
+    ghost view = { λ f. f.seen.log };
+
+    ghost invariant = { λ f. (f.count ≡ length f.seen.log) × (f.seen.book ≡ J.history) };
+}
+
+impl<J: Naming> Front<J> {
+    /// How many changes it has.
+    pub fn len(&self) -> u64
+        ensures { result ≡ length self.now }
+    {
+        self.count
+    }
+
+    /// A copy.
+    pub fn again(&self) -> Front<J>
+        ensures { result ≡ self.now }
+    {
+        Front {
+            count: self.count,
+            seen: self.seen.again(),
+            of: PhantomData,
+        }
+    }
+
+    /// The longer of two, which the other begins.
+    pub fn longer(&self, other: &Front<J>) -> Front<J>
+        ensures one { (result ≡ self.now) ⊎ (result ≡ other.now) }
+        ensures this { IsPrefix self.now result }
+        ensures that { IsPrefix other.now result }
+    {
+        let mut both = self.seen.again();
+        both.learn(&other.seen);
+        if self.count < other.count {
+            other.again()
+        } else {
+            self.again()
+        }
+    }
+
+    /// Whether it begins the other one: whether it is no longer, since both begin one list.
+    pub fn begins(&self, other: &Front<J>) -> bool
+        ensures { IsTrue result ↔ IsPrefix self.now other.now }
+    {
+        let mut both = self.seen.again();
+        both.learn(&other.seen);
+        self.count <= other.count
+    }
+
+    /// Adds a change behind these, and says whether it did. It did not where the list was longer already, or is as long as
+    /// 64 bits can say.
+    pub(crate) fn add(&mut self, history: &History<J>, change: &Change) -> bool
+        ensures { MatchBool result (self.new ≡ self.old ++ change.now ∷ []) (IsPrefix self.old self.new) }
+    {
+        let count = self.count;
+        if count == u64::MAX {
+            return false;
+        }
+        let mut offer: Offer<Change, u64, Grows, Nothing> = self
+            .seen
+            .plain::<Nothing, Change, Add>(change);
+        let mut pen = self.seen.no_pen();
+        let found = history
+            .head
+            .compare_exchange::<Add, Nothing>(
+                count,
+                count + 1,
+                &mut self.seen,
+                &mut offer,
+                &mut pen,
+            );
+        self.count = if found == count { count + 1 } else { found };
+        found == count
+    }
+}

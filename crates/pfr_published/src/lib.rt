@@ -1,0 +1,19 @@
+//! The published table of states: one thread changes it, and others look at it meanwhile.
+//!
+//! Each change of the table is added to one list, which only grows. A table that is shown is what a beginning of that list
+//! makes of the empty table. The list stands in the proofs alone: no memory is taken for it. [`Published`] adds changes and
+//! shows the table behind them, and [`Told`] says how far the list had come. A [`Viewer`] that has learned it is shown no
+//! table of before.
+#![tactic(auto)]
+
+mod change;
+mod history;
+mod published;
+mod store;
+mod viewer;
+
+pub use change::Change;
+pub use history::{Front, History, Naming, Opened};
+pub use published::{Published, StoreWriter};
+pub use store::{Added, Store};
+pub use viewer::{Showing, Told, Viewer};

@@ -1,0 +1,116 @@
+//! Those who look at the published table.
+ghost use Rattle.std.specs.Prelude.{◌≡◌, IfOk, IfErr};
+ghost use mathlib.Core.List.{IsPrefix};
+ghost use Rattle.pfr_published.specs.Stepping.{table_of};
+
+use crate::history::{Front, Naming};
+use crate::store::Store;
+use crossbeam_utils::rule::Unruled;
+use left_right::reader::{Reader, Reading};
+use pfr_states::Table;
+use std::marker::Model;
+
+/// How far the list had come when it was told. Contracts see the changes.
+#[derive(Drop)]
+pub struct Told<J: Naming> {
+    pub(crate) front: Front<J>,
+}
+
+impl<J: Naming> Model for Told<J> {
+    ghost use Rattle.std.specs.Prelude.{List};
+    ghost use Rattle.pfr_published.specs.declared.change.Change.{Change};
+
+    ghost Value = { List Change };
+
+    ghost view = { λ told. told.front };
+}
+
+/// Someone who may look at the table. Contracts see the changes that are known to be in it.
+#[derive(Drop)]
+pub struct Viewer<J: Naming> {
+    pub(crate) reader: Reader<Store<J>, (), Unruled>,
+    pub(crate) known: Front<J>,
+}
+
+impl<J: Naming> Model for Viewer<J> {
+    ghost use Rattle.std.specs.Prelude.{List};
+    ghost use Rattle.pfr_published.specs.declared.change.Change.{Change};
+
+    ghost Value = { List Change };
+
+    ghost view = { λ viewer. viewer.known };
+}
+
+/// A viewer while it looks at the table, which stays the same until it leaves. Contracts see the changes that are in it.
+/// It is not `Drop`: end it by [`Showing::leave`].
+pub struct Showing<J: Naming> {
+    reading: Reading<Store<J>, (), Unruled>,
+    known: Front<J>,
+}
+
+impl<J: Naming> Model for Showing<J> {
+    ghost use Rattle.std.specs.Prelude.{◌≡◌, List};
+    ghost use Rattle.pfr_published.specs.declared.change.Change.{Change};
+
+    ghost Value = { List Change };
+
+    ghost view = { λ showing. showing.known };
+
+    ghost invariant = { λ showing. showing.known ≡ showing.reading.part.value.front };
+}
+
+impl<J: Naming> Viewer<J> {
+    /// Learns how far the list had come. What was known stays known, also where that was more.
+    pub fn learn(&mut self, told: Told<J>)
+        ensures kept { IsPrefix self.old self.new }
+        ensures told { IsPrefix told self.new }
+    {
+        self.known = self.known.longer(&told.front);
+    }
+
+    /// Looks at the table that is published last. It has all changes that were known to the viewer, and these are known from
+    /// now on. Where the table is no more, the viewer comes back as it was.
+    pub fn enter(self) -> Result<Showing<J>, Viewer<J>>
+        ensures begins { IfOk result (λ showing. IsPrefix self showing) }
+        ensures kept { IfErr result (λ viewer. viewer ≡ self) }
+    {
+        let Viewer { reader, known } = self;
+        match reader.enter_as::<Unruled>() {
+            Ok(reading) => {
+                let front = reading.get().front.again();
+                if known.begins(&front) {
+                    Ok(Showing {
+                        reading,
+                        known: front,
+                    })
+                } else {
+                    Err(Viewer {
+                        reader: reading.leave(),
+                        known,
+                    })
+                }
+            }
+            Err(reader) => Err(Viewer { reader, known }),
+        }
+    }
+}
+
+impl<J: Naming> Showing<J> {
+    /// The table: what the changes that are known make of the empty one.
+    pub fn table(&self) -> &Table
+        ensures { result.now ≡ table_of J.limit self.now }
+    {
+        &self.reading.get().table
+    }
+
+    /// Looks away. What is known stays known.
+    pub fn leave(self) -> Viewer<J>
+        ensures { result ≡ self }
+    {
+        let Showing { reading, known } = self;
+        Viewer {
+            reader: reading.leave(),
+            known,
+        }
+    }
+}

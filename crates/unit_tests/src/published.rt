@@ -1,0 +1,188 @@
+//! A table that is published while others look at it.
+ghost use Rattle.std.specs.Prelude.{◌≡◌};
+
+use pfr_net::{Direction, Endpoint, Ipv4Address, Port, Protocol};
+use pfr_published::{Change, Naming, Opened, Published, StoreWriter, Told, Viewer};
+use pfr_states::TableChange;
+use pfr_track::{Clock, Deadline, Key, Peers, State, StateNumber, StateRules, Timeout, Traffic};
+use std::alloc::Global;
+use std::marker::Brand;
+use std::process::Abort;
+use std::sync::{Arc, Mutex, Wait};
+use std::thread::{Threads, sleep, spawn};
+use std::time::Duration;
+
+/// The making of a state whose keys no state of another number has.
+fn made(number: u16, deadline: u64) -> Change {
+    let end = Endpoint {
+        address: Ipv4Address(0xc000_0201),
+        port: Port(number),
+    };
+    let key = Key {
+        protocol: Protocol::UDP,
+        outside: end,
+        inside: end,
+    };
+    let traffic = Traffic {
+        packets: 1,
+        bytes: 28,
+    };
+    Change::Apply(TableChange::Made(State {
+        number: StateNumber(u64::from(number)),
+        direction: Direction::In,
+        wire: key,
+        stack: key,
+        rules: StateRules {
+            filter: None,
+            translation: None,
+            is_synchronised: true,
+            allows_options: false,
+        },
+        peers: Peers::Icmp,
+        made: Clock(0),
+        deadline: Deadline(deadline),
+        timeout: Timeout::IcmpFirst,
+        forth: traffic,
+        back: traffic,
+    }))
+}
+
+/// The number of a state, or 0.
+fn number_of(found: Option<State>) -> u64 {
+    match found {
+        Some(state) => state.number.0,
+        None => 0,
+    }
+}
+
+/// The viewer behind a look at the table, with how many states it has and the least number of one.
+fn look<J: Naming>(viewer: Viewer<J>) -> (Viewer<J>, (usize, u64)) {
+    match viewer.enter() {
+        Ok(showing) => {
+            let table = showing.table();
+            let seen = (table.len(), number_of(table.first()));
+            (showing.leave(), seen)
+        }
+        Err(viewer) => (viewer, (0, 0)),
+    }
+}
+
+/// Waits until something was told, for ten seconds or more at most.
+fn wait_for<J: Naming, R: Wait + std::time::Clock>(
+    rt: &R,
+    told: &Mutex<Option<Told<J>>>,
+) -> Option<Told<J>> {
+    for _turn in 0..10_000u32 {
+        let found = told.lock(rt).take();
+        if found.is_some() {
+            return found;
+        }
+        sleep(rt, Duration::from_millis(1));
+    }
+    None
+}
+
+/// Looks once something was told.
+fn look_when_told<J: Naming, R: Wait + std::time::Clock>(
+    rt: &R,
+    told: &Mutex<Option<Told<J>>>,
+    mut viewer: Viewer<J>,
+) -> (usize, u64) {
+    match wait_for(rt, told) {
+        Some(told) => {
+            viewer.learn(told);
+            look(viewer).1
+        }
+        None => (0, 0),
+    }
+}
+
+fn seen_beside<
+    J: Naming + Send + Sync + 'static,
+    R: Threads + Wait + Abort + std::time::Clock + Copy + Send + 'static,
+>(rt: R, alloc: Global, opened: Opened, limit: usize) -> (usize, u64)
+    requires history { opened ≡ J.history }
+    requires limit { limit ≡ J.limit }
+{
+    let history = opened.named::<J>();
+    let published = Published::new(alloc, &history, limit, 1).expect(&rt, "memory");
+    let viewer = published.viewer(&history).expect(&rt, "a place");
+    let told = Arc::new(alloc, Mutex::new(None)).expect(&rt, "memory");
+    let theirs = Arc::try_clone(&told).expect(&rt, "memory");
+    let child = spawn(&rt, move || look_when_told(&rt, &theirs, viewer)).ok();
+    let changes = [
+        made(1, 60),
+        made(2, 90),
+        Change::Purge(Clock(60)),
+        made(3, 90),
+    ];
+    let (published, outcome) = published.publish(&rt, &history, &changes);
+    *told.lock(&rt) = Some(published.tell());
+    let seen = child.expect(&rt, "a thread").join(&rt);
+    let table = published.close(&rt);
+    assert!(rt; outcome.is_ok() && table.len() == 2);
+    seen
+}
+
+/// A viewer in another thread is told of three states of which one has expired, where there may be two.
+#[test]
+fn another_thread_sees_what_is_published(rt: HostRuntime) {
+    let seen = seen_beside::<Brand, _>(rt, rt.alloc(), Opened::new(), 2);
+    assert!(rt; seen == (2, 2));
+}
+
+fn learns_late<J: Naming, R: Wait + Abort>(rt: &R, alloc: Global, opened: Opened, limit: usize)
+    requires history { opened ≡ J.history }
+    requires limit { limit ≡ J.limit }
+{
+    let history = opened.named::<J>();
+    let published = Published::new(alloc, &history, limit, 2).expect(rt, "memory");
+    let mut viewer = published.viewer(&history).expect(rt, "a place");
+    let other = published.viewer(&history).expect(rt, "another place");
+    assert!(rt; published.viewer(&history).is_err());
+    let (published, first) = published.publish(rt, &history, &[made(1, 60)]);
+    let early = published.tell();
+    let (published, second) = published.publish(rt, &history, &[made(2, 60), made(3, 60)]);
+    let late = published.tell();
+    assert!(rt; first.is_ok() && second.is_ok());
+    viewer.learn(late);
+    viewer.learn(early);
+    assert!(rt; look(viewer).1 == (3, 1) && look(other).1 == (3, 1));
+    drop(published.close(rt));
+}
+
+/// What was told first is learned last. There are two viewers, and no place for a third one.
+#[test]
+fn a_viewer_learns_late_and_out_of_order(rt: HostRuntime) {
+    learns_late::<Brand, _>(&rt, rt.alloc(), Opened::new(), 4);
+}
+
+fn refuses<J: Naming, R: Wait + Abort>(rt: &R, alloc: Global, opened: Opened, limit: usize)
+    requires history { opened ≡ J.history }
+    requires limit { limit ≡ J.limit }
+{
+    let history = opened.named::<J>();
+    let published = Published::new(alloc, &history, limit, 1).expect(rt, "memory");
+    let mut viewer = published.viewer(&history).expect(rt, "a place");
+    let (published, first) = published.publish(rt, &history, &[made(1, 60)]);
+    let (published, full) = published.publish(
+        rt,
+        &history,
+        &[Change::Purge(Clock(9)), made(2, 60)],
+    );
+    let (published, later) = published.publish(rt, &history, &[Change::Purge(Clock(60))]);
+    assert!(rt; first.is_ok() && full.is_err() && later.is_err());
+    viewer.learn(published.tell());
+    let (viewer, seen) = look(viewer);
+    assert!(rt; seen == (1, 1));
+    let mut table = published.close(rt);
+    assert!(rt; table.len() == 1 && look(viewer).1 == (0, 0));
+    table.purge(Clock(60));
+    assert!(rt; table.len() == 0);
+}
+
+/// Where the table is full, nothing more is published, and what was is still shown until the end.
+#[test]
+fn a_refusal_is_for_good(rt: HostRuntime) {
+    refuses::<Brand, _>(&rt, rt.alloc(), Opened::new(), 1);
+}
