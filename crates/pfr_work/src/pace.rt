@@ -7,9 +7,7 @@ const HANDING: u64 = 60;
 
 const STARTING: u64 = 1500;
 
-/// So many packets of a run are always evaluated ahead, and so many of a batch that comes behind a rest.
-const FIRST: u64 = 1024;
-
+/// So many packets are evaluated ahead before it is judged whether that pays: the first of a run, and of a batch behind a rest.
 const TRIAL: u64 = 256;
 
 /// For how many packets workers rest at first, and at most. Each rest takes four times as many as the one before.
@@ -60,7 +58,7 @@ impl Pace {
         } else if self.pays {
             u64::MAX
         } else {
-            FIRST.saturating_sub(self.evaluated).max(TRIAL)
+            TRIAL
         }
     }
 
@@ -79,7 +77,7 @@ impl Pace {
         }
         let evaluated = self.ahead().min(count);
         self.evaluated = self.evaluated.saturating_add(evaluated);
-        if self.evaluated < FIRST {
+        if self.evaluated < TRIAL {
             return;
         }
         self.pays = self.paid(evaluated, count.saturating_sub(own));

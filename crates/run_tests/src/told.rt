@@ -113,19 +113,21 @@ fn workers_evaluate_each_batch(rt: HostRuntime) -> Result<(), Fail> {
     Ok(())
 }
 
-/// By one rule they don't pay: they rest behind the first batch for sixteen, and then evaluate the beginning of one.
+/// By one rule they don't pay: they evaluate the beginning of the first batch, rest behind it for sixteen, and then evaluate the
+/// beginning of one.
 #[test]
 fn workers_rest_where_they_do_not_pay(rt: HostRuntime) -> Result<(), Fail> {
-    let answered = sum(1, 1025).saturating_add(sum(17_409, 17_665));
-    let again = sum(1025, 17_409).saturating_add(sum(17_665, 18_433));
+    let answered = sum(1, 257).saturating_add(sum(17_409, 17_665));
+    let again = sum(257, 17_409).saturating_add(sum(17_665, 18_433));
     assert!(rt; told(&rt, 1, 18_432, 1024, 2)? == (answered, answered, again));
     Ok(())
 }
 
-/// By many rules they do.
+/// By many rules they do, and evaluate all behind the first batch.
 #[test]
 fn workers_go_on_where_they_pay(rt: HostRuntime) -> Result<(), Fail> {
-    let all = sum(1, 3073);
-    assert!(rt; told(&rt, 1000, 3072, 1024, 2)? == (all, all, 0));
+    let answered = sum(1, 257).saturating_add(sum(1025, 3073));
+    let again = sum(257, 1025);
+    assert!(rt; told(&rt, 1000, 3072, 1024, 2)? == (answered, answered, again));
     Ok(())
 }
