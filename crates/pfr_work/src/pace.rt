@@ -62,11 +62,12 @@ impl Pace {
         }
     }
 
-    /// Whether it paid to evaluate so many packets of a batch ahead, of whose results so many held.
-    fn paid(&self, evaluated: u64, held: u64) -> bool {
-        let handing = evaluated.saturating_mul(HANDING);
+    /// Whether it pays to evaluate a batch of so many packets ahead, where so many were and so many of their results held.
+    fn pays_for(&self, count: u64, evaluated: u64, held: u64) -> bool {
+        let handing = count.saturating_mul(HANDING);
         let starting = self.workers.saturating_mul(STARTING);
-        held.saturating_mul(self.saves) >= handing.saturating_add(starting)
+        let saved = held.saturating_mul(self.saves).saturating_mul(count);
+        saved >= evaluated.saturating_mul(handing.saturating_add(starting))
     }
 
     /// Takes note of a batch, of so many packets of which so many were evaluated by the committer.
@@ -80,7 +81,7 @@ impl Pace {
         if self.evaluated < TRIAL {
             return;
         }
-        self.pays = self.paid(evaluated, count.saturating_sub(own));
+        self.pays = self.pays_for(count, evaluated, count.saturating_sub(own));
         if self.pays {
             self.next_rest = FIRST_REST;
         } else {
