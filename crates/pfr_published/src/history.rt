@@ -28,7 +28,7 @@ impl Rule<Change, u64> for Grows {
     ghost moves = { λ ask before after answer. Unit {0} };
 }
 
-/// Callers trade nothing.
+/// A step gives its caller nothing but what it has seen.
 pub struct Nothing;
 
 impl Gain<Change, u64> for Nothing {
@@ -161,7 +161,7 @@ impl<J: Naming> Front<J> {
         self.count
     }
 
-    /// A copy.
+    /// The same beginning once more.
     pub fn again(&self) -> Front<J>
         ensures { result ≡ self.now }
     {

@@ -1,10 +1,10 @@
 //! A table that is published while others look at it.
 ghost use Rattle.std.specs.Prelude.{◌≡◌};
 
-use pfr_net::{Direction, Endpoint, Ipv4Address, Port, Protocol};
+use crate::states::{key, number_of, state};
 use pfr_published::{Change, Naming, Opened, Published, StoreWriter, Told, Viewer};
 use pfr_states::TableChange;
-use pfr_track::{Clock, Deadline, Key, Peers, State, StateNumber, StateRules, Timeout, Traffic};
+use pfr_track::Clock;
 use std::alloc::Global;
 use std::marker::Brand;
 use std::process::Abort;
@@ -12,47 +12,10 @@ use std::sync::{Arc, Mutex, Wait};
 use std::thread::{Threads, sleep, spawn};
 use std::time::Duration;
 
-/// The making of a state whose keys no state of another number has.
-fn made(number: u16, deadline: u64) -> Change {
-    let end = Endpoint {
-        address: Ipv4Address(0xc000_0201),
-        port: Port(number),
-    };
-    let key = Key {
-        protocol: Protocol::UDP,
-        outside: end,
-        inside: end,
-    };
-    let traffic = Traffic {
-        packets: 1,
-        bytes: 28,
-    };
-    Change::Apply(TableChange::Made(State {
-        number: StateNumber(u64::from(number)),
-        direction: Direction::In,
-        wire: key,
-        stack: key,
-        rules: StateRules {
-            filter: None,
-            translation: None,
-            is_synchronised: true,
-            allows_options: false,
-        },
-        peers: Peers::Icmp,
-        made: Clock(0),
-        deadline: Deadline(deadline),
-        timeout: Timeout::IcmpFirst,
-        forth: traffic,
-        back: traffic,
-    }))
-}
-
-/// The number of a state, or 0.
-fn number_of(found: Option<State>) -> u64 {
-    match found {
-        Some(state) => state.number.0,
-        None => 0,
-    }
+/// The making of a state whose key no state of another number has.
+fn made(number: u32, deadline: u64) -> Change {
+    let key = key(number);
+    Change::Apply(TableChange::Made(state(u64::from(number), key, key, deadline)))
 }
 
 /// The viewer behind a look at the table, with how many states it has and the least number of one.

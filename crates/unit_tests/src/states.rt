@@ -3,7 +3,7 @@ use pfr_net::{Direction, Endpoint, Ipv4Address, Port, Protocol};
 use pfr_states::{Side, Table, TableChange, TableError};
 use pfr_track::{Clock, Deadline, Key, Peers, State, StateNumber, StateRules, Timeout, Traffic};
 
-fn key(address: u32) -> Key {
+pub(crate) fn key(address: u32) -> Key {
     Key {
         protocol: Protocol::UDP,
         outside: Endpoint {
@@ -17,7 +17,7 @@ fn key(address: u32) -> Key {
     }
 }
 
-fn state(number: u64, wire: Key, stack: Key, deadline: u64) -> State {
+pub(crate) fn state(number: u64, wire: Key, stack: Key, deadline: u64) -> State {
     let traffic = Traffic {
         packets: 1,
         bytes: 28,
@@ -43,7 +43,7 @@ fn state(number: u64, wire: Key, stack: Key, deadline: u64) -> State {
 }
 
 /// The number of a state, or 0.
-fn number_of(found: Option<State>) -> u64 {
+pub(crate) fn number_of(found: Option<State>) -> u64 {
     match found {
         Some(state) => state.number.0,
         None => 0,
