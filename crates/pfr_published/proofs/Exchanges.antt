@@ -5,7 +5,7 @@ use Rattle.std.proofs.lemmas.Bool.Decides.{nat_tests}
 use mathlib.Core.List.{IsPrefix}
 use prog.Atomic.{either}
 use Rattle.logbook.specs.Pages.{Cell, cell, keeps, no_nib, step, Moves, Goes}
-use Rattle.pfr_published.specs.declared.change.Change.{Change}
+use Rattle.pfr_states.specs.declared.change.Change.{Change}
 use Rattle.pfr_published.specs.Adding.{IsKept, Adds}
 use Rattle.pfr_published.proofs.Beginnings.{prefix_whole}
 

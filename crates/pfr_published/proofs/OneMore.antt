@@ -3,8 +3,8 @@ use Rattle.std.proofs.Common.{◌≡◌, ℕ, ◌+◌, ◌-◌, ◌⊎◌, List,
 use Rattle.std.proofs.lemmas.List.Sums.{fold-append}
 use mathlib.Core.List.{IsPrefix}
 use Rattle.pfr_states.specs.States.{StateTable, empty}
-use Rattle.pfr_published.specs.declared.change.Change.{Change}
-use Rattle.pfr_published.specs.Stepping.{stepped, table_of}
+use Rattle.pfr_states.specs.declared.change.Change.{Change}
+use Rattle.pfr_states.specs.States.{stepped, table_of}
 use Rattle.pfr_published.proofs.Beginnings.{longer_is, prefix_and_last}
 
 pub kept_by_one : (limit : ℕ) (xs ys both : List Change) (x : Change) (old new : StateTable)

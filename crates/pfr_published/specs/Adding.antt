@@ -1,7 +1,7 @@
 -- The rule of the list of changes, and what its one step tells.
 use Rattle.std.specs.Prelude.{ℕ, ◌≡◌, ◌==◌, true, List, [], ◌∷◌, ◌++◌, length, MatchBool}
 use Rattle.logbook.specs.Pages.{Cell, Step, View, Book, Named}
-use Rattle.pfr_published.specs.declared.change.Change.{Change}
+use Rattle.pfr_states.specs.declared.change.Change.{Change}
 
 -- the first word is the length of the list; a book has two words, of which this one leaves the second at 0
 abbrev pub IsKept : List Cell → List Change → Type 0

@@ -2,7 +2,7 @@
 use Rattle.std.specs.Prelude.{List, drop, fold}
 use Rattle.left_right.specs.declared.Absorb as absorb
 use Rattle.left_right.specs.declared.writer.Writer.{Writer}
-use Rattle.pfr_published.specs.declared.change.Change.{Change}
+use Rattle.pfr_states.specs.declared.change.Change.{Change}
 use Rattle.pfr_published.specs.declared.history.Naming as naming
 use Rattle.pfr_published.specs.declared.published.Published.{Published}
 use Rattle.pfr_published.specs.declared.store.Added.{Added}

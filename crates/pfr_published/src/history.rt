@@ -3,8 +3,8 @@ ghost use Rattle.std.specs.Prelude.{◌≡◌, ◌⊎◌, ◌↔◌, ◌++◌, �
 ghost use mathlib.Core.List.{IsPrefix};
 ghost use Rattle.pfr_published.specs.Adding.{head_of};
 
-use crate::change::Change;
 use logbook::{Gain, Offer, Plain, Play, Rule, Seen, Start, Word};
+use pfr_states::Change;
 use std::marker::{Brand, Model, PhantomData};
 
 /// The rule of the list: the word that threads share is its length.
@@ -144,7 +144,7 @@ pub struct Front<J: Naming> {
 
 impl<J: Naming> Model for Front<J> {
     ghost use Rattle.std.specs.Prelude.{◌≡◌, List, length};
-    ghost use Rattle.pfr_published.specs.declared.change.Change.{Change};
+    ghost use Rattle.pfr_states.specs.declared.change.Change.{Change};
 
     ghost Value = { List Change };
 

@@ -6,13 +6,11 @@
 //! table of before.
 #![tactic(auto)]
 
-mod change;
 mod history;
 mod published;
 mod store;
 mod viewer;
 
-pub use change::Change;
 pub use history::{Front, History, Naming, Opened};
 pub use published::{Published, StoreWriter};
 pub use store::{Added, Store};

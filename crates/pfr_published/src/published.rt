@@ -1,14 +1,13 @@
 //! The thread that changes the table.
 ghost use Rattle.std.specs.Prelude.{◌≡◌, ◌^◌, ◌<◌, ◌++◌, [], IfOk, IsErr, IsTrue, MatchResult, true, false};
-ghost use Rattle.pfr_published.specs.Stepping.{table_of};
+ghost use Rattle.pfr_states.specs.States.{table_of};
 
-use crate::change::Change;
 use crate::history::{History, Naming};
 use crate::store::{Added, Store};
 use crate::viewer::{Told, Viewer};
 use crossbeam_utils::rule::Unruled;
 use left_right::writer::Writer;
-use pfr_states::Table;
+use pfr_states::{Change, Table};
 use std::alloc::{AllocError, Global};
 use std::sync::Wait;
 

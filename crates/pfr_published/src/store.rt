@@ -1,11 +1,10 @@
 //! One copy of the table, with how far the list of changes has come in it.
 ghost use Rattle.std.specs.Prelude.{◌≡◌, ◌+◌, ◌-◌, [], length, Some, MatchResult, slice_get};
-ghost use Rattle.pfr_published.specs.Stepping.{stepped, table_of};
+ghost use Rattle.pfr_states.specs.States.{stepped, table_of};
 
-use crate::change::Change;
 use crate::history::{Front, Naming};
 use left_right::Absorb;
-use pfr_states::{Table, TableError};
+use pfr_states::{Change, Table, TableError};
 use std::alloc::{AllocError, Global};
 
 /// A change that was added, and the beginning of the list that ends with it.

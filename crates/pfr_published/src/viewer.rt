@@ -1,7 +1,7 @@
 //! Those who look at the published table.
 ghost use Rattle.std.specs.Prelude.{◌≡◌, IfOk, IfErr};
 ghost use mathlib.Core.List.{IsPrefix};
-ghost use Rattle.pfr_published.specs.Stepping.{table_of};
+ghost use Rattle.pfr_states.specs.States.{table_of};
 
 use crate::history::{Front, Naming};
 use crate::store::Store;
@@ -18,7 +18,7 @@ pub struct Told<J: Naming> {
 
 impl<J: Naming> Model for Told<J> {
     ghost use Rattle.std.specs.Prelude.{List};
-    ghost use Rattle.pfr_published.specs.declared.change.Change.{Change};
+    ghost use Rattle.pfr_states.specs.declared.change.Change.{Change};
 
     ghost Value = { List Change };
 
@@ -34,7 +34,7 @@ pub struct Viewer<J: Naming> {
 
 impl<J: Naming> Model for Viewer<J> {
     ghost use Rattle.std.specs.Prelude.{List};
-    ghost use Rattle.pfr_published.specs.declared.change.Change.{Change};
+    ghost use Rattle.pfr_states.specs.declared.change.Change.{Change};
 
     ghost Value = { List Change };
 
@@ -50,7 +50,7 @@ pub struct Showing<J: Naming> {
 
 impl<J: Naming> Model for Showing<J> {
     ghost use Rattle.std.specs.Prelude.{◌≡◌, List};
-    ghost use Rattle.pfr_published.specs.declared.change.Change.{Change};
+    ghost use Rattle.pfr_states.specs.declared.change.Change.{Change};
 
     ghost Value = { List Change };
 

@@ -7,6 +7,8 @@ use Rattle.pfr_track.specs.declared.key.Key.{Key}
 use Rattle.pfr_track.specs.declared.state.State.{State}
 use Rattle.pfr_track.specs.declared.state.StateNumber.{StateNumber}
 use Rattle.pfr_track.specs.declared.time.Clock.{Clock}
+use Rattle.pfr_states.specs.declared.change.Change.{Change}
+use Rattle.pfr_states.specs.declared.change.Change.TheVariants.{Purge, Apply}
 use Rattle.pfr_states.specs.declared.change.Side.{Side}
 use Rattle.pfr_states.specs.declared.change.Side.TheVariants.{Wire, Stack}
 use Rattle.pfr_states.specs.declared.change.TableChange.{TableChange}
@@ -158,3 +160,14 @@ unfoldable pub refusal : TableChange → ℕ → List State → Option TableErro
 refusal change limit states =
     if is_taken change states then Some KeyTaken else
     if is_too_many change limit states then Some Full else None
+
+-- ---- what packets do to a table
+
+-- the table behind one thing that is done to it, with the same limit
+abbrev pub stepped : StateTable → Change → StateTable
+stepped table (Purge clock) = record { states = purged clock table.states; limit = table.limit }
+stepped table (Apply change) = record { states = with_change change table.states; limit = table.limit }
+
+-- the table that such a list makes: from the empty one, one after the other
+abbrev pub table_of : ℕ → List Change → StateTable
+table_of limit changes = fold stepped (empty limit) changes

@@ -1,5 +1,5 @@
-//! What is asked of a table.
-use pfr_track::{State, StateNumber};
+//! What is asked of a table, and what is done to it.
+use pfr_track::{Clock, State, StateNumber};
 use std::alloc::AllocError;
 use thiserror::Error;
 
@@ -19,6 +19,15 @@ pub enum TableChange {
     Touched(State),
     /// The state of this number is no more.
     Removed(StateNumber),
+}
+
+/// One thing that a packet does to the table.
+#[derive(Clone, Copy)]
+pub enum Change {
+    /// The states whose deadline has come at this clock go.
+    Purge(Clock),
+    /// The table takes this over.
+    Apply(TableChange),
 }
 
 /// Why a table doesn't take a change.

@@ -2,8 +2,8 @@
 ghost use Rattle.std.specs.Prelude.{◌≡◌};
 
 use crate::states::{key, number_of, state};
-use pfr_published::{Change, Naming, Opened, Published, StoreWriter, Told, Viewer};
-use pfr_states::TableChange;
+use pfr_published::{Naming, Opened, Published, StoreWriter, Told, Viewer};
+use pfr_states::{Change, TableChange};
 use pfr_track::Clock;
 use std::alloc::Global;
 use std::marker::Brand;

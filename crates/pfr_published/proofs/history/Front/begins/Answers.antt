@@ -1,7 +1,7 @@
 use Rattle.std.proofs.Common.{◌≤◌, ap, subst, arith, length, List}
 use Rattle.std.proofs.lemmas.Bool.Decides.{nat_tests}
 use mathlib.Core.List.{IsPrefix}
-use Rattle.pfr_published.specs.declared.change.Change.{Change}
+use Rattle.pfr_states.specs.declared.change.Change.{Change}
 use Rattle.pfr_published.proofs.Beginnings.{prefix_shorter, prefix_length}
 use Rattle.pfr_published.proofs.history.Front.begins.Goals as goal
 

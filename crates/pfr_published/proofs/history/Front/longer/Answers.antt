@@ -1,6 +1,6 @@
 use Rattle.std.proofs.Common.{◌≤◌, ap, subst, arith, length, List}
 use mathlib.Core.List.{IsPrefix}
-use Rattle.pfr_published.specs.declared.change.Change.{Change}
+use Rattle.pfr_states.specs.declared.change.Change.{Change}
 use Rattle.pfr_published.proofs.Beginnings.{prefix_shorter}
 use Rattle.pfr_published.proofs.history.Front.longer.Goals as goal
 
