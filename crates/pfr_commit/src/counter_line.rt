@@ -1,10 +1,10 @@
 //! The lines of the counters.
-ghost use Rattle.std.specs.Prelude.{◌≡◌, ◌++◌, Some, OnOk};
+ghost use Rattle.std.specs.Prelude.{◌≡◌, ◌++◌, get_or, Some, OnOk};
 ghost use Rattle.std.specs.String.{string_bytes};
 ghost use Rattle.pfr_commit.specs.Endings as spec;
 
 use crate::counters::{Counters, RuleCounters, Totals};
-use std::alloc::AllocError;
+use std::alloc::{AllocError, Global};
 use std::fmt;
 use std::fmt::Write;
 
@@ -54,14 +54,15 @@ impl fmt::Display for TotalLine {
 }
 
 impl RuleCounters {
-    /// The line of a rule.
-    fn line_at<'a>(&self, kind: &'a str, number: usize) -> RuleLine<'a>
+    /// The line of a rule that was evaluated so often.
+    fn line_at<'a>(&self, kind: &'a str, number: usize, evaluations: u64) -> RuleLine<'a>
+        requires { evaluations ≡ get_or self.now.evaluations number 0 }
         ensures { spec.rule_line result.kind.now result.number result.evaluations result.packets result.bytes ≡ spec.line_at kind.now self.now number }
     {
         RuleLine {
             kind,
             number,
-            evaluations: self.evaluations.get(number),
+            evaluations,
             packets: self.packets.get(number),
             bytes: self.bytes.get(number),
         }
@@ -69,11 +70,12 @@ impl RuleCounters {
 
     /// A line for each rule, behind a text.
     #[tactic(auto, unfolding(crate::specs::Endings::rule_lines))]
-    fn put_lines(&self, kind: &str, text: &mut String) -> Result<(), AllocError>
+    fn put_lines(&self, alloc: Global, kind: &str, text: &mut String) -> Result<(), AllocError>
         ensures { OnOk result (string_bytes text.new ≡ string_bytes text.old ++ spec.rule_lines kind.now self.now) }
     {
-        for number in 0..self.evaluations.len() {
-            let line = self.line_at(kind, number);
+        let evaluations = self.evaluations.counts(alloc)?;
+        for number in 0..evaluations.len() {
+            let line = self.line_at(kind, number, evaluations[number]);
             write!(text, "{line}")?;
         }
         Ok(())
@@ -83,11 +85,16 @@ impl RuleCounters {
 impl Counters {
     /// The text of the counters after so many packets, behind another.
     #[tactic(auto, unfolding(crate::specs::Endings::counters_text))]
-    pub(crate) fn put(&self, records: u64, text: &mut String) -> Result<(), AllocError>
+    pub(crate) fn put(
+        &self,
+        alloc: Global,
+        records: u64,
+        text: &mut String,
+    ) -> Result<(), AllocError>
         ensures { OnOk result (string_bytes text.new ≡ string_bytes text.old ++ spec.counters_text records self.now) }
     {
-        self.filter.put_lines("filter", text)?;
-        self.translation.put_lines("translation", text)?;
+        self.filter.put_lines(alloc, "filter", text)?;
+        self.translation.put_lines(alloc, "translation", text)?;
         let line = TotalLine {
             records,
             totals: self.totals,

@@ -1,12 +1,12 @@
 //! What is counted in a run.
-ghost use Rattle.std.specs.Prelude.{◌≡◌, length, get_or, replicate, fold, IfOk};
-ghost use Rattle.pfr_rules.specs.Counts.{added, raised};
+ghost use Rattle.std.specs.Prelude.{◌≡◌, get_or, replicate, IfOk};
+ghost use Rattle.pfr_rules.specs.Counts.{added};
 ghost use Rattle.pfr_commit.specs.Counters as spec;
 
 use pfr_headers::View;
 use pfr_net::RuleNumber;
 use pfr_packet::{Outcome, Reason, Verdict};
-use pfr_rules::Visits;
+use pfr_rules::Evaluations;
 use pfr_rules::counts::add;
 use std::alloc::{AllocError, Global};
 use std::marker::Model;
@@ -28,7 +28,7 @@ impl Model for Counts {
 /// What is counted of the rules of a kind: how often each was evaluated, and the packets and bytes that count for it.
 #[derive(Drop)]
 pub struct RuleCounters {
-    pub(crate) evaluations: Counts,
+    pub(crate) evaluations: Evaluations,
     pub(crate) packets: Counts,
     pub(crate) bytes: Counts,
 }
@@ -58,12 +58,6 @@ impl Counts {
         Ok(Counts { values })
     }
 
-    pub(crate) fn len(&self) -> usize
-        ensures { result ≡ length self.now }
-    {
-        self.values.len()
-    }
-
     /// The count of a rule, 0 where there is none.
     pub(crate) fn get(&self, rule: usize) -> u64
         ensures { result ≡ get_or self.now rule 0 }
@@ -82,13 +76,6 @@ impl Counts {
             add(self.values.as_mut_slice(), rule.0, amount);
         }
     }
-
-    /// Counts one more for each rule that is visited.
-    fn add_visits(&mut self, visits: &Visits)
-        ensures { self.new ≡ fold raised self.old visits.now }
-    {
-        visits.count_in(self.values.as_mut_slice());
-    }
 }
 
 impl RuleCounters {
@@ -98,7 +85,7 @@ impl RuleCounters {
     {
         let rules = rules as usize;
         Ok(RuleCounters {
-            evaluations: Counts::zeros(alloc, rules)?,
+            evaluations: Evaluations::new(alloc, rules)?,
             packets: Counts::zeros(alloc, rules)?,
             bytes: Counts::zeros(alloc, rules)?,
         })
@@ -167,10 +154,10 @@ impl Counters {
     fn add_evaluations(&mut self, outcome: &Outcome)
         ensures { self.new ≡ spec.with_evaluations outcome.now self.old }
     {
-        self.filter.evaluations.add_visits(&outcome.visited.filter);
+        self.filter.evaluations.count(&outcome.visited.filter);
         self.translation
             .evaluations
-            .add_visits(&outcome.visited.translation);
+            .count(&outcome.visited.translation);
     }
 
     fn add_named(&mut self, outcome: &Outcome, length: u64)

@@ -24,7 +24,7 @@ fn counters_text(alloc: Global, records: u64, counters: &Counters) -> Result<Vec
     ensures { IfOk result (λ text. text.items ≡ spec.counters_text records counters.now) }
 {
     let mut text = String::new(alloc);
-    counters.put(records, &mut text)?;
+    counters.put(alloc, records, &mut text)?;
     Ok(text.into_bytes())
 }
 

@@ -14,7 +14,7 @@ pub enum Answer {
     HasRoom(bool),
 }
 
-fn is_same_key(first: &Key, second: &Key) -> bool
+pub(crate) fn is_same_key(first: &Key, second: &Key) -> bool
     ensures { IsTrue result ↔ (first.now ≡ second.now) }
 {
     first == second

@@ -8,7 +8,7 @@ ghost use Rattle.pfr_record.specs.declared.answer.Answer.TheVariants.{Found, Has
 ghost use Rattle.pfr_record.specs.Record.{Agrees, IsKept, Keeps, answer_of};
 ghost use Rattle.pfr_record.specs.Record as spec;
 
-use crate::answer::{Answer, is_same_find};
+use crate::answer::{Answer, is_same_find, is_same_key};
 use indexmap::IndexMap;
 use pfr_packet::Question;
 use pfr_states::{Place, Side, Table};
@@ -59,12 +59,6 @@ fn note_room(place: &mut Option<bool>, room: bool) -> bool
     }
     *place = Some(room);
     true
-}
-
-fn is_same_key(first: &Key, second: &Key) -> bool
-    ensures { IsTrue result ↔ (first.now ≡ second.now) }
-{
-    first == second
 }
 
 /// Whether no state of a table has a key. It is looked for where a hint says first.

@@ -1,4 +1,5 @@
 pub mod Counts
+pub mod Evaluating
 pub mod Filter
 pub mod Laws
 pub mod Numbers

@@ -9,6 +9,7 @@
 
 pub mod counts;
 pub mod decision;
+pub mod evaluations;
 pub mod hit;
 pub mod laws;
 mod translating;
@@ -16,6 +17,7 @@ pub mod visits;
 mod walk;
 
 pub use decision::Decision;
+pub use evaluations::Evaluations;
 pub use hit::{Hit, NewEnd, PortMapping};
 pub use pfr_net::RuleNumber;
 pub use translating::translate;

@@ -1,8 +1,10 @@
 //! The rules that a walk visits.
 ghost use Rattle.std.specs.Prelude.{◌≡◌, ◌<◌, ◌≤◌, ◌+◌, [], ◌∷◌, ◌++◌, fold, OnOk, OnErr, IfOk};
 ghost use Rattle.pfr_rules.specs.Counts.{raised};
+ghost use Rattle.pfr_rules.specs.Evaluating.{Balances, counts_from};
 ghost use Rattle.pfr_rules.specs.Numbers.{follows, numbers_from};
 
+use crate::evaluations::{Tally, count_run};
 use pfr_items::Items;
 use std::alloc::{AllocError, Global};
 use std::marker::Model;
@@ -58,16 +60,13 @@ impl Run {
         Ok(())
     }
 
-    /// Counts the numbers, each at its place. Which of them have one is known before, so nothing is asked from one to the next.
-    #[tactic(auto, using(crate::proofs::CountLemmas::counted_next))]
-    fn count_in(self, counts: &mut [u64])
-        ensures { counts.new ≡ fold raised counts.old (numbers_from self.first self.count) }
+    /// Counts the rules of these numbers once more.
+    fn count_in(self, tallies: &mut [Tally])
+        requires { Balances 0 tallies.old }
+        ensures counts { counts_from 0 tallies.new ≡ fold raised (counts_from 0 tallies.old) (numbers_from self.first self.count) }
+        ensures balances { Balances 0 tallies.new }
     {
-        let end = self.count.min(counts.len().saturating_sub(self.first));
-        for index in 0..end {
-            let place = self.first + index;
-            counts[place] = counts[place].saturating_add(1);
-        }
+        count_run(tallies, self.first, self.count);
     }
 
     /// Whether a number follows the last one, and may still be counted.
@@ -107,15 +106,17 @@ impl Visits {
         Ok(())
     }
 
-    /// Counts the numbers, each at its place. A count at its last value stays there.
-    pub fn count_in(&self, counts: &mut [u64])
-        ensures { counts.new ≡ fold raised counts.old self.now }
+    /// Counts the rules of these numbers once more.
+    pub(crate) fn count_in(&self, tallies: &mut [Tally])
+        requires { Balances 0 tallies.old }
+        ensures counts { counts_from 0 tallies.new ≡ fold raised (counts_from 0 tallies.old) self.now }
+        ensures balances { Balances 0 tallies.new }
     {
         let before = self.before.as_slice();
         for run in before {
-            run.count_in(counts);
+            run.count_in(tallies);
         }
-        self.last.count_in(counts);
+        self.last.count_in(tallies);
     }
 
     /// A copy of the numbers.
