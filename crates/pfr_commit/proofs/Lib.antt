@@ -1,5 +1,6 @@
 pub mod BatchLemmas
 pub mod BookLemmas
+pub mod ChangeLemmas
 pub mod CountLemmas
 pub mod EndingLemmas
 pub mod MachineLemmas

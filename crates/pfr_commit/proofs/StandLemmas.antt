@@ -74,10 +74,10 @@ packet_told old begun purged_telling new clock later states purged_states limit 
 
 -- the world at which a book stands, by what the book holds of it
 abbrev around : Book → World → World
-around book world = record (world_in book) { verdicts = world.verdicts; packets = world.packets; events = world.events }
+around book world = record (world_in book) { verdicts = world.verdicts; packets = world.packets; changes = world.changes; events = world.events }
 
 around_is : (book : Book) (world : World) → world_in book ≡ bare world → around book world ≡ world
-around_is book world left = ap (λ (w : World). record w { verdicts = world.verdicts; packets = world.packets; events = world.events }) left
+around_is book world left = ap (λ (w : World). record w { verdicts = world.verdicts; packets = world.packets; changes = world.changes; events = world.events }) left
 
 abbrev texts_by : List ℕ → List ℕ → List Content → Texts
 texts_by verdicts packets messages = record { verdicts = verdicts; packets = packets; messages = messages }

@@ -6,6 +6,7 @@ use Rattle.std.proofs.Math.Seq.{take-suc}
 use Rattle.pfr_headers.specs.declared.packet.View.{View}
 use Rattle.pfr_headers.specs.View.{view_of}
 use Rattle.pfr_track.specs.declared.time.Clock.{Clock}
+use Rattle.pfr_states.specs.declared.change.Change.{Change}
 use Rattle.pfr_states.specs.States.{StateTable}
 use Rattle.pfr_packet.specs.declared.outcome.Outcome.{Outcome}
 use Rattle.pfr_packet.specs.Job.{RunJob}
@@ -17,16 +18,16 @@ use Rattle.pfr_commit.specs.Lines.{verdict_line}
 use Rattle.pfr_telling.specs.Telling.{changed, events_of}
 use Rattle.pfr_commit.specs.Books.{untold}
 use Rattle.pfr_commit.specs.Runs.{next_taken}
-use Rattle.pfr_commit.specs.World.{Frame, World, after, clock_at, packet_text, with_outcome, world_after}
+use Rattle.pfr_commit.specs.World.{Frame, World, after, changes_of, clock_at, packet_text, with_outcome, world_after}
 
 -- an outcome taken over, from what its parts came to
-pub outcome_taken : (world : World) (frame : Frame) (clock : Clock) (view : View) (outcome : Outcome) (purged table : StateTable) (counters : Counters) (verdicts packets : List ℕ)
+pub outcome_taken : (world : World) (frame : Frame) (clock : Clock) (view : View) (outcome : Outcome) (purged table : StateTable) (counters : Counters) (verdicts packets : List ℕ) (changes : List Change)
     → view ≡ view_of frame.link frame.bytes → purged ≡ purged_at clock world.table → table ≡ changed outcome.change purged → counters ≡ counted view outcome world.counters
-    → verdicts ≡ world.verdicts ++ verdict_line (world.count + 1) clock outcome → packets ≡ world.packets ++ packet_text frame outcome
-    → record { count = world.count + 1; clock = clock; table = table; counters = counters; verdicts = verdicts; packets = packets; events = [] } ≡ untold (with_outcome world frame clock outcome)
+    → verdicts ≡ world.verdicts ++ verdict_line (world.count + 1) clock outcome → packets ≡ world.packets ++ packet_text frame outcome → changes ≡ world.changes ++ changes_of clock outcome.change world.table.states
+    → record { count = world.count + 1; clock = clock; table = table; counters = counters; verdicts = verdicts; packets = packets; changes = changes; events = [] } ≡ untold (with_outcome world frame clock outcome)
 unfolding with_outcome
-outcome_taken world frame clock view outcome purged table counters verdicts packets view_is purged_is table_is counters_is verdicts_is packets_is =
-    rw (table_is, purged_is, counters_is, verdicts_is, packets_is, view_is) refl
+outcome_taken world frame clock view outcome purged table counters verdicts packets changes view_is purged_is table_is counters_is verdicts_is packets_is changes_is =
+    rw (table_is, purged_is, counters_is, verdicts_is, packets_is, changes_is, view_is) refl
 
 -- the next packet, from its outcome
 pub after_is : (job : RunJob) (world : World) (frame : Frame) (clock : Clock) (view : View) (outcome : Outcome)
@@ -39,13 +40,13 @@ after_is job world frame clock view outcome clock_is view_is outcome_is =
 
 -- a world behind what was written and told before
 abbrev pub behind : World → World → World
-behind before world = record world { verdicts = before.verdicts ++ world.verdicts; packets = before.packets ++ world.packets; events = before.events ++ world.events }
+behind before world = record world { verdicts = before.verdicts ++ world.verdicts; packets = before.packets ++ world.packets; changes = before.changes ++ world.changes; events = before.events ++ world.events }
 
 after_behind : (job : RunJob) (before world : World) (frame : Frame) → after job (behind before world) frame ≡ behind before (after job world frame)
 unfolding after with_outcome
 after_behind job before world frame =
     let p = next_taken job world frame in
-    rw (append_assoc before.verdicts world.verdicts (verdict_line p.number p.clock p.outcome), append_assoc before.packets world.packets (packet_text frame p.outcome), append_assoc before.events world.events (events_of p.clock p.outcome.change world.table.states)) refl
+    rw (append_assoc before.verdicts world.verdicts (verdict_line p.number p.clock p.outcome), append_assoc before.packets world.packets (packet_text frame p.outcome), append_assoc before.changes world.changes (changes_of p.clock p.outcome.change world.table.states), append_assoc before.events world.events (events_of p.clock p.outcome.change world.table.states)) refl
 
 -- what packets add doesn't hang on what was written and told before
 pub world_behind : (job : RunJob) (before : World) (frames : List Frame) (world : World) → world_after job (behind before world) frames ≡ behind before (world_after job world frames)

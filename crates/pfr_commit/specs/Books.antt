@@ -4,6 +4,7 @@ use Rattle.std.specs.List.{find}
 use Rattle.std.specs.Arc.{arc_value}
 use Rattle.pfr_headers.specs.declared.packet.View.{View}
 use Rattle.pfr_track.specs.declared.time.Clock.{Clock}
+use Rattle.pfr_states.specs.declared.change.Change.{Change}
 use Rattle.pfr_states.specs.States.{StateTable}
 use Rattle.pfr_packet.specs.Job.{RunJob}
 use Rattle.pfr_record.specs.declared.speculation.Speculation.{Speculation}
@@ -20,21 +21,21 @@ use Rattle.pfr_commit.specs.World.{Frame, Texts, World, after, clock_at, joined,
 abbrev pub job_of : Book → RunJob
 job_of book = arc_value book.job
 
--- what a book holds of a world: nothing of what was written or told
+-- what a book holds of a world: nothing of what was written or told, or done to the table
 abbrev pub world_in : Book → World
-world_in book = record { count = book.count; clock = book.clock; table = book.table; counters = book.counters; verdicts = []; packets = []; events = [] }
+world_in book = record { count = book.count; clock = book.clock; table = book.table; counters = book.counters; verdicts = []; packets = []; changes = []; events = [] }
 
--- the same, with the lines and packets that were emitted
+-- the same, with the lines, packets and changes of the table that were emitted
 abbrev pub world_with : Book → Emitted → World
-world_with book out = record (world_in book) { verdicts = out.verdicts.items; packets = out.packets.items }
+world_with book out = record (world_in book) { verdicts = out.verdicts.items; packets = out.packets.items; changes = out.changes.items }
 
 -- a world, and nothing of what was told
 abbrev pub untold : World → World
 untold world = record world { events = [] }
 
--- a world, and nothing of what was written or told
+-- a world, and nothing of what was written or told, or done to the table
 abbrev pub bare : World → World
-bare world = record world { verdicts = []; packets = []; events = [] }
+bare world = record world { verdicts = []; packets = []; changes = []; events = [] }
 
 -- ---- the worlds of a book
 
@@ -88,12 +89,12 @@ frames_of packets = map (λ packet. frame_of packet.0) packets
 abbrev pub world_up_to : RunJob → World → ℕ → List Frame → World
 world_up_to job world count frames = world_after job world (take (count - world.count) frames)
 
--- the lines and packets of a world, and those that were emitted
-abbrev pub written : World → List ℕ × List ℕ
-written world = (world.verdicts, world.packets)
+-- the lines, packets and changes of a world, and those that were emitted
+abbrev pub written : World → List ℕ × List ℕ × List Change
+written world = (world.verdicts, world.packets, world.changes)
 
-abbrev pub lines_of : Emitted → List ℕ × List ℕ
-lines_of out = (out.verdicts.items, out.packets.items)
+abbrev pub lines_of : Emitted → List ℕ × List ℕ × List Change
+lines_of out = (out.verdicts.items, out.packets.items, out.changes.items)
 
 -- where memory was refused: what was emitted is what is written by then
 abbrev pub LeavesTexts : (old : Book) → (count : ℕ) → (out out' : Emitted) → List Frame → Type 0

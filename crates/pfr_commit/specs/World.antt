@@ -1,11 +1,15 @@
 -- What a run has come to: the fold of its packets in the order of the capture, one after the other.
-use Rattle.std.specs.Prelude.{ℕ, ◌+◌, max, if◌then◌else◌, List, [], ◌++◌, Option, Some, None, fold}
+use Rattle.std.specs.Prelude.{ℕ, ◌+◌, max, if◌then◌else◌, List, [], ◌∷◌, ◌++◌, Option, Some, None, fold}
 use Rattle.pfr_ruleset.specs.Rulesets.{counts}
 use Rattle.pfr_headers.specs.declared.change.Change.{Change}
 use Rattle.pfr_headers.specs.Rewriting.{rewritten}
 use Rattle.pfr_headers.specs.View.{view_of}
 use Rattle.pfr_track.specs.declared.time.Clock.{Clock}
-use Rattle.pfr_states.specs.States.{StateTable, empty}
+use Rattle.pfr_track.specs.declared.state.State.{State}
+use Rattle.pfr_states.specs.declared.change.Change as table
+use Rattle.pfr_states.specs.declared.change.Change.TheVariants.{Purge, Apply}
+use Rattle.pfr_states.specs.declared.change.TableChange.{TableChange}
+use Rattle.pfr_states.specs.States.{StateTable, due, empty}
 use Rattle.pfr_packet.specs.declared.outcome.Outcome.{Outcome}
 use Rattle.pfr_packet.specs.Job.{RunJob}
 use Rattle.pfr_packet.specs.Plan.{purged_at}
@@ -40,6 +44,8 @@ pub record World : Type 0 where
   -- the verdict lines, and the passed packets behind the capture's header
   pub verdicts : List ℕ
   pub packets : List ℕ
+  -- what they did to the table
+  pub changes : List table.Change
   -- what became of states, as far as a standby is told of it
   pub events : List Event
 
@@ -57,6 +63,20 @@ with_bytes link (Some change) bytes = rewritten link change bytes
 unfoldable pub packet_text : Frame → Outcome → List ℕ
 packet_text frame outcome = if is_written outcome.verdict then frame.header ++ with_bytes frame.link outcome.bytes frame.bytes else []
 
+-- a purge, where a state goes by it
+abbrev pub purge_by : Clock → Option State → List table.Change
+purge_by clock None = []
+purge_by clock (Some state) = Purge clock ∷ []
+
+-- what the packet itself does to the table
+abbrev pub own_change : Option TableChange → List table.Change
+own_change None = []
+own_change (Some change) = Apply change ∷ []
+
+-- what a packet does to the table at its clock
+abbrev pub changes_of : Clock → Option TableChange → List State → List table.Change
+changes_of clock change states = purge_by clock (due clock states) ++ own_change change
+
 -- the next packet came to an outcome at a clock
 unfoldable pub with_outcome : World → Frame → Clock → Outcome → World
 with_outcome world frame clock outcome = record {
@@ -66,6 +86,7 @@ with_outcome world frame clock outcome = record {
   counters = counted (view_of frame.link frame.bytes) outcome world.counters;
   verdicts = world.verdicts ++ verdict_line (world.count + 1) clock outcome;
   packets = world.packets ++ packet_text frame outcome;
+  changes = world.changes ++ changes_of clock outcome.change world.table.states;
   events = world.events ++ events_of clock outcome.change world.table.states;
 }
 
@@ -86,6 +107,7 @@ opening job = record {
   counters = nothing_counted (counts job.rules).0 (counts job.rules).1;
   verdicts = [];
   packets = [];
+  changes = [];
   events = [];
 }
 

@@ -14,7 +14,7 @@ ghost use Rattle.pfr_commit.specs.World.{World};
 ghost use Rattle.pfr_commit.specs.World as spec;
 
 use crate::counters::Counters;
-use crate::emitted::Emitted;
+use crate::emitted::{Emitted, purge_at};
 use crate::ending::Ending;
 use crate::reruns::{Reruns, Unwatched};
 use crate::results::{Found, of_one};
@@ -246,15 +246,17 @@ impl Book {
         ensures world { OnOk result (world_with self.new out.new ≡ untold (spec.with_outcome (world_with self.old out.old) (frame_of packet.now) clock outcome.now)) }
         ensures told { OnOk result (LeadsTo self.old self.new out.old out.new (λ world. spec.with_outcome world (frame_of packet.now) clock outcome.now)) }
         ensures counted { OnOk result (self.new.count ≡ self.old.count + 1) }
-        ensures kept { OnErr result ((self.new.count ≡ self.old.count) × (texts_of out.new ≡ texts_of out.old)) }
+        ensures kept { OnErr result ((self.new.count ≡ self.old.count) × (texts_of out.new ≡ texts_of out.old) × (out.new.changes.items ≡ out.old.changes.items)) }
         ensures others { (self.new.job ≡ self.old.job) × (self.new.own ≡ self.old.own) × (self.new.is_over ≡ self.old.is_over) }
     {
         let number = self.count + 1;
+        let purge = purge_at(&self.table, clock);
         self.telling.begin(self.clock, clock)?;
         self.telling.purge(&mut self.table, clock)?;
         self.telling
             .change(&mut self.table, clock, &outcome.change, place)?;
-        out.put(number, clock, packet, outcome, &mut self.telling.closed)?;
+        let closed = &mut self.telling.closed;
+        out.put(number, clock, packet, outcome, purge, closed)?;
         self.counters.count(view, outcome);
         self.count = number;
         self.clock = clock;
@@ -281,7 +283,7 @@ impl Book {
         ensures told { OnOk result (LeadsTo self.old self.new out.old out.new (λ world. spec.after (job_of self.old) world (frame_of packet.now))) }
         ensures job { self.new.job ≡ self.old.job }
         ensures counted { OnOk result (self.new.count ≡ self.old.count + 1) }
-        ensures kept { OnErr result ((self.new.count ≡ self.old.count) × (texts_of out.new ≡ texts_of out.old)) }
+        ensures kept { OnErr result ((self.new.count ≡ self.old.count) × (texts_of out.new ≡ texts_of out.old) × (out.new.changes.items ≡ out.old.changes.items)) }
         ensures used { OnOk result (MayUseNext (found_at place results.now) self.old packet.now view.now → self.new.own ≡ self.old.own) }
         ensures evaluated { OnOk result ((MayUseNext (found_at place results.now) self.old packet.now view.now → ⊥) → self.new.own ≡ self.old.own + 1) }
         ensures ok { OnOk result (self.new.is_over ≡ false) }

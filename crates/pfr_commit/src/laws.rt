@@ -1,7 +1,7 @@
 //! Laws of the definition of a run, each the contract of a function that does nothing.
 ghost use Rattle.std.specs.Prelude.{◌≡◌, ◌≤◌, List, length, map};
 ghost use Rattle.std.specs.List.{All, range_with_len};
-ghost use Rattle.pfr_states.specs.States.{IsTable};
+ghost use Rattle.pfr_states.specs.States.{IsTable, table_of};
 ghost use Rattle.pfr_packet.specs.Job.{RunJob};
 ghost use Rattle.pfr_commit.specs.Laws.{AStandbyHoldsTheStates, BytesOfARule, ClockIsOfARecord, EachHasItsLine, EachHasItsRecord, PacketsOfARule, StatesAreOfPackets, TotalsAreTheCount, TheLastMessageIsTheRest, TotalsCountVerdicts, TwoPartsAreTheWhole, WhatIsWrittenStays};
 ghost use Rattle.pfr_commit.specs.Machine.{EveryRun};
@@ -9,6 +9,7 @@ ghost use Rattle.pfr_commit.specs.Runs.{taken_in};
 ghost use Rattle.pfr_commit.specs.World.{Frame, world_of};
 
 use pfr_packet::laws::{every_change_is_of_the_named_state, no_change_is_refused};
+use pfr_states::laws::a_purge_goes_state_by_state;
 
 /// Packets that are taken in two parts leave what they leave together.
 pub fn two_parts_are_the_whole()
@@ -64,6 +65,14 @@ pub fn every_run_leaves_a_table()
 {
     // so each change that a packet comes to leaves a table
     no_change_is_refused();
+}
+
+/// What the packets of a run did to the table makes it of the empty one, one thing after the other.
+pub fn changes_make_the_table()
+    ensures { (job : RunJob) (frames : List Frame) → table_of job.rules.options.state_limit (world_of job frames).changes ≡ (world_of job frames).table }
+{
+    // where nothing is due a purge leaves the states
+    a_purge_goes_state_by_state();
 }
 
 /// Whoever applies the messages of a run to a set of numbers, which is empty at first, holds at the end just the numbers of the

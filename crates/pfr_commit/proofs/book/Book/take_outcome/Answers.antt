@@ -1,7 +1,9 @@
-use Rattle.std.proofs.Common.{◌∙◌, refl}
+use Rattle.std.proofs.Common.{◌∙◌, ◌++◌, List, ap, refl}
 use Rattle.pfr_packet.specs.Plan.{purged_at}
 use Rattle.pfr_commit.specs.Books.{world_with}
+use Rattle.pfr_states.specs.declared.change.Change.{Change}
 use Rattle.pfr_commit.specs.Emissions.{frame_of}
+use Rattle.pfr_commit.specs.World.{own_change}
 use Rattle.pfr_commit.proofs.StandLemmas.{outcome_leads}
 use Rattle.pfr_commit.proofs.WorldLemmas.{outcome_taken}
 use Rattle.pfr_commit.proofs.book.Book.take_outcome.Goals as goal
@@ -9,9 +11,9 @@ use Rattle.pfr_commit.proofs.book.Book.take_outcome.Goals as goal
 pub returns-clause-world : goal.returns-clause-world
 unfolding purged_at
 returns-clause-world c =
-    outcome_taken (world_with c.args.self.now c.args.out.now) (frame_of c.args.packet.now) c.args.clock c.args.view.now c.args.outcome.now c.purge.new.table _ _ _ _
+    outcome_taken (world_with c.args.self.now c.args.out.now) (frame_of c.args.packet.now) c.args.clock c.args.view.now c.args.outcome.now c.purge.new.table _ _ _ _ _
     c.requires.view c.in_ok-purge.ensures.table c.in_ok-change.ensures.table c.count.ensures
-    c.in_ok-put.ensures.verdicts c.in_ok-put.ensures.packets
+    c.in_ok-put.ensures.verdicts c.in_ok-put.ensures.packets (c.in_ok-put.ensures.changes ∙ ap (λ (purges : List Change). c.args.out.now.changes.items ++ (purges ++ own_change c.args.outcome.now.change)) c.purge_at-purge.ensures)
 
 pub returns-clause-told : goal.returns-clause-told
 unfolding purged_at
