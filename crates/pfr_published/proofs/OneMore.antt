@@ -5,7 +5,7 @@ use mathlib.Core.List.{IsPrefix}
 use Rattle.pfr_states.specs.States.{StateTable, empty}
 use Rattle.pfr_states.specs.declared.change.Change.{Change}
 use Rattle.pfr_states.specs.States.{stepped, table_of}
-use Rattle.pfr_published.proofs.Beginnings.{longer_is, prefix_and_last}
+use Rattle.pfr_history.proofs.Beginnings.{longer_is, prefix_and_last}
 
 pub kept_by_one : (limit : ℕ) (xs ys both : List Change) (x : Change) (old new : StateTable)
     → (both ≡ xs) ⊎ (both ≡ ys) → IsPrefix xs both → IsPrefix ys both

@@ -6,12 +6,10 @@
 //! table of before.
 #![tactic(auto)]
 
-mod history;
 mod published;
 mod store;
 mod viewer;
 
-pub use history::{Front, History, Naming, Opened};
 pub use published::{Published, StoreWriter};
-pub use store::{Added, Store};
+pub use store::{Added, Store, TableNaming};
 pub use viewer::{Showing, Told, Viewer};

@@ -2,11 +2,11 @@
 ghost use Rattle.std.specs.Prelude.{◌≡◌, ◌^◌, ◌<◌, ◌++◌, [], IfOk, IsErr, IsTrue, MatchResult, true, false};
 ghost use Rattle.pfr_states.specs.States.{table_of};
 
-use crate::history::{History, Naming};
-use crate::store::{Added, Store};
+use crate::store::{Added, Store, TableNaming};
 use crate::viewer::{Told, Viewer};
 use crossbeam_utils::rule::Unruled;
 use left_right::writer::Writer;
+use pfr_history::History;
 use pfr_states::{Change, Table};
 use std::alloc::{AllocError, Global};
 use std::sync::Wait;
@@ -20,13 +20,13 @@ pub struct Published<W> {
     refused: bool,
 }
 
-impl<J: Naming> Published<StoreWriter<J>> {
+impl<J: TableNaming> Published<StoreWriter<J>> {
     ghost use Rattle.pfr_published.specs.Ends.{kept_by, list_behind, list_of, shown_by};
 
     /// The empty table, for so many states and so many viewers at once. Only memory can be refused.
     pub fn new(
         alloc: Global,
-        history: &History<J>,
+        history: &History<J, Change>,
         limit: usize,
         viewers: usize,
     ) -> Result<Published<StoreWriter<J>>, AllocError>
@@ -53,7 +53,7 @@ impl<J: Naming> Published<StoreWriter<J>> {
     }
 
     /// A viewer that knows nothing yet. It is refused where there are as many as there may be, or there is no memory.
-    pub fn viewer(&self, history: &History<J>) -> Result<Viewer<J>, AllocError>
+    pub fn viewer(&self, history: &History<J, Change>) -> Result<Viewer<J>, AllocError>
         ensures { IfOk result (λ viewer. viewer ≡ []) }
     {
         Ok(Viewer {
@@ -68,7 +68,7 @@ impl<J: Naming> Published<StoreWriter<J>> {
     pub fn publish<R: Wait>(
         self,
         rt: &R,
-        history: &History<J>,
+        history: &History<J, Change>,
         changes: &[Change],
     ) -> (Published<StoreWriter<J>>, Result<(), AllocError>)
         ensures list { MatchResult result.1 (λ _. list_of result.0 ≡ list_of self ++ changes.now) (λ _. list_of result.0 ≡ list_of self) }
@@ -98,7 +98,7 @@ impl<J: Naming> Published<StoreWriter<J>> {
     }
 
     /// Adds changes to the list, and has the writer keep them. It answers whether all were.
-    fn append_all(writer: &mut StoreWriter<J>, history: &History<J>, changes: &[Change]) -> bool
+    fn append_all(writer: &mut StoreWriter<J>, history: &History<J, Change>, changes: &[Change]) -> bool
         requires { kept_by writer.old ≡ [] }
         ensures desk { writer.new.desk ≡ writer.old.desk }
         ensures list { IsTrue result → list_behind writer.new ≡ shown_by writer.old ++ changes.now }

@@ -2,24 +2,36 @@
 ghost use Rattle.std.specs.Prelude.{◌≡◌, ◌+◌, ◌-◌, [], length, Some, MatchResult, slice_get};
 ghost use Rattle.pfr_states.specs.States.{stepped, table_of};
 
-use crate::history::{Front, Naming};
 use left_right::Absorb;
+use pfr_history::{Front, Naming};
 use pfr_states::{Change, Table, TableError};
 use std::alloc::{AllocError, Global};
+use std::marker::Brand;
+
+/// Which list of changes it is, and how many states the table may have that they make. A call of a program picks both.
+pub trait TableNaming: Naming {
+    ghost use Rattle.std.specs.Prelude.{ℕ};
+
+    ghost limit: { ℕ };
+}
+
+impl TableNaming for Brand {
+    ghost limit = { 0 };
+}
 
 /// A change that was added, and the beginning of the list that ends with it.
 #[derive(Drop)]
-pub struct Added<J: Naming> {
+pub struct Added<J: TableNaming> {
     pub(crate) change: Change,
-    pub(crate) front: Front<J>,
+    pub(crate) front: Front<J, Change>,
     ghost last: { slice_get front (length front - 1) ≡ Some change },
 }
 
 /// A table of states, and the beginning of the list that has made it of the empty table.
 #[derive(Drop)]
-pub struct Store<J: Naming> {
+pub struct Store<J: TableNaming> {
     pub(crate) table: Table,
-    pub(crate) front: Front<J>,
+    pub(crate) front: Front<J, Change>,
     ghost kept: { table ≡ table_of J.limit front },
 }
 
@@ -36,9 +48,9 @@ fn apply(table: &mut Table, change: &Change) -> Result<(), TableError>
     }
 }
 
-impl<J: Naming> Store<J> {
+impl<J: TableNaming> Store<J> {
     /// The empty table, before any change.
-    pub(crate) fn new(alloc: Global, limit: usize, front: Front<J>) -> Store<J>
+    pub(crate) fn new(alloc: Global, limit: usize, front: Front<J, Change>) -> Store<J>
         requires limit { limit ≡ J.limit }
         requires front { front ≡ [] }
         ensures { result.front ≡ [] }
@@ -60,7 +72,7 @@ impl<J: Naming> Store<J> {
     }
 }
 
-impl<J: Naming> Absorb<Added<J>> for Store<J> {
+impl<J: TableNaming> Absorb<Added<J>> for Store<J> {
     type State = [Change; 0];
 
     ghost state = { λ store. store.front };

@@ -3,20 +3,20 @@ ghost use Rattle.std.specs.Prelude.{◌≡◌, IfOk, IfErr};
 ghost use mathlib.Core.List.{IsPrefix};
 ghost use Rattle.pfr_states.specs.States.{table_of};
 
-use crate::history::{Front, Naming};
-use crate::store::Store;
+use crate::store::{Store, TableNaming};
 use crossbeam_utils::rule::Unruled;
 use left_right::reader::{Reader, Reading};
-use pfr_states::Table;
+use pfr_history::Front;
+use pfr_states::{Change, Table};
 use std::marker::Model;
 
 /// How far the list had come when it was told. Contracts see the changes.
 #[derive(Drop)]
-pub struct Told<J: Naming> {
-    pub(crate) front: Front<J>,
+pub struct Told<J: TableNaming> {
+    pub(crate) front: Front<J, Change>,
 }
 
-impl<J: Naming> Model for Told<J> {
+impl<J: TableNaming> Model for Told<J> {
     ghost use Rattle.std.specs.Prelude.{List};
     ghost use Rattle.pfr_states.specs.declared.change.Change.{Change};
 
@@ -25,14 +25,25 @@ impl<J: Naming> Model for Told<J> {
     ghost view = { λ told. told.front };
 }
 
-/// Someone who may look at the table. Contracts see the changes that are known to be in it.
-#[derive(Drop)]
-pub struct Viewer<J: Naming> {
-    pub(crate) reader: Reader<Store<J>, (), Unruled>,
-    pub(crate) known: Front<J>,
+impl<J: TableNaming> Told<J> {
+    /// The same once more.
+    pub fn again(&self) -> Told<J>
+        ensures { result ≡ self.now }
+    {
+        Told {
+            front: self.front.again(),
+        }
+    }
 }
 
-impl<J: Naming> Model for Viewer<J> {
+/// Someone who may look at the table. Contracts see the changes that are known to be in it.
+#[derive(Drop)]
+pub struct Viewer<J: TableNaming> {
+    pub(crate) reader: Reader<Store<J>, (), Unruled>,
+    pub(crate) known: Front<J, Change>,
+}
+
+impl<J: TableNaming> Model for Viewer<J> {
     ghost use Rattle.std.specs.Prelude.{List};
     ghost use Rattle.pfr_states.specs.declared.change.Change.{Change};
 
@@ -43,12 +54,12 @@ impl<J: Naming> Model for Viewer<J> {
 
 /// A viewer while it looks at the table, which stays the same until it leaves. Contracts see the changes that are in it.
 /// It is not `Drop`: end it by [`Showing::leave`].
-pub struct Showing<J: Naming> {
+pub struct Showing<J: TableNaming> {
     reading: Reading<Store<J>, (), Unruled>,
-    known: Front<J>,
+    known: Front<J, Change>,
 }
 
-impl<J: Naming> Model for Showing<J> {
+impl<J: TableNaming> Model for Showing<J> {
     ghost use Rattle.std.specs.Prelude.{◌≡◌, List};
     ghost use Rattle.pfr_states.specs.declared.change.Change.{Change};
 
@@ -59,7 +70,7 @@ impl<J: Naming> Model for Showing<J> {
     ghost invariant = { λ showing. showing.known ≡ showing.reading.part.value.front };
 }
 
-impl<J: Naming> Viewer<J> {
+impl<J: TableNaming> Viewer<J> {
     /// Learns how far the list had come. What was known stays known, also where that was more.
     pub fn learn(&mut self, told: Told<J>)
         ensures kept { IsPrefix self.old self.new }
@@ -95,7 +106,7 @@ impl<J: Naming> Viewer<J> {
     }
 }
 
-impl<J: Naming> Showing<J> {
+impl<J: TableNaming> Showing<J> {
     /// The table: what the changes that are known make of the empty one.
     pub fn table(&self) -> &Table
         ensures { result.now ≡ table_of J.limit self.now }

@@ -2,7 +2,8 @@
 ghost use Rattle.std.specs.Prelude.{◌≡◌};
 
 use crate::states::{key, number_of, state};
-use pfr_published::{Naming, Opened, Published, StoreWriter, Told, Viewer};
+use pfr_history::Opened;
+use pfr_published::{Published, StoreWriter, TableNaming, Told, Viewer};
 use pfr_states::{Change, TableChange};
 use pfr_track::Clock;
 use std::alloc::Global;
@@ -19,7 +20,7 @@ fn made(number: u32, deadline: u64) -> Change {
 }
 
 /// The viewer behind a look at the table, with how many states it has and the least number of one.
-fn look<J: Naming>(viewer: Viewer<J>) -> (Viewer<J>, (usize, u64)) {
+fn look<J: TableNaming>(viewer: Viewer<J>) -> (Viewer<J>, (usize, u64)) {
     match viewer.enter() {
         Ok(showing) => {
             let table = showing.table();
@@ -31,7 +32,7 @@ fn look<J: Naming>(viewer: Viewer<J>) -> (Viewer<J>, (usize, u64)) {
 }
 
 /// Waits until something was told, for ten seconds or more at most.
-fn wait_for<J: Naming, R: Wait + std::time::Clock>(
+fn wait_for<J: TableNaming, R: Wait + std::time::Clock>(
     rt: &R,
     told: &Mutex<Option<Told<J>>>,
 ) -> Option<Told<J>> {
@@ -46,7 +47,7 @@ fn wait_for<J: Naming, R: Wait + std::time::Clock>(
 }
 
 /// Looks once something was told.
-fn look_when_told<J: Naming, R: Wait + std::time::Clock>(
+fn look_when_told<J: TableNaming, R: Wait + std::time::Clock>(
     rt: &R,
     told: &Mutex<Option<Told<J>>>,
     mut viewer: Viewer<J>,
@@ -61,9 +62,9 @@ fn look_when_told<J: Naming, R: Wait + std::time::Clock>(
 }
 
 fn seen_beside<
-    J: Naming + Send + Sync + 'static,
+    J: TableNaming + Send + Sync + 'static,
     R: Threads + Wait + Abort + std::time::Clock + Copy + Send + 'static,
->(rt: R, alloc: Global, opened: Opened, limit: usize) -> (usize, u64)
+>(rt: R, alloc: Global, opened: Opened<Change>, limit: usize) -> (usize, u64)
     requires history { opened ≡ J.history }
     requires limit { limit ≡ J.limit }
 {
@@ -94,7 +95,7 @@ fn another_thread_sees_what_is_published(rt: HostRuntime) {
     assert!(rt; seen == (2, 2));
 }
 
-fn learns_late<J: Naming, R: Wait + Abort>(rt: &R, alloc: Global, opened: Opened, limit: usize)
+fn learns_late<J: TableNaming, R: Wait + Abort>(rt: &R, alloc: Global, opened: Opened<Change>, limit: usize)
     requires history { opened ≡ J.history }
     requires limit { limit ≡ J.limit }
 {
@@ -120,7 +121,7 @@ fn a_viewer_learns_late_and_out_of_order(rt: HostRuntime) {
     learns_late::<Brand, _>(&rt, rt.alloc(), Opened::new(), 4);
 }
 
-fn refuses<J: Naming, R: Wait + Abort>(rt: &R, alloc: Global, opened: Opened, limit: usize)
+fn refuses<J: TableNaming, R: Wait + Abort>(rt: &R, alloc: Global, opened: Opened<Change>, limit: usize)
     requires history { opened ≡ J.history }
     requires limit { limit ≡ J.limit }
 {

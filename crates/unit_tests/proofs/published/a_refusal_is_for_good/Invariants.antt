@@ -1,5 +1,9 @@
 use Rattle.unit_tests.proofs.published.a_refusal_is_for_good.Given as goal
 
--- the list that was just opened, and the limit that is asked for
-abbrev pub ghosts-refuses : goal.ghosts-refuses
-ghosts-refuses g a = record { history = a.opened; limit = a.limit }
+-- the list that was just opened
+abbrev pub ghosts-refuses-J-Naming : goal.ghosts-refuses-J-Naming
+ghosts-refuses-J-Naming g a = record { history = a.opened }
+
+-- and the limit that is asked for
+abbrev pub ghosts-refuses-J-TableNaming : goal.ghosts-refuses-J-TableNaming
+ghosts-refuses-J-TableNaming g a = record { limit = a.limit }

@@ -1,5 +1,9 @@
 use Rattle.unit_tests.proofs.published.another_thread_sees_what_is_published.Given as goal
 
--- the list that was just opened, and the limit that is asked for
-abbrev pub ghosts-seen_beside : goal.ghosts-seen_beside
-ghosts-seen_beside g a = record { history = a.opened; limit = a.limit }
+-- the list that was just opened
+abbrev pub ghosts-seen_beside-J-Naming : goal.ghosts-seen_beside-J-Naming
+ghosts-seen_beside-J-Naming g a = record { history = a.opened }
+
+-- and the limit that is asked for
+abbrev pub ghosts-seen_beside-J-TableNaming : goal.ghosts-seen_beside-J-TableNaming
+ghosts-seen_beside-J-TableNaming g a = record { limit = a.limit }

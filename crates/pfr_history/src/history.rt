@@ -1,19 +1,18 @@
-//! The one list of changes, which only grows. It stands in the proofs alone: a running program has its length.
+//! One list, which only grows. It stands in the proofs alone: a running program has its length.
 ghost use Rattle.std.specs.Prelude.{◌≡◌, ◌⊎◌, ◌↔◌, ◌++◌, ◌∷◌, [], length, IsTrue, MatchBool};
 ghost use mathlib.Core.List.{IsPrefix};
-ghost use Rattle.pfr_published.specs.Adding.{head_of};
+ghost use Rattle.pfr_history.specs.Adding.{head_of};
 
 use logbook::{Gain, Offer, Plain, Play, Rule, Seen, Start, Word};
-use pfr_states::Change;
 use std::marker::{Brand, Model, PhantomData};
 
 /// The rule of the list: the word that threads share is its length.
 pub struct Grows;
 
-impl Rule<Change, u64> for Grows {
+impl<E> Rule<E, u64> for Grows {
     ghost use Rattle.std.specs.Prelude.{[]};
     ghost use base.Fml.{ftrue};
-    ghost use Rattle.pfr_published.specs.Adding.{IsKept};
+    ghost use Rattle.pfr_history.specs.Adding.{IsKept};
 
     ghost holds = { λ cells log. IsKept cells log };
 
@@ -31,55 +30,51 @@ impl Rule<Change, u64> for Grows {
 /// A step gives its caller nothing but what it has seen.
 pub struct Nothing;
 
-impl Gain<Change, u64> for Nothing {
+impl<E> Gain<E, u64> for Nothing {
     ghost use base.Fml.{ftrue};
 
     ghost after = { λ names about answer. ftrue };
 }
 
-/// The step that adds a change.
+/// The step that adds an entry.
 pub struct Add;
 
-impl Play<Change, u64> for Add {
-    ghost use Rattle.pfr_published.specs.Adding.{Adds};
+impl<E> Play<E, u64> for Add {
+    ghost use Rattle.pfr_history.specs.Adding.{Adds};
 
     ghost then = { Adds };
 }
 
-/// What the step asks for: the change.
-impl Plain<Change, Change, u64> for Add {
+/// What the step asks for: the entry.
+impl<E> Plain<E, E, u64> for Add {
     ghost use Rattle.std.specs.Prelude.{None};
 
-    ghost ask = { λ change. change };
+    ghost ask = { λ entry. entry };
 
-    ghost state = { λ change. None };
+    ghost state = { λ entry. None };
 }
 
-/// Which list it is, and how many states its tables may have. A call of a program picks both.
+/// Which list it is. A call of a program picks it.
 pub trait Naming {
     ghost use Rattle.std.specs.Prelude.{ℕ};
     ghost use Rattle.logbook.specs.Pages.{Book};
 
     ghost history: { Book };
-
-    ghost limit: { ℕ };
 }
 
 impl Naming for Brand {
     ghost history = { record { number = 0; log_name = 0; cells_name = 0 } };
-
-    ghost limit = { 0 };
 }
 
 /// An empty list, which has no name yet. Contracts see which one it is.
-pub struct Opened {
-    head: Word<Change, u64, Grows>,
-    seen: Seen<Change, u64, Grows>,
+pub struct Opened<E> {
+    head: Word<E, u64, Grows>,
+    seen: Seen<E, u64, Grows>,
     ghost empty: { seen.log ≡ [] },
     ghost head_is: { head ≡ head_of seen.book },
 }
 
-impl Model for Opened {
+impl<E> Model for Opened<E> {
     ghost use Rattle.logbook.specs.Pages.{Book};
 
     ghost Value = { Book };
@@ -87,9 +82,9 @@ impl Model for Opened {
     ghost view = { λ opened. opened.seen.book };
 }
 
-impl Opened {
+impl<E> Opened<E> {
     /// A new list.
-    pub fn new() -> Opened {
+    pub fn new() -> Opened<E> {
         let (seen, mut first, _second) = Seen::open(Start::alone(), 0, 0);
         Opened {
             head: Word::tracked(0, &mut first),
@@ -98,7 +93,7 @@ impl Opened {
     }
 
     /// The list under a name.
-    pub fn named<J: Naming>(self) -> History<J>
+    pub fn named<J: Naming>(self) -> History<J, E>
         requires { self ≡ J.history }
     {
         let Opened { head, seen } = self;
@@ -110,20 +105,20 @@ impl Opened {
     }
 }
 
-/// The list of this name, to which changes are added.
+/// The list of this name, to which entries are added.
 #[derive(Drop)]
-pub struct History<J: Naming> {
-    head: Word<Change, u64, Grows>,
-    seen: Seen<Change, u64, Grows>,
+pub struct History<J: Naming, E> {
+    head: Word<E, u64, Grows>,
+    seen: Seen<E, u64, Grows>,
     of: PhantomData<J>,
     ghost empty: { seen.log ≡ [] },
     ghost seen_is: { seen.book ≡ J.history },
     ghost head_is: { head ≡ head_of J.history },
 }
 
-impl<J: Naming> History<J> {
-    /// The beginning of the list that has no change.
-    pub(crate) fn start(&self) -> Front<J>
+impl<J: Naming, E> History<J, E> {
+    /// The beginning of the list that has no entry.
+    pub fn start(&self) -> Front<J, E>
         ensures { result ≡ [] }
     {
         Front {
@@ -134,27 +129,26 @@ impl<J: Naming> History<J> {
     }
 }
 
-/// A beginning of the list. Contracts see it as its changes.
+/// A beginning of the list. Contracts see it as its entries.
 #[derive(Drop)]
-pub struct Front<J: Naming> {
+pub struct Front<J: Naming, E> {
     count: u64,
-    seen: Seen<Change, u64, Grows>,
+    seen: Seen<E, u64, Grows>,
     of: PhantomData<J>,
 }
 
-impl<J: Naming> Model for Front<J> {
+impl<J: Naming, E> Model for Front<J, E> {
     ghost use Rattle.std.specs.Prelude.{◌≡◌, List, length};
-    ghost use Rattle.pfr_states.specs.declared.change.Change.{Change};
 
-    ghost Value = { List Change };
+    ghost Value = { List E };
 
     ghost view = { λ f. f.seen.log };
 
     ghost invariant = { λ f. (f.count ≡ length f.seen.log) × (f.seen.book ≡ J.history) };
 }
 
-impl<J: Naming> Front<J> {
-    /// How many changes it has.
+impl<J: Naming, E> Front<J, E> {
+    /// How many entries it has.
     pub fn len(&self) -> u64
         ensures { result ≡ length self.now }
     {
@@ -162,7 +156,7 @@ impl<J: Naming> Front<J> {
     }
 
     /// The same beginning once more.
-    pub fn again(&self) -> Front<J>
+    pub fn again(&self) -> Front<J, E>
         ensures { result ≡ self.now }
     {
         Front {
@@ -173,7 +167,7 @@ impl<J: Naming> Front<J> {
     }
 
     /// The longer of two, which the other begins.
-    pub fn longer(&self, other: &Front<J>) -> Front<J>
+    pub fn longer(&self, other: &Front<J, E>) -> Front<J, E>
         ensures one { (result ≡ self.now) ⊎ (result ≡ other.now) }
         ensures this { IsPrefix self.now result }
         ensures that { IsPrefix other.now result }
@@ -188,7 +182,7 @@ impl<J: Naming> Front<J> {
     }
 
     /// Whether it begins the other one: whether it is no longer, since both begin one list.
-    pub fn begins(&self, other: &Front<J>) -> bool
+    pub fn begins(&self, other: &Front<J, E>) -> bool
         ensures { IsTrue result ↔ IsPrefix self.now other.now }
     {
         let mut both = self.seen.again();
@@ -196,18 +190,18 @@ impl<J: Naming> Front<J> {
         self.count <= other.count
     }
 
-    /// Adds a change behind these, and says whether it did. It did not where the list was longer already, or is as long as
+    /// Adds an entry behind these, and says whether it did. It did not where the list was longer already, or is as long as
     /// 64 bits can say.
-    pub(crate) fn add(&mut self, history: &History<J>, change: &Change) -> bool
-        ensures { MatchBool result (self.new ≡ self.old ++ change.now ∷ []) (IsPrefix self.old self.new) }
+    pub fn add(&mut self, history: &History<J, E>, entry: &E) -> bool
+        ensures { MatchBool result (self.new ≡ self.old ++ entry.now ∷ []) (IsPrefix self.old self.new) }
     {
         let count = self.count;
         if count == u64::MAX {
             return false;
         }
-        let mut offer: Offer<Change, u64, Grows, Nothing> = self
+        let mut offer: Offer<E, u64, Grows, Nothing> = self
             .seen
-            .plain::<Nothing, Change, Add>(change);
+            .plain::<Nothing, E, Add>(entry);
         let mut pen = self.seen.no_pen();
         let found = history
             .head

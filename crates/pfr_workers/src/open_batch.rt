@@ -1,0 +1,259 @@
+//! A batch that workers draw from.
+ghost use Rattle.std.specs.Prelude.{◌≡◌, ◌≤◌, ◌<◌, ◌+◌, [], IfOk, IfSome, vec_len};
+ghost use Rattle.std.specs.Arc.{arc_value};
+ghost use Rattle.std.specs.List.{All};
+ghost use Rattle.pfr_workers.specs.Opening.{IsNumbered};
+
+use crate::crew::Crew;
+use crate::opening::{Numbered, Openings};
+use crate::task::{Message, Task, pass_of};
+use crossbeam_channel::{Receiver, Sender, unbounded};
+use pfr_claims::{ClaimPass, Claims, EndedPass, Gathered};
+use pfr_history::Naming;
+use std::alloc::{AllocError, Global};
+use std::sync::{Arc, Wait};
+
+/// A batch that workers draw from: what they share of it, and the passes that wait for the others to end, since no worker could be
+/// given them.
+#[derive(Drop)]
+pub struct OpenBatch<J: Naming, B: Drop, G: Drop> {
+    pub batch: Arc<B>,
+    claims: Arc<Claims>,
+    numbered: Numbered<J>,
+    inbox: Receiver<Message<J, G>>,
+    kept: Vec<ClaimPass>,
+    ended: Vec<EndedPass>,
+    pub count: u64,
+    pub workers: u64,
+    pub ghost some: { 0 < workers },
+    ghost sizes: { ((arc_value claims).sizes.count ≡ count) × ((arc_value claims).sizes.workers ≡ workers) },
+    ghost named: { IsNumbered numbered.front numbered.number (arc_value claims) },
+    ghost kept_own: { All (λ pass. pass.batch ≡ arc_value claims) kept.items },
+    ghost ended_own: { All (λ pass. pass.batch ≡ arc_value claims) ended.items },
+}
+
+/// What came of a batch: the groups of answers in the order in which they arrived, what the workers shared, and the batch with all its
+/// passes ended, if they all came back. A group has answers of one worker, in the order of their numbers.
+#[derive(Drop)]
+pub struct Finished<B: Drop, G: Drop> {
+    pub groups: Vec<G>,
+    pub batch: Arc<B>,
+    pub gathered: Option<Gathered>,
+}
+
+/// Gives a worker its pass of a batch. The pass comes back where there is no such worker, or memory is refused.
+fn give<J: Naming, R: Wait, B: Drop, G: Drop>(
+    rt: &R,
+    desk: &Option<Sender<Task<J, B, G>>>,
+    claims: &Arc<Claims>,
+    batch: &Arc<B>,
+    results: &Sender<Message<J, G>>,
+    numbered: &Numbered<J>,
+    pass: ClaimPass,
+) -> Option<ClaimPass>
+    requires own { pass.batch ≡ arc_value claims.now }
+    requires named { IsNumbered numbered.now.front numbered.now.number (arc_value claims.now) }
+    ensures { IfSome result (λ pass. pass.batch ≡ arc_value claims.now) }
+{
+    let Some(desk) = desk else {
+        return Some(pass);
+    };
+    let Ok(its_claims) = Arc::try_clone(claims) else {
+        return Some(pass);
+    };
+    let Ok(its_batch) = Arc::try_clone(batch) else {
+        return Some(pass);
+    };
+    let Ok(its_results) = results.clone() else {
+        return Some(pass);
+    };
+    let task = Task {
+        claims: its_claims,
+        pass,
+        batch: its_batch,
+        results: its_results,
+        numbered: numbered.again(),
+    };
+    match desk.send(rt, task) {
+        Ok(()) => None,
+        Err(refused) => {
+            let Task {
+                claims: _,
+                pass,
+                batch: _,
+                results: _,
+                numbered: _,
+            } = refused.into_inner();
+            Some(pass)
+        }
+    }
+}
+
+/// Gives each worker its pass. Those come back that no worker could be given.
+fn give_all<J: Naming, R: Wait, B: Drop, G: Drop>(
+    rt: &R,
+    alloc: Global,
+    desks: &[Option<Sender<Task<J, B, G>>>],
+    claims: &Arc<Claims>,
+    batch: &Arc<B>,
+    results: Sender<Message<J, G>>,
+    numbered: &Numbered<J>,
+    mut passes: Vec<ClaimPass>,
+) -> Result<Vec<ClaimPass>, AllocError>
+    requires own { All (λ pass. pass.batch ≡ arc_value claims.now) passes.items }
+    requires named { IsNumbered numbered.now.front numbered.now.number (arc_value claims.now) }
+    ensures { IfOk result (λ kept. All (λ pass. pass.batch ≡ arc_value claims.now) kept.items) }
+{
+    let mut kept = Vec::with_capacity(alloc, passes.len())?;
+    for desk in desks {
+        if let Some(pass) = passes.pop()
+            && let Some(pass) = give(rt, desk, claims, batch, &results, numbered, pass)
+        {
+            kept.push(pass)?;
+        }
+    }
+    Ok(kept)
+}
+
+impl<J: Naming, B: Drop, G: Drop> Crew<J, B, G> {
+    /// Opens a batch of so many numbers, at most 4096: each worker is given its pass. The only error is that memory was refused.
+    pub fn open<R: Wait>(
+        &self,
+        rt: &R,
+        alloc: Global,
+        openings: &mut Openings<J>,
+        batch: B,
+        count: u64,
+    ) -> Result<OpenBatch<J, B, G>, AllocError>
+        requires count { count ≤ 4096 }
+        requires workers { (0 < vec_len self.now.desks) × (vec_len self.now.desks ≤ 64) }
+        ensures batch { IfOk result (λ open_batch. arc_value open_batch.batch ≡ batch) }
+        ensures sizes { IfOk result (λ open_batch. (open_batch.count ≡ count) × (open_batch.workers ≡ vec_len self.now.desks)) }
+    {
+        let workers = self.desks.len() as u64;
+        let (claims, passes) = Claims::new(alloc, count, workers)?;
+        let numbered = openings.add(&claims).ok_or(AllocError)?;
+        let claims = Arc::new(alloc, claims)?;
+        let batch = Arc::new(alloc, batch)?;
+        let ended = Vec::with_capacity(alloc, self.desks.len())?;
+        let (results, inbox) = unbounded(alloc)?;
+        let desks = self.desks.as_slice();
+        let kept = give_all(rt, alloc, desks, &claims, &batch, results, &numbered, passes)?;
+        Ok(OpenBatch {
+            batch,
+            claims,
+            numbered,
+            inbox,
+            kept,
+            ended,
+            count,
+            workers,
+        })
+    }
+}
+
+/// What has come back of a batch.
+#[derive(Drop)]
+struct Returned<G: Drop> {
+    groups: Vec<G>,
+    ended: Vec<EndedPass>,
+}
+
+impl<G: Drop> Returned<G> {
+    /// Takes a message of a batch. A group that there is no memory for is let go of, and so is a pass.
+    fn take<J: Naming>(&mut self, numbered: &Numbered<J>, claims: &Claims, message: Message<J, G>)
+        requires named { IsNumbered numbered.now.front numbered.now.number claims.now }
+        requires own { All (λ pass. pass.batch ≡ claims.now) self.old.ended.items }
+        ensures { All (λ pass. pass.batch ≡ claims.now) self.new.ended.items }
+    {
+        match message {
+            Message::Group(group) => {
+                let _kept = self.groups.push(group);
+            }
+            Message::Back(back) => {
+                if let Some(pass) = pass_of(numbered, claims, back) {
+                    let _kept = self.ended.push(pass);
+                }
+            }
+        }
+    }
+}
+
+/// Receives groups of answers and passes until the last sender is gone.
+fn receive<J: Naming, R: Wait, G: Drop>(
+    rt: &R,
+    inbox: Receiver<Message<J, G>>,
+    numbered: &Numbered<J>,
+    claims: &Claims,
+    returned: Returned<G>,
+) -> Returned<G>
+    requires named { IsNumbered numbered.now.front numbered.now.number claims.now }
+    requires own { All (λ pass. pass.batch ≡ claims.now) returned.ended.items }
+    ensures { All (λ pass. pass.batch ≡ claims.now) result.ended.items }
+{
+    let mut returned = returned;
+    for message in inbox.iter(rt) {
+        returned.take(numbered, claims, message);
+    }
+    returned
+}
+
+/// Draws passes of a batch to their ends, one after the other, and puts them behind others.
+fn drain_all(
+    claims: &Claims,
+    mut passes: Vec<ClaimPass>,
+    mut ended: Vec<EndedPass>,
+) -> Vec<EndedPass>
+    requires passes { All (λ pass. pass.batch ≡ claims.now) passes.items }
+    requires ended { All (λ pass. pass.batch ≡ claims.now) ended.items }
+    ensures { All (λ pass. pass.batch ≡ claims.now) result.items }
+{
+    while let Some(pass) = passes.pop() {
+        let _kept = ended.push(claims.drain(pass));
+    }
+    ended
+}
+
+/// The batch with all its passes ended, if they are all here.
+fn gathered(claims: &Claims, workers: u64, ended: Vec<EndedPass>) -> Option<Gathered>
+    requires own { All (λ pass. pass.batch ≡ claims.now) ended.items }
+    requires workers { (claims.now.sizes.workers ≡ workers) × (0 < workers) }
+    ensures { IfSome result (λ gathered. gathered.sizes ≡ claims.now.sizes) }
+{
+    if ended.len() as u64 == workers {
+        Some(claims.gather(ended))
+    } else {
+        None
+    }
+}
+
+impl<J: Naming, B: Drop, G: Drop> OpenBatch<J, B, G> {
+    /// Waits until all workers have ended their passes of the batch, and draws the other passes to their ends then. Passes are missing
+    /// where a worker was refused memory to send its own back. The workers have let go of what they shared.
+    pub fn finish<R: Wait>(self, rt: &R, alloc: Global) -> Finished<B, G>
+        ensures batch { result.batch ≡ self.batch }
+        ensures sizes { IfSome result.gathered (λ gathered. (gathered.sizes.count ≡ self.count) × (gathered.sizes.workers ≡ self.workers)) }
+    {
+        let OpenBatch {
+            batch,
+            claims,
+            numbered,
+            inbox,
+            kept,
+            ended,
+            count: _,
+            workers,
+        } = self;
+        let returned = Returned {
+            groups: Vec::new(alloc),
+            ended,
+        };
+        let Returned { groups, ended } = receive(rt, inbox, &numbered, &claims, returned);
+        let ended = drain_all(&claims, kept, ended);
+        Finished {
+            groups,
+            batch,
+            gathered: gathered(&claims, workers, ended),
+        }
+    }
+}
