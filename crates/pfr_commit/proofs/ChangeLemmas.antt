@@ -1,9 +1,8 @@
 -- What packets do to the table makes the table that they leave.
-use Rattle.std.proofs.Common.{◌≡◌, ◌∙◌, ℕ, List, [], ◌∷◌, ◌++◌, Option, Some, None, fold, refl, sym, ap}
+use Rattle.std.proofs.Common.{◌≡◌, ◌∙◌, ℕ, List, [], ◌∷◌, Option, Some, None, fold, refl, sym, ap}
 use Rattle.std.proofs.lemmas.Grind.{fold-append}
 use Rattle.pfr_track.specs.declared.state.State.{State}
 use Rattle.pfr_track.specs.declared.time.Clock.{Clock}
-use Rattle.pfr_states.specs.declared.change.Change.{Change}
 use Rattle.pfr_states.specs.declared.change.TableChange.{TableChange}
 use Rattle.pfr_states.specs.States.{StateTable, all_due, due, empty, purged, stepped, table_of}
 use Rattle.pfr_packet.specs.Job.{RunJob}

@@ -6,7 +6,7 @@ use Rattle.pfr_headers.specs.Rewriting.{rewritten}
 use Rattle.pfr_headers.specs.View.{view_of}
 use Rattle.pfr_track.specs.declared.time.Clock.{Clock}
 use Rattle.pfr_track.specs.declared.state.State.{State}
-use Rattle.pfr_states.specs.declared.change.Change as table
+use Rattle.pfr_states.specs.declared.change.Change as tables
 use Rattle.pfr_states.specs.declared.change.Change.TheVariants.{Purge, Apply}
 use Rattle.pfr_states.specs.declared.change.TableChange.{TableChange}
 use Rattle.pfr_states.specs.States.{StateTable, due, empty}
@@ -45,7 +45,7 @@ pub record World : Type 0 where
   pub verdicts : List ℕ
   pub packets : List ℕ
   -- what they did to the table
-  pub changes : List table.Change
+  pub changes : List tables.Change
   -- what became of states, as far as a standby is told of it
   pub events : List Event
 
@@ -64,17 +64,17 @@ unfoldable pub packet_text : Frame → Outcome → List ℕ
 packet_text frame outcome = if is_written outcome.verdict then frame.header ++ with_bytes frame.link outcome.bytes frame.bytes else []
 
 -- a purge, where a state goes by it
-abbrev pub purge_by : Clock → Option State → List table.Change
+abbrev pub purge_by : Clock → Option State → List tables.Change
 purge_by clock None = []
 purge_by clock (Some state) = Purge clock ∷ []
 
 -- what the packet itself does to the table
-abbrev pub own_change : Option TableChange → List table.Change
+abbrev pub own_change : Option TableChange → List tables.Change
 own_change None = []
 own_change (Some change) = Apply change ∷ []
 
 -- what a packet does to the table at its clock
-abbrev pub changes_of : Clock → Option TableChange → List State → List table.Change
+abbrev pub changes_of : Clock → Option TableChange → List State → List tables.Change
 changes_of clock change states = purge_by clock (due clock states) ++ own_change change
 
 -- the next packet came to an outcome at a clock

@@ -102,7 +102,7 @@ fn put_changes(
     if let Some(change) = change {
         if let Err(refused) = changes.push(pfr_states::Change::Apply(*change)) {
             changes.truncate(start);
-            return Err(refused);
+            return Err(refused.into());
         }
     }
     Ok(())

@@ -5,4 +5,4 @@ use Rattle.pfr_commit.proofs.book.Book.commit.Goals as goal
 
 pub returns-clause-told : goal.returns-clause-told
 returns-clause-told c = λ (world : World) (stands : StandsAt c.args.self.now world).
-    c.in_ok-take.ensures.told world (online (job_of c.args.self.now) world) stands (nothing_behind (online (job_of c.args.self.now) world) _ c.new-out.ensures)
+    c.in_ok-take.ensures.told world (online (job_of c.args.self.now) world) stands (nothing_behind (online (job_of c.args.self.now) world) _ c.new-out.ensures.texts)

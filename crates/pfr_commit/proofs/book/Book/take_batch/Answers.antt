@@ -2,6 +2,7 @@ use Rattle.std.proofs.Common.{◌≡◌, ◌+◌, ◌<◌, ◌∙◌, ℕ, List,
 use Rattle.std.specs.List.{find}
 use Rattle.std.proofs.Math.Seq.{take-length}
 use Rattle.pfr_headers.specs.declared.packet.View.{View}
+use Rattle.pfr_states.specs.declared.change.Change.{Change}
 use Rattle.pfr_packet.specs.Job.{RunJob}
 use Rattle.pfr_record.specs.declared.speculation.Speculation.{Speculation}
 use Rattle.pfr_capture.specs.declared.capture.Record.{Record}
@@ -51,7 +52,8 @@ take-requires-clause-own g c = λ known.
 pub returns-in_err-take-clause-part : goal.returns-in_err-take-clause-part
 returns-in_err-take-clause-part g c =
     on_err c.from_residual.result _ (
-    ap (λ (t : Texts). (t.verdicts, t.packets)) c.in_err-take.ensures.kept.1
+    ap (λ (t : Texts). (t.verdicts, t.packets, c.take.new.out.changes.items)) c.in_err-take.ensures.kept.1
+    ∙ ap (λ (changes : List Change). (c.loop-index.out.verdicts.items, c.loop-index.out.packets.items, changes)) c.in_err-take.ensures.kept.2
     ∙ ap written c.loop-index.invariant.world
     ∙ ap written (part_taken (job_of c.args.self.now) (world_with c.args.self.now c.args.out.now) (λ packet. frame_of packet.0) c.args.packets.now c.args.self.now.count c.take.new.self.count c.loop-index.index (c.in_err-take.ensures.kept.0 ∙ c.loop-index.invariant.counted)))
 
