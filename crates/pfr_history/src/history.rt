@@ -199,9 +199,7 @@ impl<J: Naming, E> Front<J, E> {
         if count == u64::MAX {
             return false;
         }
-        let mut offer: Offer<E, u64, Grows, Nothing> = self
-            .seen
-            .plain::<Nothing, E, Add>(entry);
+        let mut offer: Offer<E, u64, Grows, Nothing> = self.seen.plain::<Nothing, E, Add>(entry);
         let mut pen = self.seen.no_pen();
         let found = history
             .head

@@ -98,7 +98,11 @@ impl<J: TableNaming> Published<StoreWriter<J>> {
     }
 
     /// Adds changes to the list, and has the writer keep them. It answers whether all were.
-    fn append_all(writer: &mut StoreWriter<J>, history: &History<J, Change>, changes: &[Change]) -> bool
+    fn append_all(
+        writer: &mut StoreWriter<J>,
+        history: &History<J, Change>,
+        changes: &[Change],
+    ) -> bool
         requires { kept_by writer.old ≡ [] }
         ensures desk { writer.new.desk ≡ writer.old.desk }
         ensures list { IsTrue result → list_behind writer.new ≡ shown_by writer.old ++ changes.now }

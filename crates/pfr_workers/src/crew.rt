@@ -31,7 +31,13 @@ fn start<'s, E, J: Naming + Send + Sync + 's, R: Threads + Wait + Sync, H: Hand 
 
 /// Starts a worker for each hand, in a scope that ends once they have ended. One whose hand is missing isn't started. The only
 /// error is that memory was refused for their list.
-pub fn hire<'s, E, J: Naming + Send + Sync + 's, R: Threads + Wait + Sync, H: Hand + Send + Drop + 's>(
+pub fn hire<
+    's,
+    E,
+    J: Naming + Send + Sync + 's,
+    R: Threads + Wait + Sync,
+    H: Hand + Send + Drop + 's,
+>(
     scope: &Scope<'s, E>,
     rt: &'s R,
     alloc: Global,

@@ -58,11 +58,7 @@ fn answer_numbers<J: Naming, R: Wait, H: Hand>(
 }
 
 /// Draws the numbers of a task's pass and answers them, and sends the pass back. By then it has let go of the batch.
-fn take_task<J: Naming, R: Wait, H: Hand>(
-    rt: &R,
-    hand: &mut H,
-    task: Task<J, H::Batch, H::Group>,
-) {
+fn take_task<J: Naming, R: Wait, H: Hand>(rt: &R, hand: &mut H, task: Task<J, H::Batch, H::Group>) {
     let Task {
         claims,
         pass,

@@ -9,7 +9,6 @@
 mod crew;
 mod hand;
 mod open_batch;
-
 mod opening;
 mod outbox;
 mod task;
@@ -17,5 +16,4 @@ mod task;
 pub use crew::{Crew, hire};
 pub use hand::Hand;
 pub use open_batch::{Finished, OpenBatch};
-
 pub use opening::{Entry, Openings};

@@ -89,7 +89,7 @@ fn give<J: Naming, R: Wait, B: Drop, G: Drop>(
     }
 }
 
-/// Gives each worker its pass. Those come back that no worker could be given.
+/// Gives each worker its pass, as far as there are workers. Those come back that no worker could be given.
 fn give_all<J: Naming, R: Wait, B: Drop, G: Drop>(
     rt: &R,
     alloc: Global,
@@ -112,11 +112,15 @@ fn give_all<J: Naming, R: Wait, B: Drop, G: Drop>(
             kept.push(pass)?;
         }
     }
+    while let Some(pass) = passes.pop() {
+        kept.push(pass)?;
+    }
     Ok(kept)
 }
 
 impl<J: Naming, B: Drop, G: Drop> Crew<J, B, G> {
-    /// Opens a batch of so many numbers, at most 4096: each worker is given its pass. The only error is that memory was refused.
+    /// Opens a batch of so many numbers, at most 4096. Each worker is given its pass, unless workers rest: the passes wait all then. The
+    /// only error is that memory was refused.
     pub fn open<R: Wait>(
         &self,
         rt: &R,
@@ -124,6 +128,7 @@ impl<J: Naming, B: Drop, G: Drop> Crew<J, B, G> {
         openings: &mut Openings<J>,
         batch: B,
         count: u64,
+        rests: bool,
     ) -> Result<OpenBatch<J, B, G>, AllocError>
         requires count { count ≤ 4096 }
         requires workers { (0 < vec_len self.now.desks) × (vec_len self.now.desks ≤ 64) }
@@ -137,8 +142,10 @@ impl<J: Naming, B: Drop, G: Drop> Crew<J, B, G> {
         let batch = Arc::new(alloc, batch)?;
         let ended = Vec::with_capacity(alloc, self.desks.len())?;
         let (results, inbox) = unbounded(alloc)?;
-        let desks = self.desks.as_slice();
-        let kept = give_all(rt, alloc, desks, &claims, &batch, results, &numbered, passes)?;
+        let desks = if rests { &[] } else { self.desks.as_slice() };
+        let kept = give_all(
+            rt, alloc, desks, &claims, &batch, results, &numbered, passes,
+        )?;
         Ok(OpenBatch {
             batch,
             claims,

@@ -95,7 +95,12 @@ fn another_thread_sees_what_is_published(rt: HostRuntime) {
     assert!(rt; seen == (2, 2));
 }
 
-fn learns_late<J: TableNaming, R: Wait + Abort>(rt: &R, alloc: Global, opened: Opened<Change>, limit: usize)
+fn learns_late<J: TableNaming, R: Wait + Abort>(
+    rt: &R,
+    alloc: Global,
+    opened: Opened<Change>,
+    limit: usize,
+)
     requires history { opened ≡ J.history }
     requires limit { limit ≡ J.limit }
 {
@@ -121,7 +126,12 @@ fn a_viewer_learns_late_and_out_of_order(rt: HostRuntime) {
     learns_late::<Brand, _>(&rt, rt.alloc(), Opened::new(), 4);
 }
 
-fn refuses<J: TableNaming, R: Wait + Abort>(rt: &R, alloc: Global, opened: Opened<Change>, limit: usize)
+fn refuses<J: TableNaming, R: Wait + Abort>(
+    rt: &R,
+    alloc: Global,
+    opened: Opened<Change>,
+    limit: usize,
+)
     requires history { opened ≡ J.history }
     requires limit { limit ≡ J.limit }
 {
