@@ -4,5 +4,6 @@ pub mod CommitLemmas
 pub mod LeadLemmas
 pub mod ReachLemmas
 pub mod RunLemmas
+pub mod StreamLemmas
 pub mod TieLemmas
 pub mod ViewLemmas

@@ -47,7 +47,7 @@ one_viewed records packets packet view are is = record {
 pub as_many : (records : List Record) (packets : List (Record × View)) → AreViewed records packets → length packets ≡ length records
 as_many records packets are = sym (length-map packets (λ (p : Record × View). p.0)) ∙ ap length are.records_are
 
-frames_map : (packets : List (Record × View)) → frames_of packets ≡ map frame_of (map (λ (p : Record × View). p.0) packets)
+pub frames_map : (packets : List (Record × View)) → frames_of packets ≡ map frame_of (map (λ (p : Record × View). p.0) packets)
 frames_map [] = refl
 frames_map (packet ∷ packets) = ap (λ (fs : List Frame). frame_of packet.0 ∷ fs) (frames_map packets)
 

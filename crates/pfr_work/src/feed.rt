@@ -39,6 +39,7 @@ pub trait Feed {
         ensures size { IfSome result (λ records. (1 ≤ length records.items) × (length records.items ≤ 4096)) }
         ensures counted { IfSome result (λ records. given self.new ≡ given self.old + length records.items) }
         ensures few { IfSome result (λ records. given self.new ≤ 2 ^ 43) }
+        ensures none_given { IfNone result (given self.new ≡ given self.old) }
         ensures told { told self.new ≡ told self.old }
         ensures names { names self.new ≡ names self.old };
 

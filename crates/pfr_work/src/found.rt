@@ -2,13 +2,14 @@
 ghost use Rattle.std.specs.Prelude.{◌≡◌, Some};
 ghost use Rattle.std.specs.Arc.{arc_value};
 ghost use Rattle.std.specs.List.{All};
-ghost use Rattle.pfr_packet.specs.Job.{RunJob};
 
+use pfr_published::TableNaming;
 use pfr_record::Speculation;
 use std::marker::{Brand, PhantomData};
 
-/// Names the job of a run, to contracts alone: what crosses from a worker to the committer is known by its type to be of it.
-pub(crate) trait OfRun {
+/// Names a run, to contracts alone: its job, the list of what its packets do to the table, and how many states the table may have.
+/// What crosses from a worker to the committer is known by its type to be of it. A call of a program picks all three.
+pub trait OfRun: TableNaming {
     ghost use Rattle.std.specs.Prelude.{Option};
     ghost use Rattle.pfr_packet.specs.Job.{RunJob};
 

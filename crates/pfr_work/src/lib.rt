@@ -5,15 +5,20 @@
 #![tactic(auto)]
 
 pub mod ahead;
+mod batch;
+mod evaluator;
 pub mod feed;
-mod found;
+pub mod found;
 pub mod gate;
 pub mod laws;
 mod pace;
 pub mod run;
+pub mod stream;
 mod views;
 
 pub use ahead::{Ahead, evaluate_ahead};
 pub use feed::Feed;
+pub use found::OfRun;
 pub use gate::Gate;
 pub use run::{Trace, run_workers};
+pub use stream::run_streaming;

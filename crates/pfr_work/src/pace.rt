@@ -70,13 +70,14 @@ impl Pace {
         saved >= evaluated.saturating_mul(handing.saturating_add(starting))
     }
 
-    /// Takes note of a batch, of so many packets of which so many were evaluated by the committer.
-    pub(crate) fn note(&mut self, count: u64, own: u64) {
-        if self.rests > 0 {
+    /// Takes note of a batch that was taken, of so many packets. Its first ones, at most so many, were evaluated ahead, and so many were
+    /// evaluated by the committer.
+    pub(crate) fn note(&mut self, count: u64, most: u64, own: u64) {
+        if self.rests > 0 || most == 0 {
             self.rests = self.rests.saturating_sub(count);
             return;
         }
-        let evaluated = self.ahead().min(count);
+        let evaluated = most.min(count);
         self.evaluated = self.evaluated.saturating_add(evaluated);
         if self.evaluated < TRIAL {
             return;

@@ -9,6 +9,7 @@ ghost use Rattle.pfr_work.specs.Batches.{IsViewOf};
 ghost use Rattle.pfr_work.specs.Runs.{AddsClaims, AreViewed, Cut, MayAddClaims, Over, Refused, TakesBatch, Went};
 
 use crate::ahead::{Ahead, evaluate_ahead};
+use crate::batch::{Packets, viewed, with_views};
 use crate::feed::Feed;
 use crate::gate::Gate;
 use crate::pace::Pace;
@@ -16,7 +17,6 @@ use pfr_capture::Record;
 use pfr_claims::Gathered;
 use pfr_commit::{Book, Emitted, Reruns};
 use pfr_crew::draw_alone;
-use pfr_headers::{View, view};
 use pfr_packet::Job;
 use pfr_record::Speculation;
 use std::alloc::{AllocError, AllocGlobal, Global};
@@ -43,47 +43,16 @@ impl<G: Gate> Reruns for Watched<'_, G> {
     }
 }
 
-/// Records of a batch, each with its view.
-type Packets = Vec<(Record, View)>;
-
-/// Records, each with its view.
-#[tactic(auto, using(crate::proofs::RunLemmas::none_viewed, crate::proofs::RunLemmas::one_viewed))]
-fn viewed(alloc: Global, records: Vec<Record>) -> Result<Packets, AllocError>
-    ensures { IfOk result (λ packets. AreViewed records.items packets.items) }
-{
-    let mut packets = Vec::with_capacity(alloc, records.len())?;
-    for packet in records {
-        let view = view(packet.link, packet.bytes.as_slice());
-        packets.push((packet, view))?;
-    }
-    Ok(packets)
-}
-
-/// Records, each with its view, which was made before.
-fn with_views(alloc: Global, records: Vec<Record>, views: &[View]) -> Result<Packets, AllocError>
-    requires { AllZip IsViewOf records.items views.now }
-    ensures { IfOk result (λ packets. AreViewed records.items packets.items) }
-{
-    let mut packets = Vec::with_capacity(alloc, records.len())?;
-    for packet in records {
-        match views.get(packets.len()) {
-            Some(view) => packets.push((packet, *view))?,
-            None => unreachable!(),
-        }
-    }
-    Ok(packets)
-}
-
 /// How many bytes of verdict lines and of records a piece has.
 #[derive(Clone, Copy)]
-struct Room {
-    verdicts: usize,
-    packets: usize,
+pub(crate) struct Room {
+    pub(crate) verdicts: usize,
+    pub(crate) packets: usize,
 }
 
 impl Room {
     /// What a piece has, and an eighth more.
-    fn of(piece: &Emitted) -> Room {
+    pub(crate) fn of(piece: &Emitted) -> Room {
         let (verdicts, packets) = (piece.verdicts.len(), piece.packets.len());
         Room {
             verdicts: verdicts.saturating_add(verdicts / 8),
@@ -92,8 +61,9 @@ impl Room {
     }
 
     /// An empty piece with so much room.
-    fn piece(self, alloc: Global) -> Emitted
-        ensures { texts_of result ≡ no_texts }
+    pub(crate) fn piece(self, alloc: Global) -> Emitted
+        ensures texts { texts_of result ≡ no_texts }
+        ensures changes { result.changes.items ≡ [] }
     {
         Emitted::with_room(alloc, self.verdicts, self.packets)
     }
@@ -129,7 +99,7 @@ impl Course {
     fn note(&mut self, count: usize, own: u64, piece: &Emitted)
         ensures { self.new.trace.batches.items ≡ self.old.trace.batches.items }
     {
-        self.pace.note(count as u64, own);
+        self.pace.note(count as u64, self.pace.ahead(), own);
         self.room = Room::of(piece);
     }
 }
@@ -237,7 +207,7 @@ const KEPT: usize = 1 << 24;
 /// Has the system's allocator keep the memory of a batch for the next one. It gives memory back to the system where more is free
 /// than twice the greatest piece that was let go of before (mallopt(3)), and each batch would begin with pages that have to be
 /// cleared. Nothing is written into this piece, so it takes no memory.
-fn keep_memory(alloc: Global) {
+pub(crate) fn keep_memory(alloc: Global) {
     drop(Vec::<u8>::with_capacity(alloc, KEPT));
 }
 

@@ -5,7 +5,7 @@ use Rattle.std.proofs.lemmas.Bool.{false≢true, lt-ltb}
 use Rattle.pfr_capture.specs.declared.capture.Record.{Record}
 use Rattle.pfr_work.specs.Batches.{IsViewOf}
 use Rattle.pfr_work.proofs.RunLemmas.{as_many, one_viewed, view_at, view_there}
-use Rattle.pfr_work.proofs.run.with_views.Goals as goal
+use Rattle.pfr_work.proofs.batch.with_views.Goals as goal
 
 pub loop-packet-preserved : goal.loop-packet-preserved
 loop-packet-preserved c =

@@ -1,0 +1,91 @@
+//! Batches of packets.
+ghost use Rattle.std.specs.Prelude.{◌≡◌, IfOk};
+ghost use Rattle.std.specs.List.{All, AllZip};
+ghost use Rattle.pfr_headers.specs.View.{view_of};
+ghost use Rattle.pfr_work.specs.Batches.{IsViewOf};
+ghost use Rattle.pfr_work.specs.Runs.{AreViewed};
+
+use crate::found::OfRun;
+use crate::views::views;
+use pfr_capture::Record;
+use pfr_headers::{View, view};
+use pfr_published::Told;
+use pfr_track::Clock;
+use std::alloc::{AllocError, Global};
+use std::thread::Threads;
+
+/// Records of a batch, each with its view.
+pub(crate) type Packets = Vec<(Record, View)>;
+
+/// What the workers of a batch share of it.
+#[derive(Drop)]
+pub(crate) struct Batch<J: OfRun> {
+    pub(crate) packets: Packets,
+    /// The clock at each record.
+    pub(crate) clocks: Vec<Clock>,
+    /// The number of the first packet, and how many are evaluated ahead, the first ones.
+    pub(crate) first: u64,
+    pub(crate) most: u64,
+    /// How far the published table had come when the batch was opened.
+    pub(crate) told: Told<J>,
+    pub ghost viewed: { All (λ packet. packet.1 ≡ view_of packet.0.link packet.0.bytes.items) packets.items },
+}
+
+/// Records, each with its view.
+#[tactic(auto, using(crate::proofs::RunLemmas::none_viewed, crate::proofs::RunLemmas::one_viewed))]
+pub(crate) fn viewed(alloc: Global, records: Vec<Record>) -> Result<Packets, AllocError>
+    ensures { IfOk result (λ packets. AreViewed records.items packets.items) }
+{
+    let mut packets = Vec::with_capacity(alloc, records.len())?;
+    for packet in records {
+        let view = view(packet.link, packet.bytes.as_slice());
+        packets.push((packet, view))?;
+    }
+    Ok(packets)
+}
+
+/// Records, each with its view, which was made before.
+pub(crate) fn with_views(
+    alloc: Global,
+    records: Vec<Record>,
+    views: &[View],
+) -> Result<Packets, AllocError>
+    requires { AllZip IsViewOf records.items views.now }
+    ensures { IfOk result (λ packets. AreViewed records.items packets.items) }
+{
+    let mut packets = Vec::with_capacity(alloc, records.len())?;
+    for packet in records {
+        match views.get(packets.len()) {
+            Some(view) => packets.push((packet, *view))?,
+            None => unreachable!(),
+        }
+    }
+    Ok(packets)
+}
+
+/// Records, each with its view, which are made by as many threads as there are processors.
+pub(crate) fn viewed_beside<R: Threads + Sync>(
+    rt: &R,
+    alloc: Global,
+    records: Vec<Record>,
+) -> Result<Packets, AllocError>
+    ensures { IfOk result (λ packets. AreViewed records.items packets.items) }
+{
+    let views = views(rt, alloc, records.as_slice())?;
+    with_views(alloc, records, views.as_slice())
+}
+
+/// The clock at each record behind one: the greatest second so far.
+pub(crate) fn clocks(
+    alloc: Global,
+    clock: Clock,
+    packets: &[(Record, View)],
+) -> Result<Vec<Clock>, AllocError> {
+    let mut clocks = Vec::with_capacity(alloc, packets.len())?;
+    let mut last = clock;
+    for (record, _view) in packets {
+        last = Clock(last.0.max(record.seconds));
+        clocks.push(last)?;
+    }
+    Ok(clocks)
+}
