@@ -1,24 +1,14 @@
 //! Batches whose numbers workers answer beside the calling thread.
 ghost use Rattle.std.specs.Prelude.{◌≡◌, ◌+◌, ◌<◌, ◌≤◌};
 
+use crate::workers::wait_for;
 use pfr_crew::{Work, answered_beside, draw_alone};
 use std::alloc::{AllocError, Global};
 use std::sync::Wait;
 use std::sync::atomic::{AtomicBool, AtomicU64, Ordering};
 use std::test::Fail;
-use std::thread::{Threads, sleep};
-use std::time::{Clock, Duration};
-
-/// Waits for a flag, for ten seconds or more at most, and answers whether it came.
-fn wait_for<R: Clock>(rt: &R, flag: &AtomicBool) -> bool {
-    for _turn in 0..10_000u32 {
-        if flag.load(Ordering::SeqCst) {
-            return true;
-        }
-        sleep(rt, Duration::from_millis(1));
-    }
-    false
-}
+use std::thread::Threads;
+use std::time::Clock;
 
 /// Answers the other numbers once number 1 was answered.
 #[derive(Drop)]

@@ -17,6 +17,8 @@ mod criteria;
 #[cfg(test)]
 mod elements;
 #[cfg(test)]
+mod evaluations;
+#[cfg(test)]
 mod frames;
 #[cfg(test)]
 mod published;
@@ -32,3 +34,5 @@ mod terms;
 mod tracking;
 #[cfg(test)]
 mod words;
+#[cfg(test)]
+mod workers;

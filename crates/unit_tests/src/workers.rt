@@ -1,0 +1,433 @@
+//! Batches whose numbers are answered by workers that live longer.
+ghost use Rattle.std.specs.Prelude.{◌≡◌, ◌<◌, ◌≤◌, IfOk, vec_len};
+
+use pfr_history::{Naming, Opened};
+use pfr_workers::{Crew, Entry, Finished, Hand, OpenBatch, Openings, hire};
+use std::alloc::{AllocError, Global};
+use std::marker::Brand;
+use std::sync::atomic::{AtomicBool, AtomicU64, Ordering};
+use std::sync::{Arc, Wait};
+use std::test::Fail;
+use std::thread::{Scope, Threads, scope, scope_env, sleep};
+use std::time::{Clock, Duration};
+
+/// Waits for a flag, for ten seconds or more at most, and answers whether it came.
+pub(crate) fn wait_for<R: Clock>(rt: &R, flag: &AtomicBool) -> bool {
+    for _turn in 0..10_000u32 {
+        if flag.load(Ordering::SeqCst) {
+            return true;
+        }
+        sleep(rt, Duration::from_millis(1));
+    }
+    false
+}
+
+/// What the workers of a batch share: which batch it is, of how many numbers, and how often it was begun and an answer told.
+#[derive(Drop)]
+struct Sheet {
+    id: u64,
+    count: u64,
+    begun: AtomicU64,
+    told: AtomicU64,
+}
+
+/// A number of a batch that was answered, and whether that was in time: the hand had taken note of the batch, and had told of its
+/// answer before.
+#[derive(Clone, Copy, PartialEq, Eq)]
+struct Answer {
+    batch: u64,
+    number: u64,
+    in_time: bool,
+}
+
+/// What stands for a number that is still to be told of, where there is none.
+const ALL_TOLD: u64 = u64::MAX;
+
+/// Answers number 0 once all batches are open, and none of the numbers 2, 5, 8 and so on.
+#[derive(Drop)]
+struct Clerk<'a, R: Clock + Sync> {
+    alloc: Global,
+    rt: &'a R,
+    all_open: &'a AtomicBool,
+    noted: Option<u64>,
+    untold: AtomicU64,
+}
+
+impl<'a, R: Clock + Sync> Hand for Clerk<'a, R> {
+    type Batch = Sheet;
+
+    type Group = Vec<Answer>;
+
+    fn begin(&mut self, batch: &Sheet) {
+        batch.begun.fetch_add(1, Ordering::SeqCst);
+        self.noted = Some(batch.id);
+    }
+
+    fn group(&self, room: usize) -> Option<Vec<Answer>> {
+        Vec::with_capacity(self.alloc, room).ok()
+    }
+
+    fn answer(&mut self, batch: &Sheet, number: u64, group: &mut Vec<Answer>) -> bool {
+        if number % 3 == 2 {
+            return false;
+        }
+        let noted = self.noted == Some(batch.id);
+        let told = self.untold.swap(number, Ordering::SeqCst) == ALL_TOLD;
+        let open = number != 0 || wait_for(self.rt, self.all_open);
+        let answer = Answer {
+            batch: batch.id,
+            number,
+            in_time: noted && told && open,
+        };
+        group.push(answer).is_ok()
+    }
+
+    fn answered(&self, batch: &Sheet, number: u64) {
+        batch.told.fetch_add(1, Ordering::SeqCst);
+        if self.untold.load(Ordering::SeqCst) == number {
+            self.untold.store(ALL_TOLD, Ordering::SeqCst);
+        }
+    }
+}
+
+/// How many workers there are to be, and how many of them have no hand.
+#[derive(Clone, Copy)]
+struct Staff {
+    workers: u64,
+    missing: u64,
+    ghost some: { 0 < workers },
+    ghost few: { workers ≤ 64 },
+}
+
+/// A hand for each worker.
+fn hands<'a, R: Clock + Sync>(
+    rt: &'a R,
+    alloc: Global,
+    staff: Staff,
+    all_open: &'a AtomicBool,
+) -> Result<Vec<Option<Clerk<'a, R>>>, AllocError>
+    ensures { IfOk result (λ hands. vec_len hands ≡ staff.workers) }
+{
+    let mut hands = Vec::new(alloc);
+    for worker in 0..staff.workers {
+        let clerk = Clerk {
+            alloc,
+            rt,
+            all_open,
+            noted: None,
+            untold: AtomicU64::new(ALL_TOLD),
+        };
+        hands.push((worker >= staff.missing).then_some(clerk))?;
+    }
+    Ok(hands)
+}
+
+/// A batch that is to be opened: of how many numbers, and whether workers rest.
+#[derive(Clone, Copy)]
+struct Planned {
+    count: u64,
+    rests: bool,
+    ghost few: { count ≤ 4096 },
+}
+
+/// Opens batches one after the other.
+fn open_all<K: Naming, R: Wait>(
+    rt: &R,
+    alloc: Global,
+    crew: &Crew<K, Sheet, Vec<Answer>>,
+    mut openings: Openings<K>,
+    plan: &[Planned],
+) -> Result<Vec<OpenBatch<K, Sheet, Vec<Answer>>>, AllocError>
+    requires { (0 < vec_len crew.now.desks) × (vec_len crew.now.desks ≤ 64) }
+{
+    let mut open_batches = Vec::new(alloc);
+    for (index, planned) in plan.iter().enumerate() {
+        let Planned { count, rests } = *planned;
+        let sheet = Sheet {
+            id: index as u64,
+            count,
+            begun: AtomicU64::new(0),
+            told: AtomicU64::new(0),
+        };
+        open_batches.push(crew.open(rt, alloc, &mut openings, sheet, count, rests)?)?;
+    }
+    Ok(open_batches)
+}
+
+/// Finishes batches, those that were opened first before the others.
+fn finish_all<K: Naming, R: Wait>(
+    rt: &R,
+    alloc: Global,
+    open_batches: Vec<OpenBatch<K, Sheet, Vec<Answer>>>,
+) -> Result<Vec<Finished<Sheet, Vec<Answer>>>, AllocError> {
+    let mut finished = Vec::new(alloc);
+    for open_batch in open_batches {
+        finished.push(open_batch.finish(rt, alloc))?;
+    }
+    Ok(finished)
+}
+
+/// Hires workers, opens all batches, and finishes them then.
+fn in_scope<'s, E, K: Naming + Send + Sync + 's, R: Threads + Wait + Clock + Sync>(
+    scope: &Scope<'s, E>,
+    rt: &'s R,
+    alloc: Global,
+    hands: Vec<Option<Clerk<'s, R>>>,
+    all_open: &'s AtomicBool,
+    openings: Openings<K>,
+    plan: &[Planned],
+) -> Result<Vec<Finished<Sheet, Vec<Answer>>>, AllocError>
+    requires { (0 < vec_len hands) × (vec_len hands ≤ 64) }
+{
+    let crew = hire(scope, rt, alloc, hands)?;
+    let open_batches = open_all(rt, alloc, &crew, openings, plan)?;
+    all_open.store(true, Ordering::SeqCst);
+    finish_all(rt, alloc, open_batches)
+}
+
+/// The same in a scope of its own.
+fn finished_under<K: Naming + Send + Sync + 'static, R: Threads + Wait + Clock + Sync>(
+    rt: &R,
+    alloc: Global,
+    opened: Opened<Entry>,
+    staff: Staff,
+    plan: &[Planned],
+) -> Result<Vec<Finished<Sheet, Vec<Answer>>>, AllocError>
+    requires { opened ≡ K.history }
+{
+    let openings = Openings::new(opened.named::<K>());
+    let all_open = AtomicBool::new(false);
+    let all_open = &all_open;
+    let hands = hands(rt, alloc, staff, all_open)?;
+    scope(
+        scope_env(),
+        rt,
+        move |scope| -> Result<Vec<Finished<Sheet, Vec<Answer>>>, AllocError>
+            requires { (0 < vec_len hands) × (vec_len hands ≤ 64) }
+        { in_scope(scope, rt, alloc, hands, all_open, openings, plan) },
+    )
+}
+
+/// Opens all batches of a plan, and finishes them then.
+fn finished<R: Threads + Wait + Clock + Sync>(
+    rt: &R,
+    alloc: Global,
+    staff: Staff,
+    plan: &[Planned],
+) -> Result<Vec<Finished<Sheet, Vec<Answer>>>, AllocError> {
+    finished_under::<Brand, _>(rt, alloc, Opened::new(), staff, plan)
+}
+
+/// What can be seen of a finished batch: which it is, where the word of its claims stood, how often it was begun, how many answers
+/// were told, how many came, and how many of its numbers have one answer in time.
+#[derive(Clone, Copy, Debug, PartialEq, Eq)]
+struct Seen {
+    id: u64,
+    word: u64,
+    begun: u64,
+    told: u64,
+    came: u64,
+    right: u64,
+}
+
+/// How often an answer is in some groups.
+fn times_in(groups: &[Vec<Answer>], wanted: Answer) -> u64 {
+    let mut times = 0u64;
+    for group in groups {
+        for answer in group {
+            times = times.saturating_add(u64::from(*answer == wanted));
+        }
+    }
+    times
+}
+
+/// How many answers are in some groups.
+fn answers_in(groups: &[Vec<Answer>]) -> u64 {
+    let mut answers = 0u64;
+    for group in groups {
+        answers = answers.saturating_add(group.len() as u64);
+    }
+    answers
+}
+
+/// How many numbers of a batch have one answer in some groups, which was in time.
+fn right_in(groups: &[Vec<Answer>], sheet: &Sheet) -> u64 {
+    let mut right = 0u64;
+    for number in 0..sheet.count {
+        let wanted = Answer {
+            batch: sheet.id,
+            number,
+            in_time: true,
+        };
+        right = right.saturating_add(u64::from(times_in(groups, wanted) == 1));
+    }
+    right
+}
+
+/// What can be seen of a batch whose passes all came back, and that the workers have let go of.
+fn seen_of(finished: Finished<Sheet, Vec<Answer>>) -> Option<Seen> {
+    let Finished {
+        groups,
+        batch,
+        gathered,
+    } = finished;
+    match (Arc::into_inner(batch), gathered) {
+        (Some(sheet), Some(gathered)) => Some(Seen {
+            id: sheet.id,
+            word: gathered.word,
+            begun: sheet.begun.load(Ordering::SeqCst),
+            told: sheet.told.load(Ordering::SeqCst),
+            came: answers_in(groups.as_slice()),
+            right: right_in(groups.as_slice(), &sheet),
+        }),
+        _ => None,
+    }
+}
+
+/// Opens all batches of a plan, finishes them, and answers what can be seen of each.
+fn play<R: Threads + Wait + Clock + Sync>(
+    rt: &R,
+    alloc: Global,
+    staff: Staff,
+    plan: &[Planned],
+) -> Result<Vec<Option<Seen>>, AllocError> {
+    let mut all_seen = Vec::new(alloc);
+    for finished in finished(rt, alloc, staff, plan)? {
+        all_seen.push(seen_of(finished))?;
+    }
+    Ok(all_seen)
+}
+
+/// A batch that is whole, that so many workers began, and of which each answer was told, came once and in time.
+fn whole(id: u64, word: u64, begun: u64, answers: u64) -> Option<Seen> {
+    Some(Seen {
+        id,
+        word,
+        begun,
+        told: answers,
+        came: answers,
+        right: answers,
+    })
+}
+
+/// Each number is answered by one worker.
+#[test]
+fn each_number_is_answered_once(rt: HostRuntime) -> Result<(), Fail> {
+    for (workers, count, word, answers) in [
+        (1, 200, 201, 134),
+        (3, 200, 203, 134),
+        (8, 200, 208, 134),
+        (8, 5, 13, 4),
+        (3, 0, 3, 0),
+    ] {
+        let staff = Staff {
+            workers,
+            missing: 0,
+        };
+        let plan = [Planned {
+            count,
+            rests: false,
+        }];
+        let seen = play(&rt, rt.alloc(), staff, &plan)?;
+        assert!(rt; seen.as_slice() == [whole(0, word, workers, answers)].as_slice());
+    }
+    Ok(())
+}
+
+/// A batch of so many numbers that workers are to answer.
+fn answered(count: u64) -> Planned
+    requires { count ≤ 4096 }
+{
+    Planned {
+        count,
+        rests: false,
+    }
+}
+
+/// Batches that are open at once each have answers of their own alone.
+#[test]
+fn batches_are_open_at_once(rt: HostRuntime) -> Result<(), Fail> {
+    let staff = Staff {
+        workers: 3,
+        missing: 0,
+    };
+    let plan = [answered(200), answered(64), answered(5)];
+    let expected = [
+        whole(0, 203, 3, 134),
+        whole(1, 67, 3, 43),
+        whole(2, 8, 3, 4),
+    ];
+    let two = play(&rt, rt.alloc(), staff, &plan[..2])?;
+    assert!(rt; two.as_slice() == &expected[..2]);
+    let three = play(&rt, rt.alloc(), staff, &plan)?;
+    assert!(rt; three.as_slice() == expected.as_slice());
+    Ok(())
+}
+
+/// While workers rest a batch is whole without any answer, and they answer the next one again.
+#[test]
+fn workers_rest(rt: HostRuntime) -> Result<(), Fail> {
+    let staff = Staff {
+        workers: 3,
+        missing: 0,
+    };
+    let resting = Planned {
+        count: 200,
+        rests: true,
+    };
+    let plan = [answered(64), resting, answered(5)];
+    let expected = [whole(0, 67, 3, 43), whole(1, 203, 0, 0), whole(2, 8, 3, 4)];
+    let seen = play(&rt, rt.alloc(), staff, &plan)?;
+    assert!(rt; seen.as_slice() == expected.as_slice());
+    Ok(())
+}
+
+/// Where hands are missing the others answer all numbers. Where all are missing nobody does.
+#[test]
+fn hands_are_missing(rt: HostRuntime) -> Result<(), Fail> {
+    for (missing, begun, answers, later) in [(1, 2, 134, 43), (2, 1, 134, 43), (3, 0, 0, 0)] {
+        let staff = Staff {
+            workers: 3,
+            missing,
+        };
+        let plan = [answered(200), answered(64)];
+        let expected = [whole(0, 203, begun, answers), whole(1, 67, begun, later)];
+        let seen = play(&rt, rt.alloc(), staff, &plan)?;
+        assert!(rt; seen.as_slice() == expected.as_slice());
+    }
+    Ok(())
+}
+
+/// How many answers groups have, if their numbers rise, also from one group to the next.
+fn sizes_of(alloc: Global, groups: &[Vec<Answer>]) -> Result<Vec<usize>, AllocError> {
+    let mut sizes = Vec::new(alloc);
+    let mut least = 0u64;
+    for group in groups {
+        for answer in group {
+            if answer.number < least {
+                return Ok(Vec::new(alloc));
+            }
+            least = answer.number.saturating_add(1);
+        }
+        sizes.push(group.len())?;
+    }
+    Ok(sizes)
+}
+
+/// One worker sends its 134 answers in four groups of 32, and the rest in one, in the order of their numbers.
+#[test]
+fn answers_are_sent_in_groups(rt: HostRuntime) -> Result<(), Fail> {
+    let staff = Staff {
+        workers: 1,
+        missing: 0,
+    };
+    let mut finished = finished(&rt, rt.alloc(), staff, &[answered(200)])?;
+    match finished.pop() {
+        Some(finished) => {
+            let sizes = sizes_of(rt.alloc(), finished.groups.as_slice())?;
+            assert!(rt; sizes.as_slice() == [32, 32, 32, 32, 6].as_slice());
+        }
+        None => panic!(rt; "there is no batch"),
+    }
+    Ok(())
+}
