@@ -12,4 +12,6 @@ mod orders;
 #[cfg(test)]
 mod runs;
 #[cfg(test)]
+mod streams;
+#[cfg(test)]
 mod told;
