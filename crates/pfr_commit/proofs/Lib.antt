@@ -2,6 +2,7 @@ pub mod BatchLemmas
 pub mod BookLemmas
 pub mod ChangeLemmas
 pub mod CountLemmas
+pub mod EmittedLemmas
 pub mod EndingLemmas
 pub mod MachineLemmas
 pub mod OnlineLemmas

@@ -6,7 +6,6 @@ use Rattle.std.proofs.Math.Seq.{take-suc}
 use Rattle.pfr_headers.specs.declared.packet.View.{View}
 use Rattle.pfr_headers.specs.View.{view_of}
 use Rattle.pfr_track.specs.declared.time.Clock.{Clock}
-use Rattle.pfr_states.specs.declared.change.Change.{Change}
 use Rattle.pfr_states.specs.States.{StateTable}
 use Rattle.pfr_packet.specs.declared.outcome.Outcome.{Outcome}
 use Rattle.pfr_packet.specs.Job.{RunJob}
@@ -16,18 +15,18 @@ use Rattle.pfr_commit.specs.declared.counters.Counters.{Counters}
 use Rattle.pfr_commit.specs.Counters.{counted}
 use Rattle.pfr_commit.specs.Lines.{verdict_line}
 use Rattle.pfr_telling.specs.Telling.{changed, events_of}
-use Rattle.pfr_commit.specs.Books.{untold}
+use Rattle.pfr_commit.specs.Books.{bare, untold}
 use Rattle.pfr_commit.specs.Runs.{next_taken}
 use Rattle.pfr_commit.specs.World.{Frame, World, after, changes_of, clock_at, packet_text, with_outcome, world_after}
 
 -- an outcome taken over, from what its parts came to
-pub outcome_taken : (world : World) (frame : Frame) (clock : Clock) (view : View) (outcome : Outcome) (purged table : StateTable) (counters : Counters) (verdicts packets : List ℕ) (changes : List Change)
+pub outcome_taken : (world : World) (frame : Frame) (clock : Clock) (view : View) (outcome : Outcome) (purged table : StateTable) (counters : Counters) (verdicts packets : List ℕ)
     → view ≡ view_of frame.link frame.bytes → purged ≡ purged_at clock world.table → table ≡ changed outcome.change purged → counters ≡ counted view outcome world.counters
-    → verdicts ≡ world.verdicts ++ verdict_line (world.count + 1) clock outcome → packets ≡ world.packets ++ packet_text frame outcome → changes ≡ world.changes ++ changes_of clock outcome.change world.table.states
-    → record { count = world.count + 1; clock = clock; table = table; counters = counters; verdicts = verdicts; packets = packets; changes = changes; events = [] } ≡ untold (with_outcome world frame clock outcome)
+    → verdicts ≡ world.verdicts ++ verdict_line (world.count + 1) clock outcome → packets ≡ world.packets ++ packet_text frame outcome
+    → record { count = world.count + 1; clock = clock; table = table; counters = counters; verdicts = verdicts; packets = packets; changes = []; events = [] } ≡ untold (with_outcome world frame clock outcome)
 unfolding with_outcome
-outcome_taken world frame clock view outcome purged table counters verdicts packets changes view_is purged_is table_is counters_is verdicts_is packets_is changes_is =
-    rw (table_is, purged_is, counters_is, verdicts_is, packets_is, changes_is, view_is) refl
+outcome_taken world frame clock view outcome purged table counters verdicts packets view_is purged_is table_is counters_is verdicts_is packets_is =
+    rw (table_is, purged_is, counters_is, verdicts_is, packets_is, view_is) refl
 
 -- the next packet, from its outcome
 pub after_is : (job : RunJob) (world : World) (frame : Frame) (clock : Clock) (view : View) (outcome : Outcome)
@@ -74,7 +73,7 @@ world_next job world g xs i d below =
     let next : i + 1 ≡ suc i = omega arith in
     rw (next, take-suc xs i d below, map-append g (take i xs) (get_or xs i d ∷ []), world_append job world (map g (take i xs)) (g (get_or xs i d) ∷ [])) (world_one job (world_after job world (map g (take i xs))) (g (get_or xs i d)))
 
--- what a packet adds doesn't hang on what was told
+-- what a packet adds doesn't hang on what was told, or done to the table
 after_untold : (job : RunJob) (world : World) (frame : Frame) → untold (after job (untold world) frame) ≡ untold (after job world frame)
 unfolding after with_outcome
 after_untold job world frame = refl
@@ -88,6 +87,18 @@ batch_next {X = X} job own_job start now g xs i d p job_is now_is p_is below =
     ∙ ap (λ (j : RunJob). untold (after j (world_after job start (map g (take i xs))) (g p))) job_is
     ∙ ap (λ (x : X). untold (after job (world_after job start (map g (take i xs))) (g x))) p_is
     ∙ ap untold (sym (world_next job start g xs i d below))
+
+-- what packets leave doesn't hang on what was written or told, or done to the table
+pub world_bare : (job : RunJob) (frames : List Frame) (world other : World) → bare world ≡ bare other → bare (world_after job world frames) ≡ bare (world_after job other frames)
+unfolding world_after after with_outcome
+world_bare job [] world other same = same
+world_bare job (frame ∷ frames) world other same =
+    world_bare job frames (after job world frame) (after job other frame) (ap (λ (w : World). bare (after job w frame)) same)
+
+-- what a packet does to the table stands behind what was done to it, and doesn't hang on that
+pub changes_behind : (job : RunJob) (world : World) (frame : Frame) → (after job world frame).changes ≡ world.changes ++ (after job (bare world) frame).changes
+unfolding after with_outcome
+changes_behind job world frame = refl
 
 pub world_count : (job : RunJob) (world : World) (frames : List Frame) → (world_after job world frames).count ≡ world.count + length frames
 unfolding world_after after with_outcome

@@ -4,7 +4,6 @@ use Rattle.std.specs.List.{find}
 use Rattle.std.specs.Arc.{arc_value}
 use Rattle.pfr_headers.specs.declared.packet.View.{View}
 use Rattle.pfr_track.specs.declared.time.Clock.{Clock}
-use Rattle.pfr_states.specs.declared.change.Change.{Change}
 use Rattle.pfr_states.specs.States.{StateTable}
 use Rattle.pfr_packet.specs.Job.{RunJob}
 use Rattle.pfr_record.specs.declared.speculation.Speculation.{Speculation}
@@ -25,13 +24,13 @@ job_of book = arc_value book.job
 abbrev pub world_in : Book → World
 world_in book = record { count = book.count; clock = book.clock; table = book.table; counters = book.counters; verdicts = []; packets = []; changes = []; events = [] }
 
--- the same, with the lines, packets and changes of the table that were emitted
+-- the same, with the lines and packets that were emitted
 abbrev pub world_with : Book → Emitted → World
-world_with book out = record (world_in book) { verdicts = out.verdicts.items; packets = out.packets.items; changes = out.changes.items }
+world_with book out = record (world_in book) { verdicts = out.verdicts.items; packets = out.packets.items }
 
--- a world, and nothing of what was told
+-- a world, and nothing of what was told, or done to the table
 abbrev pub untold : World → World
-untold world = record world { events = [] }
+untold world = record world { changes = []; events = [] }
 
 -- a world, and nothing of what was written or told, or done to the table
 abbrev pub bare : World → World
@@ -89,12 +88,12 @@ frames_of packets = map (λ packet. frame_of packet.0) packets
 abbrev pub world_up_to : RunJob → World → ℕ → List Frame → World
 world_up_to job world count frames = world_after job world (take (count - world.count) frames)
 
--- the lines, packets and changes of a world, and those that were emitted
-abbrev pub written : World → List ℕ × List ℕ × List Change
-written world = (world.verdicts, world.packets, world.changes)
+-- the lines and packets of a world, and those that were emitted
+abbrev pub written : World → List ℕ × List ℕ
+written world = (world.verdicts, world.packets)
 
-abbrev pub lines_of : Emitted → List ℕ × List ℕ × List Change
-lines_of out = (out.verdicts.items, out.packets.items, out.changes.items)
+abbrev pub lines_of : Emitted → List ℕ × List ℕ
+lines_of out = (out.verdicts.items, out.packets.items)
 
 -- where memory was refused: what was emitted is what is written by then
 abbrev pub LeavesTexts : (old : Book) → (count : ℕ) → (out out' : Emitted) → List Frame → Type 0

@@ -1,5 +1,10 @@
 -- What was emitted, and what of a record comes into it.
+use Rattle.std.specs.Prelude.{List, ◌++◌, Option}
+use Rattle.std.specs.Option.{option_map}
+use Rattle.std.specs.declared.vec.Vec.{Vec}
+use Rattle.std.specs.declared.alloc.Global.{Global}
 use Rattle.pfr_capture.specs.declared.capture.Record.{Record}
+use Rattle.pfr_states.specs.declared.change.Change.{Change}
 use Rattle.pfr_commit.specs.declared.emitted.Emitted.{Emitted}
 use Rattle.pfr_commit.specs.World.{Frame, Texts}
 
@@ -8,3 +13,17 @@ frame_of r = record { link = r.link; seconds = r.seconds; header = r.header; byt
 
 abbrev pub texts_of : Emitted → Texts
 texts_of emitted = record { verdicts = emitted.verdicts.items; packets = emitted.packets.items; messages = emitted.messages.items }
+
+-- ---- what packets did to the table
+
+-- the changes of a list, where they are asked for
+abbrev pub items_of : Option (Vec Change Global) → Option (List Change)
+items_of changes = option_map (λ list. list.items) changes
+
+-- what packets did to the table, where that is asked for
+abbrev pub held_changes : Emitted → Option (List Change)
+held_changes emitted = items_of emitted.changes
+
+-- changes behind others, where they are asked for
+abbrev pub with_more : Option (List Change) → List Change → Option (List Change)
+with_more held more = option_map (λ changes. changes ++ more) held

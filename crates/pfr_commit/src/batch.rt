@@ -22,7 +22,8 @@ const AHEAD: usize = 32;
 const MANY: usize = 16_384;
 
 impl Book {
-    ghost use Rattle.pfr_commit.specs.Books.{LeadsTo, LeavesTexts, RisesOver, frames_of, job_of, lines_of, untold, world_up_to, world_with, written};
+    ghost use Rattle.pfr_commit.specs.Books.{LeadsTo, LeavesTexts, RisesOver, frames_of, job_of, lines_of, untold, world_in, world_up_to, world_with, written};
+    ghost use Rattle.pfr_commit.specs.Emissions.{held_changes, with_more};
     ghost use Rattle.pfr_commit.specs.Found.{IsOfJob};
     ghost use Rattle.pfr_commit.specs.Results.{results_of};
 
@@ -64,8 +65,10 @@ impl Book {
         requires own { are_own ≡ true → All (IsOfJob (job_of self.old)) (results_of groups.now) }
         ensures world { OnOk result (world_with self.new out.new ≡ untold (spec.world_after (job_of self.old) (world_with self.old out.old) (frames_of packets.now))) }
         ensures told { OnOk result (LeadsTo self.old self.new out.old out.new (λ world. spec.world_after (job_of self.old) world (frames_of packets.now))) }
+        ensures changes { OnOk result (held_changes out.new ≡ with_more (held_changes out.old) (spec.world_after (job_of self.old) (world_in self.old) (frames_of packets.now)).changes) }
         ensures part { OnErr result (lines_of out.new ≡ written (world_up_to (job_of self.old) (world_with self.old out.old) self.new.count (frames_of packets.now))) }
         ensures part_told { OnErr result (LeavesTexts self.old self.new.count out.old out.new (frames_of packets.now)) }
+        ensures part_changes { OnErr result (held_changes out.new ≡ with_more (held_changes out.old) (world_up_to (job_of self.old) (world_in self.old) self.new.count (frames_of packets.now)).changes) }
         ensures counted { OnOk result (self.new.count ≡ self.old.count + length packets.now) }
         ensures own { OnOk result (RisesOver (job_of self.old) (world_with self.old out.old) (results_of groups.now) packets.now self.old.own self.new.own) }
         ensures job { self.new.job ≡ self.old.job }
@@ -106,7 +109,8 @@ impl Book {
     /// Takes the next packets, and puts what they add behind what was emitted. Each has its record's view. The results may be
     /// in any order; some may be missing, and some of other packets or other jobs. Of several of one packet the first is
     /// tried; where it doesn't hold, or there is none, the packet is evaluated here. Where memory is refused, what was emitted
-    /// grows by what those packets add that were taken.
+    /// grows by what those packets add that were taken. What they do to the table is put behind as well, where that is asked
+    /// for.
     pub fn commit_batch(
         &mut self,
         packets: &[(Record, View)],
@@ -117,8 +121,10 @@ impl Book {
         requires few { self.old.count + length packets.now ≤ 2 ^ 43 }
         ensures world { OnOk result (world_with self.new out.new ≡ untold (spec.world_after (job_of self.old) (world_with self.old out.old) (frames_of packets.now))) }
         ensures told { OnOk result (LeadsTo self.old self.new out.old out.new (λ world. spec.world_after (job_of self.old) world (frames_of packets.now))) }
+        ensures changes { OnOk result (held_changes out.new ≡ with_more (held_changes out.old) (spec.world_after (job_of self.old) (world_in self.old) (frames_of packets.now)).changes) }
         ensures part { OnErr result (lines_of out.new ≡ written (world_up_to (job_of self.old) (world_with self.old out.old) self.new.count (frames_of packets.now))) }
         ensures part_told { OnErr result (LeavesTexts self.old self.new.count out.old out.new (frames_of packets.now)) }
+        ensures part_changes { OnErr result (held_changes out.new ≡ with_more (held_changes out.old) (world_up_to (job_of self.old) (world_in self.old) self.new.count (frames_of packets.now)).changes) }
         ensures counted { OnOk result (self.new.count ≡ self.old.count + length packets.now) }
         ensures own { OnOk result (RisesOver (job_of self.old) (world_with self.old out.old) results.items packets.now self.old.own self.new.own) }
         ensures job { self.new.job ≡ self.old.job }
@@ -144,8 +150,10 @@ impl Book {
         requires own { All (λ group. All (IsOfJob (job_of self.old)) group.items) groups.items }
         ensures world { OnOk result (world_with self.new out.new ≡ untold (spec.world_after (job_of self.old) (world_with self.old out.old) (frames_of packets.now))) }
         ensures told { OnOk result (LeadsTo self.old self.new out.old out.new (λ world. spec.world_after (job_of self.old) world (frames_of packets.now))) }
+        ensures changes { OnOk result (held_changes out.new ≡ with_more (held_changes out.old) (spec.world_after (job_of self.old) (world_in self.old) (frames_of packets.now)).changes) }
         ensures part { OnErr result (lines_of out.new ≡ written (world_up_to (job_of self.old) (world_with self.old out.old) self.new.count (frames_of packets.now))) }
         ensures part_told { OnErr result (LeavesTexts self.old self.new.count out.old out.new (frames_of packets.now)) }
+        ensures part_changes { OnErr result (held_changes out.new ≡ with_more (held_changes out.old) (world_up_to (job_of self.old) (world_in self.old) self.new.count (frames_of packets.now)).changes) }
         ensures counted { OnOk result (self.new.count ≡ self.old.count + length packets.now) }
         ensures own { OnOk result (RisesOver (job_of self.old) (world_with self.old out.old) (results_of groups.items) packets.now self.old.own self.new.own) }
         ensures job { self.new.job ≡ self.old.job }

@@ -1,5 +1,5 @@
 //! The committer.
-ghost use Rattle.std.specs.Prelude.{◌≡◌, ◌<◌, ◌≤◌, ◌+◌, ◌^◌, ℕ, false, true, max, IfNone, IfOk, IfSome, IsSome, ◌↔◌, OnOk, OnErr, None};
+ghost use Rattle.std.specs.Prelude.{◌≡◌, ◌<◌, ◌≤◌, ◌+◌, ◌^◌, ℕ, false, true, max, IfNone, IfOk, IfSome, IsSome, ◌↔◌, OnOk, OnErr, None, Some};
 ghost use Rattle.std.specs.Arc.{arc_value};
 ghost use Rattle.std.specs.Option.{option_to_list};
 ghost use Rattle.pfr_headers.specs.declared.packet.View.TheVariants.{Ipv4};
@@ -7,14 +7,14 @@ ghost use Rattle.pfr_headers.specs.View.{view_of};
 ghost use Rattle.pfr_states.specs.States.{purged, refusal};
 ghost use Rattle.pfr_packet.specs.Outcomes.{fresh};
 ghost use Rattle.pfr_packet.specs.Steps.{step_of};
-ghost use Rattle.pfr_commit.specs.Emissions.{frame_of, texts_of};
+ghost use Rattle.pfr_commit.specs.Emissions.{frame_of, held_changes, texts_of, with_more};
 ghost use Rattle.pfr_commit.specs.Endings.{counters_text, states_text};
 ghost use Rattle.pfr_packet.specs.Laws.{IsOwnChange};
 ghost use Rattle.pfr_commit.specs.World.{World};
 ghost use Rattle.pfr_commit.specs.World as spec;
 
 use crate::counters::Counters;
-use crate::emitted::{Emitted, purge_at};
+use crate::emitted::Emitted;
 use crate::ending::Ending;
 use crate::reruns::{Reruns, Unwatched};
 use crate::results::{Found, of_one};
@@ -245,12 +245,13 @@ impl Book {
         requires bytes { IfSome outcome.now.bytes (λ change. view_of packet.now.link packet.now.bytes.items ≡ Ipv4 change.packet) }
         ensures world { OnOk result (world_with self.new out.new ≡ untold (spec.with_outcome (world_with self.old out.old) (frame_of packet.now) clock outcome.now)) }
         ensures told { OnOk result (LeadsTo self.old self.new out.old out.new (λ world. spec.with_outcome world (frame_of packet.now) clock outcome.now)) }
+        ensures changes { OnOk result (held_changes out.new ≡ with_more (held_changes out.old) (spec.changes_of clock outcome.now.change self.old.table.states)) }
         ensures counted { OnOk result (self.new.count ≡ self.old.count + 1) }
-        ensures kept { OnErr result ((self.new.count ≡ self.old.count) × (texts_of out.new ≡ texts_of out.old) × (out.new.changes.items ≡ out.old.changes.items)) }
+        ensures kept { OnErr result ((self.new.count ≡ self.old.count) × (texts_of out.new ≡ texts_of out.old) × (held_changes out.new ≡ held_changes out.old)) }
         ensures others { (self.new.job ≡ self.old.job) × (self.new.own ≡ self.old.own) × (self.new.is_over ≡ self.old.is_over) }
     {
         let number = self.count + 1;
-        let purge = purge_at(&self.table, clock);
+        let purge = out.purge_at(&self.table, clock);
         self.telling.begin(self.clock, clock)?;
         self.telling.purge(&mut self.table, clock)?;
         self.telling
@@ -281,9 +282,10 @@ impl Book {
         requires own { IsOwnAt (job_of self.old) place results.now }
         ensures world { OnOk result (world_with self.new out.new ≡ untold (spec.after (job_of self.old) (world_with self.old out.old) (frame_of packet.now))) }
         ensures told { OnOk result (LeadsTo self.old self.new out.old out.new (λ world. spec.after (job_of self.old) world (frame_of packet.now))) }
+        ensures changes { OnOk result (held_changes out.new ≡ with_more (held_changes out.old) (spec.after (job_of self.old) (world_in self.old) (frame_of packet.now)).changes) }
         ensures job { self.new.job ≡ self.old.job }
         ensures counted { OnOk result (self.new.count ≡ self.old.count + 1) }
-        ensures kept { OnErr result ((self.new.count ≡ self.old.count) × (texts_of out.new ≡ texts_of out.old) × (out.new.changes.items ≡ out.old.changes.items)) }
+        ensures kept { OnErr result ((self.new.count ≡ self.old.count) × (texts_of out.new ≡ texts_of out.old) × (held_changes out.new ≡ held_changes out.old)) }
         ensures used { OnOk result (MayUseNext (found_at place results.now) self.old packet.now view.now → self.new.own ≡ self.old.own) }
         ensures evaluated { OnOk result ((MayUseNext (found_at place results.now) self.old packet.now view.now → ⊥) → self.new.own ≡ self.old.own + 1) }
         ensures ok { OnOk result (self.new.is_over ≡ false) }
@@ -311,9 +313,9 @@ impl Book {
         Ok(())
     }
 
-    /// Takes the next packet, with a speculation of it or without, and answers what it adds to the outputs. The view must be
-    /// the record's. A speculation that isn't of just this packet at its clock under the book's job, or whose record doesn't
-    /// hold in the table, is dropped, and the packet is evaluated here.
+    /// Takes the next packet, with a speculation of it or without, and answers what it adds to the outputs, and what it did to
+    /// the table. The view must be the record's. A speculation that isn't of just this packet at its clock under the book's
+    /// job, or whose record doesn't hold in the table, is dropped, and the packet is evaluated here.
     pub fn commit(
         &mut self,
         packet: &Record,
@@ -326,6 +328,7 @@ impl Book {
         // what is told hangs on what was told before
         ensures told { IfOk result (λ emitted. (world : World) → StandsAt self.old world → StandsAt self.new (spec.after (job_of self.old) world (frame_of packet.now))
             × (spec.online (job_of self.old) (spec.after (job_of self.old) world (frame_of packet.now)) ≡ spec.joined (spec.online (job_of self.old) world) (texts_of emitted))) }
+        ensures changes { IfOk result (λ emitted. held_changes emitted ≡ Some (spec.after (job_of self.old) (world_in self.old) (frame_of packet.now)).changes) }
         ensures job { self.new.job ≡ self.old.job }
         ensures kept { OnErr result (self.new.count ≡ self.old.count) }
         ensures used { OnOk result (MayUseNext speculation self.old packet.now view → self.new.own ≡ self.old.own) }
@@ -345,6 +348,7 @@ impl Book {
             }
         };
         let mut out = Emitted::new(self.alloc);
+        out.changes = Some(Vec::new(self.alloc));
         self.take(packet, &view, &results, 0, None, &Unwatched, &mut out)?;
         Ok(out)
     }

@@ -1,10 +1,10 @@
 //! What packets add to the outputs of a run.
-ghost use Rattle.std.specs.Prelude.{◌≡◌, ◌≤◌, ◌+◌, [], ◌++◌, length, take, drop, IfSome, OnOk, OnErr};
-ghost use Rattle.std.specs.Option.{option_to_list};
+ghost use Rattle.std.specs.Prelude.{◌≡◌, ◌≤◌, ◌+◌, [], ◌++◌, length, take, drop, IfSome, OnSome, OnOk, OnErr, None};
+ghost use Rattle.std.specs.Option.{option_map, option_map_or, option_to_list};
 ghost use Rattle.pfr_headers.specs.declared.packet.View.TheVariants.{Ipv4};
 ghost use Rattle.pfr_headers.specs.View.{view_of};
 ghost use Rattle.pfr_states.specs.States.{due};
-ghost use Rattle.pfr_commit.specs.Emissions.{frame_of, texts_of};
+ghost use Rattle.pfr_commit.specs.Emissions.{frame_of, held_changes, items_of, texts_of, with_more};
 ghost use Rattle.pfr_commit.specs.Lines.{verdict_line};
 ghost use Rattle.pfr_commit.specs.World as spec;
 
@@ -18,14 +18,14 @@ use pfr_track::Clock;
 use std::alloc::{AllocError, Global};
 
 /// What packets add to the outputs: their verdict lines, the records of those that aren't blocked, and the messages to a standby
-/// that they close. Beside it, what they did to the table of states.
+/// that they close. Beside it, where it is asked for, what they did to the table of states.
 #[derive(Drop)]
 pub struct Emitted {
     pub verdicts: Vec<u8>,
     pub packets: Vec<u8>,
     pub messages: Vec<Message>,
-    /// A purge stands here only where a state goes by it.
-    pub changes: Vec<pfr_states::Change>,
+    /// What they did to the table, where that is asked for. A purge stands here only where a state goes by it.
+    pub changes: Option<Vec<pfr_states::Change>>,
 }
 
 /// The length of a record's header.
@@ -76,25 +76,19 @@ fn put_packet(packets: &mut Vec<u8>, packet: &Record, outcome: &Outcome) -> Resu
     }
 }
 
-/// The purge at a clock, where a state of the table goes by it.
-pub(crate) fn purge_at(table: &Table, clock: Clock) -> Option<pfr_states::Change>
-    ensures { option_to_list result ≡ spec.purge_by clock (due clock table.now.states) }
-{
-    match table.due(clock) {
-        Some(_) => Some(pfr_states::Change::Purge(clock)),
-        None => None,
-    }
-}
-
-/// Puts what a packet did to the table behind others: a purge, and its own change. Where memory is refused nothing changes.
+/// Puts what a packet did to the table behind others, where that is asked for: a purge, and its own change. Where memory is
+/// refused nothing changes.
 fn put_changes(
-    changes: &mut Vec<pfr_states::Change>,
+    changes: &mut Option<Vec<pfr_states::Change>>,
     purge: Option<pfr_states::Change>,
     change: &Option<TableChange>,
 ) -> Result<(), AllocError>
-    ensures done { OnOk result (changes.new.items ≡ changes.old.items ++ (option_to_list purge ++ spec.own_change change.now)) }
-    ensures kept { OnErr result (changes.new.items ≡ changes.old.items) }
+    ensures done { OnOk result (items_of changes.new ≡ with_more (items_of changes.old) (option_to_list purge ++ spec.own_change change.now)) }
+    ensures kept { OnErr result (items_of changes.new ≡ items_of changes.old) }
 {
+    let Some(changes) = changes else {
+        return Ok(());
+    };
     let start = changes.len();
     if let Some(purge) = purge {
         changes.push(purge)?;
@@ -108,6 +102,25 @@ fn put_changes(
     Ok(())
 }
 
+/// How many changes there are: none where they aren't asked for.
+fn count_of(changes: &Option<Vec<pfr_states::Change>>) -> usize
+    ensures { result ≡ option_map_or (λ list. length list) (items_of changes.now) 0 }
+{
+    match changes {
+        Some(changes) => changes.len(),
+        None => 0,
+    }
+}
+
+/// Forgets the changes behind so many.
+fn cut_changes(changes: &mut Option<Vec<pfr_states::Change>>, count: usize)
+    ensures { items_of changes.new ≡ option_map (λ list. take count list) (items_of changes.old) }
+{
+    if let Some(changes) = changes {
+        changes.truncate(count);
+    }
+}
+
 /// No bytes, with room for so many. Where that is refused, room is made as they come.
 fn room_for(alloc: Global, bytes: usize) -> Vec<u8>
     ensures { result.items ≡ [] }
@@ -119,41 +132,55 @@ fn room_for(alloc: Global, bytes: usize) -> Vec<u8>
 }
 
 impl Emitted {
-    /// Nothing yet.
+    /// Nothing yet. What is done to the table isn't asked for.
     pub fn new(alloc: Global) -> Emitted
         ensures texts { texts_of result ≡ spec.no_texts }
-        ensures changes { result.changes.items ≡ [] }
+        ensures changes { result.changes ≡ None }
     {
         Emitted {
             verdicts: Vec::new(alloc),
             packets: Vec::new(alloc),
             messages: Vec::new(alloc),
-            changes: Vec::new(alloc),
+            changes: None,
         }
     }
 
     /// Nothing yet, with room for so many bytes of verdict lines and of records. Where that is refused, room is made as they come.
+    /// What is done to the table isn't asked for.
     pub fn with_room(alloc: Global, verdicts: usize, packets: usize) -> Emitted
         ensures texts { texts_of result ≡ spec.no_texts }
-        ensures changes { result.changes.items ≡ [] }
+        ensures changes { result.changes ≡ None }
     {
         Emitted {
             verdicts: room_for(alloc, verdicts),
             packets: room_for(alloc, packets),
             messages: Vec::new(alloc),
-            changes: Vec::new(alloc),
+            changes: None,
         }
     }
 
-    /// Forgets all, and keeps the room.
+    /// Forgets all, and keeps the room. Where changes of the table are asked for they still are.
     pub fn clear(&mut self)
         ensures texts { texts_of self.new ≡ spec.no_texts }
-        ensures changes { self.new.changes.items ≡ [] }
+        ensures changes { held_changes self.new ≡ option_map (λ changes. []) (held_changes self.old) }
     {
         self.verdicts.clear();
         self.packets.clear();
         self.messages.clear();
-        self.changes.clear();
+        cut_changes(&mut self.changes, 0);
+    }
+
+    /// The purge at a clock, where a state of the table goes by it. Where nobody asks for changes it isn't looked for.
+    pub(crate) fn purge_at(&self, table: &Table, clock: Clock) -> Option<pfr_states::Change>
+        ensures { OnSome self.now.changes (option_to_list result ≡ spec.purge_by clock (due clock table.now.states)) }
+    {
+        if self.changes.is_none() {
+            return None;
+        }
+        match table.due(clock) {
+            Some(_) => Some(pfr_states::Change::Purge(clock)),
+            None => None,
+        }
     }
 
     /// Puts a line and messages behind all else, and takes the messages. Where memory is refused nothing changes.
@@ -209,7 +236,7 @@ impl Emitted {
     }
 
     /// Puts what a packet adds behind all else: what is written of it, with the messages that it closed, which it takes, and
-    /// what it did to the table, a purge and its own change. Where memory is refused nothing changes.
+    /// where that is asked for what it did to the table, a purge and its own change. Where memory is refused nothing changes.
     pub(crate) fn put(
         &mut self,
         number: u64,
@@ -223,13 +250,13 @@ impl Emitted {
         ensures verdicts { OnOk result (self.new.verdicts.items ≡ self.old.verdicts.items ++ verdict_line number clock outcome.now) }
         ensures packets { OnOk result (self.new.packets.items ≡ self.old.packets.items ++ spec.packet_text (frame_of packet.now) outcome.now) }
         ensures messages { OnOk result (self.new.messages.items ≡ self.old.messages.items ++ messages.old.items) }
-        ensures changes { OnOk result (self.new.changes.items ≡ self.old.changes.items ++ (option_to_list purge ++ spec.own_change outcome.now.change)) }
-        ensures kept { OnErr result ((texts_of self.new ≡ texts_of self.old) × (self.new.changes.items ≡ self.old.changes.items)) }
+        ensures changes { OnOk result (held_changes self.new ≡ with_more (held_changes self.old) (option_to_list purge ++ spec.own_change outcome.now.change)) }
+        ensures kept { OnErr result ((texts_of self.new ≡ texts_of self.old) × (held_changes self.new ≡ held_changes self.old)) }
     {
-        let start = self.changes.len();
+        let start = count_of(&self.changes);
         put_changes(&mut self.changes, purge, &outcome.change)?;
         if let Err(refused) = self.put_written(number, clock, packet, outcome, messages) {
-            self.changes.truncate(start);
+            cut_changes(&mut self.changes, start);
             return Err(refused);
         }
         Ok(())

@@ -1,9 +1,11 @@
-use Rattle.std.proofs.Common.{◌∙◌, ◌++◌, List, ap, refl}
+use Rattle.std.proofs.Common.{◌∙◌, refl}
+use Rattle.std.specs.Option.{option_to_list}
 use Rattle.pfr_packet.specs.Plan.{purged_at}
 use Rattle.pfr_commit.specs.Books.{world_with}
-use Rattle.pfr_states.specs.declared.change.Change.{Change}
+use Rattle.pfr_states.specs.States.{due}
 use Rattle.pfr_commit.specs.Emissions.{frame_of}
-use Rattle.pfr_commit.specs.World.{own_change}
+use Rattle.pfr_commit.specs.World.{own_change, purge_by}
+use Rattle.pfr_commit.proofs.EmittedLemmas.{more_alike}
 use Rattle.pfr_commit.proofs.StandLemmas.{outcome_leads}
 use Rattle.pfr_commit.proofs.WorldLemmas.{outcome_taken}
 use Rattle.pfr_commit.proofs.book.Book.take_outcome.Goals as goal
@@ -11,9 +13,14 @@ use Rattle.pfr_commit.proofs.book.Book.take_outcome.Goals as goal
 pub returns-clause-world : goal.returns-clause-world
 unfolding purged_at
 returns-clause-world c =
-    outcome_taken (world_with c.args.self.now c.args.out.now) (frame_of c.args.packet.now) c.args.clock c.args.view.now c.args.outcome.now c.purge.new.table _ _ _ _ _
+    outcome_taken (world_with c.args.self.now c.args.out.now) (frame_of c.args.packet.now) c.args.clock c.args.view.now c.args.outcome.now c.purge.new.table _ _ _ _
     c.requires.view c.in_ok-purge.ensures.table c.in_ok-change.ensures.table c.count.ensures
-    c.in_ok-put.ensures.verdicts c.in_ok-put.ensures.packets (c.in_ok-put.ensures.changes ∙ ap (λ (purges : List Change). c.args.out.now.changes.items ++ (purges ++ own_change c.args.outcome.now.change)) c.purge_at-purge.ensures)
+    c.in_ok-put.ensures.verdicts c.in_ok-put.ensures.packets
+
+pub returns-clause-changes : goal.returns-clause-changes
+returns-clause-changes c =
+    c.in_ok-put.ensures.changes
+    ∙ more_alike c.args.out.now.changes (λ list. list.items) (option_to_list c.purge_at-purge.result) (purge_by c.args.clock (due c.args.clock c.args.self.now.table.states)) (own_change c.args.outcome.now.change) c.purge_at-purge.ensures
 
 pub returns-clause-told : goal.returns-clause-told
 unfolding purged_at
