@@ -3,7 +3,7 @@
 //! Each change of the table is added to one list, which only grows. A table that is shown is what a beginning of that list
 //! makes of the empty table. The list stands in the proofs alone: no memory is taken for it. [`Published`] adds changes and
 //! shows the table behind them, and [`Told`] says how far the list had come. A [`Viewer`] that has learned it is shown no
-//! table of before.
+//! table of before. Where nobody is to look at the table any more it is hidden, and the list alone goes on.
 #![tactic(auto)]
 
 mod published;

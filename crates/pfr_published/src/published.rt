@@ -1,5 +1,5 @@
 //! The thread that changes the table.
-ghost use Rattle.std.specs.Prelude.{◌≡◌, ◌^◌, ◌<◌, ◌++◌, [], IfOk, IsErr, IsTrue, MatchResult, true, false};
+ghost use Rattle.std.specs.Prelude.{◌≡◌, ◌^◌, ◌<◌, ◌++◌, [], IfOk, IfSome, IsErr, IsTrue, MatchResult, true, false};
 ghost use Rattle.pfr_states.specs.States.{table_of};
 
 use crate::store::{Added, Store, TableNaming};
@@ -18,6 +18,8 @@ pub type StoreWriter<J> = Writer<Store<J>, Added<J>, (), Unruled>;
 pub struct Published<W> {
     writer: W,
     refused: bool,
+    /// Whether nobody is shown the table from the next publication on.
+    is_hidden: bool,
 }
 
 impl<J: TableNaming> Published<StoreWriter<J>> {
@@ -40,6 +42,7 @@ impl<J: TableNaming> Published<StoreWriter<J>> {
         Ok(Published {
             writer,
             refused: false,
+            is_hidden: false,
         })
     }
 
@@ -62,7 +65,25 @@ impl<J: TableNaming> Published<StoreWriter<J>> {
         })
     }
 
-    /// Adds changes, all of them or none, and shows the table behind them. It is refused where a change is, or memory. Then
+    /// Hides the table: from the next publication on nobody is shown it, and no memory is taken for it. Its list alone goes on, which
+    /// costs little.
+    pub fn hide(self) -> Published<StoreWriter<J>>
+        ensures list { list_of result ≡ list_of self }
+        ensures refused { result.refused ≡ self.refused }
+    {
+        let Published {
+            writer,
+            refused,
+            is_hidden: _,
+        } = self;
+        Published {
+            writer,
+            refused,
+            is_hidden: true,
+        }
+    }
+
+    /// Adds changes, all of them or none, and shows the table behind them, unless it is hidden. It is refused where a change is, or memory. Then
     /// nothing is published any more, and viewers are shown the table that they were shown before. It waits for those who
     /// still look at a table before the one that is shown when it is called.
     pub fn publish<R: Wait>(
@@ -78,14 +99,16 @@ impl<J: TableNaming> Published<StoreWriter<J>> {
         let Published {
             mut writer,
             refused,
+            is_hidden,
         } = self;
         if refused
             || writer.has_pending_operations()
-            || !Self::append_all(&mut writer, history, changes)
+            || !Self::append(&mut writer, history, changes, is_hidden)
         {
             let published = Published {
                 writer,
                 refused: true,
+                is_hidden,
             };
             return (published, Err(AllocError));
         }
@@ -93,8 +116,51 @@ impl<J: TableNaming> Published<StoreWriter<J>> {
         let published = Published {
             writer,
             refused: shown.is_err(),
+            is_hidden,
         };
         (published, shown)
+    }
+
+    /// Adds changes to the list, and has the writer keep them, or for a hidden table how far the list has come. It answers whether
+    /// all were.
+    fn append(
+        writer: &mut StoreWriter<J>,
+        history: &History<J, Change>,
+        changes: &[Change],
+        is_hidden: bool,
+    ) -> bool
+        requires { kept_by writer.old ≡ [] }
+        ensures desk { writer.new.desk ≡ writer.old.desk }
+        ensures list { IsTrue result → list_behind writer.new ≡ shown_by writer.old ++ changes.now }
+    {
+        if is_hidden {
+            Self::append_front(writer, history, changes)
+        } else {
+            Self::append_all(writer, history, changes)
+        }
+    }
+
+    /// Adds changes to the list, and has the writer keep how far it has come then. It answers whether it did.
+    fn append_front(
+        writer: &mut StoreWriter<J>,
+        history: &History<J, Change>,
+        changes: &[Change],
+    ) -> bool
+        requires { kept_by writer.old ≡ [] }
+        ensures desk { writer.new.desk ≡ writer.old.desk }
+        ensures list { IsTrue result → list_behind writer.new ≡ shown_by writer.old ++ changes.now }
+    {
+        let mut front = writer.published().front.again();
+        for entry in changes {
+            if !front.add(history, entry) {
+                return false;
+            }
+        }
+        let added = Added {
+            change: None,
+            front,
+        };
+        writer.append(added).is_ok()
     }
 
     /// Adds changes to the list, and has the writer keep them. It answers whether all were.
@@ -113,7 +179,7 @@ impl<J: TableNaming> Published<StoreWriter<J>> {
                 return false;
             }
             let added = Added {
-                change: *change,
+                change: Some(*change),
                 front: front.again(),
             };
             if writer.append(added).is_err() {
@@ -123,11 +189,16 @@ impl<J: TableNaming> Published<StoreWriter<J>> {
         true
     }
 
-    /// The table as it was published last. It waits until nobody looks at it any more; viewers are shown none from then on.
-    pub fn close<R: Wait>(self, rt: &R) -> Table
-        ensures { result ≡ table_of J.limit (list_of self) }
+    /// The table as it was published last, unless it is hidden. It waits until nobody looks at it any more; viewers are shown none
+    /// from then on.
+    pub fn close<R: Wait>(self, rt: &R) -> Option<Table>
+        ensures { IfSome result (λ table. table ≡ table_of J.limit (list_of self)) }
     {
-        let Published { writer, refused: _ } = self;
+        let Published {
+            writer,
+            refused: _,
+            is_hidden: _,
+        } = self;
         let Store { table, front: _ } = Box::into_inner(writer.take(rt));
         table
     }

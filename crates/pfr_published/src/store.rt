@@ -1,5 +1,6 @@
 //! One copy of the table, with how far the list of changes has come in it.
-ghost use Rattle.std.specs.Prelude.{◌≡◌, ◌+◌, ◌-◌, [], length, Some, MatchResult, slice_get};
+ghost use Rattle.std.specs.Prelude.{◌≡◌, ◌+◌, ◌-◌, ◌++◌, ◌∷◌, [], ℕ, List, length, OnOk, OnErr, Some, MatchResult, slice_get};
+ghost use Rattle.std.specs.Option.{ForSome};
 ghost use Rattle.pfr_states.specs.States.{stepped, table_of};
 
 use left_right::Absorb;
@@ -19,20 +20,20 @@ impl TableNaming for Brand {
     ghost limit = { 0 };
 }
 
-/// A change that was added, and the beginning of the list that ends with it.
+/// A change that was added, and the beginning of the list that ends with it. Where the table is hidden, a beginning alone.
 #[derive(Drop)]
 pub struct Added<J: TableNaming> {
-    pub(crate) change: Change,
+    pub(crate) change: Option<Change>,
     pub(crate) front: Front<J, Change>,
-    ghost last: { slice_get front (length front - 1) ≡ Some change },
+    ghost last: { ForSome change (λ change. slice_get front (length front - 1) ≡ Some change) },
 }
 
-/// A table of states, and the beginning of the list that has made it of the empty table.
+/// A table of states, and the beginning of the list that has made it of the empty table. There is none once it is hidden.
 #[derive(Drop)]
 pub struct Store<J: TableNaming> {
-    pub(crate) table: Table,
+    pub(crate) table: Option<Table>,
     pub(crate) front: Front<J, Change>,
-    ghost kept: { table ≡ table_of J.limit front },
+    ghost kept: { ForSome table (λ table. table ≡ table_of J.limit front) },
 }
 
 /// Does to a table what a change says. Where the table refuses it, it stays as it was.
@@ -48,6 +49,18 @@ fn apply(table: &mut Table, change: &Change) -> Result<(), TableError>
     }
 }
 
+/// Does to a table, if there is one, what a change says: it is that of a list of changes with one more then. Where that is refused,
+/// the table stays as it was.
+fn apply_to(table: &mut Option<Table>, change: &Change) -> Result<(), TableError>
+    ensures taken { OnOk result ((limit : ℕ) (before : List Change) → ForSome table.old (λ table. table ≡ table_of limit before) → ForSome table.new (λ table. table ≡ table_of limit (before ++ change.now ∷ []))) }
+    ensures kept { OnErr result (table.new ≡ table.old) }
+{
+    match table {
+        Some(table) => apply(table, change),
+        None => Ok(()),
+    }
+}
+
 impl<J: TableNaming> Store<J> {
     /// The empty table, before any change.
     pub(crate) fn new(alloc: Global, limit: usize, front: Front<J, Change>) -> Store<J>
@@ -56,19 +69,28 @@ impl<J: TableNaming> Store<J> {
         ensures { result.front ≡ [] }
     {
         Store {
-            table: Table::new(alloc, limit),
+            table: Some(Table::new(alloc, limit)),
             front,
         }
     }
 
-    /// Takes over the change behind those that it has. Where that is refused, the table stays as it was.
-    fn take(&mut self, added: &Added<J>) -> Result<(), TableError>
-        requires { length added.now.front ≡ length self.old.front + 1 }
-        ensures taken { MatchResult result (λ _. self.new.front ≡ added.now.front) (λ _. (self.new.table ≡ self.old.table) × (self.new.front ≡ self.old.front)) }
+    /// Takes over a change behind those that it has, the last one of a beginning. Where that is refused, the table stays as it was.
+    fn take(&mut self, change: &Change, front: &Front<J, Change>) -> Result<(), TableError>
+        requires longer { length front.now ≡ length self.old.front + 1 }
+        requires last { slice_get front.now (length front.now - 1) ≡ Some change.now }
+        ensures taken { MatchResult result (λ _. self.new.front ≡ front.now) (λ _. (self.new.table ≡ self.old.table) × (self.new.front ≡ self.old.front)) }
     {
-        apply(&mut self.table, &added.change)?;
-        self.front = self.front.longer(&added.front);
+        apply_to(&mut self.table, change)?;
+        self.front = self.front.longer(front);
         Ok(())
+    }
+
+    /// Lets go of the table, and has a beginning of the list alone.
+    fn hide(&mut self, front: &Front<J, Change>)
+        ensures { self.new.front ≡ front.now }
+    {
+        self.table = None;
+        self.front = front.again();
     }
 }
 
@@ -80,9 +102,14 @@ impl<J: TableNaming> Absorb<Added<J>> for Store<J> {
     ghost applied = { λ before added. added.front };
 
     fn absorb_first(&mut self, added: &Added<J>, _other: &Store<J>) -> Result<(), AllocError> {
+        let Some(change) = &added.change else {
+            self.hide(&added.front);
+            return Ok(());
+        };
         if self.front.len().checked_add(1) != Some(added.front.len()) {
             return Err(AllocError);
         }
-        self.take(added).map_err(|_refusal| AllocError)
+        self.take(change, &added.front)
+            .map_err(|_refusal| AllocError)
     }
 }

@@ -60,14 +60,14 @@ pub struct Showing<J: TableNaming> {
 }
 
 impl<J: TableNaming> Model for Showing<J> {
-    ghost use Rattle.std.specs.Prelude.{◌≡◌, List};
+    ghost use Rattle.std.specs.Prelude.{◌≡◌, IsSome, List};
     ghost use Rattle.pfr_states.specs.declared.change.Change.{Change};
 
     ghost Value = { List Change };
 
     ghost view = { λ showing. showing.known };
 
-    ghost invariant = { λ showing. showing.known ≡ showing.reading.part.value.front };
+    ghost invariant = { λ showing. (showing.known ≡ showing.reading.part.value.front) × IsSome showing.reading.part.value.table };
 }
 
 impl<J: TableNaming> Viewer<J> {
@@ -80,7 +80,7 @@ impl<J: TableNaming> Viewer<J> {
     }
 
     /// Looks at the table that is published last. It has all changes that were known to the viewer, and these are known from
-    /// now on. Where the table is no more, the viewer comes back as it was.
+    /// now on. Where the table is hidden or no more, the viewer comes back as it was.
     pub fn enter(self) -> Result<Showing<J>, Viewer<J>>
         ensures begins { IfOk result (λ showing. IsPrefix self showing) }
         ensures kept { IfErr result (λ viewer. viewer ≡ self) }
@@ -89,7 +89,7 @@ impl<J: TableNaming> Viewer<J> {
         match reader.enter_as::<Unruled>() {
             Ok(reading) => {
                 let front = reading.get().front.again();
-                if known.begins(&front) {
+                if reading.get().table.is_some() && known.begins(&front) {
                     Ok(Showing {
                         reading,
                         known: front,
@@ -111,7 +111,10 @@ impl<J: TableNaming> Showing<J> {
     pub fn table(&self) -> &Table
         ensures { result.now ≡ table_of J.limit self.now }
     {
-        &self.reading.get().table
+        match &self.reading.get().table {
+            Some(table) => table,
+            None => unreachable!(),
+        }
     }
 
     /// Looks away. What is known stays known.
