@@ -26,7 +26,7 @@ from faults.trial import Target, Trial
 from programs import Program, program_at
 from rules import vain_pairs
 
-PROGRAM = Program("commits_bench", HERE / "main.rattle", "pfr_work")
+PROGRAM = Program("commits_bench", HERE / "main.rattle", "pfr_commit")
 STATES = 100000
 COUNTS = (10, 100, 1000)
 # the packets of a batch and of a run, and the packets times rules where each packet is asked about every rule

@@ -211,7 +211,8 @@ stop_begins run batch text left told is_told old new (stop.Read committed) form 
 stop_begins run batch text left told is_told old new (stop.Memory committed) form records end (inl unwritten) c = all_nothing old new _ (unwritten.same is_told)
 stop_begins run batch text left told is_told old new (stop.Memory committed) form records end (inr (inl holds)) c =
     holds_begins run batch told is_told old new committed (take 24 text) form records end (of_source text left (Holds run batch told old new committed) form records end holds c)
-stop_begins run batch text left told is_told old new (stop.Memory committed) form records end (inr (inr holds)) c = all_begins run text told is_told old new (Ok holds.0) committed form records end holds.1 c
+stop_begins run batch text left told is_told old new (stop.Memory committed) form records end (inr (inr (inl read))) c = read_begins run text left told is_told old new committed form records end read c
+stop_begins run batch text left told is_told old new (stop.Memory committed) form records end (inr (inr (inr all))) c = all_begins run text told is_told old new all.0 committed form records end all.1 c
 stop_begins run batch text left told is_told old new (stop.Write at committed) form records end (inl holds) c =
     by_part (of_source text left (λ header form records. HoldsPartOfHeader told old new at committed header ⊎ HoldsPartOfBatch run batch told old new at committed header form records) form records end holds c)
   where
@@ -269,8 +270,10 @@ nothing_behind_a_refusal run batch text left told old new (stop.Read committed) 
     absurd (not_both text h.form e refused (rw h.is (capture_opens h.read left h.form h.records (Ok h.tail) h.capture)))
 nothing_behind_a_refusal run batch text left told old new (stop.Memory committed) e refused (inl unwritten) = (unwritten.same, unwritten.none)
 nothing_behind_a_refusal run batch text left told old new (stop.Memory committed) e refused (inr (inl holds)) = absurd (not_both text holds.form e refused (of_every_opens text left _ holds))
-nothing_behind_a_refusal run batch text left told old new (stop.Memory committed) e refused (inr (inr holds)) =
-    absurd (not_both text holds.1.form e refused (capture_is_opened text holds.1.form holds.1.records (Ok holds.0) holds.1.capture))
+nothing_behind_a_refusal run batch text left told old new (stop.Memory committed) e refused (inr (inr (inl h))) =
+    absurd (not_both text h.form e refused (rw h.is (capture_opens h.read left h.form h.records (Ok h.tail) h.capture)))
+nothing_behind_a_refusal run batch text left told old new (stop.Memory committed) e refused (inr (inr (inr all))) =
+    absurd (not_both text all.1.form e refused (capture_is_opened text all.1.form all.1.records all.0 all.1.capture))
 nothing_behind_a_refusal run batch text left told old new (stop.Write at committed) e refused (inl holds) = absurd (not_both text holds.form e refused (of_every_opens text left _ holds))
 nothing_behind_a_refusal run batch text left told old new (stop.Write at committed) e refused (inr h) =
     absurd (not_both text h.form e refused (capture_is_opened text h.form h.records (Ok h.tail) h.capture))

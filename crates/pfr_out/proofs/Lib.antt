@@ -1,3 +1,4 @@
+pub mod AheadLemmas
 pub mod BeginningLemmas
 pub mod FeedingLemmas
 pub mod ReadingLemmas

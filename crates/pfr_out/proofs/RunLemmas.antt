@@ -2,7 +2,7 @@
 use Rattle.std.proofs.Common.{◌≡◌, ℕ, suc, ◌+◌, ◌≤◌, Bool, IsTrue, true, false, List, [], ◌++◌, length, map, take, Option, Some, None, Result, Ok, Err, IfErr, IfOk, OnOk, inl, inr, refl, sym, ◌∙◌, ap, subst, arith}
 use Rattle.std.specs.List.{All}
 use Rattle.std.proofs.Math.Nat.{suc-mul, zero-mul}
-use Rattle.std.proofs.lemmas.List.{append_assoc, length-append, length-map, map-append, take-take, take_at}
+use Rattle.std.proofs.lemmas.List.{append_assoc, append-nil, length-append, length-map, map-append, take-take, take_at}
 use Rattle.pfr_packet.specs.Job.{RunJob}
 use Rattle.pfr_capture.specs.declared.capture.CaptureError.{CaptureError}
 use Rattle.pfr_capture.specs.declared.capture.CaptureError.TheVariants as refusal
@@ -71,44 +71,40 @@ same_run book other form other_form job_is form_is =
 
 -- ---- how far a run has come
 
--- the reader has given these records, they leave this world, and all that they write is written
-pub record SoFar (run : Run) (capture : Reading) (text left : List ℕ) (told : Sinks Bool) (old new : Outputs) (world : World) (records : List RecordBytes) : Type 0 where
+-- The reader has given these records, and others that wait behind them. The first ones leave this world, and all that they write is written.
+pub record SoFar (run : Run) (capture : Reading) (text left : List ℕ) (told : Sinks Bool) (old new : Outputs) (world : World) (records ahead : List RecordBytes) : Type 0 where
   pub read : List ℕ
   pub text_is : text ≡ read ++ left
-  pub given : HasGiven capture read records
+  pub given : HasGiven capture read (records ++ ahead)
   pub grew : AllTold told → Grew old new (online capture.header run (run_of run.job capture.form records))
   pub world_is : world ≡ run_of run.job capture.form records
 
--- between two batches
-pub record AtHead (run : Run) (batch : ℕ) (capture : Reading) (text left : List ℕ) (told : Sinks Bool) (old new : Outputs) (world : World) : Type 0 where
-  pub records : List RecordBytes
-  pub so_far : SoFar run capture text left told old new world records
-  pub boundary : IsBoundary batch (length records)
-
 -- nothing was given yet, and the header was written
-pub at_start : (run : Run) (batch : ℕ) (capture : Reading) (read left : List ℕ) (told : Sinks Bool) (old new : Outputs) → HasGiven capture read [] → (AllTold told → Grew old new (header_alone capture.header))
-    → AtHead run batch capture (read ++ left) left told old new (opening run.job)
-at_start run batch capture read left told old new given grew = record {
-  records = [];
-  so_far = record {
-    read = read;
-    text_is = refl;
-    given = given;
-    grew = λ t. header_is_online old new capture.header run (run_of run.job capture.form []) (ap (λ (w : World). written run.job w) (run_none run.job capture.form) ∙ opening_written run.job) (grew t);
-    world_is = sym (run_none run.job capture.form);
-  };
-  boundary = (0, sym (zero-mul batch));
+pub at_start : (run : Run) (capture : Reading) (read left : List ℕ) (told : Sinks Bool) (old new : Outputs) → HasGiven capture read [] → (AllTold told → Grew old new (header_alone capture.header))
+    → SoFar run capture (read ++ left) left told old new (opening run.job) [] []
+at_start run capture read left told old new given grew = record {
+  read = read;
+  text_is = refl;
+  given = given;
+  grew = λ t. header_is_online old new capture.header run (run_of run.job capture.form []) (ap (λ (w : World). written run.job w) (run_none run.job capture.form) ∙ opening_written run.job) (grew t);
+  world_is = sym (run_none run.job capture.form);
 }
 
 -- ---- a batch
 
--- the records of a batch
-pub record Batch (capture capture' : Reading) (left left' : List ℕ) (packets : List Record) : Type 0 where
-  pub on : ReadsOn capture capture' left left' (records_of packets)
-  pub same : (capture'.form ≡ capture.form) × (capture'.header ≡ capture.header)
-  pub fields : All (FieldsOf capture.form) packets
+-- more records were given
+pub batch_given : (run : Run) (capture capture' : Reading) (text left left' : List ℕ) (told : Sinks Bool) (old new : Outputs) (world : World) (records ahead more : List RecordBytes)
+    → SoFar run capture text left told old new world records ahead → ReadsOn capture capture' left left' more → (capture'.form ≡ capture.form) × (capture'.header ≡ capture.header)
+    → SoFar run capture' text left' told old new world records (ahead ++ more)
+batch_given run capture capture' text left left' told old new world records ahead more s on same = record {
+  read = s.read ++ on.came;
+  text_is = s.text_is ∙ (rw on.gave (sym (append_assoc s.read on.came left')));
+  given = rw (← append_assoc records ahead more) (on.on s.read (records ++ ahead) s.given);
+  grew = λ t. rw (same.0, same.1) (s.grew t);
+  world_is = rw same.0 s.world_is;
+}
 
--- what they add is written
+-- what the next ones add is written
 abbrev pub Took : Run → (told : Sinks Bool) → (mid new : Outputs) → World → List Record → Type 0
 Took run told mid new world packets = Add run.job world (map frame_of packets) (λ added. AllTold told → Grew mid new (texts_alone run added))
 
@@ -117,11 +113,6 @@ taken_run : (job : RunJob) (form : Form) (records : List RecordBytes) (packets :
     → run_of job form (records ++ records_of packets) ≡ world_after job (run_of job form records) (map frame_of packets)
 taken_run job form records packets all =
     run_append job form records (records_of packets) ∙ ap (λ fs. world_after job (run_of job form records) fs) (sym (same_frames form packets all))
-
-given_more : (run : Run) (capture capture' : Reading) (text left left' : List ℕ) (told : Sinks Bool) (old mid : Outputs) (world : World) (records : List RecordBytes) (packets : List Record) → SoFar run capture text left told old mid world records → Batch capture capture' left left' packets
-    → (read : List ℕ) × (text ≡ read ++ left') × HasGiven capture' read (records ++ records_of packets)
-given_more run capture capture' text left left' told old mid world records packets s b =
-    (s.read ++ b.on.came, s.text_is ∙ (rw b.on.gave (sym (append_assoc s.read b.on.came left'))), b.on.on s.read records s.given)
 
 -- what it writes
 piece_is : (run : Run) (header : List ℕ) (form : Form) (records : List RecordBytes) (packets : List Record) (added : Texts) → All (FieldsOf form) packets
@@ -132,37 +123,24 @@ piece_is run header form records packets added all is =
     (ap (λ (w : World). written run.job w) (taken_run run.job form records packets all) ∙ is)
 
 -- the batch was taken and written
-pub batch_taken : (run : Run) (capture capture' : Reading) (text left left' : List ℕ) (told : Sinks Bool) (old mid new : Outputs) (world : World) (records : List RecordBytes) (packets : List Record)
-    → SoFar run capture text left told old mid world records → Batch capture capture' left left' packets → Took run told mid new world packets
-    → SoFar run capture' text left' told old new (world_after run.job world (map frame_of packets)) (records ++ records_of packets)
-batch_taken run capture capture' text left left' told old mid new world records packets s b took =
-    let more = given_more run capture capture' text left left' told old mid world records packets s b in
+pub batch_taken : (run : Run) (capture : Reading) (text left : List ℕ) (told : Sinks Bool) (old mid new : Outputs) (world : World) (records ahead : List RecordBytes) (packets : List Record)
+    → SoFar run capture text left told old mid world records (records_of packets ++ ahead) → All (FieldsOf capture.form) packets → Took run told mid new world packets
+    → SoFar run capture text left told old new (world_after run.job world (map frame_of packets)) (records ++ records_of packets) ahead
+batch_taken run capture text left told old mid new world records ahead packets s fields took =
     let add : Took run told mid new (run_of run.job capture.form records) packets = subst (λ (w : World). Took run told mid new w packets) s.world_is took in
     record {
-      read = more.0;
-      text_is = more.1;
-      given = more.2;
-      grew = λ t. rw (b.same.0, b.same.1) (grew_twice old mid new (online capture.header run (run_of run.job capture.form records)) (texts_alone run add.added)
-          (online capture.header run (run_of run.job capture.form (records ++ records_of packets))) (s.grew t) (add.hold t) (piece_is run capture.header capture.form records packets add.added b.fields add.is));
-      world_is = rw b.same.0 (ap (λ (w : World). world_after run.job w (map frame_of packets)) s.world_is ∙ sym (taken_run run.job capture.form records packets b.fields));
+      read = s.read;
+      text_is = s.text_is;
+      given = rw (append_assoc records (records_of packets) ahead) s.given;
+      grew = λ t. grew_twice old mid new (online capture.header run (run_of run.job capture.form records)) (texts_alone run add.added)
+          (online capture.header run (run_of run.job capture.form (records ++ records_of packets))) (s.grew t) (add.hold t) (piece_is run capture.header capture.form records packets add.added fields add.is);
+      world_is = ap (λ (w : World). world_after run.job w (map frame_of packets)) s.world_is ∙ sym (taken_run run.job capture.form records packets fields);
     }
 
 -- ---- stops
 
 front_is : (records all : List RecordBytes) (count : ℕ) → IsFront records all → length records ≡ count → take count all ≡ records
 front_is records all count front counted = rw (← counted) (sym front.front)
-
--- the reader stopped, or memory was refused, with whole batches written
-pub holds_so_far : (run : Run) (batch : ℕ) (capture : Reading) (text left left' : List ℕ) (told : Sinks Bool) (old new : Outputs) (world : World) (records : List RecordBytes) (committed : ℕ) → SoFar run capture text left told old new world records → Gave left left'
-    → IsBoundary batch (length records) → length records ≡ committed → OfEvery text left' (Holds run batch told old new committed)
-holds_so_far run batch capture text left left' told old new world records committed s gave boundary counted =
-    of_every capture text left' s.read left records (Holds run batch told old new committed) s.text_is gave s.given (λ all front.
-    let within = front.within in
-    record {
-      within = omega (arith, counted);
-      boundary = rw (← counted) boundary;
-      grew = λ t. rw (front_is records all committed front counted) (s.grew t);
-    })
 
 front_of_part : (xs ys all : List RecordBytes) → IsFront (xs ++ ys) all → IsFront xs all
 front_of_part xs ys all f =
@@ -174,17 +152,30 @@ front_of_part xs ys all f =
       front = sym (take_at xs ys (length xs) refl) ∙ ap (λ (t : List RecordBytes). take (length xs) t) f.front ∙ take-take (length xs) (length (xs ++ ys)) all short;
     }
 
--- a batch was written in part
-pub holds_part_of_batch : (run : Run) (batch : ℕ) (capture capture' : Reading) (text left left' : List ℕ) (told : Sinks Bool) (old mid new : Outputs) (world : World) (records : List RecordBytes) (packets : List Record) (output : Output) (committed : ℕ)
-    → SoFar run capture text left told old mid world records → Batch capture capture' left left' packets → length (records_of packets) ≤ batch → IsBoundary batch (length records) → length records ≡ committed
+-- memory was refused, with whole batches written; more may have been read since
+pub holds_so_far : (run : Run) (batch : ℕ) (capture : Reading) (text left left' : List ℕ) (told : Sinks Bool) (old new : Outputs) (world : World) (records ahead : List RecordBytes) (committed : ℕ) → SoFar run capture text left told old new world records ahead → Gave left left'
+    → IsBoundary batch (length records) → length records ≡ committed → OfEvery text left' (Holds run batch told old new committed)
+holds_so_far run batch capture text left left' told old new world records ahead committed s gave boundary counted =
+    of_every capture text left' s.read left (records ++ ahead) (Holds run batch told old new committed) s.text_is gave s.given (λ all front.
+    let first = front_of_part records ahead all front in
+    let within = first.within in
+    record {
+      within = omega (arith, counted);
+      boundary = rw (← counted) boundary;
+      grew = λ t. rw (front_is records all committed first counted) (s.grew t);
+    })
+
+-- the next batch was written in part
+pub holds_part_of_batch : (run : Run) (batch : ℕ) (capture : Reading) (text left left' : List ℕ) (told : Sinks Bool) (old mid new : Outputs) (world : World) (records ahead : List RecordBytes) (packets : List Record) (output : Output) (committed : ℕ)
+    → SoFar run capture text left told old mid world records (records_of packets ++ ahead) → Gave left left' → All (FieldsOf capture.form) packets → length (records_of packets) ≤ batch → IsBoundary batch (length records) → length records ≡ committed
     → Add run.job world (map frame_of packets) (λ added. AllTold told → PartWritten mid new (texts_alone run added) output) → Failing run batch text left' told old new output committed
-holds_part_of_batch run batch capture capture' text left left' told old mid new world records packets output committed s b few boundary counted part =
-    let more = given_more run capture capture' text left left' told old mid world records packets s b in
+holds_part_of_batch run batch capture text left left' told old mid new world records ahead packets output committed s gave fields few boundary counted part =
     let all_long = length-append records (records_of packets) in
     let add = subst (λ (w : World). Add run.job w (map frame_of packets) (λ added. AllTold told → PartWritten mid new (texts_alone run added) output)) s.world_is part in
-    inl (of_every capture' text left' more.0 left' (records ++ records_of packets) _ more.1 (record { came = []; gave = refl }) more.2 (λ all front.
+    inl (of_every capture text left' s.read left (records ++ (records_of packets ++ ahead)) _ s.text_is gave s.given (λ all whole_front.
+    let front : IsFront (records ++ records_of packets) all = front_of_part (records ++ records_of packets) ahead all (rw (append_assoc records (records_of packets) ahead) whole_front) in
     let within = front.within in
-    rw (b.same.0, b.same.1) (inr (record {
+    inr (record {
       next = length (records ++ records_of packets);
       at_most = omega (arith, counted);
       within = within;
@@ -193,41 +184,47 @@ holds_part_of_batch run batch capture capture' text left left' told old mid new 
       before = λ t. rw (front_is records all committed (front_of_part records (records_of packets) all front) counted) (s.grew t);
       piece = add.added;
       piece_is = rw (front_is records all committed (front_of_part records (records_of packets) all front) counted, front_is (records ++ records_of packets) all (length (records ++ records_of packets)) front refl)
-          (piece_is run capture.header capture.form records packets add.added b.fields add.is);
+          (piece_is run capture.header capture.form records packets add.added fields add.is);
       part = add.hold;
-    }))))
+    })))
 
 -- as many packets as records
-pub counted_by : (run : Run) (capture : Reading) (text left : List ℕ) (told : Sinks Bool) (old new : Outputs) (world : World) (records : List RecordBytes) → SoFar run capture text left told old new world records → length records ≡ world.count
+pub counted_by : (run : Run) (capture : Reading) (text left : List ℕ) (told : Sinks Bool) (old new : Outputs) (world : World) (records ahead : List RecordBytes) → SoFar run capture text left told old new world records ahead → length records ≡ world.count
 unfolding run_of world_of opening
-counted_by run capture text left told old new world records s =
+counted_by run capture text left told old new world records ahead s =
     let count : (run_of run.job capture.form records).count ≡ 0 + length (map (frame_in capture.form) records) = world_count run.job (opening run.job) (map (frame_in capture.form) records) in
     let same : length (map (frame_in capture.form) records) ≡ length records = length-map records (frame_in capture.form) in
     let ours : world.count ≡ (run_of run.job capture.form records).count = ap (λ (w : World). w.count) s.world_is in
     omega arith
 
 -- the source's bytes, where the capture ends behind these records
-pub capture_is : (run : Run) (capture : Reading) (text left : List ℕ) (told : Sinks Bool) (old new : Outputs) (world : World) (records given : List RecordBytes) (end : End) → SoFar run capture text left told old new world records → EndsBehind capture left given end
-    → IsCapture text capture.form (records ++ given) end
-capture_is run capture text left told old new world records given end s ends = rw s.text_is (ends s.read records s.given)
+pub capture_is : (run : Run) (capture : Reading) (text left : List ℕ) (told : Sinks Bool) (old new : Outputs) (world : World) (records ahead given : List RecordBytes) (end : End) → SoFar run capture text left told old new world records ahead → EndsBehind capture left given end
+    → IsCapture text capture.form (records ++ (ahead ++ given)) end
+capture_is run capture text left told old new world records ahead given end s ends = rw (s.text_is, ← append_assoc records ahead given) (ends s.read (records ++ ahead) s.given)
 
-text_header : (run : Run) (capture : Reading) (text left : List ℕ) (told : Sinks Bool) (old new : Outputs) (world : World) (records : List RecordBytes) → SoFar run capture text left told old new world records → take 24 text ≡ capture.header
-text_header run capture text left told old new world records s = rw s.text_is (header_is capture s.read left records s.given)
+text_header : (run : Run) (capture : Reading) (text left : List ℕ) (told : Sinks Bool) (old new : Outputs) (world : World) (records ahead : List RecordBytes) → SoFar run capture text left told old new world records ahead → take 24 text ≡ capture.header
+text_header run capture text left told old new world records ahead s = rw s.text_is (header_is capture s.read left (records ++ ahead) s.given)
 
-pub holds_all : (run : Run) (capture : Reading) (text left : List ℕ) (told : Sinks Bool) (old new : Outputs) (world : World) (records : List RecordBytes) (end : End) → SoFar run capture text left told old new world records → IsCapture text capture.form records end
+holds_all : (run : Run) (capture : Reading) (text left : List ℕ) (told : Sinks Bool) (old new : Outputs) (world : World) (records : List RecordBytes) (end : End) → SoFar run capture text left told old new world records [] → IsCapture text capture.form records end
     → HoldsAll run text told old new end world.count
 holds_all run capture text left told old new world records end s is = record {
   form = capture.form;
   records = records;
   capture = is;
-  counted = counted_by run capture text left told old new world records s;
-  grew = λ t. rw (text_header run capture text left told old new world records s) (s.grew t);
+  counted = counted_by run capture text left told old new world records [] s;
+  grew = λ t. rw (text_header run capture text left told old new world records [] s) (s.grew t);
 }
 
-pub holds_all_read : (run : Run) (capture : Reading) (text left : List ℕ) (told : Sinks Bool) (old new : Outputs) (world : World) (records : List RecordBytes) → SoFar run capture text left told old new world records → LacksRecord capture refusal.Read
+-- and they leave the world
+pub all_leave : (run : Run) (capture : Reading) (text left : List ℕ) (told : Sinks Bool) (old new : Outputs) (world : World) (records : List RecordBytes) (end : End) → SoFar run capture text left told old new world records [] → IsCapture text capture.form records end
+    → (all : HoldsAll run text told old new end world.count) × (world ≡ run_of run.job all.form all.records)
+unfolding holds_all
+all_leave run capture text left told old new world records end s is = (holds_all run capture text left told old new world records end s is, s.world_is)
+
+pub holds_all_read : (run : Run) (capture : Reading) (text left : List ℕ) (told : Sinks Bool) (old new : Outputs) (world : World) (records : List RecordBytes) → SoFar run capture text left told old new world records [] → LacksRecord capture refusal.Read
     → HoldsAllRead run text left told old new world.count
 holds_all_read run capture text left told old new world records s lacks =
-    let is = read_is_capture capture s.read records s.given lacks in
+    let is = read_is_capture capture s.read records (rw (append-nil records) at s.given) lacks in
     record {
       read = s.read;
       is = s.text_is;
@@ -235,8 +232,8 @@ holds_all_read run capture text left told old new world records s lacks =
       records = records;
       tail = is.0;
       capture = is.1;
-      counted = counted_by run capture text left told old new world records s;
-      grew = λ t. rw (text_header run capture text left told old new world records s) (s.grew t);
+      counted = counted_by run capture text left told old new world records [] s;
+      grew = λ t. rw (text_header run capture text left told old new world records [] s) (s.grew t);
     }
 
 -- ---- the end of a capture
@@ -275,7 +272,7 @@ replayed run text told old mid new book form tail report run_is t grew committed
 
 end_stopped : (run : Run) (batch : ℕ) (text left : List ℕ) (told : Sinks Bool) (old mid new : Outputs) (book : Book) (form : MessageForm) (tail : Tail) (s : Stop) → run_in book form ≡ run → TakenAll run text told old mid book tail → EndStops book form told mid new s
     → Stopped run batch text left told old new s
-end_stopped run batch text left told old mid new book form tail (stop.Memory committed) run_is t stops = rw (stops.0, stops.1) (inr (inr (tail, t.all)))
+end_stopped run batch text left told old mid new book form tail (stop.Memory committed) run_is t stops = rw (stops.0, stops.1) (inr (inr (inr (Ok tail, t.all))))
 end_stopped run batch text left told old mid new book form tail (stop.Write output committed) run_is t stops =
     rw stops.0 (inr (record {
       form = t.all.form;
@@ -291,62 +288,10 @@ end_stopped run batch text left told old mid new book form tail (stop.Ruleset fa
 end_stopped run batch text left told old mid new book form tail (stop.Capture e committed) run_is t stops = absurd stops
 end_stopped run batch text left told old mid new book form tail (stop.Read committed) run_is t stops = absurd stops
 
--- ---- the batches
-
-pub memory_stopped : (run : Run) (batch : ℕ) (capture : Reading) (text left left' : List ℕ) (told : Sinks Bool) (old new : Outputs) (world : World) → AtHead run batch capture text left told old new world → Gave left left'
-    → Stopped run batch text left' told old new (stop.Memory world.count)
-memory_stopped run batch capture text left left' told old new world h gave =
-    inr (inl (holds_so_far run batch capture text left left' told old new world h.records world.count h.so_far gave h.boundary (counted_by run capture text left told old new world h.records h.so_far)))
-
--- a batch was written in part
-pub batch_cut : (run : Run) (batch : ℕ) (capture capture' : Reading) (text left left' : List ℕ) (told : Sinks Bool) (old mid new : Outputs) (world : World) (packets : List Record) (output : Output)
-    → AtHead run batch capture text left told old mid world → Batch capture capture' left left' packets → length packets ≤ batch
-    → Add run.job world (map frame_of packets) (λ added. AllTold told → PartWritten mid new (texts_alone run added) output) → Stopped run batch text left' told old new (stop.Write output world.count)
-batch_cut run batch capture capture' text left left' told old mid new world packets output h b few part =
-    holds_part_of_batch run batch capture capture' text left left' told old mid new world h.records packets output world.count h.so_far b (rw (length-map packets _) few) h.boundary
-    (counted_by run capture text left told old mid world h.records h.so_far) part
+-- ---- the end of a run
 
 pub concludes_for : (end : End) (book : Book) (form : MessageForm) (told told' : Sinks Bool) (old new : Outputs) (s : Stop) → told ≡ told' → Concludes end book form told old new s → Concludes end book form told' old new s
 concludes_for end book form told told' old new s is concludes = subst (λ (t : Sinks Bool). Concludes end book form t old new s) is concludes
-
--- a whole batch more
-pub next_head : (run : Run) (batch : ℕ) (capture capture' : Reading) (text left left' : List ℕ) (told : Sinks Bool) (old mid new : Outputs) (world : World) (packets : List Record) → AtHead run batch capture text left told old mid world
-    → Batch capture capture' left left' packets → length packets ≡ batch → Took run told mid new world packets → AtHead run batch capture' text left' told old new (world_after run.job world (map frame_of packets))
-next_head run batch capture capture' text left left' told old mid new world packets h b full took = record {
-  records = h.records ++ records_of packets;
-  so_far = batch_taken run capture capture' text left left' told old mid new world h.records packets h.so_far b took;
-  boundary = more_batches batch (length h.records) (length (h.records ++ records_of packets)) h.boundary (length-append h.records (records_of packets) ∙ ap (λ (n : ℕ). length h.records + n) (length-map packets _ ∙ full));
-}
-  where
-    more_batches : (batch before after : ℕ) → IsBoundary batch before → after ≡ before + batch → IsBoundary batch after
-    more_batches batch before after boundary is =
-        let next : boundary.0 + 1 ≡ suc boundary.0 = omega arith in
-        (boundary.0 + 1, is ∙ ap (λ (n : ℕ). n + batch) boundary.1 ∙ (rw next (sym (suc-mul boundary.0 batch))))
-
--- the reading ended, and the packets before that are written
-pub reached : (run : Run) (batch : ℕ) (capture capture' : Reading) (text left left' : List ℕ) (told : Sinks Bool) (old mid new : Outputs) (world : World) (packets : List Record) (end : End) → AtHead run batch capture text left told old mid world
-    → wants_memory (Some end) ≡ false → BatchSays capture capture' left left' (records_of packets) (Some end)
-    → (capture'.form ≡ capture.form) × (capture'.header ≡ capture.header) → All (FieldsOf capture.form) packets → Took run told mid new world packets
-    → Ended run batch text left' told old new (world_after run.job world (map frame_of packets)) end
-unfolding holds_all
-reached run batch capture capture' text left left' told old mid new world packets (Ok tail) h other says same all took =
-    let far = batch_taken run capture capture' text left left' told old mid new world h.records packets h.so_far (record { on = says.0; same = same; fields = all }) took in (
-      holds_all run capture' text left' told old new (world_after run.job world (map frame_of packets)) (h.records ++ records_of packets) (Ok tail) far
-          (rw same.0 (capture_is run capture text left told old mid world h.records (records_of packets) (Ok tail) h.so_far says.1)),
-      far.world_is,
-    )
-reached run batch capture capture' text left left' told old mid new world packets (Err refusal.Read) h other says same all took =
-    inr (holds_all_read run capture' text left' told old new (world_after run.job world (map frame_of packets)) (h.records ++ records_of packets)
-    (batch_taken run capture capture' text left left' told old mid new world h.records packets h.so_far (record { on = says.0; same = same; fields = all }) took) says.1)
-reached run batch capture capture' text left left' told old mid new world packets (Err refusal.Memory) h other says same all took = absurd (cc other)
-reached run batch capture capture' text left left' told old mid new world packets (Err (refusal.RecordTooLong asked)) h other says same all took =
-    holds_all run capture' text left' told old new (world_after run.job world (map frame_of packets)) (h.records ++ records_of packets) (Err (refusal.RecordTooLong asked))
-    (batch_taken run capture capture' text left left' told old mid new world h.records packets h.so_far (record { on = says.0; same = same; fields = all }) took)
-    (rw same.0 (capture_is run capture text left told old mid world h.records (records_of packets) (Err (refusal.RecordTooLong asked)) h.so_far says.1))
-reached run batch capture capture' text left left' told old mid new world packets (Err refusal.HeaderCut) h other says same all took = absurd says
-reached run batch capture capture' text left left' told old mid new world packets (Err refusal.BadMagic) h other says same all took = absurd says
-reached run batch capture capture' text left left' told old mid new world packets (Err refusal.BadVersion) h other says same all took = absurd says
-reached run batch capture capture' text left left' told old mid new world packets (Err (refusal.LinkType link)) h other says same all took = absurd says
 
 -- ---- before the loop
 

@@ -1,5 +1,5 @@
 -- How the batches of a capture are given, and what they add is taken.
-use Rattle.std.specs.Prelude.{◌≡◌, ◌⊎◌, ◌≤◌, ◌+◌, ◌++◌, ℕ, Bool, IsTrue, false, List, [], length, Option, Some, None, Result, Ok, IfErr, IfOk, OnOk}
+use Rattle.std.specs.Prelude.{◌≡◌, ◌⊎◌, ◌≤◌, ◌+◌, ◌++◌, min, ℕ, Bool, IsTrue, false, List, [], length, Option, Some, None, Result, Ok, IfErr, IfOk, OnOk}
 use Rattle.std.specs.List.{All}
 use Rattle.std.specs.Option.{option_map}
 use Rattle.pfr_net.specs.declared.address.Ipv4Address.{Ipv4Address}
@@ -92,7 +92,8 @@ pub record Takes {R S : Type 0} (tells : S → Bool) (written : S → List ℕ) 
   pub writes : Writes tells old new
   pub grew : GrewBy tells written old.sinks.now new.sinks.now (piece_alone old.channel.now.form old.address piece)
   pub failed : Stay failures old.sinks.now new.sinks.now
-  pub committed : new.committed ≡ old.given
+  -- a batch has the most records, unless the reading ends with it
+  pub committed : new.committed ≡ min (old.committed + old.most) old.given
   pub cut : new.cut ≡ old.cut
 
 -- why a piece wasn't taken whole, behind so many packets committed: memory was refused for its messages, or a sink failed

@@ -160,10 +160,12 @@ Refused run text told old new capture.Memory committed = ⊥
 Refused run text told old new (capture.RecordTooLong asked) committed = HoldsAll run text told old new (Err (capture.RecordTooLong asked)) committed
 Refused run text told old new e committed = (opening_of text ≡ Err e) × (committed ≡ 0) × (AllTold told → new ≡ old)
 
--- what a refusal of memory says: nothing was written, or whole batches were, or all that stands before the end
+-- what a refusal of memory says: nothing was written, or whole batches were, or all records that came before a failed read or before the
+-- capture's end
 abbrev pub Wanting : Run → ℕ → (text left : List ℕ) → (told : Sinks Bool) → (old new : Outputs) → ℕ → Type 0
 Wanting run batch text left told old new committed =
-    Unwritten told old new committed ⊎ (OfEvery text left (Holds run batch told old new committed) ⊎ ((tail : Tail) × HoldsAll run text told old new (Ok tail) committed))
+    Unwritten told old new committed ⊎ (OfEvery text left (Holds run batch told old new committed)
+    ⊎ (HoldsAllRead run text left told old new committed ⊎ ((ending : Result Tail CaptureError) × HoldsAll run text told old new ending committed)))
 
 -- what a failed write says
 abbrev pub Failing : Run → ℕ → (text left : List ℕ) → (told : Sinks Bool) → (old new : Outputs) → Output → ℕ → Type 0

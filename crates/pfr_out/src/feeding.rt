@@ -1,5 +1,5 @@
 //! The batches of a capture, and what they add on its way into the outputs.
-ghost use Rattle.std.specs.Prelude.{◌≡◌, ◌≤◌, ◌^◌, None, Some, Err, IfErr, IfSome, IsSome, OnOk};
+ghost use Rattle.std.specs.Prelude.{◌≡◌, ◌≤◌, ◌+◌, ◌^◌, min, None, Some, Err, IfErr, IfSome, IsSome, OnOk};
 ghost use Rattle.pfr_commit.specs.Books.{StandsAt, job_of};
 ghost use Rattle.pfr_commit.specs.World.{opening};
 ghost use Rattle.pfr_commit.specs.Emissions.{texts_of};
@@ -16,7 +16,7 @@ use pfr_capture::{Capture, CaptureError, Record, Sink, Source, Tail};
 use pfr_commit::{Book, Emitted};
 use pfr_headers::View;
 use pfr_net::Ipv4Address;
-use pfr_work::{Feed, Gate, run_workers};
+use pfr_work::{Feed, Gate, Lists, Naming, OfRun, run_workers};
 use std::alloc::{AllocGlobal, Global};
 use std::sync::Wait;
 use std::thread::Threads;
@@ -42,7 +42,7 @@ pub(crate) struct Feeding<'a, R, S> {
     /// The address from which messages come.
     pub(crate) address: Ipv4Address,
     pub(crate) sinks: &'a mut Sinks<S>,
-    /// How many records were given, and of how many all is written that they add.
+    /// How many records were given, and of how many all is written that they add. Batches are read ahead.
     pub(crate) given: u64,
     pub(crate) committed: u64,
     /// How the reading has ended, if it has.
@@ -51,7 +51,7 @@ pub(crate) struct Feeding<'a, R, S> {
     pub(crate) cut: Option<Cut>,
     ghost batch: { (1 ≤ most) × (most ≤ 4096) },
     ghost reading: { end ≡ None → capture.now.over ≡ None },
-    ghost counted: { (given ≤ capture.now.count) × (capture.now.count ≤ 2 ^ 40) },
+    ghost counted: { (committed ≤ given) × (given ≤ capture.now.count) × (capture.now.count ≤ 2 ^ 40) },
 }
 
 impl<R: Source, S: Sink> Feeding<'_, R, S> {
@@ -76,6 +76,13 @@ impl<R: Source, S: Sink> Feeding<'_, R, S> {
             Ok(()) => Ok(()),
             Err(output) => Err(Cut::Write(output)),
         }
+    }
+
+    /// How many records there are up to the end of the next batch. The last one may have less than the most.
+    fn behind_next(&self) -> u64
+        ensures { result ≡ min (self.now.committed + self.now.most) self.now.given }
+    {
+        self.given.min(self.committed + self.most as u64)
     }
 }
 
@@ -121,7 +128,7 @@ impl<R: Source, S: Sink> Feed for Feeding<'_, R, S> {
     fn take(&mut self, piece: Emitted) -> bool {
         match self.write(&piece) {
             Ok(()) => {
-                self.committed = self.given;
+                self.committed = self.behind_next();
                 true
             }
             Err(cut) => {
@@ -156,18 +163,28 @@ impl<'a, R: Source, S: Sink> Feeding<'a, R, S> {
     }
 
     /// Has a book take the packets of the capture, and writes what they add, a batch at a time. So many workers evaluate the packets
-    /// of a batch ahead, if there are any. Where no stop came before the end of the reading, the book is handed back.
-    pub(crate) fn run<H: AllocGlobal + Threads + Wait + Sync, G: Gate>(
+    /// of the next batches ahead, if there are any. Where no stop came before the end of the reading, the book is handed back.
+    pub(crate) fn run<
+        J: OfRun + Send + Sync + 'static,
+        K: Naming + Send + Sync + 'static,
+        H: AllocGlobal + Threads + Wait + Sync,
+        G: Gate,
+    >(
         self,
         rt: &H,
         book: Book,
         workers: u64,
         gate: &G,
+        lists: Lists,
         last: &mut Option<Book>,
     ) -> Feeding<'a, R, S>
         requires fresh { Fresh self }
         requires world { StandsAt book (opening (job_of book)) }
         requires address { self.address ≡ (job_of book).interface.address }
+        requires job { J.job ≡ Some (job_of book) }
+        requires limit { (job_of book).rules.options.state_limit ≡ J.limit }
+        requires changes { lists.changes ≡ J.history }
+        requires batches { lists.batches ≡ K.history }
         requires workers { workers ≤ 64 }
         ensures source { result.source.ghost_name ≡ self.entry.source.ghost_name }
         ensures sinks { result.sinks.ghost_name ≡ self.entry.sinks.ghost_name }
@@ -176,8 +193,10 @@ impl<'a, R: Source, S: Sink> Feeding<'a, R, S> {
         ensures over { result.cut ≡ None → RunEnds R.told R.unread R.failures S.told S.written S.failures book self.entry result last.new }
         ensures stopped { IfSome (stop_of result) (λ stop. RunStops R.told R.unread R.failures S.told S.written S.failures book self.entry result stop) }
     {
-        let (book, feeding, trace, result) = run_workers(rt, book, self, workers, gate);
-        drop(trace);
+        let (book, feeding, trace, result) = run_workers::<J, K, H, Feeding<'a, R, S>, G>(
+            rt, book, self, workers, gate, lists,
+        );
+        drop(trace.close(rt));
         match result {
             Ok(()) => {
                 *last = Some(book);

@@ -15,8 +15,9 @@ use crate::taking::stop_for;
 use pfr_capture::{Capture, Sink, Source};
 use pfr_commit::Book;
 use pfr_packet::Job;
-use pfr_work::Gate;
+use pfr_work::{Gate, Lists};
 use std::alloc::{AllocError, AllocGlobal, Global};
+use std::marker::Brand;
 use std::sync::{Arc, Wait};
 use std::thread::Threads;
 
@@ -72,7 +73,8 @@ fn replay_capture<H: AllocGlobal + Threads + Wait + Sync, R: Source, S: Sink, G:
         cut: None,
     };
     let mut last = None;
-    let mut feeding = feeding.run(rt, book, workers, gate, &mut last);
+    let lists = Lists::new();
+    let mut feeding = feeding.run::<Brand, Brand, H, G>(rt, book, workers, gate, lists, &mut last);
     feeding.finish(last)
 }
 
@@ -115,8 +117,9 @@ pub fn replay_job<H: AllocGlobal + Threads + Wait + Sync, R: Source, S: Sink, G:
 /// Replays a capture through a ruleset, as the firewall's interface would see its packets. They are taken in the order of the
 /// capture, a batch at a time. A packet whose source lies in an inside network goes out.
 ///
-/// Workers, if there are any, evaluate the packets of a batch ahead, and the gate is told of their turns. What is written hangs on
-/// neither: it is what one thread writes that takes the packets one after the other.
+/// Workers, if there are any, evaluate the packets of the next batches ahead, and the gate is told of their turns. What is written
+/// hangs on neither: it is what one thread writes that takes the packets one after the other. With workers the source is read at most
+/// three batches ahead of what is written.
 ///
 /// The text is read first, and a fault of it leaves the source unread. The capture's header goes to the packets, in a write of
 /// its own. Then each batch adds the messages that it closes, a line for each packet to the verdicts, and the packets that

@@ -1,9 +1,10 @@
 pub mod BatchLemmas
-pub mod FoundLemmas
+pub mod CallLemmas
 pub mod CommitLemmas
+pub mod FoundLemmas
 pub mod LeadLemmas
 pub mod ReachLemmas
-pub mod RunLemmas
-pub mod StreamLemmas
+pub mod TakeLemmas
 pub mod TieLemmas
+pub mod TurnLemmas
 pub mod ViewLemmas

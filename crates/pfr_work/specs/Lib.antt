@@ -1,5 +1,5 @@
 pub mod Batches
 pub mod Ends
 pub mod Runs
-pub mod Streams
 pub mod Ties
+pub mod Turns

@@ -32,7 +32,7 @@ pub(crate) struct Batch<J: OfRun> {
 }
 
 /// Records, each with its view.
-#[tactic(auto, using(crate::proofs::RunLemmas::none_viewed, crate::proofs::RunLemmas::one_viewed))]
+#[tactic(auto, using(crate::proofs::ViewLemmas::none_viewed, crate::proofs::ViewLemmas::one_viewed))]
 pub(crate) fn viewed(alloc: Global, records: Vec<Record>) -> Result<Packets, AllocError>
     ensures { IfOk result (λ packets. AreViewed records.items packets.items) }
 {
@@ -64,7 +64,7 @@ pub(crate) fn with_views(
 }
 
 /// Records, each with its view, which are made by as many threads as there are processors.
-pub(crate) fn viewed_beside<R: Threads + Sync>(
+fn viewed_beside<R: Threads + Sync>(
     rt: &R,
     alloc: Global,
     records: Vec<Record>,
@@ -73,6 +73,22 @@ pub(crate) fn viewed_beside<R: Threads + Sync>(
 {
     let views = views(rt, alloc, records.as_slice())?;
     with_views(alloc, records, views.as_slice())
+}
+
+/// Records, each with its view. Where no worker evaluates one of them, the calling thread makes all views.
+pub(crate) fn viewed_for<R: Threads + Sync>(
+    rt: &R,
+    alloc: Global,
+    records: Vec<Record>,
+    most: u64,
+) -> Result<Packets, AllocError>
+    ensures { IfOk result (λ packets. AreViewed records.items packets.items) }
+{
+    if most == 0 {
+        viewed(alloc, records)
+    } else {
+        viewed_beside(rt, alloc, records)
+    }
 }
 
 /// The clock at each record behind one: the greatest second so far.

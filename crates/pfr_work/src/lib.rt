@@ -1,24 +1,26 @@
-//! What the runs of workers come to.
+//! Runs: the batches of a feed, taken one after the other, by one thread or beside workers.
 //!
-//! A state of the speculative machine whose parts agree as they do at the end of a run is the end of one: a list of events leads
-//! there from the start.
+//! [`run_workers`] is the run. The laws say what a run with workers comes to: a state of the speculative machine whose parts agree
+//! as they do at the end of a run is the end of one. A list of events leads there from the start.
 #![tactic(auto)]
 
-pub mod ahead;
+mod alone;
 mod batch;
+mod course;
 mod evaluator;
-pub mod feed;
-pub mod found;
-pub mod gate;
+mod feed;
+mod found;
+mod gate;
 pub mod laws;
 mod pace;
-pub mod run;
-pub mod stream;
+mod reading;
+mod run;
+mod stream;
+mod turns;
 mod views;
 
-pub use ahead::{Ahead, evaluate_ahead};
 pub use feed::Feed;
 pub use found::OfRun;
 pub use gate::Gate;
-pub use run::{Trace, run_workers};
-pub use stream::run_streaming;
+pub use pfr_history::Naming;
+pub use run::{Lists, Trace, run_workers};

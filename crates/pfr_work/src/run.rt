@@ -1,261 +1,139 @@
-//! A run of batches by workers.
-ghost use Rattle.std.specs.Prelude.{◌≡◌, ◌⊎◌, ◌≤◌, ◌<◌, ◌+◌, ◌++◌, ◌∷◌, ◌^◌, [], true, length, IfOk, OnOk, OnErr};
-ghost use Rattle.std.specs.List.{All, AllZip};
+//! A run of batches.
+ghost use Rattle.std.specs.Prelude.{◌≡◌, ◌⊎◌, ◌≤◌, [], IfSome, None, OnOk, OnErr, Some};
+ghost use Rattle.std.specs.Option.{option_map};
+ghost use Rattle.pfr_states.specs.States.{table_of};
 ghost use Rattle.pfr_commit.specs.Books.{StandsAt, job_of};
-ghost use Rattle.pfr_commit.specs.Emissions.{texts_of};
-ghost use Rattle.pfr_commit.specs.Found.{IsOfJob};
-ghost use Rattle.pfr_commit.specs.World.{no_texts, opening};
-ghost use Rattle.pfr_work.specs.Batches.{IsViewOf};
-ghost use Rattle.pfr_work.specs.Runs.{AddsClaims, AreViewed, Cut, MayAddClaims, Over, Refused, TakesBatch, Went};
+ghost use Rattle.pfr_commit.specs.World.{opening};
+ghost use Rattle.pfr_published.specs.Ends.{list_of};
+ghost use Rattle.pfr_work.specs.Runs.{Cut, Over, Refused, Went};
 
-use crate::ahead::{Ahead, evaluate_ahead};
-use crate::batch::{Packets, viewed, with_views};
+use crate::alone::run_alone;
+use crate::course::Course;
 use crate::feed::Feed;
+use crate::found::OfRun;
 use crate::gate::Gate;
-use crate::pace::Pace;
-use pfr_capture::Record;
+use crate::stream::run_streaming;
 use pfr_claims::Gathered;
-use pfr_commit::{Book, Emitted, Reruns};
-use pfr_crew::draw_alone;
-use pfr_packet::Job;
-use pfr_record::Speculation;
+use pfr_commit::Book;
+use pfr_history::{Naming, Opened};
+use pfr_published::{Published, StoreWriter, TableNaming};
+use pfr_states::{Change, Table};
+use pfr_workers::{Entry, Openings};
 use std::alloc::{AllocError, AllocGlobal, Global};
 use std::sync::Wait;
 use std::thread::Threads;
 
-/// The claims of the batches of a run, in their order.
-#[derive(Drop)]
-pub struct Trace {
+/// The two lists by which the proofs follow a run with workers: what packets did to the table, and which batches were opened. A
+/// running program has but their lengths.
+pub struct Lists {
+    pub changes: Opened<Change>,
+    pub batches: Opened<Entry>,
+}
+
+impl Lists {
+    /// Two new lists.
+    pub fn new() -> Lists {
+        Lists {
+            changes: Opened::new(),
+            batches: Opened::new(),
+        }
+    }
+}
+
+/// The claims of the batches of a run, in their order, and with workers the table at which they looked. It is not `Drop`: end the
+/// table by [`Trace::close`].
+pub struct Trace<W> {
     pub batches: Vec<Gathered>,
+    pub published: Option<Published<W>>,
 }
 
-/// A gate that is told of packets that the committer evaluates, or none.
-#[derive(Drop)]
-struct Watched<'a, G> {
-    gate: Option<&'a G>,
-}
+impl<W> Trace<W> {
+    /// That of a run without workers, and of one before its table was made.
+    pub(crate) fn none(alloc: Global) -> Trace<W>
+        ensures batches { result.batches.items ≡ [] }
+        ensures published { result.published ≡ None }
+    {
+        Trace {
+            batches: Vec::new(alloc),
+            published: None,
+        }
+    }
 
-impl<G: Gate> Reruns for Watched<'_, G> {
-    fn runs_again(&self, number: u64) {
-        if let Some(gate) = self.gate {
-            gate.ran_again(number);
+    /// What a run with workers leaves beside its outputs.
+    pub(crate) fn of(course: Course, published: Published<W>) -> Trace<W>
+        ensures batches { result.batches ≡ course.batches }
+        ensures published { result.published ≡ Some published }
+    {
+        Trace {
+            batches: course.batches,
+            published: Some(published),
         }
     }
 }
 
-/// How many bytes of verdict lines and of records a piece has.
-#[derive(Clone, Copy)]
-pub(crate) struct Room {
-    pub(crate) verdicts: usize,
-    pub(crate) packets: usize,
-}
-
-impl Room {
-    /// What a piece has, and an eighth more.
-    pub(crate) fn of(piece: &Emitted) -> Room {
-        let (verdicts, packets) = (piece.verdicts.len(), piece.packets.len());
-        Room {
-            verdicts: verdicts.saturating_add(verdicts / 8),
-            packets: packets.saturating_add(packets / 8),
+impl<J: TableNaming> Trace<StoreWriter<J>> {
+    /// Lets go of the trace: the table as it was published last, if there is one and it isn't hidden.
+    pub fn close<R: Wait>(self, rt: &R) -> Option<Table>
+        ensures { IfSome self.published (λ published. IfSome result (λ table. table ≡ table_of J.limit (list_of published))) }
+    {
+        let Trace {
+            batches: _,
+            published,
+        } = self;
+        match published {
+            Some(published) => published.close(rt),
+            None => None,
         }
     }
-
-    /// An empty piece with so much room.
-    pub(crate) fn piece(self, alloc: Global) -> Emitted
-        ensures texts { texts_of result ≡ no_texts }
-        ensures changes { result.changes.items ≡ [] }
-    {
-        Emitted::with_room(alloc, self.verdicts, self.packets)
-    }
 }
 
-/// What a run knows of the batches so far.
-#[derive(Drop)]
-struct Course {
-    trace: Trace,
-    pace: Pace,
-    /// The room of the next piece.
-    room: Room,
-}
-
-impl Course {
-    /// No batch so far.
-    fn new(alloc: Global, job: &Job, workers: u64) -> Course
-        ensures { result.trace.batches.items ≡ [] }
-    {
-        Course {
-            trace: Trace {
-                batches: Vec::new(alloc),
-            },
-            pace: Pace::new(job, workers),
-            room: Room {
-                verdicts: 0,
-                packets: 0,
-            },
-        }
-    }
-
-    /// Takes note of a batch: of so many packets, of which the committer evaluated so many, and its piece.
-    fn note(&mut self, count: usize, own: u64, piece: &Emitted)
-        ensures { self.new.trace.batches.items ≡ self.old.trace.batches.items }
-    {
-        self.pace.note(count as u64, self.pace.ahead(), own);
-        self.room = Room::of(piece);
-    }
-}
-
-/// A batch, evaluated ahead.
-#[derive(Drop)]
-struct Evaluated {
-    packets: Packets,
-    groups: Vec<Vec<Speculation>>,
-}
-
-/// A batch of which nothing is found out ahead.
-fn unevaluated(alloc: Global, records: Vec<Record>) -> Result<Evaluated, AllocError>
-    ensures packets { IfOk result (λ batch. AreViewed records.items batch.packets.items) }
-    ensures none { IfOk result (λ batch. batch.groups.items ≡ []) }
-{
-    let packets = viewed(alloc, records)?;
-    let groups = Vec::new(alloc);
-    Ok(Evaluated { packets, groups })
-}
-
-/// The packets of a batch, with what workers find out about as many of them as it pays for, if there are workers. Its claims are
-/// put behind the others then. While workers rest, the numbers of the batch are drawn here, and nothing is found out.
-fn batch_of<R: Threads + Wait + Sync, G: Gate>(
-    rt: &R,
-    alloc: Global,
-    book: &Book,
-    course: &mut Course,
-    records: Vec<Record>,
-    workers: u64,
-    gate: &G,
-) -> Result<Evaluated, AllocError>
-    requires count { length records.items ≤ 4096 }
-    requires workers { workers ≤ 64 }
-    ensures packets { IfOk result (λ batch. AreViewed records.items batch.packets.items) }
-    ensures own { IfOk result (λ batch. All (λ group. All (IsOfJob (job_of book.now)) group.items) batch.groups.items) }
-    ensures claims { OnOk result (AddsClaims workers (length records.items) course.old.trace.batches.items course.new.trace.batches.items) }
-    ensures refused { OnErr result (MayAddClaims workers (length records.items) course.old.trace.batches.items course.new.trace.batches.items) }
-{
-    if workers == 0 {
-        return unevaluated(alloc, records);
-    }
-    course.trace.batches.reserve(1)?;
-    let most = course.pace.ahead();
-    if most == 0 {
-        let gathered = draw_alone(alloc, records.len() as u64, workers)?;
-        course.trace.batches.push(gathered)?;
-        return unevaluated(alloc, records);
-    }
-    let Ahead {
-        groups,
-        views,
-        gathered,
-    } = evaluate_ahead(rt, alloc, book, records.as_slice(), most, workers, gate)?;
-    course.trace.batches.push(gathered)?;
-    let packets = with_views(alloc, records, views.as_slice())?;
-    Ok(Evaluated { packets, groups })
-}
-
-/// Who is told of packets that the committer evaluates: no one where there are no workers.
-fn whose_gate<G>(gate: &G, workers: u64) -> Watched<'_, G> {
-    let gate = if workers > 0 { Some(gate) } else { None };
-    Watched { gate }
-}
-
-/// A batch that a book took, and what it adds.
-#[derive(Drop)]
-struct Taken {
-    packets: Packets,
-    piece: Emitted,
-}
-
-/// Has a book take the next batch. Workers evaluate its packets ahead, if there are any.
-fn take_batch<R: Threads + Wait + Sync, G: Gate>(
-    rt: &R,
-    alloc: Global,
-    book: &mut Book,
-    course: &mut Course,
-    records: Vec<Record>,
-    workers: u64,
-    gate: &G,
-) -> Result<Taken, AllocError>
-    requires count { length records.items ≤ 4096 }
-    requires workers { workers ≤ 64 }
-    requires few { book.old.count + length records.items ≤ 2 ^ 43 }
-    ensures job { book.new.job ≡ book.old.job }
-    ensures taken { IfOk result (λ taken. TakesBatch book.old book.new records.items (texts_of taken.piece)) }
-    ensures counted { OnOk result (book.new.count ≡ book.old.count + length records.items) }
-    ensures claims { OnOk result (AddsClaims workers (length records.items) course.old.trace.batches.items course.new.trace.batches.items) }
-    ensures refused { OnErr result ((book.new ≡ book.old) ⊎ (book.new.is_over ≡ true)) }
-    ensures claims_refused { OnErr result (MayAddClaims workers (length records.items) course.old.trace.batches.items course.new.trace.batches.items) }
-{
-    let Evaluated { packets, groups } = batch_of(rt, alloc, book, course, records, workers, gate)?;
-    let reruns = whose_gate(gate, workers);
-    let own = book.own();
-    let mut piece = course.room.piece(alloc);
-    book.commit_own_batch(packets.as_slice(), groups, &reruns, &mut piece)?;
-    course.note(packets.len(), book.own().saturating_sub(own), &piece);
-    Ok(Taken { packets, piece })
-}
-
-/// So many bytes are asked for and let go of at the start of a run with workers.
-const KEPT: usize = 1 << 24;
-
-/// Has the system's allocator keep the memory of a batch for the next one. It gives memory back to the system where more is free
-/// than twice the greatest piece that was let go of before (mallopt(3)), and each batch would begin with pages that have to be
-/// cleared. Nothing is written into this piece, so it takes no memory.
-pub(crate) fn keep_memory(alloc: Global) {
-    drop(Vec::<u8>::with_capacity(alloc, KEPT));
-}
-
-/// Takes the batches of a feed one after the other, by a book that has committed nothing, and hands the feed what each adds
-/// before it asks for the next. So many workers evaluate the packets of a batch ahead, on the table that the batch before left;
-/// without workers the calling thread does all. Where that doesn't pay they rest for some batches: the calling thread draws the
-/// numbers of such a batch, and evaluates its packets. As long as it isn't known that it pays, they evaluate but the first packets
-/// of a batch.
+/// Takes the batches of a feed one after the other, by a book that has committed nothing, and hands the feed what each adds.
+/// So many workers live as long as the run; without any the calling thread does all. While a batch is taken, workers evaluate the
+/// packets of at most two further ones, on the published table: it shows what the batches did to the states that were taken when
+/// it was published last. Where that doesn't pay they rest for some batches.
 ///
 /// Ok comes where the reading has ended and the piece of every batch was taken, and where the feed didn't take a piece whole. The
-/// only error is that memory was refused; the batch that was begun isn't handed to the feed then. What is taken is what one
-/// thread would have emitted that takes the packets one after the other, whatever the number of workers and the order of their
-/// results.
+/// only error is that memory was refused. What is taken is what one thread would have emitted that takes the packets one after the
+/// other, whatever the number of workers and the order of their results.
 ///
-/// With workers the trace has the claims of each batch that was committed, in order. The gate is told of each turn of a packet,
-/// with workers alone; what it does there can hold the run up, and changes nothing else.
-pub fn run_workers<R: AllocGlobal + Threads + Wait + Sync, F: Feed, G: Gate>(
+/// The trace has the claims of each batch that was taken, in order, and the published table. The gate is told of each turn of a
+/// packet; what it does there can hold the run up, and changes nothing else. Without workers the trace is empty, and the gate isn't
+/// called.
+///
+/// The two lists are new ones: in the proofs they are what packets did to the table, and which batches were opened.
+pub fn run_workers<
+    J: OfRun + Send + Sync + 'static,
+    K: Naming + Send + Sync + 'static,
+    R: AllocGlobal + Threads + Wait + Sync,
+    F: Feed + Drop,
+    G: Gate,
+>(
     rt: &R,
-    mut book: Book,
-    mut feed: F,
+    book: Book,
+    feed: F,
     workers: u64,
     gate: &G,
-) -> (Book, F, Trace, Result<(), AllocError>)
+    lists: Lists,
+) -> (Book, F, Trace<StoreWriter<J>>, Result<(), AllocError>)
     requires start { StandsAt book (opening (job_of book)) }
+    requires job { J.job ≡ Some (job_of book) }
+    requires limit { (job_of book).rules.options.state_limit ≡ J.limit }
+    requires changes { lists.changes ≡ J.history }
+    requires batches { lists.batches ≡ K.history }
     requires workers { workers ≤ 64 }
     ensures job { result.0.job ≡ book.job }
     ensures told { F.told result.1 ≡ F.told feed }
     ensures names { F.names result.1 ≡ F.names feed }
-    ensures ok { OnOk result.3 (Went F.gives F.takes F.rests (job_of book) feed (λ rounds world mid. Over F.ends result.0 result.1 result.2 workers rounds world mid ⊎ Cut F.gives F.cuts (job_of book) result.0 result.1 result.2 workers rounds world mid)) }
-    ensures err { OnErr result.3 (Went F.gives F.takes F.rests (job_of book) feed (λ rounds world mid. Refused F.gives result.0 result.1 result.2 workers rounds world mid)) }
+    ensures ok { OnOk result.3 (Went F.gives F.ends F.takes F.rests (job_of book) feed (λ calls at. Over result.0 result.1 result.2.batches.items (option_map list_of result.2.published) workers calls at ⊎ Cut F.cuts (job_of book) result.0 result.1 result.2.batches.items (option_map list_of result.2.published) workers calls at)) }
+    ensures err { OnErr result.3 (Went F.gives F.ends F.takes F.rests (job_of book) feed (λ calls at. Refused result.0 result.1 result.2.batches.items (option_map list_of result.2.published) workers calls at)) }
 {
-    let alloc = rt.alloc();
-    if workers > 0 {
-        keep_memory(alloc);
+    let Lists { changes, batches } = lists;
+    let history = changes.named::<J>();
+    let openings = Openings::new(batches.named::<K>());
+    if workers == 0 {
+        let alloc = rt.alloc();
+        let (book, feed, outcome) = run_alone(alloc, book, feed);
+        return (book, feed, Trace::none(alloc), outcome);
     }
-    let mut course = Course::new(alloc, book.job(), workers);
-    loop {
-        let Some(records) = feed.batch() else {
-            return (book, feed, course.trace, Ok(()));
-        };
-        match take_batch(rt, alloc, &mut book, &mut course, records, workers, gate) {
-            Ok(Taken { packets, piece }) => {
-                if !feed.take(piece) {
-                    return (book, feed, course.trace, Ok(()));
-                }
-                feed.give_back(packets);
-            }
-            Err(refused) => return (book, feed, course.trace, Err(refused)),
-        }
-    }
+    run_streaming(rt, book, feed, workers, gate, history, openings)
 }

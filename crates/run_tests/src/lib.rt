@@ -6,12 +6,20 @@
 #[cfg(test)]
 mod ahead;
 #[cfg(test)]
+mod devices;
+#[cfg(test)]
+mod feeds;
+#[cfg(test)]
 mod given;
 #[cfg(test)]
 mod orders;
 #[cfg(test)]
 mod runs;
 #[cfg(test)]
+mod shown;
+#[cfg(test)]
 mod streams;
 #[cfg(test)]
 mod told;
+#[cfg(test)]
+mod turns;

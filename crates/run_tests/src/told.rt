@@ -2,13 +2,14 @@
 ghost use Rattle.std.specs.Prelude.{◌≤◌};
 
 use crate::given::{capture, replay_in_memory, sinks};
+use crate::turns::{Freely, Turns};
 use pfr_capture::Mem;
-use pfr_out::{Form, Gate};
+use pfr_out::Form;
 use std::alloc::{AllocError, AllocGlobal, Global};
 use std::sync::Wait;
-use std::sync::atomic::{AtomicU64, Ordering};
 use std::test::Fail;
 use std::thread::Threads;
+use std::time::Clock;
 
 /// Rules that block all, so no packet changes anything.
 fn rules(alloc: Global, count: u64) -> Result<Vec<u8>, AllocError> {
@@ -19,49 +20,9 @@ fn rules(alloc: Global, count: u64) -> Result<Vec<u8>, AllocError> {
     Ok(text)
 }
 
-/// Adds the numbers of the packets that it is told of.
-#[derive(Drop)]
-struct Sums {
-    starts: AtomicU64,
-    answered: AtomicU64,
-    again: AtomicU64,
-}
-
-impl Sums {
-    fn new() -> Sums {
-        Sums {
-            starts: AtomicU64::new(0),
-            answered: AtomicU64::new(0),
-            again: AtomicU64::new(0),
-        }
-    }
-
-    fn told(&self) -> (u64, u64, u64) {
-        (
-            self.starts.load(Ordering::SeqCst),
-            self.answered.load(Ordering::SeqCst),
-            self.again.load(Ordering::SeqCst),
-        )
-    }
-}
-
-impl Gate for Sums {
-    fn starts(&self, number: u64) {
-        let _ = self.starts.fetch_add(number, Ordering::SeqCst);
-    }
-
-    fn answered(&self, number: u64) {
-        let _ = self.answered.fetch_add(number, Ordering::SeqCst);
-    }
-
-    fn ran_again(&self, number: u64) {
-        let _ = self.again.fetch_add(number, Ordering::SeqCst);
-    }
-}
-
 /// What a gate is told in a run of so many packets through so many rules: the sum of the numbers of the packets that workers
 /// start, of those that they answer, and of those that the committer evaluates.
-fn told<R: AllocGlobal + Threads + Wait + Sync>(
+fn told<R: AllocGlobal + Threads + Wait + Clock + Sync>(
     rt: &R,
     count: u64,
     packets: u32,
@@ -75,7 +36,7 @@ fn told<R: AllocGlobal + Threads + Wait + Sync>(
     let text = rules(alloc, count)?;
     let mut source = capture(alloc, packets, packets)?;
     let mut outputs = sinks(alloc, Mem::new(Vec::new(alloc)));
-    let sums = Sums::new();
+    let turns = Turns::by(rt, Freely);
     let end = replay_in_memory(
         rt,
         &mut source,
@@ -84,13 +45,14 @@ fn told<R: AllocGlobal + Threads + Wait + Sync>(
         workers,
         Form::None,
         &mut outputs,
-        &sums,
+        &turns,
     );
+    let seen = turns.told();
     drop(text);
     drop(source);
     drop(outputs);
     match end {
-        Ok(_) => Ok(sums.told()),
+        Ok(_) => Ok((seen.starts.sum, seen.answered.sum, seen.again.sum)),
         Err(_) => Err(AllocError),
     }
 }
@@ -113,21 +75,30 @@ fn workers_evaluate_each_batch(rt: HostRuntime) -> Result<(), Fail> {
     Ok(())
 }
 
-/// By one rule they don't pay: they evaluate the beginning of the first batch, rest behind it for sixteen, and then evaluate the
-/// beginning of one.
+/// By one rule they don't pay. Three batches are opened before the first is judged, so workers evaluate the beginnings of these.
+/// From then on they rest, for 4096 packets: the batches 2 to 5, which are counted as they are taken. Two are opened by then behind
+/// the one that is taken, so when the 5th is taken the 6th and the 7th were opened to nobody. The 8th is opened next, and they
+/// evaluate its beginning.
 #[test]
 fn workers_rest_where_they_do_not_pay(rt: HostRuntime) -> Result<(), Fail> {
-    let answered = sum(1, 257).saturating_add(sum(17_409, 17_665));
-    let again = sum(257, 17_409).saturating_add(sum(17_665, 18_433));
-    assert!(rt; told(&rt, 1, 18_432, 1024, 2)? == (answered, answered, again));
+    let mut answered = 0u64;
+    for batch in [0, 1, 2, 7] {
+        answered = answered.saturating_add(sum(batch * 1024 + 1, batch * 1024 + 257));
+    }
+    let again = sum(1, 8193).saturating_sub(answered);
+    assert!(rt; told(&rt, 1, 8192, 1024, 2)? == (answered, answered, again));
     Ok(())
 }
 
-/// By many rules they do, and evaluate all behind the first batch.
+/// By many rules they do. Three batches are opened before the first is judged, and workers evaluate the beginnings of these. The
+/// fourth is opened behind that, and they evaluate all of it and of what comes then.
 #[test]
 fn workers_go_on_where_they_pay(rt: HostRuntime) -> Result<(), Fail> {
-    let answered = sum(1, 257).saturating_add(sum(1025, 3073));
-    let again = sum(257, 1025);
-    assert!(rt; told(&rt, 1000, 3072, 1024, 2)? == (answered, answered, again));
+    let mut answered = sum(3073, 5121);
+    for batch in [0, 1, 2] {
+        answered = answered.saturating_add(sum(batch * 1024 + 1, batch * 1024 + 257));
+    }
+    let again = sum(1, 5121).saturating_sub(answered);
+    assert!(rt; told(&rt, 200, 5120, 1024, 2)? == (answered, answered, again));
     Ok(())
 }

@@ -11,8 +11,6 @@ mod checksum;
 #[cfg(test)]
 mod claims;
 #[cfg(test)]
-mod crews;
-#[cfg(test)]
 mod criteria;
 #[cfg(test)]
 mod elements;

@@ -83,7 +83,7 @@ fn seen_beside<
     let (published, outcome) = published.publish(&rt, &history, &changes);
     *told.lock(&rt) = Some(published.tell());
     let seen = child.expect(&rt, "a thread").join(&rt);
-    let table = published.close(&rt);
+    let table = published.close(&rt).expect(&rt, "a table");
     assert!(rt; outcome.is_ok() && table.len() == 2);
     seen
 }
@@ -149,7 +149,7 @@ fn refuses<J: TableNaming, R: Wait + Abort>(
     viewer.learn(published.tell());
     let (viewer, seen) = look(viewer);
     assert!(rt; seen == (1, 1));
-    let mut table = published.close(rt);
+    let mut table = published.close(rt).expect(rt, "a table");
     assert!(rt; table.len() == 1 && look(viewer).1 == (0, 0));
     table.purge(Clock(60));
     assert!(rt; table.len() == 0);
@@ -159,4 +159,36 @@ fn refuses<J: TableNaming, R: Wait + Abort>(
 #[test]
 fn a_refusal_is_for_good(rt: HostRuntime) {
     refuses::<Brand, _>(&rt, rt.alloc(), Opened::new(), 1);
+}
+
+fn hides<J: TableNaming, R: Wait + Abort>(
+    rt: &R,
+    alloc: Global,
+    opened: Opened<Change>,
+    limit: usize,
+)
+    requires history { opened ≡ J.history }
+    requires limit { limit ≡ J.limit }
+{
+    let history = opened.named::<J>();
+    let published = Published::new(alloc, &history, limit, 1).expect(rt, "memory");
+    let viewer = published.viewer(&history).expect(rt, "a place");
+    let (published, first) = published.publish(rt, &history, &[made(1, 60)]);
+    let (mut viewer, seen) = look(viewer);
+    assert!(rt; first.is_ok() && seen == (1, 1));
+    let (published, second) = published
+        .hide()
+        .publish(rt, &history, &[made(2, 60), made(3, 60)]);
+    let (published, third) = published.publish(rt, &history, &[]);
+    assert!(rt; second.is_ok() && third.is_ok());
+    viewer.learn(published.tell());
+    let seen = look(viewer).1;
+    let table = published.close(rt);
+    assert!(rt; seen == (0, 0) && table.is_none());
+}
+
+/// Where the table is hidden nobody is shown it any more. Its list goes on, though there is room for one state alone.
+#[test]
+fn a_hidden_table_is_shown_to_nobody(rt: HostRuntime) {
+    hides::<Brand, _>(&rt, rt.alloc(), Opened::new(), 1);
 }

@@ -12,7 +12,7 @@ use std::thread::{Scope, Threads, scope, scope_env, sleep};
 use std::time::{Clock, Duration};
 
 /// Waits for a flag, for ten seconds or more at most, and answers whether it came.
-pub(crate) fn wait_for<R: Clock>(rt: &R, flag: &AtomicBool) -> bool {
+fn wait_for<R: Clock>(rt: &R, flag: &AtomicBool) -> bool {
     for _turn in 0..10_000u32 {
         if flag.load(Ordering::SeqCst) {
             return true;
@@ -318,6 +318,7 @@ fn each_number_is_answered_once(rt: HostRuntime) -> Result<(), Fail> {
         (3, 200, 203, 134),
         (8, 200, 208, 134),
         (8, 5, 13, 4),
+        (64, 5, 69, 4),
         (3, 0, 3, 0),
     ] {
         let staff = Staff {
