@@ -53,6 +53,11 @@ def message_answers(word):
     return [str(built("message_answers", word)), word]
 
 
+def schedule_answers():
+    """The command by which `schedule_answers` answers scripts; nothing is answered where there are none."""
+    return [str(built("schedule_answers"))]
+
+
 def pfreplay():
     """The program pfreplay, which its script builds where a source is newer."""
     ran(["./pfreplay", "--help"], ROOT)

@@ -25,12 +25,14 @@ import building
 
 TESTS = Path(__file__).resolve().parent
 # each is a package with a module `compare`
-WORDS = ("runs", "rulesets", "expansions", "tracking", "table", "steps", "commits", "messages", "workers", "faults")
+WORDS = ("runs", "rulesets", "expansions", "tracking", "table", "steps", "commits", "messages", "schedules", "workers",
+         "faults")
 # those of which nothing is written out
 WITHOUT_MODEL_ALONE = ("table", "workers")
-# those of the program pfreplay, and of message_answers; all others are of the program `answers`
+# those of the program pfreplay, of message_answers, and of schedule_answers; all others are of the program `answers`
 OF_PFREPLAY = ("runs", "workers", "faults")
 OF_MESSAGES = ("messages",)
+OF_SCHEDULES = ("schedules",)
 
 
 class Outcome(NamedTuple):
@@ -54,7 +56,9 @@ def build(words):
         building.pfreplay()
     if set(words) & set(OF_MESSAGES):
         building.message_answers("texts")
-    if set(words) - {*OF_PFREPLAY, *OF_MESSAGES}:
+    if set(words) & set(OF_SCHEDULES):
+        building.schedule_answers()
+    if set(words) - {*OF_PFREPLAY, *OF_MESSAGES, *OF_SCHEDULES}:
         building.built("answers", building.IDLE_WORD)
 
 

@@ -1,0 +1,76 @@
+"""The packets of the runs: in each row what a packet comes to hangs on one some packets before it.
+
+A row has six packets. Where a run has fewer it has the first ones, and where it has more they come again, later by some
+seconds.
+"""
+
+import random
+from typing import NamedTuple
+
+import steps.random_runs
+import steps.translation_runs
+from captures.packets import ACK, LINKTYPE_RAW, RST, SYN, tcp, udp
+from steps.run import INSIDE, INTERFACE, Run, seed_of
+from steps.translation_rows import TWO_PORTS
+from steps.translation_words import H, P
+
+SEED = 20261128
+FIRST, SECOND, THIRD, FOURTH = (udp(H, port, P, 53) for port in (1000, 1001, 1002, 1003))
+REPLY = udp(P, 53, H, 1000)
+OPENING, RESET, ANEW = (tcp(H, 1000, P, 80, SYN, 1000), tcp(P, 80, H, 1000, RST | ACK, 0, 1001),
+                        tcp(H, 1000, P, 80, SYN, 5000))
+# states of UDP last for five seconds
+SHORT = "".join(f"set timeout udp.{name} 5\n" for name in ("first", "single", "multiple"))
+
+
+class Row(NamedTuple):
+    """A ruleset, six packets, each with its second, and how many seconds later they come again."""
+    name: str
+    rules: str
+    packets: tuple
+    period: int
+
+    def run(self, count):
+        """A run of so many packets."""
+        records = []
+        for place in range(count):
+            turn, which = divmod(place, len(self.packets))
+            second, packet = self.packets[which]
+            records.append((second + turn * self.period, packet))
+        return Run(self.name, self.rules, records)
+
+
+ROWS = (
+    Row("one connection", "pass out",
+        ((0, FIRST), (0, REPLY), (1, FIRST), (1, REPLY), (1, FIRST), (2, FIRST)), 2),
+    Row("two connections in turn", "pass out",
+        ((0, FIRST), (0, SECOND), (0, FIRST), (0, SECOND), (0, FIRST), (0, SECOND)), 0),
+    # the third packet removes the state, and the fourth makes another one
+    Row("a state that is removed", "block in\npass out",
+        ((0, OPENING), (0, RESET), (0, ANEW), (0, ANEW), (0, RESET), (0, ANEW)), 0),
+    # a port comes free for the fourth packet, and one for the sixth
+    Row("two ports for more", SHORT + TWO_PORTS,
+        ((0, FIRST), (3, SECOND), (3, THIRD), (5, THIRD), (5, FOURTH), (8, FOURTH)), 8),
+    Row("room for two states", "set limit states 2\npass out",
+        ((0, FIRST), (0, SECOND), (0, THIRD), (0, FIRST), (0, FOURTH), (0, SECOND)), 40),
+    # at the third packet the states of the first two have run out, and the second of the fourth is an earlier one
+    Row("states that run out", SHORT + "pass out",
+        ((0, FIRST), (0, SECOND), (5, FIRST), (3, SECOND), (9, FIRST), (10, SECOND)), 15),
+)
+
+
+def is_fit(run, count):
+    """Whether a run has so many packets, and is of what the program takes."""
+    return (len(run.records), run.link, run.interface, run.inside) == (count, LINKTYPE_RAW, INTERFACE, INSIDE)
+
+
+def random_runs(count):
+    """Random runs of so many packets, without end, each other one with translation."""
+    draw, number = random.Random(SEED), 0
+    while True:
+        run = steps.random_runs.some_run(draw, number, count, (count, count))
+        if number % 2:
+            run = steps.translation_runs.some_run(draw, number, count, seed_of(draw.randrange(256)), (count, count))
+        if is_fit(run, count):
+            yield run
+            number += 1
