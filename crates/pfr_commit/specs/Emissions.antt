@@ -1,10 +1,12 @@
 -- What was emitted, and what of a record comes into it.
-use Rattle.std.specs.Prelude.{List, ◌++◌, Option}
+use Rattle.std.specs.Prelude.{List, [], ◌∷◌, ◌++◌, Option, None, Some}
 use Rattle.std.specs.Option.{option_map}
 use Rattle.std.specs.declared.vec.Vec.{Vec}
 use Rattle.std.specs.declared.alloc.Global.{Global}
 use Rattle.pfr_capture.specs.declared.capture.Record.{Record}
+use Rattle.pfr_track.specs.declared.time.Clock.{Clock}
 use Rattle.pfr_states.specs.declared.change.Change.{Change}
+use Rattle.pfr_states.specs.declared.change.Change.TheVariants.{Purge}
 use Rattle.pfr_commit.specs.declared.emitted.Emitted.{Emitted}
 use Rattle.pfr_commit.specs.World.{Frame, Texts}
 
@@ -23,6 +25,11 @@ items_of changes = option_map (λ list. list.items) changes
 -- what packets did to the table, where that is asked for
 abbrev pub held_changes : Emitted → Option (List Change)
 held_changes emitted = items_of emitted.changes
+
+-- the purge at a clock, if there is one
+abbrev pub purges_at : Option Clock → List Change
+purges_at None = []
+purges_at (Some clock) = Purge clock ∷ []
 
 -- changes behind others, where they are asked for
 abbrev pub with_more : Option (List Change) → List Change → Option (List Change)

@@ -1,10 +1,10 @@
 //! What packets add to the outputs of a run.
 ghost use Rattle.std.specs.Prelude.{◌≡◌, ◌≤◌, ◌+◌, [], ◌++◌, length, take, drop, IfSome, OnSome, OnOk, OnErr, None};
-ghost use Rattle.std.specs.Option.{option_map, option_map_or, option_to_list};
+ghost use Rattle.std.specs.Option.{option_map, option_map_or};
 ghost use Rattle.pfr_headers.specs.declared.packet.View.TheVariants.{Ipv4};
 ghost use Rattle.pfr_headers.specs.View.{view_of};
 ghost use Rattle.pfr_states.specs.States.{due};
-ghost use Rattle.pfr_commit.specs.Emissions.{frame_of, held_changes, items_of, texts_of, with_more};
+ghost use Rattle.pfr_commit.specs.Emissions.{frame_of, held_changes, items_of, purges_at, texts_of, with_more};
 ghost use Rattle.pfr_commit.specs.Lines.{verdict_line};
 ghost use Rattle.pfr_commit.specs.World as spec;
 
@@ -80,18 +80,18 @@ fn put_packet(packets: &mut Vec<u8>, packet: &Record, outcome: &Outcome) -> Resu
 /// refused nothing changes.
 fn put_changes(
     changes: &mut Option<Vec<pfr_states::Change>>,
-    purge: Option<pfr_states::Change>,
+    purge: Option<Clock>,
     change: &Option<TableChange>,
 ) -> Result<(), AllocError>
-    ensures done { OnOk result (items_of changes.new ≡ with_more (items_of changes.old) (option_to_list purge ++ spec.own_change change.now)) }
+    ensures done { OnOk result (items_of changes.new ≡ with_more (items_of changes.old) (purges_at purge ++ spec.own_change change.now)) }
     ensures kept { OnErr result (items_of changes.new ≡ items_of changes.old) }
 {
     let Some(changes) = changes else {
         return Ok(());
     };
     let start = changes.len();
-    if let Some(purge) = purge {
-        changes.push(purge)?;
+    if let Some(clock) = purge {
+        changes.push(pfr_states::Change::Purge(clock))?;
     }
     if let Some(change) = change {
         if let Err(refused) = changes.push(pfr_states::Change::Apply(*change)) {
@@ -170,15 +170,15 @@ impl Emitted {
         cut_changes(&mut self.changes, 0);
     }
 
-    /// The purge at a clock, where a state of the table goes by it. Where nobody asks for changes it isn't looked for.
-    pub(crate) fn purge_at(&self, table: &Table, clock: Clock) -> Option<pfr_states::Change>
-        ensures { OnSome self.now.changes (option_to_list result ≡ spec.purge_by clock (due clock table.now.states)) }
+    /// The clock of the purge, where a state of the table goes at a clock. Where nobody asks for changes it isn't looked for.
+    pub(crate) fn purge_at(&self, table: &Table, clock: Clock) -> Option<Clock>
+        ensures { OnSome self.now.changes (purges_at result ≡ spec.purge_by clock (due clock table.now.states)) }
     {
         if self.changes.is_none() {
             return None;
         }
         match table.due(clock) {
-            Some(_) => Some(pfr_states::Change::Purge(clock)),
+            Some(_) => Some(clock),
             None => None,
         }
     }
@@ -243,14 +243,14 @@ impl Emitted {
         clock: Clock,
         packet: &Record,
         outcome: &Outcome,
-        purge: Option<pfr_states::Change>,
+        purge: Option<Clock>,
         messages: &mut Vec<Message>,
     ) -> Result<(), AllocError>
         requires { IfSome outcome.now.bytes (λ change. view_of packet.now.link packet.now.bytes.items ≡ Ipv4 change.packet) }
         ensures verdicts { OnOk result (self.new.verdicts.items ≡ self.old.verdicts.items ++ verdict_line number clock outcome.now) }
         ensures packets { OnOk result (self.new.packets.items ≡ self.old.packets.items ++ spec.packet_text (frame_of packet.now) outcome.now) }
         ensures messages { OnOk result (self.new.messages.items ≡ self.old.messages.items ++ messages.old.items) }
-        ensures changes { OnOk result (held_changes self.new ≡ with_more (held_changes self.old) (option_to_list purge ++ spec.own_change outcome.now.change)) }
+        ensures changes { OnOk result (held_changes self.new ≡ with_more (held_changes self.old) (purges_at purge ++ spec.own_change outcome.now.change)) }
         ensures kept { OnErr result ((texts_of self.new ≡ texts_of self.old) × (held_changes self.new ≡ held_changes self.old)) }
     {
         let start = count_of(&self.changes);
