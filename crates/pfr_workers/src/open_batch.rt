@@ -177,7 +177,10 @@ impl<G: Drop> Returned<G> {
             Message::Group(group) => {
                 let _kept = self.groups.push(group);
             }
-            Message::Back(back) => {
+            Message::Back(back, last) => {
+                if let Some(group) = last {
+                    let _kept = self.groups.push(group);
+                }
                 if let Some(pass) = pass_of(numbered, claims, back) {
                     let _kept = self.ended.push(pass);
                 }

@@ -8,8 +8,9 @@ use pfr_history::Naming;
 use std::sync::Wait;
 
 /// How many answers a worker sends at once. A send takes a lock and may wake the receiver, which costs more than answering a
-/// number does. Shared by this many answers that cost is small, and so is the room that a worker takes for them.
-const GROUP: usize = 32;
+/// number does. Shared by this many answers that cost is small, and so is the room that a worker takes for them. Of a batch with
+/// fewer numbers for each worker all come with the pass.
+const GROUP: usize = 128;
 
 /// A worker's sender, the group that it is to send next, if one is begun, and how many answers were put into that.
 #[derive(Drop)]
@@ -69,11 +70,13 @@ impl<J: Naming, G: Drop> Outbox<J, G> {
         }
     }
 
-    /// Sends the answers that are left, if there are any, and then the pass, and lets go of the sender.
+    /// Sends the pass with the answers that are left, if there are any, and lets go of the sender.
     pub(crate) fn close<R: Wait>(mut self, rt: &R, back: Back<J>) {
-        if self.count > 0 {
-            self.send(rt);
-        }
-        let _sent = self.sender.send(rt, Message::Back(back));
+        let last = if self.count > 0 {
+            self.group.take()
+        } else {
+            None
+        };
+        let _sent = self.sender.send(rt, Message::Back(back, last));
     }
 }

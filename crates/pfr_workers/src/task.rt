@@ -27,8 +27,8 @@ pub(crate) struct Task<J: Naming, B: Drop, G: Drop> {
 pub(crate) enum Message<J: Naming, G: Drop> {
     /// What it found out about some numbers.
     Group(G),
-    /// Its pass, behind its last group.
-    Back(Back<J>),
+    /// Its pass, with its last answers, if there are any.
+    Back(Back<J>, Option<G>),
 }
 
 /// A pass that comes back, with the batch that it is of.

@@ -415,7 +415,7 @@ fn sizes_of(alloc: Global, groups: &[Vec<Answer>]) -> Result<Vec<usize>, AllocEr
     Ok(sizes)
 }
 
-/// One worker sends its 134 answers in four groups of 32, and the rest in one, in the order of their numbers.
+/// One worker sends 128 of its 134 answers in a group, and the rest with its pass, in the order of their numbers.
 #[test]
 fn answers_are_sent_in_groups(rt: HostRuntime) -> Result<(), Fail> {
     let staff = Staff {
@@ -426,7 +426,7 @@ fn answers_are_sent_in_groups(rt: HostRuntime) -> Result<(), Fail> {
     match finished.pop() {
         Some(finished) => {
             let sizes = sizes_of(rt.alloc(), finished.groups.as_slice())?;
-            assert!(rt; sizes.as_slice() == [32, 32, 32, 32, 6].as_slice());
+            assert!(rt; sizes.as_slice() == [128, 6].as_slice());
         }
         None => panic!(rt; "there is no batch"),
     }
