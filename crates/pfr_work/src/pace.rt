@@ -14,7 +14,7 @@ const SHOWING: u64 = 100;
 const TRIAL: u64 = 256;
 
 /// For how many packets workers rest at first, and at most. Each rest takes four times as many as the one before.
-const FIRST_REST: u64 = 4096;
+const FIRST_REST: u64 = 1024;
 
 const LONGEST_REST: u64 = 262_144;
 
@@ -25,8 +25,8 @@ const LONGEST_REST: u64 = 262_144;
 /// batch change. Where a batch didn't pay they rest, and are tried again from time to time. It hangs on the ruleset and the
 /// capture alone, and not on time.
 ///
-/// While workers rest the table at which they look takes each change all the same. So where many packets change it, they are given
-/// up for good: at once where there are too few rules for them, and else when they didn't pay twice.
+/// Where there are too few rules workers are given up for good as soon as they were judged. While they rest the table at which they
+/// look takes each change all the same. So where many packets change it, they are given up once they didn't pay twice.
 #[derive(Clone, Copy)]
 pub(crate) struct Pace {
     workers: u64,
@@ -54,7 +54,7 @@ impl Pace {
         let rules = u64::from(filter).saturating_add(u64::from(translation));
         Pace {
             workers,
-            // one worker alone, for whom the committer waits, saves nothing
+            // one worker alone saves what the committer does beside it, and that is what handing over costs again
             saves: rules.saturating_sub(rules / workers.max(1)),
             evaluated: 0,
             pays: false,
@@ -71,10 +71,15 @@ impl Pace {
         self.given_up
     }
 
+    /// Whether no packet of the next batch is evaluated ahead.
+    pub(crate) fn rests(&self) -> bool {
+        self.given_up || self.rests > 0
+    }
+
     /// How many packets of the next batch are evaluated ahead, its first ones: none while workers rest, and few as long as it isn't
     /// known that it pays.
     pub(crate) fn ahead(&self) -> u64 {
-        if self.given_up || self.rests > 0 {
+        if self.rests() {
             0
         } else if self.pays {
             u64::MAX
@@ -99,9 +104,8 @@ impl Pace {
     pub(crate) fn note(&mut self, count: u64, most: u64, own: u64, changed: u64) {
         self.taken = self.taken.saturating_add(count);
         self.changed = self.changed.saturating_add(changed);
-        if self.rests > 0 || most == 0 {
+        if self.rests() || most == 0 {
             self.rests = self.rests.saturating_sub(count);
-            self.given_up = self.given_up || (!self.may_pay() && self.many_change());
             return;
         }
         let evaluated = most.min(count);
@@ -132,8 +136,8 @@ impl Pace {
 
     /// Has workers rest, or gives them up.
     fn rest(&mut self) {
-        let are_tried_again = self.may_pay() && self.next_rest == FIRST_REST;
-        self.given_up = !are_tried_again && self.many_change();
+        let is_first = self.next_rest == FIRST_REST;
+        self.given_up = !self.may_pay() || (!is_first && self.many_change());
         self.rests = self.next_rest;
         self.next_rest = self.next_rest.saturating_mul(4).min(LONGEST_REST);
     }

@@ -92,12 +92,17 @@ fn open_next<J: OfRun + Send + Sync, K: Naming + Send + Sync, R: Threads + Wait 
 /// The most batches that are held at once: one that is taken, and two that were read ahead.
 const HELD: usize = 3;
 
-/// Whether a batch is read ahead next: as long as the reading goes on, and few batches wait.
-pub(crate) fn reads_ahead<T: Drop>(is_over: bool, waiting: &VecDeque<T>) -> bool
+/// Whether a batch is read ahead next: as long as the reading goes on, and few batches wait. While workers rest none is, so that
+/// what one batch leaves in the processor's caches serves the next one.
+pub(crate) fn reads_ahead<T: Drop>(is_over: bool, waiting: &VecDeque<T>, rest: bool) -> bool
     ensures yes { result ≡ true → (is_over ≡ false) × (length waiting.now.items < 3) }
     ensures no { result ≡ false → waiting.now.items ≡ [] → is_over ≡ true }
 {
-    !is_over && waiting.len() < HELD
+    if rest {
+        !is_over && waiting.is_empty()
+    } else {
+        !is_over && waiting.len() < HELD
+    }
 }
 
 /// Puts something behind what waits, and says whether there was memory for it.

@@ -83,12 +83,28 @@ fn each_packet_is_evaluated_ahead(rt: HostRuntime) -> Result<(), Fail> {
     Ok(())
 }
 
-/// Where a piece isn't taken whole, the run ends, and the table shows what the batches before it did.
+/// What is left of a run that ends with a piece that isn't taken whole: how many pieces were taken before, how many lines there are
+/// with those of this piece, how many states the book has, and how many the table that is shown.
+const ENDS: [(u64, usize, usize, usize); 6] = [
+    (0, 2, 1, 0),
+    (1, 4, 1, 1),
+    (2, 6, 2, 1),
+    (3, 8, 2, 2),
+    (4, 10, 3, 2),
+    (5, 12, 3, 3),
+];
+
+/// Where a piece isn't taken whole, the run ends, whatever the piece and the number of workers. The table shows what the batches
+/// before it did.
 #[test]
 fn a_piece_is_taken_in_part(rt: HostRuntime) -> Result<(), Fail> {
-    let (left, _told) = run_of(&rt, 20, 4, 2)?;
-    assert!(rt; left.is_ok && left.batches == 5 && lines(left.outputs.lines.as_slice()) == 10);
-    assert!(rt; left.states == 3 && left.shown == Some(2));
+    for (whole, count, states, shown) in ENDS {
+        for workers in [0, 1, 2, 3, 8] {
+            let (left, _told) = run_of(&rt, 7, whole, workers)?;
+            assert!(rt; left.is_ok && lines(left.outputs.lines.as_slice()) == count);
+            assert!(rt; left.states == states && left.shown == (workers > 0).then_some(shown));
+        }
+    }
     Ok(())
 }
 

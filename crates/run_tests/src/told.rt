@@ -75,18 +75,35 @@ fn workers_evaluate_each_batch(rt: HostRuntime) -> Result<(), Fail> {
     Ok(())
 }
 
-/// By one rule they don't pay. Three batches are opened before the first is judged, so workers evaluate the beginnings of these.
-/// From then on they rest, for 4096 packets: the batches 2 to 5, which are counted as they are taken. Two are opened by then behind
-/// the one that is taken, so when the 5th is taken the 6th and the 7th were opened to nobody. The 8th is opened next, and they
-/// evaluate its beginning.
-#[test]
-fn workers_rest_where_they_do_not_pay(rt: HostRuntime) -> Result<(), Fail> {
-    let mut answered = 0u64;
-    for batch in [0, 1, 2, 7] {
-        answered = answered.saturating_add(sum(batch * 1024 + 1, batch * 1024 + 257));
+/// The sum of the numbers of the first 256 packets of these batches, which have 1024 packets each and are counted from 0.
+fn beginnings(batches: &[u64]) -> u64 {
+    let mut all = 0u64;
+    for batch in batches {
+        let first = batch.saturating_mul(1024).saturating_add(1);
+        all = all.saturating_add(sum(first, first.saturating_add(256)));
     }
+    all
+}
+
+/// By one rule they can't pay. Three batches are opened before the first is judged, so workers evaluate the beginnings of these.
+/// Behind that they are given up.
+#[test]
+fn workers_are_given_up_where_they_cannot_pay(rt: HostRuntime) -> Result<(), Fail> {
+    let answered = beginnings(&[0, 1, 2]);
     let again = sum(1, 8193).saturating_sub(answered);
     assert!(rt; told(&rt, 1, 8192, 1024, 2)? == (answered, answered, again));
+    Ok(())
+}
+
+/// By 120 rules two workers save as much as it takes to hand results over, and to begin each batch they need more. Three batches are
+/// opened before the first is judged. Then they rest for 1024 packets: the batch 1, which is counted as it is taken, and behind
+/// which nothing is read ahead. Two more are opened before the batch 2 is judged. Then they rest for 4096 packets: the batches 3 to
+/// 6, which are taken one by one. The batch 7 is opened next, and they evaluate its beginning.
+#[test]
+fn workers_rest_where_they_do_not_pay(rt: HostRuntime) -> Result<(), Fail> {
+    let answered = beginnings(&[0, 1, 2, 3, 4, 7]);
+    let again = sum(1, 8193).saturating_sub(answered);
+    assert!(rt; told(&rt, 120, 8192, 1024, 2)? == (answered, answered, again));
     Ok(())
 }
 
@@ -94,10 +111,7 @@ fn workers_rest_where_they_do_not_pay(rt: HostRuntime) -> Result<(), Fail> {
 /// fourth is opened behind that, and they evaluate all of it and of what comes then.
 #[test]
 fn workers_go_on_where_they_pay(rt: HostRuntime) -> Result<(), Fail> {
-    let mut answered = sum(3073, 5121);
-    for batch in [0, 1, 2] {
-        answered = answered.saturating_add(sum(batch * 1024 + 1, batch * 1024 + 257));
-    }
+    let answered = beginnings(&[0, 1, 2]).saturating_add(sum(3073, 5121));
     let again = sum(1, 5121).saturating_sub(answered);
     assert!(rt; told(&rt, 200, 5120, 1024, 2)? == (answered, answered, again));
     Ok(())
