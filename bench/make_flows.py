@@ -17,6 +17,7 @@ out. No two flows have the same ends on one side of the firewall, so the port th
 
 import argparse
 import random
+import struct
 import sys
 from pathlib import Path
 
@@ -79,16 +80,25 @@ def connection(chance, there, back):
     yield tcp(*there, ACK, mine + 1, yours + 1)
 
 
+def numbered(packet, sequence, acknowledgement):
+    """A TCP packet without IP options whose two numbers are 0, with others in their place."""
+    # a checksum is the complement of a sum by the modulus 0xFFFF, in which 0x10000 is one (RFC 1071)
+    checksum = (int.from_bytes(packet[36:38], "big") - sequence - acknowledgement) % 0xFFFF
+    return b"".join((packet[:24], struct.pack(">II", sequence, acknowledgement), packet[32:36],
+                     struct.pack(">H", checksum), packet[38:]))
+
+
 def endless(chance, there, back):
     """A TCP connection in which both ends send in turn for ever."""
     mine, yours = chance.getrandbits(31), chance.getrandbits(31)
     yield from opening(there, back, mine, yours)
     mine, yours = mine + 1, yours + 1
     payload = NOISE[:64]
+    request, answer = (tcp(*ends, PSH | ACK, 0, 0, payload=payload) for ends in (there, back))
     while True:
-        yield tcp(*there, PSH | ACK, mine & 0xFFFFFFFF, yours & 0xFFFFFFFF, payload=payload)
+        yield numbered(request, mine & 0xFFFFFFFF, yours & 0xFFFFFFFF)
         mine += len(payload)
-        yield tcp(*back, PSH | ACK, yours & 0xFFFFFFFF, mine & 0xFFFFFFFF, payload=payload)
+        yield numbered(answer, yours & 0xFFFFFFFF, mine & 0xFFFFFFFF)
         yours += len(payload)
 
 
@@ -245,13 +255,12 @@ def staying_packets(chance, count):
 def write_packets(count, file, packets):
     """Writes so many of the packets."""
     near, far = bytes([2, 0, 0, 0, 0, 1]), bytes([2, 0, 0, 0, 0, 2])
+    header = ethernet(ETHER_IPV4, b"", source=near, destination=far)
     file.write(capture_header(network=LINKTYPE_ETHERNET))
     for start in range(0, count, BLOCK):
-        records = []
-        for number in range(start, min(start + BLOCK, count)):
-            frame = ethernet(ETHER_IPV4, next(packets), source=near, destination=far)
-            records.append(record(OPENING + number // A_SECOND, number % A_SECOND * 200, frame))
-        file.write(b"".join(records))
+        numbers = range(start, min(start + BLOCK, count))
+        file.write(b"".join([record(OPENING + number // A_SECOND, number % A_SECOND * 200, header + packet)
+                             for number, packet in zip(numbers, packets)]))
 
 
 def write_flows(count, file, stay=None):

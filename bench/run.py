@@ -97,15 +97,26 @@ def best_seconds(*commands):
     return list(map(min, zip(*times)))
 
 
-def peak_memory(command):
-    """The peak memory of one run in megabytes, as a word."""
+def seconds_and_peak(command):
+    """The time of one run from its start to its end, and its peak memory in megabytes, None without the program 'time'."""
     # a child of this script would start with the script's own memory as its peak
     timer = shutil.which("time")
     if timer is None:
-        return "-"
+        return seconds(command), None
     with tempfile.NamedTemporaryFile() as report:
-        seconds([timer, "-f", "%M", "-o", report.name, *command])
-        return f"{int(report.read()) * 1024 / MEGABYTE:.1f}"
+        passed = seconds([timer, "-f", "%M", "-o", report.name, *command])
+        return passed, int(report.read()) * 1024 / MEGABYTE
+
+
+def peak_word(peak):
+    """A peak of memory as a word."""
+    return "-" if peak is None else f"{peak:.1f}"
+
+
+def peak_memory(command):
+    """The peak memory of one run in megabytes, as a word."""
+    _, peak = seconds_and_peak(command)
+    return peak_word(peak)
 
 
 def count_records(capture):

@@ -2,12 +2,15 @@
 """Measures the program with workers beside itself without and prints a table for each of three captures.
 
     workers.py [PROGRAM] [--captures NAME ..] [--packets N] [--rules N ..] [--batches N ..] [--workers N ..]
+    workers.py [PROGRAM] --long [N ..]
 
 The packets of the capture `stateless` are decided by a rule that makes no state, each of those of `making` makes a
 state, and those of `matching` match the states of a few connections. No rule but the last matches a packet, so each
 packet that has no state is asked about all of them. A row is of so many rules and packets in a batch. Of each number
 of workers it has the speed as a multiple of that without, and in brackets the time of processors as a multiple. Behind
 them are the peaks of memory without workers and with the last number of them.
+
+With --long it prints another table instead, of what a packet costs, and of the peak of memory, as captures grow.
 """
 
 import argparse
@@ -16,8 +19,9 @@ import shutil
 import sys
 import tempfile
 from collections import Counter
+from copy import copy
 from pathlib import Path
-from typing import Callable, NamedTuple
+from typing import Callable, NamedTuple, Optional
 
 sys.dont_write_bytecode = True
 
@@ -25,26 +29,41 @@ from flows import outcomes
 from make_capture import write_capture
 from make_flows import write_flows
 from rules import vain_pairs
-from run import OUTPUTS, PROGRAM, RUNS, peak_memory, print_row, replay_command, seconds, used
+from run import (OUTPUTS, PROGRAM, RUNS, peak_memory, peak_word, print_row, replay_command, seconds, seconds_and_peak,
+                 used)
 
 PACKETS = 200000
 COUNTS, BATCHES, WORKERS = [10, 100, 1000], [256, 4096], [1, 2, 4, 8]
 # the connections whose states are matched
 FEW = 16
+# of the table of long captures, and for each of these its numbers of rules; packets that match states ask none
+LENGTHS = [10**5, 10**6, 10**7]
+LONG_COUNTS = {"stateless": [100, 1000], "matching": [1000]}
+LONG_BATCH, LONG_WORKERS, LONG_RUNS = 256, 4, 2
+# packets times rules of a run without workers; longer ones are left out
+MOST_LONG_QUESTIONS = 10**9
 
 
 class Kind(NamedTuple):
-    """A kind of captures: the rule that decides on its packets, what writes so many of them, and how many of these are
-    decided by the rule. The others match a state."""
-    rule: str
+    """A kind of captures: the rules that decide on its packets, what writes so many of them, and how many of these are
+    decided by the rules, where that is known. The others match a state."""
+    rules: str
     write: Callable
-    decided: Callable
+    decided: Optional[Callable] = None
+
+    def written(self, folder, packets):
+        """A capture of so many packets in a folder."""
+        path = folder / f"{packets} packets.pcap"
+        with open(path, "wb") as file:
+            self.write(packets, file)
+        return path
 
 
+# each packet is the first one of its connection
+MAKING = Kind("pass all keep state", lambda count, file: write_flows(count, file, count), lambda count: count)
 KINDS = {
     "stateless": Kind("pass all no state", write_capture, lambda count: count),
-    # each packet is the first one of its connection
-    "making": Kind("pass all keep state", lambda count, file: write_flows(count, file, count), lambda count: count),
+    "making": MAKING,
     "matching": Kind("pass all keep state", lambda count, file: write_flows(count, file, FEW),
                      lambda count: min(count, FEW)),
 }
@@ -61,10 +80,16 @@ class Contest:
 
     def __init__(self, folder, program, kind, capture, packets, count, batch):
         self.folder, self.program, self.kind = folder, program, kind
-        self.capture, self.packets, self.batch = capture, packets, batch
+        self.capture, self.packets, self.count, self.batch = capture, packets, count, batch
         self.rules = folder / "rules"
         vain = [rule for rule, _ in vain_pairs(count - 1, capture.read_bytes())]
-        self.rules.write_text("\n".join([f"set limit states {packets}", *vain, f"{kind.rule}\n"]))
+        self.rules.write_text("\n".join([f"set limit states {packets}", *vain, f"{kind.rules}\n"]))
+
+    def on(self, capture, packets):
+        """The same program and rules on another capture of the same kind."""
+        other = copy(self)
+        other.capture, other.packets = capture, packets
+        return other
 
     def command(self, workers, **files):
         """The words of a run; an output that isn't named goes nowhere."""
@@ -103,19 +128,64 @@ def cell(without, found):
     return f"{without.passed / found.passed:.2f} ({found.spent / without.spent:.2f})"
 
 
-def row(contest, count, workers):
+def row(contest, workers):
     """The measures of one ruleset and size of batches, as words."""
     times = contest.best([0, *workers])
     contest.check(workers)
     peaks = [peak_memory(contest.command(number)) for number in (0, *workers[-1:])]
-    return [f"{count}", f"{contest.batch}", f"{contest.packets / times[0].passed:.0f}",
+    return [f"{contest.count}", f"{contest.batch}", f"{contest.packets / times[0].passed:.0f}",
             *(cell(times[0], times[number]) for number in workers), *peaks]
 
 
+class Growth:
+    """A program and its ruleset, with one number of workers, on captures that grow."""
+
+    def __init__(self, contest, workers, empty):
+        self.contest, self.workers = contest, workers
+        # the time of a run that has no packets, and what one costs on the first capture
+        self.start, _ = self.measured(contest.on(empty, 0))
+        self.first = None
+
+    def measured(self, contest):
+        """The best time of some runs, and the greatest peak of memory."""
+        runs = RUNS if contest.packets <= LENGTHS[0] else LONG_RUNS
+        times, peaks = zip(*(seconds_and_peak(contest.command(self.workers)) for _ in range(runs)))
+        return min(times), None if None in peaks else max(peaks)
+
+    def takes_too_long(self, packets):
+        """Whether the calling thread alone would ask too many rules."""
+        return self.workers == 0 and self.contest.kind.decided(packets) * self.contest.count > MOST_LONG_QUESTIONS
+
+    def cells(self, capture, packets):
+        """What a packet costs, in brackets as a multiple of that on the first capture, and the peak of memory."""
+        if self.takes_too_long(packets):
+            return ["-", "-"]
+        passed, peak = self.measured(self.contest.on(capture, packets))
+        cost = (passed - self.start) * 1e9 / packets
+        self.first = self.first or cost
+        return [f"{cost:.0f} ({cost / self.first:.2f})", peak_word(peak)]
+
+
+def print_long(folder, program, lengths):
+    numbers, shortest = (0, LONG_WORKERS), lengths[0]
+    print_row(["capture", "rules", "packets", "ns a packet without", "peak MB", f"with {LONG_WORKERS}", "peak MB"])
+    print_row(["---"] + ["---:"] * 6)
+    for name, counts in LONG_COUNTS.items():
+        captures = {packets: KINDS[name].written(folder, packets) for packets in (0, *lengths)}
+        for count in counts:
+            contest = Contest(folder, program, KINDS[name], captures[shortest], shortest, count, LONG_BATCH)
+            contest.check([LONG_WORKERS])
+            growths = [Growth(contest, number, captures[0]) for number in numbers]
+            for packets in lengths:
+                cells = [cell for growth in growths for cell in growth.cells(captures[packets], packets)]
+                print_row([name, f"{count}", f"{packets}", *cells])
+        for capture in captures.values():
+            capture.unlink()
+
+
 def print_table(folder, program, name, words):
-    kind, capture = KINDS[name], folder / f"{name}.pcap"
-    with open(capture, "wb") as file:
-        kind.write(words.packets, file)
+    kind = KINDS[name]
+    capture = kind.written(folder, words.packets)
     names = ["rules", "batch", "packets/s without", *(f"with {number}" for number in words.workers),
              "peak MB without", *(f"with {number}" for number in words.workers[-1:])]
     print(f"\n{name}, {words.packets} packets\n")
@@ -124,7 +194,7 @@ def print_table(folder, program, name, words):
     for count in words.rules:
         for batch in words.batches:
             contest = Contest(folder, program, kind, capture, words.packets, count, batch)
-            print_row(row(contest, count, words.workers))
+            print_row(row(contest, words.workers))
     capture.unlink()
 
 
@@ -135,6 +205,8 @@ def main():
     parser.add_argument("--rules", type=int, nargs="+", default=COUNTS)
     parser.add_argument("--batches", type=int, nargs="+", default=BATCHES, help="the packets of a batch")
     parser.add_argument("--workers", type=int, nargs="+", default=WORKERS, help="beside 0, which is always measured")
+    parser.add_argument("--long", type=int, nargs="*", metavar="N",
+                        help="prints the table of captures that grow to so many packets, alone")
     parser.add_argument("program", nargs="?", type=Path, default=PROGRAM)
     words = parser.parse_args()
     if not words.program.is_file():
@@ -143,8 +215,11 @@ def main():
         print("without the program 'time' (apt-get install -y time) no peak memory is shown")
     print(f"load {os.getloadavg()[0]:.1f}")
     with tempfile.TemporaryDirectory() as folder:
-        for name in words.captures:
-            print_table(Path(folder), words.program.resolve(), name, words)
+        if words.long is not None:
+            print_long(Path(folder), words.program.resolve(), sorted(words.long) or LENGTHS)
+        else:
+            for name in words.captures:
+                print_table(Path(folder), words.program.resolve(), name, words)
     print(f"load {os.getloadavg()[0]:.1f}")
 
 
