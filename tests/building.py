@@ -58,6 +58,11 @@ def schedule_answers():
     return [str(built("schedule_answers"))]
 
 
+def published_answers():
+    """The command by which `published_answers` answers scripts; nothing is answered where there are none."""
+    return [str(built("published_answers"))]
+
+
 def pfreplay():
     """The program pfreplay, which its script builds where a source is newer."""
     ran(["./pfreplay", "--help"], ROOT)

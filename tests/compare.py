@@ -25,14 +25,16 @@ import building
 
 TESTS = Path(__file__).resolve().parent
 # each is a package with a module `compare`
-WORDS = ("runs", "rulesets", "expansions", "tracking", "table", "steps", "commits", "messages", "schedules", "workers",
-         "faults")
+WORDS = ("runs", "rulesets", "expansions", "tracking", "table", "steps", "commits", "messages", "schedules",
+         "published", "workers", "faults")
 # those of which nothing is written out
 WITHOUT_MODEL_ALONE = ("table", "workers")
-# those of the program pfreplay, of message_answers, and of schedule_answers; all others are of the program `answers`
+# those of the program pfreplay, of message_answers, of schedule_answers and of published_answers; all others are of the
+# program `answers`
 OF_PFREPLAY = ("runs", "workers", "faults")
 OF_MESSAGES = ("messages",)
 OF_SCHEDULES = ("schedules",)
+OF_PUBLISHED = ("published",)
 
 
 class Outcome(NamedTuple):
@@ -58,7 +60,9 @@ def build(words):
         building.message_answers("texts")
     if set(words) & set(OF_SCHEDULES):
         building.schedule_answers()
-    if set(words) - {*OF_PFREPLAY, *OF_MESSAGES, *OF_SCHEDULES}:
+    if set(words) & set(OF_PUBLISHED):
+        building.published_answers()
+    if set(words) - {*OF_PFREPLAY, *OF_MESSAGES, *OF_SCHEDULES, *OF_PUBLISHED}:
         building.built("answers", building.IDLE_WORD)
 
 

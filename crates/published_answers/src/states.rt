@@ -1,0 +1,81 @@
+//! Changes of a table as they are given, and tables as they are printed.
+use crate::given::Words;
+use pfr_net::{Direction, Endpoint, Ipv4Address, Port, Protocol};
+use pfr_states::{Change, Table, TableChange};
+use pfr_track::{Clock, Deadline, Key, Peers, State, StateNumber, StateRules, Timeout, Traffic};
+use std::alloc::AllocError;
+
+fn endpoint(words: &mut Words<'_>) -> Option<Endpoint> {
+    let address = Ipv4Address(words.number()?);
+    let port = Port(words.number()?);
+    Some(Endpoint { address, port })
+}
+
+fn key(words: &mut Words<'_>) -> Option<Key> {
+    let protocol = Protocol(words.number()?);
+    let outside = endpoint(words)?;
+    let inside = endpoint(words)?;
+    Some(Key {
+        protocol,
+        outside,
+        inside,
+    })
+}
+
+fn state(words: &mut Words<'_>) -> Option<State> {
+    let number = StateNumber(words.number()?);
+    let wire = key(words)?;
+    let stack = key(words)?;
+    let deadline = Deadline(words.number()?);
+    let bytes = words.number()?;
+    Some(State {
+        number,
+        direction: Direction::In,
+        wire,
+        stack,
+        rules: StateRules {
+            filter: None,
+            translation: None,
+            is_synchronised: true,
+            allows_options: false,
+        },
+        peers: Peers::Icmp,
+        made: Clock(0),
+        deadline,
+        timeout: Timeout::IcmpFirst,
+        forth: Traffic { packets: 1, bytes },
+        back: Traffic {
+            packets: 0,
+            bytes: 0,
+        },
+    })
+}
+
+/// The change that a line of this word names, if it names one.
+pub(crate) fn change(word: &str, words: &mut Words<'_>) -> Option<Change> {
+    Some(match word {
+        "make" => Change::Apply(TableChange::Made(state(words)?)),
+        "touch" => Change::Apply(TableChange::Touched(state(words)?)),
+        "remove" => Change::Apply(TableChange::Removed(StateNumber(words.number()?))),
+        "purge" => Change::Purge(Clock(words.number()?)),
+        _ => return None,
+    })
+}
+
+/// A line of how many states a table has, and of each its number, its deadline and the bytes that it has counted.
+pub(crate) fn put_table(out: &mut String, table: &Table) -> Result<(), AllocError> {
+    write!(out, "{}", table.len())?;
+    let mut found = table.first();
+    for _turn in 0..u64::MAX {
+        let Some(state) = found else {
+            break;
+        };
+        write!(
+            out,
+            " {}/{}/{}",
+            state.number.0, state.deadline.0, state.forth.bytes
+        )?;
+        found = table.after(state.number);
+    }
+    out.push('\n')
+}

@@ -1,0 +1,1 @@
+"""A table of states that is published while viewers in threads of their own look at it."""

@@ -1,0 +1,115 @@
+"""Compares what viewers see of a table that is published while they look at it with the model, and refuses the program
+each allocation.
+
+Scripts say what is published and what viewers do, and who waits for whom. Some are written out with their answers, and
+the others are random. A script of which not all is fixed by waiting has several answers. Then the answer that is seen
+has to be one of these. The model is handed answers that are made up as well, right ones and wrong ones.
+"""
+
+import sys
+from collections import Counter
+from itertools import islice
+
+import building
+from answering import differing, place_of_difference, show_lines
+from faults.command import ends_lawfully
+from faults.published import ending_of
+from faults.trial import Unlawful
+from published import drawn, written
+from published.model import Expected
+from schedules.compare import answers, script_bytes
+
+# how many scripts there are of each kind
+COUNTS = {"random": 3000, "busy": 300, "large": 8}
+# with how many random scripts each allocation is refused, besides those that are written out; and how many scripts the
+# program is handed at once then
+REFUSED, AT_ONCE = 12, 6
+
+
+def show(script, expected, seen):
+    """Shows the first line that differs, and the script up to there."""
+    place = place_of_difference(expected, seen)
+    print(f"{script.name}, line {place + 1}", *script.lines(), sep="\n  ")
+    show_lines(place, expected, seen)
+
+
+def compare(command, title, scripts):
+    """How many scripts are answered otherwise than they may be."""
+    found, counts = [], Counter()
+    for script, seen in zip(scripts, answers(command, scripts)):
+        expected = Expected(script)
+        found.append((script, expected.lines_beside(seen), seen))
+        counts.update(publications=len(expected.course.outcomes), looks=len(expected.choices),
+                      fixed=sum(choice.tables == 1 for choice in expected.choices),
+                      later=sum(choice.before > 0 for choice in expected.choices))
+    wrong = differing(found, show)
+    print(f"{title}: {len(found)} scripts with {counts['publications']} publications and {counts['looks']} looks; "
+          f"{counts['fixed']} leave no choice, and {counts['later']} are at a later table than need be; {wrong} differ")
+    return wrong
+
+
+def wrong_written():
+    """How many scripts that are written out differ from the model."""
+    wrong = 0
+    for script, lines in written.rows():
+        expected = Expected(script)
+        if not expected.is_exact() or expected.lines_beside(()) != lines:
+            print(f"{script.name}: the model has", *expected.lines_beside(()), sep="\n  ")
+            wrong += 1
+    return wrong
+
+
+def judged(lines):
+    """The ending that an answer to the free script tells, None where there is none."""
+    try:
+        return ending_of(written.FREE, lines)
+    except Unlawful:
+        return None
+
+
+def wrong_made_up():
+    """How many answers that are made up are judged wrongly, without a refusal and with one."""
+    expected = Expected(written.FREE)
+    wrong = [name for name, lines, is_right in written.made_up() if (expected.lines_beside(lines) == lines) != is_right]
+    wrong += [name for name, lines, ending in written.endings() if judged(lines) != ending]
+    for name in wrong:
+        print(f"judged wrongly: {name}")
+    return len(wrong)
+
+
+def compare_model():
+    """How much that is written out differs from the model."""
+    wrong = wrong_written() + wrong_made_up()
+    scripts, made_up = list(written.rows()), [*written.made_up(), *written.endings()]
+    print(f"{len(scripts)} scripts that are written out and {len(made_up)} answers that are made up: {wrong} differ from "
+          "the model")
+    return wrong
+
+
+def model_alone():
+    sys.exit(bool(compare_model()))
+
+
+def written_scripts():
+    return [script for script, _ in written.rows()]
+
+
+def refused_scripts():
+    """Those with which each allocation is refused: they have one answer, so that this tells what was refused."""
+    exact = (script for script in drawn.scripts("random", 20 * REFUSED) if Expected(script).is_exact())
+    return written_scripts() + list(islice(exact, REFUSED))
+
+
+def are_refused_lawfully(command):
+    """Of some scripts at a time whether the program ends lawfully with each allocation and each thread refused."""
+    scripts = refused_scripts()
+    for start in range(0, len(scripts), AT_ONCE):
+        yield ends_lawfully("published", command, b"".join(map(script_bytes, scripts[start:start + AT_ONCE])))
+
+
+def main():
+    command = building.published_answers()
+    wrong = compare_model() + compare(command, "written out", written_scripts())
+    for kind, count in COUNTS.items():
+        wrong += compare(command, kind, drawn.scripts(kind, count))
+    sys.exit(bool(wrong) or not all(list(are_refused_lawfully(command))))
