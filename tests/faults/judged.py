@@ -25,15 +25,6 @@ HEADER = 24
 BATCH, TWO_BATCHES, COUNT = 256, 512, 600
 
 
-class MadeUp(NamedTuple):
-    """A trial whose run is made up."""
-    command: list
-    clean: Seen
-
-    def name_of(self, file):
-        return self.command[replay.places(self.command)[file]]
-
-
 class Ending(NamedTuple):
     name: str
     target: replay.Target
@@ -51,7 +42,7 @@ def trial_of(capture, rules, form):
     names = {model.FILE: model.OUTPUTS, model.PEER: (*model.REQUIRED, PEER), model.NONE: model.REQUIRED}[form]
     words = ["program", "run", capture, rules, "--interface", CASE.interface, "--address", CASE.address, "--inside",
              CASE.inside, *(word for name in names for word in (f"--{name}", name))]
-    return MadeUp(words, Seen(outcome.status, outcome.out, outcome.err, tuple(outcome.files)[:len(names)]))
+    return replay.Known(words, replay.seen_of(words, outcome))
 
 
 class Pieces:
@@ -246,6 +237,80 @@ def wrong_beside_workers(pieces):
     yield Ending("two lines", replay.MEMORY, "no memory, committed 0\n", 4, NOTHING)
 
 
+def right_parts(pieces):
+    """Those that are lawful where a write may be done in part: of what is to be written all may be there but a byte."""
+    now, then = pieces.online(BATCH), pieces.online(TWO_BATCHES)
+    header, counters, states = pieces.whole.packets[:HEADER], pieces.whole.counters, pieces.whole.states
+    yield from (ending for ending in right_endings(pieces) if ending.target in replay.WRITES.values())
+    for most, name in ((1, "one byte"), (-1, "all but one byte")):
+        yield failing(f"{name} of the header", "packets", 0, NOTHING._replace(packets=header[:most]))
+        yield failing(f"{name} of the counters", "counters", COUNT, pieces.ended(counters=counters[:most], states=b""))
+        yield failing(f"{name} of the states", "states", COUNT, pieces.ended(states=states[:most]))
+    for most in (1, len(then.verdicts) - len(now.verdicts) - 1):
+        yield failing(f"{most} bytes of the lines", "verdicts", BATCH, now._replace(
+            messages=then.messages, verdicts=then.verdicts[:len(now.verdicts) + most]))
+    for most in (1, len(then.packets) - len(now.packets) - 1):
+        yield failing(f"{most} bytes of the packets", "packets", BATCH, then._replace(
+            packets=then.packets[:len(now.packets) + most]))
+
+
+def right_part_messages(pieces, target):
+    """Those of messages that are written to a target."""
+    now, then = pieces.online(BATCH), pieces.online(TWO_BATCHES)
+    yield from right_messages(pieces, target)
+    for name, files, committed, text in (("messages", now, BATCH, then.messages),
+                                         ("the last message", pieces.online(COUNT), COUNT, pieces.whole.messages)):
+        for most in (len(files.messages) + 1, len(text) - 1):
+            yield Ending(f"{name} up to byte {most}", target, f"write failed: messages, committed {committed}", 3,
+                         files._replace(messages=text[:most]))
+
+
+def wrong_parts(pieces):
+    """Those that aren't, each by one thing."""
+    verdicts, packets, counters, states, _ = pieces.whole
+    now, then = pieces.online(BATCH), pieces.online(TWO_BATCHES)
+    part = now._replace(messages=then.messages, verdicts=then.verdicts[:-10])
+    yield failing("all of the header", "packets", 0, NOTHING._replace(packets=packets[:HEADER]))
+    yield failing("all of the lines", "verdicts", BATCH, part._replace(verdicts=then.verdicts))
+    yield failing("all of the packets", "packets", BATCH, then)
+    yield failing("all of the counters", "counters", COUNT, pieces.ended(states=b""))
+    yield failing("all of the states", "states", COUNT, pieces.whole)
+    for committed, name in ((0, "a batch too few"), (BATCH - 1, "one too few"), (BATCH + 1, "one too many"),
+                            (then.verdicts[:-10].count(b"\n"), "the whole lines"), (TWO_BATCHES, "a batch too many")):
+        yield failing(f"a part of the lines, {name} committed", "verdicts", committed, part)
+    yield failing("the last whole line missing", "verdicts", BATCH, now._replace(
+        messages=then.messages, verdicts=now.verdicts[:-1]))
+    yield failing("the last whole packet missing", "packets", BATCH, then._replace(packets=now.packets[:-1]))
+    yield failing("other bytes in the part", "verdicts", BATCH, part._replace(verdicts=part.verdicts[:-1] + b"?"))
+    yield failing("a part of another output", "packets", BATCH, then._replace(
+        verdicts=part.verdicts, packets=now.packets))
+    yield failing("packets behind lines that failed", "verdicts", BATCH, part._replace(
+        packets=packets[:len(now.packets) + 1]))
+    yield failing("counters behind lines that failed", "verdicts", BATCH, part._replace(counters=counters))
+    yield failing("lines behind a header that failed", "packets", 0, pieces.online(0, packets=packets[:10],
+                                                                                  verdicts=verdicts[:10]))
+    yield failing("states behind counters that failed", "counters", COUNT, pieces.ended(counters=counters[:-1]))
+    yield failing("a part of the counters before the states", "states", COUNT, pieces.ended(
+        counters=counters[:-1], states=states[:-1]))
+    yield failing("a file that isn't there", "packets", 0, NOTHING._replace(states=None, messages=None))
+    yield failing("an answer besides", "verdicts", BATCH, part, out=b"committed 256\n")
+    for status, err in ((4, f"write failed: verdicts, committed {BATCH}"), (-13, ""), (0, "")):
+        yield Ending(f"a status of {status}", replay.WRITES["verdicts"], err, status, part)
+
+
+def wrong_part_messages(pieces, target):
+    """Those of messages that are written to a target."""
+    now, then = pieces.online(BATCH), pieces.online(TWO_BATCHES)
+    for name, committed, files in (
+            ("all of the messages", BATCH, now._replace(messages=then.messages)),
+            ("all of the last message", COUNT, pieces.ended(counters=b"", states=b"")),
+            ("lines behind messages that failed", BATCH, then._replace(messages=then.messages[:-1])),
+            ("a part of the messages, and another batch", 0, now._replace(messages=then.messages[:-1]))):
+        yield Ending(name, target, f"write failed: messages, committed {committed}", 3, files)
+    yield failing("a part of the messages before lines that failed", "verdicts", BATCH, now._replace(
+        messages=then.messages[:-1]))
+
+
 def is_allowed(judge, trial, ending):
     err = f"pfreplay: {ending.err.replace('RULES', trial.name_of('rules'))}\n".encode() if ending.err else b""
     files = tuple(ending.files)[:len(trial.clean.files)]
@@ -269,7 +334,18 @@ def judged(trial, target):
     # what is right without workers is right with some
     more, others = judged_by(workers.judge, trial, [*right, *right_beside_workers(pieces)],
                              list(wrong_beside_workers(pieces)))
-    return count + more, faults + [f"with workers: {fault}" for fault in others]
+    in_part, of_parts = judged_by(replay.judge_part, trial, *parts(pieces, target))
+    return count + more + in_part, [*faults, *(f"with workers: {fault}" for fault in others),
+                                    *(f"in part: {fault}" for fault in of_parts)]
+
+
+def parts(pieces, target):
+    """The right endings and the wrong ones where a write may be done in part."""
+    right, wrong = list(right_parts(pieces)), list(wrong_parts(pieces))
+    if target:
+        right += right_part_messages(pieces, target)
+        wrong += wrong_part_messages(pieces, target)
+    return right, wrong
 
 
 def judged_by(judge, trial, right, wrong):

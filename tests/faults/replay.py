@@ -9,9 +9,10 @@ import re
 from functools import lru_cache
 from itertools import accumulate
 from pathlib import Path
+from typing import NamedTuple
 
 from captures.model import Refused
-from faults.trial import PEER, Target, Unlawful
+from faults.trial import PEER, Seen, Target, Unlawful
 from runs import model
 from runs.case import NO_SEED, Case
 from runs.model import Files
@@ -66,6 +67,23 @@ def outputs_of(command):
     return [name for name in OUTPUTS if name in places(command)]
 
 
+def seen_of(command, outcome):
+    """How a run of the command ended, of which an outcome tells."""
+    return Seen(outcome.status, outcome.out, outcome.err, tuple(outcome.files)[:len(outputs_of(command))])
+
+
+class Known(NamedTuple):
+    """A command of which it is known how it ends without a fault. It tells the judges what they ask of a trial. The
+    `ends` say how many bytes of messages are out behind each number of packets, where the model isn't to be asked."""
+    command: list
+    clean: Seen
+    ends: list | None = None
+
+    def name_of(self, file):
+        """The name of one of the command's files."""
+        return self.command[places(self.command)[file]]
+
+
 # What the outputs hold
 
 def flags_of(command):
@@ -94,6 +112,11 @@ def form_of(command):
 def texts_of(files):
     """What stands in files, nothing in one that isn't there."""
     return Files(*(text or b"" for text in (*files, None)[:len(Files._fields)]))
+
+
+def output_of(ending):
+    """The output that failed."""
+    return ending.removesuffix(" failed")
 
 
 class Whole:
@@ -151,15 +174,32 @@ class Whole:
         """What the files may hold at most where so many packets are told as committed."""
         return self.files if committed == self.count else self.online(self.behind(committed))
 
+    def writes(self):
+        """The writes in their order: the output of each, and how many bytes it holds then. Some write nothing."""
+        yield "packets", self.packets_end[0]
+        for files in map(self.online, self.boundaries()):
+            yield from ((name, len(getattr(files, name))) for name in ("messages", "verdicts", "packets"))
+        yield from ((name, len(getattr(self.files, name))) for name in ("messages", "counters", "states"))
+
+    def lacks_header(self, ending, files):
+        """Whether the write that failed is that of the capture's header, which comes before all lines."""
+        return ending == "packets failed" and not files.verdicts
+
     def failing(self, ending, committed, files):
         """What is written before the write that fails."""
         now, following = self.online(committed), self.online(self.behind(committed))
-        if ending == "packets failed" and not files.packets:
+        if self.lacks_header(ending, files):
             return Files(b"", b"", b"", b"", b"")
         return {"messages failed": now, "verdicts failed": now._replace(messages=following.messages),
                 "packets failed": following._replace(packets=now.packets),
                 "counters failed": self.files._replace(counters=b"", states=b""),
                 "states failed": self.files._replace(states=b"")}[ending]
+
+    def through(self, ending, committed, files):
+        """How many bytes the output whose write fails would hold behind it."""
+        if self.lacks_header(ending, files):
+            return self.packets_end[0]
+        return len(getattr(self.most(committed), output_of(ending)))
 
 
 @lru_cache
@@ -173,7 +213,7 @@ def ends_of(words):
 
 def whole_of(trial):
     command = tuple(map(str, trial.command))
-    return Whole(trial.clean.files, ends_of(command), batch_of(command))
+    return Whole(trial.clean.files, getattr(trial, "ends", None) or ends_of(command), batch_of(command))
 
 
 def is_untouched(seen):
@@ -197,6 +237,11 @@ def check_beginnings(trial, seen):
 def judge(trial, fault, counts, seen):
     """The ending of a run with this fault, one of ENDINGS; Unlawful where it is none of the lawful ones."""
     return judge_by(check_committed, trial, fault, counts, seen)
+
+
+def judge_part(trial, fault, counts, seen):
+    """The same where a write fails that may have written a part."""
+    return judge_by(check_part, trial, fault, counts, seen)
 
 
 def judge_by(check_outputs, trial, fault, counts, seen):
@@ -261,6 +306,18 @@ def check_committed(trial, ending, committed, counts, seen):
     check(None not in seen.files, "a file isn't opened before the first write")
     check(files == whole.failing(ending, committed, files),
           "the files aren't those of the writes before the one that failed")
+
+
+def check_part(trial, ending, committed, counts, seen):
+    """The same where a write failed that may have written a part, as on a disk that is full. The part lacks the last
+    byte of what was to be written."""
+    whole, files, name = whole_of(trial), texts_of(seen.files), output_of(ending)
+    check(None not in seen.files, "a file isn't opened before the first write")
+    check(committed == whole.held(files), "another number of packets is committed than is there")
+    before = whole.failing(ending, committed, files)
+    check(files._replace(**{name: b""}) == before._replace(**{name: b""}),
+          "the others aren't those of the writes before the one that failed")
+    check(len(getattr(files, name)) < whole.through(ending, committed, files), "all is there of the write that failed")
 
 
 def check_read(trial, whole, committed, counts, files):

@@ -8,7 +8,7 @@ from runs.model import FILE, OUTPUTS, PEER, Files, Outcome
 from runs.peers import Peer
 
 # seconds; other comparisons may run at the same time
-TIME_LIMIT = 30
+TIME_LIMIT = 60
 # longer than the text of many a run, so that what isn't emptied shows
 OLD_BYTES = b"as it was\n" * 50
 # what a fault of the command line is shown as where the program says something else
@@ -28,10 +28,11 @@ class Comparison:
         self.count = 0
         self.wrong = []
 
-    def execute(self, words, out=subprocess.PIPE, peer=None):
-        """One run of the program, with the peer to which it may send; None where it takes too long."""
-        with subprocess.Popen([self.program, *map(str, words)], stdin=subprocess.DEVNULL, stdout=out,
-                              stderr=subprocess.PIPE) as run:
+    def execute(self, words, out=subprocess.PIPE, peer=None, err=subprocess.PIPE, before=None):
+        """One run of the program, with the peer to which it may send, and what its process does before; None where it
+        takes too long."""
+        with subprocess.Popen([self.program, *map(str, words)], stdin=subprocess.DEVNULL, stdout=out, stderr=err,
+                              preexec_fn=before) as run:
             try:
                 # what is printed is a line or two, which nobody has to read before the program ends
                 taken = peer and peer.take(run)
@@ -39,7 +40,7 @@ class Comparison:
             except (subprocess.TimeoutExpired, TimeoutError):
                 run.kill()
                 return None
-        return Outcome(printed or b"", said, run.returncode, self.left() if peer is None else self.left(taken))
+        return Outcome(printed or b"", said or b"", run.returncode, self.left() if peer is None else self.left(taken))
 
     def left(self, *taken):
         """What stands in the files that a run writes, where those of messages may be what a peer has taken. One with

@@ -3,6 +3,8 @@ workers: all outputs, what is printed and the status.
 
 Each choice of workers and a size comes up among so many cases as there are choices. Each case is run with one choice,
 some times on all cores and once on one core. Of the first run that differs the files stay, with its command line.
+
+Behind them come runs that a device ends or delays (`endings`).
 """
 
 import os
@@ -21,14 +23,16 @@ import building
 from runs.case import Case
 from runs.comparison import Comparison, shown
 from runs.model import OUTPUTS, Outcome
+from workers import endings
 from workers.cases import SEED, case_at
+from workers.choices import Choice, run_of
 
 # where no other number is told
 CASES = 126
 WORKERS, BATCHES = (0, 1, 2, 4, 8, 64), (1, 2, 3, 7, 64, 256, 4096)
-CHOICES = tuple(product(WORKERS, BATCHES))
+CHOICES = tuple(Choice(*pair) for pair in product(WORKERS, BATCHES))
 # what each run is compared with
-REFERENCE = (0, 256)
+REFERENCE = Choice(0, 256)
 # how often a choice runs on all cores
 RUNS = 3
 # what has to come up once in so many cases at least
@@ -41,7 +45,7 @@ class Difference(NamedTuple):
     """A run that differs from the one without workers: the core that it had alone, or None."""
     number: int
     case: Case
-    choice: tuple
+    choice: Choice
     core: int | None
     expected: Outcome
     seen: Outcome | None
@@ -63,11 +67,6 @@ def choice_of(number):
     return random.Random(f"{SEED} {turn}").sample(CHOICES, len(CHOICES))[place]
 
 
-def words_of(choice):
-    workers, batch = choice
-    return ["--workers", workers, "--batch", batch]
-
-
 @contextmanager
 def running_on(core):
     """Programs that are started meanwhile run on one core, or on all where it is None."""
@@ -77,13 +76,6 @@ def running_on(core):
         yield
     finally:
         os.sched_setaffinity(0, every)
-
-
-def run_of(comparison, case, choice, core=None):
-    """What a run of the case with a choice comes to; None where it takes too long."""
-    comparison.prepare(case)
-    with running_on(core):
-        return comparison.execute([*comparison.command(case), *words_of(choice)])
 
 
 def counts_of(expected):
@@ -107,7 +99,8 @@ def compared(program, number):
             raise SystemExit(f"case {number} takes too long without workers")
         found = []
         for core in (*[None] * RUNS, cores[number % len(cores)]):
-            seen = run_of(comparison, case, choice, core)
+            with running_on(core):
+                seen = run_of(comparison, case, choice)
             found += [Difference(number, case, choice, core, expected, seen)] if seen != expected else []
     return Compared(RUNS + 1, len(found), found[0] if found else None, counts_of(expected))
 
@@ -126,16 +119,16 @@ def keep(difference, program):
     comparison.prepare(difference.case)
     alone = [] if difference.core is None else ["taskset", "-c", difference.core]
     for choice, before in ((REFERENCE, []), (difference.choice, alone)):
-        words = [*before, program, *comparison.command(difference.case), *words_of(choice)]
+        words = [*before, program, *comparison.command(difference.case), *choice.words()]
         yield shlex.join(map(str, words))
 
 
 def show(difference, program):
     """Shows a run that differs, and how to run it again."""
-    (workers, batch), expected, seen = difference.choice, difference.expected, difference.seen
+    choice, expected, seen = difference.choice, difference.expected, difference.seen
     place = "all cores" if difference.core is None else "one core"
     parts = [name for name, text in expected.parts().items() if seen and seen.parts()[name] != text]
-    print(f"case {difference.number}, {difference.case.name}: {workers} workers, batches of {batch}, on {place}: "
+    print(f"case {difference.number}, {difference.case.name}: {choice}, on {place}: "
           f"{', '.join(parts)}\n  without workers {shown(expected)}\n  with them       {shown(seen)}")
     print("its files stay, as do both outcomes; the run without workers and the one with them:",
           *keep(difference, program), f"or: tests/workers/run.py 1 --first {difference.number}", sep="\n  ")
@@ -166,4 +159,4 @@ def compare(count, first=0):
 
 
 def main():
-    sys.exit(bool(compare(CASES)))
+    sys.exit(bool(compare(CASES) + endings.compare(building.pfreplay())))
