@@ -5,6 +5,7 @@ ghost use Rattle.pfr_history.specs.Adding.{head_of};
 
 use logbook::{Gain, Offer, Plain, Play, Rule, Seen, Start, Word};
 use std::marker::{Brand, Model, PhantomData};
+use std::snapshot::Snapshot;
 
 /// The rule of the list: the word that threads share is its length.
 pub struct Grows;
@@ -46,10 +47,10 @@ impl<E> Play<E, u64> for Add {
 }
 
 /// What the step asks for: the entry.
-impl<E> Plain<E, E, u64> for Add {
+impl<E> Plain<Snapshot<E>, E, u64> for Add {
     ghost use Rattle.std.specs.Prelude.{None};
 
-    ghost ask = { λ entry. entry };
+    ghost ask = { λ entry. entry.value };
 
     ghost state = { λ entry. None };
 }
@@ -195,11 +196,20 @@ impl<J: Naming, E> Front<J, E> {
     pub fn add(&mut self, history: &History<J, E>, entry: &E) -> bool
         ensures { MatchBool result (self.new ≡ self.old ++ entry.now ∷ []) (IsPrefix self.old self.new) }
     {
+        self.add_known(history, &Snapshot::of(entry))
+    }
+
+    /// [`Front::add`] of an entry that the proofs alone know.
+    pub fn add_known(&mut self, history: &History<J, E>, entry: &Snapshot<E>) -> bool
+        ensures { MatchBool result (self.new ≡ self.old ++ entry.now.value ∷ []) (IsPrefix self.old self.new) }
+    {
         let count = self.count;
         if count == u64::MAX {
             return false;
         }
-        let mut offer: Offer<E, u64, Grows, Nothing> = self.seen.plain::<Nothing, E, Add>(entry);
+        let mut offer: Offer<E, u64, Grows, Nothing> = self
+            .seen
+            .plain::<Nothing, Snapshot<E>, Add>(entry);
         let mut pen = self.seen.no_pen();
         let found = history
             .head

@@ -11,5 +11,5 @@ mod store;
 mod viewer;
 
 pub use published::{Published, StoreWriter};
-pub use store::{Added, Store, TableNaming};
+pub use store::{Added, Store, TableNaming, known};
 pub use viewer::{Showing, Told, Viewer};

@@ -7,7 +7,7 @@ use crate::viewer::{Told, Viewer};
 use crossbeam_utils::rule::Unruled;
 use left_right::writer::Writer;
 use pfr_history::History;
-use pfr_states::{Change, Table};
+use pfr_states::{Change, KnownChange, Table};
 use std::alloc::{AllocError, Global};
 use std::sync::Wait;
 
@@ -18,8 +18,6 @@ pub type StoreWriter<J> = Writer<Store<J>, Added<J>, (), Unruled>;
 pub struct Published<W> {
     writer: W,
     refused: bool,
-    /// Whether nobody is shown the table from the next publication on.
-    is_hidden: bool,
 }
 
 impl<J: TableNaming> Published<StoreWriter<J>> {
@@ -42,7 +40,6 @@ impl<J: TableNaming> Published<StoreWriter<J>> {
         Ok(Published {
             writer,
             refused: false,
-            is_hidden: false,
         })
     }
 
@@ -65,27 +62,9 @@ impl<J: TableNaming> Published<StoreWriter<J>> {
         })
     }
 
-    /// Hides the table: from the next publication on nobody is shown it, and no memory is taken for it. Its list alone goes on, which
-    /// costs little.
-    pub fn hide(self) -> Published<StoreWriter<J>>
-        ensures list { list_of result ≡ list_of self }
-        ensures refused { result.refused ≡ self.refused }
-    {
-        let Published {
-            writer,
-            refused,
-            is_hidden: _,
-        } = self;
-        Published {
-            writer,
-            refused,
-            is_hidden: true,
-        }
-    }
-
-    /// Adds changes, all of them or none, and shows the table behind them, unless it is hidden. It is refused where a change is, or memory. Then
+    /// Adds changes, all of them or none, and shows the table behind them. It is refused where a change is, or memory. Then
     /// nothing is published any more, and viewers are shown the table that they were shown before. It waits for those who
-    /// still look at a table before the one that is shown when it is called.
+    /// still look at a table before the one that is shown when it is called. Once the table is hidden it stays so.
     pub fn publish<R: Wait>(
         self,
         rt: &R,
@@ -99,60 +78,79 @@ impl<J: TableNaming> Published<StoreWriter<J>> {
         let Published {
             mut writer,
             refused,
-            is_hidden,
         } = self;
-        if refused
-            || writer.has_pending_operations()
-            || !Self::append(&mut writer, history, changes, is_hidden)
-        {
-            let published = Published {
-                writer,
-                refused: true,
-                is_hidden,
-            };
-            return (published, Err(AllocError));
+        let is_refused = refused || writer.has_pending_operations();
+        if is_refused || !Self::append_all(&mut writer, history, changes) {
+            return Self::refuse(writer);
         }
+        Self::show(rt, writer)
+    }
+
+    /// Adds changes that the proofs alone know, all of them or none, and hides the table: nobody is shown it any more, and it
+    /// takes no memory. Its list alone goes on, which costs little. Else as [`Published::publish`].
+    pub fn publish_hidden<R: Wait>(
+        self,
+        rt: &R,
+        history: &History<J, Change>,
+        changes: &[KnownChange],
+    ) -> (Published<StoreWriter<J>>, Result<(), AllocError>)
+        ensures list { MatchResult result.1 (λ _. list_of result.0 ≡ list_of self ++ changes.now) (λ _. list_of result.0 ≡ list_of self) }
+        ensures refuses { MatchResult result.1 (λ _. result.0.refused ≡ false) (λ _. result.0.refused ≡ true) }
+        ensures refused { self.refused ≡ true → IsErr result.1 }
+    {
+        let Published {
+            mut writer,
+            refused,
+        } = self;
+        let is_refused = refused || writer.has_pending_operations();
+        if is_refused || !Self::append_front(&mut writer, history, changes) {
+            return Self::refuse(writer);
+        }
+        Self::show(rt, writer)
+    }
+
+    /// Nothing is published any more.
+    fn refuse(writer: StoreWriter<J>) -> (Published<StoreWriter<J>>, Result<(), AllocError>)
+        ensures list { list_of result.0 ≡ shown_by writer }
+        ensures refused { result.0.refused ≡ true }
+        ensures err { IsErr result.1 }
+    {
+        let published = Published {
+            writer,
+            refused: true,
+        };
+        (published, Err(AllocError))
+    }
+
+    /// Shows the table behind the changes that the writer keeps.
+    fn show<R: Wait>(
+        rt: &R,
+        writer: StoreWriter<J>,
+    ) -> (Published<StoreWriter<J>>, Result<(), AllocError>)
+        ensures list { MatchResult result.1 (λ _. list_of result.0 ≡ list_behind writer) (λ _. list_of result.0 ≡ shown_by writer) }
+        ensures refuses { MatchResult result.1 (λ _. result.0.refused ≡ false) (λ _. result.0.refused ≡ true) }
+    {
         let (writer, shown) = writer.publish_as::<Unruled, R>(rt);
         let published = Published {
             writer,
             refused: shown.is_err(),
-            is_hidden,
         };
         (published, shown)
-    }
-
-    /// Adds changes to the list, and has the writer keep them, or for a hidden table how far the list has come. It answers whether
-    /// all were.
-    fn append(
-        writer: &mut StoreWriter<J>,
-        history: &History<J, Change>,
-        changes: &[Change],
-        is_hidden: bool,
-    ) -> bool
-        requires { kept_by writer.old ≡ [] }
-        ensures desk { writer.new.desk ≡ writer.old.desk }
-        ensures list { IsTrue result → list_behind writer.new ≡ shown_by writer.old ++ changes.now }
-    {
-        if is_hidden {
-            Self::append_front(writer, history, changes)
-        } else {
-            Self::append_all(writer, history, changes)
-        }
     }
 
     /// Adds changes to the list, and has the writer keep how far it has come then. It answers whether it did.
     fn append_front(
         writer: &mut StoreWriter<J>,
         history: &History<J, Change>,
-        changes: &[Change],
+        changes: &[KnownChange],
     ) -> bool
         requires { kept_by writer.old ≡ [] }
         ensures desk { writer.new.desk ≡ writer.old.desk }
         ensures list { IsTrue result → list_behind writer.new ≡ shown_by writer.old ++ changes.now }
     {
         let mut front = writer.published().front.again();
-        for entry in changes {
-            if !front.add(history, entry) {
+        for change in changes {
+            if !front.add_known(history, change.snapshot()) {
                 return false;
             }
         }
@@ -194,11 +192,7 @@ impl<J: TableNaming> Published<StoreWriter<J>> {
     pub fn close<R: Wait>(self, rt: &R) -> Option<Table>
         ensures { IfSome result (λ table. table ≡ table_of J.limit (list_of self)) }
     {
-        let Published {
-            writer,
-            refused: _,
-            is_hidden: _,
-        } = self;
+        let Published { writer, refused: _ } = self;
         let Store { table, front: _ } = Box::into_inner(writer.take(rt));
         table
     }

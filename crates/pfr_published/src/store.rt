@@ -1,11 +1,11 @@
 //! One copy of the table, with how far the list of changes has come in it.
-ghost use Rattle.std.specs.Prelude.{◌≡◌, ◌+◌, ◌-◌, ◌++◌, ◌∷◌, [], ℕ, List, length, OnOk, OnErr, Some, MatchResult, slice_get};
+ghost use Rattle.std.specs.Prelude.{◌≡◌, ◌+◌, ◌-◌, ◌++◌, ◌∷◌, [], ℕ, List, length, IfOk, OnOk, OnErr, Some, MatchResult, slice_get};
 ghost use Rattle.std.specs.Option.{ForSome};
 ghost use Rattle.pfr_states.specs.States.{stepped, table_of};
 
 use left_right::Absorb;
 use pfr_history::{Front, Naming};
-use pfr_states::{Change, Table, TableError};
+use pfr_states::{Change, KnownChange, Table, TableError};
 use std::alloc::{AllocError, Global};
 use std::marker::Brand;
 
@@ -34,6 +34,17 @@ pub struct Store<J: TableNaming> {
     pub(crate) table: Option<Table>,
     pub(crate) front: Front<J, Change>,
     ghost kept: { ForSome table (λ table. table ≡ table_of J.limit front) },
+}
+
+/// Changes as the proofs alone know them.
+pub fn known(alloc: Global, changes: &[Change]) -> Result<Vec<KnownChange>, AllocError>
+    ensures { IfOk result (λ known. known.items ≡ changes.now) }
+{
+    let mut known = Vec::new(alloc);
+    for change in changes {
+        known.push(KnownChange::of(change))?;
+    }
+    Ok(known)
 }
 
 /// Does to a table what a change says. Where the table refuses it, it stays as it was.

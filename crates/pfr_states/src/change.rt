@@ -1,6 +1,10 @@
 //! What is asked of a table, and what is done to it.
+ghost use Rattle.std.specs.Prelude.{◌≡◌};
+
 use pfr_track::{Clock, State, StateNumber};
 use std::alloc::AllocError;
+use std::marker::Model;
+use std::snapshot::Snapshot;
 use thiserror::Error;
 
 /// The sides of the firewall on which packets are looked up: those that come in on the wire, those that go out on the stack.
@@ -28,6 +32,43 @@ pub enum Change {
     Purge(Clock),
     /// The table takes this over.
     Apply(TableChange),
+}
+
+/// A change that the proofs alone know, and see as it is. A running program has one byte for it: a list of what has no size at all
+/// can't be gone through.
+#[derive(Drop)]
+pub struct KnownChange {
+    change: Snapshot<Change>,
+    byte: u8,
+}
+
+impl Model for KnownChange {
+    ghost use Rattle.pfr_states.specs.declared.change.Change.{Change};
+
+    ghost Value = { Change };
+
+    ghost view = { λ known. known.change.value };
+}
+
+impl KnownChange {
+    /// A change, as the proofs know it.
+    #[inline]
+    pub fn of(change: &Change) -> KnownChange
+        ensures { result ≡ change.now }
+    {
+        KnownChange {
+            change: Snapshot::of(change),
+            byte: 0,
+        }
+    }
+
+    /// What the proofs know.
+    #[inline]
+    pub fn snapshot(&self) -> &Snapshot<Change>
+        ensures { result.now.value ≡ self.now }
+    {
+        &self.change
+    }
 }
 
 /// Why a table doesn't take a change.

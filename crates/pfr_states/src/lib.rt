@@ -11,7 +11,7 @@ pub mod laws;
 pub mod stored;
 pub mod table;
 
-pub use change::{Change, Side, TableChange, TableError};
+pub use change::{Change, KnownChange, Side, TableChange, TableError};
 pub use pfr_index::Guess;
 pub use pfr_places::Place;
 pub use stored::Found;

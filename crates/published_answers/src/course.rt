@@ -4,7 +4,7 @@ ghost use Rattle.std.specs.Prelude.{◌≡◌};
 use crate::signals::Signals;
 use crate::viewing::{Step, view};
 use pfr_history::{History, Opened};
-use pfr_published::{Published, StoreWriter, TableNaming, Told};
+use pfr_published::{Published, StoreWriter, TableNaming, Told, known};
 use pfr_states::{Change, Table};
 use std::alloc::{AllocError, AllocGlobal, Global};
 use std::marker::Brand;
@@ -57,6 +57,7 @@ struct Course<'s, J: TableNaming, R> {
     /// For each viewer that was to start its thread, unless it is missing.
     threads: Vec<Option<JoinHandle<Option<String>>>>,
     published: Vec<bool>,
+    is_hidden: bool,
     /// Whether there was memory for all but the table and the viewers.
     is_whole: bool,
 }
@@ -81,6 +82,7 @@ impl<'s, J: TableNaming + Send + Sync + 's, R: Threads + Wait + Clock + Sync> Co
             viewers,
             threads,
             published,
+            is_hidden: false,
             is_whole: true,
         })
     }
@@ -116,12 +118,21 @@ impl<'s, J: TableNaming + Send + Sync + 's, R: Threads + Wait + Clock + Sync> Co
         self.is_whole = self.signals.tell(told).is_ok() && self.is_whole;
     }
 
+    /// Publishes, and says of that whether it was done. It isn't begun where there is no memory for what is hidden.
     fn publish(
         &mut self,
         published: Published<StoreWriter<J>>,
         changes: &[Change],
     ) -> Published<StoreWriter<J>> {
-        let (published, outcome) = published.publish(self.rt, self.history, changes);
+        let (published, outcome) = if self.is_hidden {
+            let Ok(changes) = known(self.alloc, changes) else {
+                self.is_whole = false;
+                return published;
+            };
+            published.publish_hidden(self.rt, self.history, changes.as_slice())
+        } else {
+            published.publish(self.rt, self.history, changes)
+        };
         self.is_whole = self.published.push(outcome.is_ok()).is_ok() && self.is_whole;
         published
     }
@@ -135,7 +146,7 @@ impl<'s, J: TableNaming + Send + Sync + 's, R: Threads + Wait + Clock + Sync> Co
     ) -> Published<StoreWriter<J>> {
         match deed {
             Deed::Publish(changes) => return self.publish(published, changes.as_slice()),
-            Deed::Hide => return published.hide(),
+            Deed::Hide => self.is_hidden = true,
             Deed::Tell => self.tell(published.tell()),
             Deed::Start => self.start(scope, &published),
             Deed::Await(viewer, steps) => self.signals.wait_for_steps(*viewer, *steps),
@@ -188,6 +199,7 @@ impl<'s, J: TableNaming + Send + Sync + 's, R: Threads + Wait + Clock + Sync> Co
             viewers: _,
             threads,
             published,
+            is_hidden: _,
             is_whole,
         } = self;
         let looks = join_all(rt, alloc, threads)?;

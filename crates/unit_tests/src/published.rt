@@ -3,7 +3,7 @@ ghost use Rattle.std.specs.Prelude.{◌≡◌};
 
 use crate::states::{key, number_of, state};
 use pfr_history::Opened;
-use pfr_published::{Published, StoreWriter, TableNaming, Told, Viewer};
+use pfr_published::{Published, StoreWriter, TableNaming, Told, Viewer, known};
 use pfr_states::{Change, TableChange};
 use pfr_track::Clock;
 use std::alloc::Global;
@@ -176,10 +176,9 @@ fn hides<J: TableNaming, R: Wait + Abort>(
     let (published, first) = published.publish(rt, &history, &[made(1, 60)]);
     let (mut viewer, seen) = look(viewer);
     assert!(rt; first.is_ok() && seen == (1, 1));
-    let (published, second) = published
-        .hide()
-        .publish(rt, &history, &[made(2, 60), made(3, 60)]);
-    let (published, third) = published.publish(rt, &history, &[]);
+    let two = known(alloc, &[made(2, 60), made(3, 60)]).expect(rt, "memory");
+    let (published, second) = published.publish_hidden(rt, &history, two.as_slice());
+    let (published, third) = published.publish(rt, &history, &[made(4, 60)]);
     assert!(rt; second.is_ok() && third.is_ok());
     viewer.learn(published.tell());
     let seen = look(viewer).1;
@@ -187,7 +186,8 @@ fn hides<J: TableNaming, R: Wait + Abort>(
     assert!(rt; seen == (0, 0) && table.is_none());
 }
 
-/// Where the table is hidden nobody is shown it any more. Its list goes on, though there is room for one state alone.
+/// Where the table is hidden nobody is shown it any more, also by what is published later. Its list goes on, though there is room for
+/// one state alone.
 #[test]
 fn a_hidden_table_is_shown_to_nobody(rt: HostRuntime) {
     hides::<Brand, _>(&rt, rt.alloc(), Opened::new(), 1);
