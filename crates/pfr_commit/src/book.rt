@@ -13,6 +13,7 @@ ghost use Rattle.pfr_packet.specs.Laws.{IsOwnChange};
 ghost use Rattle.pfr_commit.specs.World.{World};
 ghost use Rattle.pfr_commit.specs.World as spec;
 
+use crate::changes::Changes;
 use crate::counters::Counters;
 use crate::emitted::Emitted;
 use crate::ending::Ending;
@@ -328,7 +329,7 @@ impl Book {
         // what is told hangs on what was told before
         ensures told { IfOk result (λ emitted. (world : World) → StandsAt self.old world → StandsAt self.new (spec.after (job_of self.old) world (frame_of packet.now))
             × (spec.online (job_of self.old) (spec.after (job_of self.old) world (frame_of packet.now)) ≡ spec.joined (spec.online (job_of self.old) world) (texts_of emitted))) }
-        ensures changes { IfOk result (λ emitted. held_changes emitted ≡ Some (spec.after (job_of self.old) (world_in self.old) (frame_of packet.now)).changes) }
+        ensures changes { IfOk result (λ emitted. held_changes emitted ≡ Some (true, (spec.after (job_of self.old) (world_in self.old) (frame_of packet.now)).changes)) }
         ensures job { self.new.job ≡ self.old.job }
         ensures kept { OnErr result (self.new.count ≡ self.old.count) }
         ensures used { OnOk result (MayUseNext speculation self.old packet.now view → self.new.own ≡ self.old.own) }
@@ -348,7 +349,7 @@ impl Book {
             }
         };
         let mut out = Emitted::new(self.alloc);
-        out.changes = Some(Vec::new(self.alloc));
+        out.changes = Some(Changes::Kept(Vec::new(self.alloc)));
         self.take(packet, &view, &results, 0, None, &Unwatched, &mut out)?;
         Ok(out)
     }

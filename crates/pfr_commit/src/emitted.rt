@@ -8,6 +8,7 @@ ghost use Rattle.pfr_commit.specs.Emissions.{frame_of, held_changes, items_of, p
 ghost use Rattle.pfr_commit.specs.Lines.{verdict_line};
 ghost use Rattle.pfr_commit.specs.World as spec;
 
+use crate::changes::Changes;
 use crate::verdict_line::VerdictLine;
 use pfr_capture::Record;
 use pfr_headers::{Change, rewrite};
@@ -24,8 +25,8 @@ pub struct Emitted {
     pub verdicts: Vec<u8>,
     pub packets: Vec<u8>,
     pub messages: Vec<Message>,
-    /// What they did to the table, where that is asked for. A purge stands here only where a state goes by it.
-    pub changes: Option<Vec<pfr_states::Change>>,
+    /// What they did to the table, where that is asked for.
+    pub changes: Option<Changes>,
 }
 
 /// The length of a record's header.
@@ -79,32 +80,22 @@ fn put_packet(packets: &mut Vec<u8>, packet: &Record, outcome: &Outcome) -> Resu
 /// Puts what a packet did to the table behind others, where that is asked for: a purge, and its own change. Where memory is
 /// refused nothing changes.
 fn put_changes(
-    changes: &mut Option<Vec<pfr_states::Change>>,
+    changes: &mut Option<Changes>,
     purge: Option<Clock>,
     change: &Option<TableChange>,
 ) -> Result<(), AllocError>
     ensures done { OnOk result (items_of changes.new ≡ with_more (items_of changes.old) (purges_at purge ++ spec.own_change change.now)) }
     ensures kept { OnErr result (items_of changes.new ≡ items_of changes.old) }
 {
-    let Some(changes) = changes else {
-        return Ok(());
-    };
-    let start = changes.len();
-    if let Some(clock) = purge {
-        changes.push(pfr_states::Change::Purge(clock))?;
+    match changes {
+        Some(changes) => changes.put(purge, change),
+        None => Ok(()),
     }
-    if let Some(change) = change {
-        if let Err(refused) = changes.push(pfr_states::Change::Apply(*change)) {
-            changes.truncate(start);
-            return Err(refused.into());
-        }
-    }
-    Ok(())
 }
 
 /// How many changes there are: none where they aren't asked for.
-fn count_of(changes: &Option<Vec<pfr_states::Change>>) -> usize
-    ensures { result ≡ option_map_or (λ list. length list) (items_of changes.now) 0 }
+fn count_of(changes: &Option<Changes>) -> usize
+    ensures { result ≡ option_map_or (λ it. length it.1) (items_of changes.now) 0 }
 {
     match changes {
         Some(changes) => changes.len(),
@@ -113,8 +104,8 @@ fn count_of(changes: &Option<Vec<pfr_states::Change>>) -> usize
 }
 
 /// Forgets the changes behind so many.
-fn cut_changes(changes: &mut Option<Vec<pfr_states::Change>>, count: usize)
-    ensures { items_of changes.new ≡ option_map (λ list. take count list) (items_of changes.old) }
+fn cut_changes(changes: &mut Option<Changes>, count: usize)
+    ensures { items_of changes.new ≡ option_map (λ it. (it.0, take count it.1)) (items_of changes.old) }
 {
     if let Some(changes) = changes {
         changes.truncate(count);
@@ -162,7 +153,7 @@ impl Emitted {
     /// Forgets all, and keeps the room. Where changes of the table are asked for they still are.
     pub fn clear(&mut self)
         ensures texts { texts_of self.new ≡ spec.no_texts }
-        ensures changes { held_changes self.new ≡ option_map (λ changes. []) (held_changes self.old) }
+        ensures changes { held_changes self.new ≡ option_map (λ it. (it.0, [])) (held_changes self.old) }
     {
         self.verdicts.clear();
         self.packets.clear();

@@ -6,6 +6,7 @@
 
 mod batch;
 pub mod book;
+pub mod changes;
 mod counter_line;
 pub mod counters;
 pub mod emitted;
@@ -18,6 +19,7 @@ mod texts;
 pub mod verdict_line;
 
 pub use book::Book;
+pub use changes::Changes;
 pub use counters::{Counters, RuleCounters, Totals};
 pub use emitted::Emitted;
 pub use ending::Ending;

@@ -2,7 +2,7 @@ use Rattle.std.proofs.Common.{◌∙◌, refl}
 use Rattle.pfr_packet.specs.Plan.{purged_at}
 use Rattle.pfr_commit.specs.Books.{world_with}
 use Rattle.pfr_states.specs.States.{due}
-use Rattle.pfr_commit.specs.Emissions.{frame_of, purges_at}
+use Rattle.pfr_commit.specs.Emissions.{are_kept, frame_of, listed, purges_at}
 use Rattle.pfr_commit.specs.World.{own_change, purge_by}
 use Rattle.pfr_commit.proofs.EmittedLemmas.{more_alike}
 use Rattle.pfr_commit.proofs.StandLemmas.{outcome_leads}
@@ -19,7 +19,7 @@ returns-clause-world c =
 pub returns-clause-changes : goal.returns-clause-changes
 returns-clause-changes c =
     c.in_ok-put.ensures.changes
-    ∙ more_alike c.args.out.now.changes (λ list. list.items) (purges_at c.purge_at-purge.result) (purge_by c.args.clock (due c.args.clock c.args.self.now.table.states)) (own_change c.args.outcome.now.change) c.purge_at-purge.ensures
+    ∙ more_alike c.args.out.now.changes (λ it. (are_kept it, listed it)) (purges_at c.purge_at-purge.result) (purge_by c.args.clock (due c.args.clock c.args.self.now.table.states)) (own_change c.args.outcome.now.change) c.purge_at-purge.ensures
 
 pub returns-clause-told : goal.returns-clause-told
 unfolding purged_at
