@@ -21,6 +21,10 @@ pub struct Pieces {
     start: usize,
     /// Where they end.
     end: usize,
+    /// Whether the last read brought less than it asked for.
+    came_short: bool,
+    /// How many bytes were taken so far, modulo 2^64.
+    taken: usize,
 }
 
 impl Model for Pieces {
@@ -41,7 +45,19 @@ impl Pieces {
             buffer: Vec::new(alloc),
             start: 0,
             end: 0,
+            came_short: false,
+            taken: 0,
         }
+    }
+
+    /// Whether so many more bytes may not be there yet: fewer are held, and the source had less than it was asked for the last time.
+    pub fn may_lack(&self, bytes: usize) -> bool {
+        self.came_short && self.bytes().len() < bytes
+    }
+
+    /// How many bytes were taken so far, modulo 2^64.
+    pub fn taken(&self) -> usize {
+        self.taken
     }
 
     #[inline]
@@ -59,6 +75,7 @@ impl Pieces {
         ensures { self.new ≡ drop count self.old }
     {
         self.start += count;
+        self.taken = self.taken.wrapping_add(count);
     }
 
     /// Reads one more piece, behind what is there, and answers whether any byte came: none does at the
@@ -81,6 +98,7 @@ impl Pieces {
         make_room(&mut self.buffer, self.end)?;
         let came = read_behind(&mut self.buffer, self.end, source)?;
         self.end += came;
+        self.came_short = came < PIECE;
         Ok(came > 0)
     }
 

@@ -136,6 +136,17 @@ impl Capture {
         }
     }
 
+    /// Whether who reads so many bytes on may have to wait for the source. Nothing rests on it: the source may have more by now, or
+    /// have ended.
+    pub fn may_wait(&self, bytes: usize) -> bool {
+        self.ahead.may_lack(bytes)
+    }
+
+    /// How many bytes its records so far have taken with their headers, modulo 2^64.
+    pub fn taken(&self) -> usize {
+        self.ahead.taken()
+    }
+
     /// Takes a record back that isn't needed any more. Its buffer may serve for one that is still to be read.
     pub fn give_back(&mut self, packet: Record)
         ensures { self.new ≡ self.old }
