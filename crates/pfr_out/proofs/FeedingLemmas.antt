@@ -13,8 +13,8 @@ use Rattle.pfr_commit.specs.Books.{StandsAt}
 use Rattle.pfr_commit.specs.Emissions.{frame_of}
 use Rattle.pfr_commit.specs.World.{Texts, World, opening}
 use Rattle.pfr_commit.proofs.WorldLemmas.{world_count}
-use Rattle.pfr_work.specs.Runs.{Call, Calls, Cut, IsPiece, Over, Point, Refused, Went, behind, first_point}
-use Rattle.pfr_work.specs.Runs.Call.{ended, gave, rested, took}
+use Rattle.pfr_turns.specs.Runs.{Call, Calls, Cut, IsPiece, Over, Point, Refused, Went, behind, first_point}
+use Rattle.pfr_turns.specs.Runs.Call.{ended, gave, rested, took}
 use Rattle.pfr_out.specs.declared.feeding.Cut.{Cut as Why}
 use Rattle.pfr_out.specs.declared.feeding.Feeding.{Feeding}
 use Rattle.pfr_out.specs.declared.report.Stop.{Stop}

@@ -36,8 +36,9 @@ pub(crate) struct Feeding<'a, R, S> {
     pub(crate) alloc: Global,
     pub(crate) capture: &'a mut Capture,
     pub(crate) source: &'a mut R,
-    /// The most records of a batch.
+    /// The most records of a batch, and the bytes of the last one.
     pub(crate) most: usize,
+    pub(crate) bytes: usize,
     pub(crate) channel: &'a mut Channel,
     /// The address from which messages come.
     pub(crate) address: Ipv4Address,
@@ -114,7 +115,9 @@ impl<R: Source, S: Sink> Feed for Feeding<'_, R, S> {
         let mut records = Vec::new(self.alloc);
         // where room is refused, so is that of a record
         let _ = records.reserve(self.most);
+        let before = self.capture.taken();
         self.end = read_batch(self.capture, self.source, self.most, &mut records);
+        self.bytes = self.capture.taken().wrapping_sub(before);
         if records.is_empty() {
             return None;
         }
@@ -140,6 +143,10 @@ impl<R: Source, S: Sink> Feed for Feeding<'_, R, S> {
 
     fn give_back(&mut self, packets: Vec<(Record, View)>) {
         give_back(self.capture, packets);
+    }
+
+    fn may_wait(&self) -> bool {
+        self.capture.may_wait(self.bytes)
     }
 
     fn tells(&self) -> bool {

@@ -64,6 +64,7 @@ fn replay_capture<H: AllocGlobal + Threads + Wait + Sync, R: Source, S: Sink, G:
         capture: &mut capture,
         source,
         most: batch,
+        bytes: 0,
         channel: &mut channel,
         address,
         sinks,

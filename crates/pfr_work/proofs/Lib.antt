@@ -1,10 +1,6 @@
 pub mod BatchLemmas
-pub mod CallLemmas
 pub mod CommitLemmas
 pub mod FoundLemmas
 pub mod LeadLemmas
 pub mod ReachLemmas
-pub mod TakeLemmas
 pub mod TieLemmas
-pub mod TurnLemmas
-pub mod ViewLemmas

@@ -2,20 +2,18 @@
 ghost use Rattle.std.specs.Prelude.{◌≡◌, IfOk};
 ghost use Rattle.std.specs.List.{All, AllZip};
 ghost use Rattle.pfr_headers.specs.View.{view_of};
-ghost use Rattle.pfr_work.specs.Batches.{IsViewOf};
-ghost use Rattle.pfr_work.specs.Runs.{AreViewed};
+ghost use Rattle.pfr_turns.specs.Batches.{IsViewOf};
+ghost use Rattle.pfr_turns.specs.Runs.{AreViewed};
 
 use crate::found::OfRun;
 use crate::views::views;
 use pfr_capture::Record;
-use pfr_headers::{View, view};
+use pfr_headers::View;
 use pfr_published::Told;
 use pfr_track::Clock;
+use pfr_turns::{Packets, viewed};
 use std::alloc::{AllocError, Global};
 use std::thread::Threads;
-
-/// Records of a batch, each with its view.
-pub(crate) type Packets = Vec<(Record, View)>;
 
 /// What the workers of a batch share of it.
 #[derive(Drop)]
@@ -29,19 +27,6 @@ pub(crate) struct Batch<J: OfRun> {
     /// How far the published table had come when the batch was opened.
     pub(crate) told: Told<J>,
     pub ghost viewed: { All (λ packet. packet.1 ≡ view_of packet.0.link packet.0.bytes.items) packets.items },
-}
-
-/// Records, each with its view.
-#[tactic(auto, using(crate::proofs::ViewLemmas::none_viewed, crate::proofs::ViewLemmas::one_viewed))]
-pub(crate) fn viewed(alloc: Global, records: Vec<Record>) -> Result<Packets, AllocError>
-    ensures { IfOk result (λ packets. AreViewed records.items packets.items) }
-{
-    let mut packets = Vec::with_capacity(alloc, records.len())?;
-    for packet in records {
-        let view = view(packet.link, packet.bytes.as_slice());
-        packets.push((packet, view))?;
-    }
-    Ok(packets)
 }
 
 /// Records, each with its view, which was made before.

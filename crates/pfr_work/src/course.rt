@@ -1,60 +1,15 @@
 //! What a run knows of the batches so far, and how it goes on.
-ghost use Rattle.std.specs.Prelude.{◌≡◌, [], None};
-ghost use Rattle.pfr_commit.specs.Emissions.{texts_of};
-ghost use Rattle.pfr_commit.specs.World.{no_texts};
+ghost use Rattle.std.specs.Prelude.{◌≡◌, []};
+ghost use Rattle.pfr_commit.specs.Emissions.{listed};
 
 use crate::pace::Pace;
 use pfr_claims::Gathered;
-use pfr_commit::Emitted;
+use pfr_commit::Changes;
 use pfr_packet::Job;
-use pfr_states::Change;
 use pfr_track::Clock;
+use pfr_turns::Room;
 use std::alloc::Global;
 use std::mem;
-
-/// How many bytes of verdict lines and of records a piece has.
-#[derive(Clone, Copy)]
-pub(crate) struct Room {
-    verdicts: usize,
-    packets: usize,
-}
-
-impl Room {
-    /// That of the first piece.
-    pub(crate) fn first() -> Room {
-        Room {
-            verdicts: 0,
-            packets: 0,
-        }
-    }
-
-    /// What a piece has, and an eighth more.
-    pub(crate) fn of(piece: &Emitted) -> Room {
-        let (verdicts, packets) = (piece.verdicts.len(), piece.packets.len());
-        Room {
-            verdicts: verdicts.saturating_add(verdicts / 8),
-            packets: packets.saturating_add(packets / 8),
-        }
-    }
-
-    /// An empty piece with so much room. What is done to the table isn't asked for.
-    pub(crate) fn piece(self, alloc: Global) -> Emitted
-        ensures texts { texts_of result ≡ no_texts }
-        ensures changes { result.changes ≡ None }
-    {
-        Emitted::with_room(alloc, self.verdicts, self.packets)
-    }
-}
-
-/// How a run goes on behind a turn.
-#[derive(Clone, Copy)]
-pub(crate) enum Turn {
-    GoesOn,
-    /// The reading has ended and all is taken, or a piece wasn't taken whole.
-    IsOver,
-    /// Memory was refused.
-    IsRefused,
-}
 
 /// What a run with workers knows of the batches so far.
 #[derive(Drop)]
@@ -65,7 +20,7 @@ pub(crate) struct Course {
     /// The room of the next piece.
     pub(crate) room: Room,
     /// What the batch that was taken last did to the table. Its memory serves the next one.
-    pub(crate) changes: Vec<Change>,
+    pub(crate) changes: Changes,
     /// How many packets those have that were opened, and the clock behind them.
     pub(crate) opened: u64,
     pub(crate) clock: Clock,
@@ -80,19 +35,26 @@ impl Course {
             batches: Vec::new(alloc),
             pace: Pace::new(job, workers),
             room: Room::first(),
-            changes: Vec::new(alloc),
+            changes: Changes::Kept(Vec::new(alloc)),
             opened: 0,
             clock: Clock(0),
         }
     }
 
-    /// No changes, in the memory of those of the batch before.
-    pub(crate) fn no_changes(&mut self, alloc: Global) -> Vec<Change>
-        ensures none { result.items ≡ [] }
+    /// No changes, in the memory of those of the batch before. Once workers are given up nobody is shown them: then the proofs alone
+    /// know which they are.
+    pub(crate) fn no_changes(&mut self, alloc: Global) -> Changes
+        ensures none { listed result ≡ [] }
         ensures batches { self.new.batches ≡ self.old.batches }
     {
-        let mut changes = mem::replace(&mut self.changes, Vec::new(alloc));
-        changes.clear();
-        changes
+        let known = Changes::Known(Vec::new(alloc));
+        let mut changes = mem::replace(&mut self.changes, known);
+        match &changes {
+            Changes::Kept(_) if self.pace.has_given_up() => Changes::Known(Vec::new(alloc)),
+            _ => {
+                changes.clear();
+                changes
+            }
+        }
     }
 }

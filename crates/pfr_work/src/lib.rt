@@ -4,11 +4,9 @@
 //! as they do at the end of a run is the end of one. A list of events leads there from the start.
 #![tactic(auto)]
 
-mod alone;
 mod batch;
 mod course;
 mod evaluator;
-mod feed;
 mod found;
 mod gate;
 pub mod laws;
@@ -19,8 +17,8 @@ mod stream;
 mod turns;
 mod views;
 
-pub use feed::Feed;
 pub use found::OfRun;
 pub use gate::Gate;
 pub use pfr_history::Naming;
+pub use pfr_turns::Feed;
 pub use run::{Lists, Trace, run_workers};

@@ -26,7 +26,8 @@ const LONGEST_REST: u64 = 262_144;
 /// capture alone, and not on time.
 ///
 /// Where there are too few rules workers are given up for good as soon as they were judged. While they rest the table at which they
-/// look takes each change all the same. So where many packets change it, they are given up once they didn't pay twice.
+/// look takes each change all the same. So where many packets change it, they are given up once enough packets have come to tell:
+/// at once where they never paid, else once they didn't pay twice.
 #[derive(Clone, Copy)]
 pub(crate) struct Pace {
     workers: u64,
@@ -35,6 +36,8 @@ pub(crate) struct Pace {
     /// How many packets were evaluated ahead so far, and whether it paid the last time.
     evaluated: u64,
     pays: bool,
+    /// Whether it paid at any time.
+    has_paid: bool,
     /// For how many packets workers rest from here on, and for how many they do the next time.
     rests: u64,
     next_rest: u64,
@@ -44,8 +47,10 @@ pub(crate) struct Pace {
     given_up: bool,
 }
 
-/// Many packets change the table where one of so many does.
+/// Many packets change the table where one of so many does. So many have to come before that is known.
 const FEW: u64 = 8;
+
+const ENOUGH: u64 = TRIAL + FIRST_REST;
 
 impl Pace {
     /// That of a run of a job by so many workers. No batch has come yet.
@@ -58,6 +63,7 @@ impl Pace {
             saves: rules.saturating_sub(rules / workers.max(1)),
             evaluated: 0,
             pays: false,
+            has_paid: false,
             rests: 0,
             next_rest: FIRST_REST,
             taken: 0,
@@ -116,6 +122,7 @@ impl Pace {
         let held = count.saturating_sub(own);
         self.pays = self.pays_for(count, changed, evaluated, held);
         if self.pays {
+            self.has_paid = true;
             self.next_rest = FIRST_REST;
         } else {
             self.rest();
@@ -131,13 +138,14 @@ impl Pace {
 
     /// Whether many of the packets change the table, as far as enough have come.
     fn many_change(&self) -> bool {
-        self.taken >= TRIAL && self.changed.saturating_mul(FEW) >= self.taken
+        self.taken >= ENOUGH && self.changed.saturating_mul(FEW) >= self.taken
     }
 
     /// Has workers rest, or gives them up.
     fn rest(&mut self) {
-        let is_first = self.next_rest == FIRST_REST;
-        self.given_up = !self.may_pay() || (!is_first && self.many_change());
+        let is_again = self.next_rest > FIRST_REST;
+        let has_failed = is_again || !self.has_paid;
+        self.given_up = !self.may_pay() || (has_failed && self.many_change());
         self.rests = self.next_rest;
         self.next_rest = self.next_rest.saturating_mul(4).min(LONGEST_REST);
     }

@@ -5,17 +5,17 @@ ghost use Rattle.pfr_capture.specs.declared.capture.Record.{Record};
 ghost use Rattle.pfr_commit.specs.declared.book.Book.{Book};
 ghost use Rattle.pfr_states.specs.declared.change.Change.{Change};
 ghost use Rattle.pfr_packet.specs.Job.{RunJob};
-ghost use Rattle.pfr_work.specs.Batches.{records_of};
-ghost use Rattle.pfr_work.specs.Turns.{Comes, Fits, SoFar, mapped};
-ghost use Rattle.pfr_work.specs.declared.course.Turn.TheVariants.{GoesOn};
+ghost use Rattle.pfr_turns.specs.Batches.{records_of};
+ghost use Rattle.pfr_turns.specs.Turns.{Comes, Fits, SoFar, mapped};
+ghost use Rattle.pfr_turns.specs.declared.turn.Turn.TheVariants.{GoesOn};
 
 use crate::batch::{Batch, clocks, viewed_for};
-use crate::course::{Course, Turn};
-use crate::feed::Feed;
+use crate::course::Course;
 use crate::found::{FoundOut, OfRun};
 use pfr_capture::Record;
 use pfr_history::Naming;
 use pfr_published::Told;
+use pfr_turns::{Feed, Turn, hold};
 use pfr_workers::{Crew, OpenBatch, Openings};
 use std::alloc::{AllocError, Global};
 use std::collections::VecDeque;
@@ -87,29 +87,6 @@ fn open_next<J: OfRun + Send + Sync, K: Naming + Send + Sync, R: Threads + Wait 
     };
     let open_batch = open_batch(rt, alloc, crew, openings, course, told, records)?;
     Ok(Some(open_batch))
-}
-
-/// The most batches that are held at once: one that is taken, and two that were read ahead.
-const HELD: usize = 3;
-
-/// Whether a batch is read ahead next: as long as the reading goes on, and few batches wait. While workers rest none is, so that
-/// what one batch leaves in the processor's caches serves the next one.
-pub(crate) fn reads_ahead<T: Drop>(is_over: bool, waiting: &VecDeque<T>, rest: bool) -> bool
-    ensures yes { result ≡ true → (is_over ≡ false) × (length waiting.now.items < 3) }
-    ensures no { result ≡ false → waiting.now.items ≡ [] → is_over ≡ true }
-{
-    if rest {
-        !is_over && waiting.is_empty()
-    } else {
-        !is_over && waiting.len() < HELD
-    }
-}
-
-/// Puts something behind what waits, and says whether there was memory for it.
-fn hold<T: Drop>(waiting: &mut VecDeque<T>, last: T) -> bool
-    ensures { result ≡ true → waiting.new.items ≡ waiting.old.items ++ last ∷ [] }
-{
-    waiting.push_back(last).is_ok()
 }
 
 /// Reads one batch ahead, and opens it behind those that wait.

@@ -5,11 +5,9 @@ ghost use Rattle.pfr_states.specs.States.{table_of};
 ghost use Rattle.pfr_commit.specs.Books.{StandsAt, job_of};
 ghost use Rattle.pfr_commit.specs.World.{opening};
 ghost use Rattle.pfr_published.specs.Ends.{list_of};
-ghost use Rattle.pfr_work.specs.Runs.{Cut, Over, Refused, Went};
+ghost use Rattle.pfr_turns.specs.Runs.{Cut, Over, Refused, Went};
 
-use crate::alone::run_alone;
 use crate::course::Course;
-use crate::feed::Feed;
 use crate::found::OfRun;
 use crate::gate::Gate;
 use crate::stream::run_streaming;
@@ -18,6 +16,7 @@ use pfr_commit::Book;
 use pfr_history::{Naming, Opened};
 use pfr_published::{Published, StoreWriter, TableNaming};
 use pfr_states::{Change, Table};
+use pfr_turns::{Feed, run_alone};
 use pfr_workers::{Entry, Openings};
 use std::alloc::{AllocError, AllocGlobal, Global};
 use std::sync::Wait;
@@ -87,6 +86,16 @@ impl<J: TableNaming> Trace<StoreWriter<J>> {
     }
 }
 
+/// So many bytes are asked for and let go of at the start of a run.
+const KEPT: usize = 1 << 24;
+
+/// Has the system's allocator keep the memory of a batch for the next one. It gives memory back to the system where more is free
+/// than twice the greatest piece that was let go of before (mallopt(3)), and each batch would begin with pages that have to be
+/// cleared. Nothing is written into this piece, so it takes no memory.
+fn keep_memory(alloc: Global) {
+    drop(Vec::<u8>::with_capacity(alloc, KEPT));
+}
+
 /// Takes the batches of a feed one after the other, by a book that has committed nothing, and hands the feed what each adds.
 /// So many workers live as long as the run; without any the calling thread does all. While a batch is taken, workers evaluate the
 /// packets of at most two further ones, on the published table: it shows what the batches did to the states that were taken when
@@ -127,11 +136,12 @@ pub fn run_workers<
     ensures ok { OnOk result.3 (Went F.gives F.ends F.takes F.rests (job_of book) feed (λ calls at. Over result.0 result.1 result.2.batches.items (option_map list_of result.2.published) workers calls at ⊎ Cut F.cuts (job_of book) result.0 result.1 result.2.batches.items (option_map list_of result.2.published) workers calls at)) }
     ensures err { OnErr result.3 (Went F.gives F.ends F.takes F.rests (job_of book) feed (λ calls at. Refused result.0 result.1 result.2.batches.items (option_map list_of result.2.published) workers calls at)) }
 {
+    let alloc = rt.alloc();
+    keep_memory(alloc);
     let Lists { changes, batches } = lists;
     let history = changes.named::<J>();
     let openings = Openings::new(batches.named::<K>());
     if workers == 0 {
-        let alloc = rt.alloc();
         let (book, feed, outcome) = run_alone(alloc, book, feed);
         return (book, feed, Trace::none(alloc), outcome);
     }

@@ -4,11 +4,10 @@ ghost use Rattle.std.specs.Option.{option_map};
 ghost use Rattle.pfr_commit.specs.Books.{StandsAt, job_of};
 ghost use Rattle.pfr_commit.specs.World.{opening};
 ghost use Rattle.pfr_published.specs.Ends.{list_of};
-ghost use Rattle.pfr_work.specs.Runs.{Cut, Over, Refused, Went};
+ghost use Rattle.pfr_turns.specs.Runs.{Cut, Over, Refused, Went};
 
 use crate::course::Course;
 use crate::evaluator::evaluators;
-use crate::feed::Feed;
 use crate::found::OfRun;
 use crate::gate::Gate;
 use crate::run::Trace;
@@ -17,22 +16,13 @@ use pfr_commit::Book;
 use pfr_history::{History, Naming};
 use pfr_published::{Published, StoreWriter};
 use pfr_states::Change;
+use pfr_turns::Feed;
 use pfr_workers::{Openings, hire};
 use std::alloc::{AllocError, AllocGlobal, Global};
 use std::sync::Wait;
 use std::sync::atomic::{AtomicBool, Ordering};
 use std::thread;
 use std::thread::{Scope, Threads};
-
-/// So many bytes are asked for and let go of at the start of a run.
-const KEPT: usize = 1 << 24;
-
-/// Has the system's allocator keep the memory of a batch for the next one. It gives memory back to the system where more is free
-/// than twice the greatest piece that was let go of before (mallopt(3)), and each batch would begin with pages that have to be
-/// cleared. Nothing is written into this piece, so it takes no memory.
-fn keep_memory(alloc: Global) {
-    drop(Vec::<u8>::with_capacity(alloc, KEPT));
-}
 
 /// A run in a scope: starts the workers, takes all batches, and lets the workers end.
 fn run_in<
@@ -123,7 +113,6 @@ pub(crate) fn run_streaming<
     ensures err { OnErr result.3 (Went F.gives F.ends F.takes F.rests (job_of book) feed (λ calls at. Refused result.0 result.1 result.2.batches.items (option_map list_of result.2.published) workers calls at)) }
 {
     let alloc = rt.alloc();
-    keep_memory(alloc);
     let stop = AtomicBool::new(false);
     thread::scope(
         thread::scope_env(),

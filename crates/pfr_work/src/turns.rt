@@ -7,30 +7,30 @@ ghost use Rattle.pfr_headers.specs.View.{view_of};
 ghost use Rattle.pfr_capture.specs.declared.capture.Record.{Record};
 ghost use Rattle.pfr_packet.specs.Job.{RunJob};
 ghost use Rattle.pfr_commit.specs.Books.{StandsAt, job_of};
-ghost use Rattle.pfr_commit.specs.Emissions.{texts_of};
+ghost use Rattle.pfr_commit.specs.Emissions.{listed, texts_of};
 ghost use Rattle.pfr_commit.specs.Found.{IsOfJob};
 ghost use Rattle.pfr_commit.specs.World.{opening};
 ghost use Rattle.pfr_published.specs.Ends.{list_of};
-ghost use Rattle.pfr_work.specs.Batches.{records_of};
-ghost use Rattle.pfr_work.specs.Runs.{Cut, Over, Refused, Went};
-ghost use Rattle.pfr_work.specs.Turns.{AddsEntry, Comes, CutsShort, Fits, SoFar, TakesBatch, TakesWhole, mapped};
-ghost use Rattle.pfr_work.specs.declared.course.Turn.TheVariants.{GoesOn};
+ghost use Rattle.pfr_turns.specs.Batches.{records_of};
+ghost use Rattle.pfr_turns.specs.Runs.{Cut, Over, Refused, Went};
+ghost use Rattle.pfr_turns.specs.Turns.{AddsEntry, Comes, CutsShort, Fits, SoFar, TakesBatch, TakesWhole, mapped};
+ghost use Rattle.pfr_turns.specs.declared.turn.Turn.TheVariants.{GoesOn};
 
 use crate::batch::Batch;
-use crate::course::{Course, Room, Turn};
+use crate::course::Course;
 use crate::evaluator::speculations;
-use crate::feed::Feed;
 use crate::found::{FoundOut, OfRun};
 use crate::gate::Gate;
-use crate::reading::{Open, read_turn, reads_ahead};
+use crate::reading::{Open, read_turn};
 use crate::run::Trace;
 use pfr_capture::Record;
-use pfr_commit::{Book, Emitted, Reruns};
+use pfr_commit::{Book, Changes, Emitted, Reruns};
 use pfr_headers::View;
 use pfr_history::{History, Naming};
 use pfr_published::{Published, StoreWriter};
 use pfr_record::Speculation;
 use pfr_states::Change;
+use pfr_turns::{Feed, Room, Turn, add_entry, oldest_of, reads_ahead, show};
 use pfr_workers::{Crew, Finished, Openings};
 use std::alloc::{AllocError, Global};
 use std::collections::VecDeque;
@@ -53,7 +53,7 @@ impl<G: Gate> Reruns for Watched<'_, G> {
 #[derive(Drop)]
 struct Committed {
     piece: Emitted,
-    changes: Vec<Change>,
+    changes: Changes,
 }
 
 /// Has a book take the packets of a batch, with what was found out about them. An empty list is lent for what they do to the table.
@@ -61,7 +61,7 @@ fn commit<W: Reruns>(
     alloc: Global,
     book: &mut Book,
     room: Room,
-    changes: Vec<Change>,
+    changes: Changes,
     packets: &[(Record, View)],
     groups: Vec<Vec<Speculation>>,
     reruns: &W,
@@ -69,9 +69,9 @@ fn commit<W: Reruns>(
     requires viewed { All (λ packet. packet.1 ≡ view_of packet.0.link packet.0.bytes.items) packets.now }
     requires few { book.old.count + length packets.now ≤ 2 ^ 43 }
     requires own { All (λ group. All (IsOfJob (job_of book.old)) group.items) groups.items }
-    requires none { changes.items ≡ [] }
+    requires none { listed changes ≡ [] }
     ensures job { book.new.job ≡ book.old.job }
-    ensures taken { IfOk result (λ it. TakesBatch book.old book.new (records_of packets.now) (texts_of it.piece) it.changes.items) }
+    ensures taken { IfOk result (λ it. TakesBatch book.old book.new (records_of packets.now) (texts_of it.piece) (listed it.changes)) }
     ensures counted { OnOk result (book.new.count ≡ book.old.count + length packets.now) }
     ensures refused { OnErr result (book.new.is_over ≡ true) }
 {
@@ -89,7 +89,7 @@ fn commit<W: Reruns>(
 struct Taken<J: OfRun> {
     batch: Arc<Batch<J>>,
     piece: Emitted,
-    changes: Vec<Change>,
+    changes: Changes,
 }
 
 /// Waits for the workers of a batch, and has a book take it.
@@ -105,7 +105,7 @@ fn take_batch<J: OfRun + Send + Sync, K: Naming + Send + Sync, R: Wait, G: Gate>
     requires few { book.old.count + length (records_of (arc_value oldest.batch).packets.items) ≤ 2 ^ 43 }
     ensures job { book.new.job ≡ book.old.job }
     ensures batch { IfOk result (λ taken. taken.batch ≡ oldest.batch) }
-    ensures taken { IfOk result (λ taken. TakesBatch book.old book.new (records_of (arc_value oldest.batch).packets.items) (texts_of taken.piece) taken.changes.items) }
+    ensures taken { IfOk result (λ taken. TakesBatch book.old book.new (records_of (arc_value oldest.batch).packets.items) (texts_of taken.piece) (listed taken.changes)) }
     ensures counted { OnOk result (book.new.count ≡ book.old.count + length (records_of (arc_value oldest.batch).packets.items)) }
     ensures claims { OnOk result (AddsEntry oldest.workers oldest.count course.old.batches.items course.new.batches.items) }
     ensures refused { OnErr result ((book.new ≡ book.old) ⊎ (book.new.is_over ≡ true)) }
@@ -119,7 +119,7 @@ fn take_batch<J: OfRun + Send + Sync, K: Naming + Send + Sync, R: Wait, G: Gate>
     let Some(gathered) = gathered else {
         return Err(AllocError);
     };
-    course.batches.push(gathered)?;
+    add_entry(&mut course.batches, gathered)?;
     let groups = speculations(alloc, groups)?;
     let own = book.own();
     let packets = batch.packets.as_slice();
@@ -157,14 +157,14 @@ fn take_oldest<J: OfRun + Send + Sync, K: Naming + Send + Sync, R: Wait, F: Feed
     course: &mut Course,
     oldest: Open<J, K>,
     gate: &G,
-) -> Result<Option<Vec<Change>>, AllocError>
+) -> Result<Option<Changes>, AllocError>
     requires job { J.job ≡ Some (job_of book.old) }
     requires few { book.old.count + length (records_of (arc_value oldest.batch).packets.items) ≤ 2 ^ 43 }
     ensures told { F.told feed.new ≡ F.told feed.old }
     ensures names { F.names feed.new ≡ F.names feed.old }
     ensures given { F.given feed.new ≡ F.given feed.old }
     ensures job { book.new.job ≡ book.old.job }
-    ensures took { IfOk result (λ taken. IfSome taken (λ changes. TakesWhole F.takes F.rests book.old book.new feed.old feed.new (records_of (arc_value oldest.batch).packets.items) changes.items)) }
+    ensures took { IfOk result (λ taken. IfSome taken (λ changes. TakesWhole F.takes F.rests book.old book.new feed.old feed.new (records_of (arc_value oldest.batch).packets.items) (listed changes))) }
     ensures cut { IfOk result (λ taken. IfNone taken (CutsShort F.cuts book.old book.new feed.old feed.new (records_of (arc_value oldest.batch).packets.items))) }
     ensures counted { OnOk result (book.new.count ≡ book.old.count + length (records_of (arc_value oldest.batch).packets.items)) }
     ensures claims { OnOk result (AddsEntry oldest.workers oldest.count course.old.batches.items course.new.batches.items) }
@@ -194,23 +194,6 @@ fn take_oldest<J: OfRun + Send + Sync, K: Naming + Send + Sync, R: Wait, F: Feed
     Ok(Some(changes))
 }
 
-/// Shows what a batch did to the table. Where workers are given up, nobody is shown the table any more.
-fn show<J: OfRun, R: Wait>(
-    rt: &R,
-    history: &History<J, Change>,
-    published: Published<StoreWriter<J>>,
-    changes: &[Change],
-    are_given_up: bool,
-) -> (Published<StoreWriter<J>>, Result<(), AllocError>)
-    ensures list { MatchResult result.1 (λ _. list_of result.0 ≡ list_of published ++ changes.now) (λ _. list_of result.0 ≡ list_of published) }
-{
-    if are_given_up {
-        published.hide().publish(rt, history, changes)
-    } else {
-        published.publish(rt, history, changes)
-    }
-}
-
 /// Has a book take a batch, hands a feed what that adds, and shows what it did to the table.
 fn take_turn<J: OfRun + Send + Sync, K: Naming + Send + Sync, R: Wait, F: Feed, G: Gate>(
     rt: &R,
@@ -237,7 +220,7 @@ fn take_turn<J: OfRun + Send + Sync, K: Naming + Send + Sync, R: Wait, F: Feed, 
     match take_oldest(rt, alloc, book, feed, course, oldest, gate) {
         Ok(Some(changes)) => {
             let are_given_up = course.pace.has_given_up();
-            let (shown, outcome) = show(rt, history, published, changes.as_slice(), are_given_up);
+            let (shown, outcome) = show(rt, alloc, history, published, &changes, are_given_up);
             course.changes = changes;
             match outcome {
                 Ok(()) => (shown, Turn::GoesOn),
@@ -247,14 +230,6 @@ fn take_turn<J: OfRun + Send + Sync, K: Naming + Send + Sync, R: Wait, F: Feed, 
         Ok(None) => (published, Turn::IsOver),
         Err(_) => (published, Turn::IsRefused),
     }
-}
-
-/// What waits first, taken out.
-fn oldest_of<T: Drop>(waiting: &mut VecDeque<T>) -> Option<T>
-    ensures some { IfSome result (λ oldest. waiting.old.items ≡ oldest ∷ waiting.new.items) }
-    ensures none { IfNone result (waiting.old.items ≡ []) }
-{
-    waiting.pop_front()
 }
 
 /// One turn of a run: reads a batch ahead where there is room for it, or takes the oldest one that waits.
@@ -289,7 +264,9 @@ fn take_one_turn<
         → Comes F.gives F.ends F.takes F.rests F.cuts job start result.1 book.new feed.new (mapped waiting.new.items (λ open_batch. records_of (arc_value open_batch.batch).packets.items)) is_over.new course.new.batches.items (Some (list_of result.0)) (vec_len crew.now.desks) }
     ensures nearer { result.1 ≡ GoesOn → 3 * (2 ^ 43 - F.given feed.new) + length waiting.new.items + cond is_over.new 0 1 < 3 * (2 ^ 43 - F.given feed.old) + length waiting.old.items + cond is_over.old 0 1 }
 {
-    if reads_ahead(*is_over, waiting, course.pace.rests()) {
+    // while workers rest, what one batch leaves in the processor's caches serves the next one
+    let one_at_a_time = course.pace.rests() || feed.may_wait();
+    if reads_ahead(*is_over, waiting, one_at_a_time) {
         let told = published.tell();
         let turn = read_turn(
             rt, alloc, feed, crew, openings, course, told, waiting, is_over,

@@ -1,7 +1,7 @@
 //! The views of the records of a batch.
 ghost use Rattle.std.specs.Prelude.{◌≡◌, IfOk};
 ghost use Rattle.std.specs.List.{AllZip};
-ghost use Rattle.pfr_work.specs.Batches.{IsViewOf};
+ghost use Rattle.pfr_turns.specs.Batches.{IsViewOf};
 
 use pfr_capture::Record;
 use pfr_headers::{View, view};

@@ -1,5 +1,5 @@
 use Rattle.std.proofs.Common.{ap}
-use Rattle.pfr_work.proofs.TurnLemmas.{fits_pushed, turn_ended, turn_gave, turn_refused}
+use Rattle.pfr_turns.proofs.TurnLemmas.{fits_pushed, turn_ended, turn_gave, turn_refused}
 use Rattle.pfr_work.proofs.reading.read_turn.Goals as goal
 
 pub returns-else-not-hold-clause-fits : goal.returns-else-not-hold-clause-fits

@@ -1,6 +1,6 @@
 use Rattle.std.proofs.Common.{◌∙◌}
 use Rattle.pfr_commit.specs.Books.{job_of}
-use Rattle.pfr_work.proofs.CallLemmas.{refused_first}
+use Rattle.pfr_turns.proofs.CallLemmas.{refused_first}
 use Rattle.pfr_work.proofs.stream.run_in.Goals as goal
 
 pub returns-in-Err-clause-err : goal.returns-in-Err-clause-err

@@ -1,8 +1,8 @@
 use Rattle.std.proofs.Common.{◌∙◌, refl}
 use Rattle.pfr_commit.specs.Books.{job_of}
 use Rattle.pfr_commit.proofs.BookLemmas.{same_job}
-use Rattle.pfr_work.proofs.TakeLemmas.{opening_count}
-use Rattle.pfr_work.proofs.TurnLemmas.{fits_none, turn_start}
+use Rattle.pfr_turns.proofs.TakeLemmas.{opening_count}
+use Rattle.pfr_turns.proofs.TurnLemmas.{fits_none, turn_start}
 use Rattle.pfr_work.proofs.turns.take_all.Goals as goal
 
 pub turns-init : goal.turns-init

@@ -2,8 +2,8 @@ use Rattle.std.proofs.Common.{◌≡◌, Some, ◌+◌, ◌-◌, ◌*◌, ◌^�
 use Rattle.std.specs.Arc.{arc_value}
 use Rattle.pfr_commit.specs.Books.{job_of}
 use Rattle.pfr_published.specs.Ends.{list_of}
-use Rattle.pfr_work.specs.Batches.{records_of}
-use Rattle.pfr_work.specs.Turns.{Fits, SoFar, mapped}
+use Rattle.pfr_turns.specs.Batches.{records_of}
+use Rattle.pfr_turns.specs.Turns.{Fits, SoFar, mapped}
 use Rattle.pfr_work.proofs.turns.take_all.Given as goal
 
 abbrev pub invariant-turns : goal.invariant-turns

@@ -1,6 +1,6 @@
 use Rattle.std.proofs.Common.{Some}
 use Rattle.pfr_published.specs.Ends.{list_of}
-use Rattle.pfr_work.proofs.TurnLemmas.{fits_first, fits_pop, fits_same, turn_back, turn_first, turn_over}
+use Rattle.pfr_turns.proofs.TurnLemmas.{fits_first, fits_pop, fits_same, turn_back, turn_first, turn_over}
 use Rattle.pfr_work.proofs.turns.take_one_turn.Goals as goal
 
 pub returns-then-reads_ahead-clause-fits : goal.returns-then-reads_ahead-clause-fits

@@ -1,6 +1,7 @@
 -- How the calls of a run go on.
 use Rattle.std.proofs.Common.{◌≡◌, ◌∙◌, ◌<◌, ℕ, Bool, Option, Some, None, IfSome, IsSome, true, false, ◌⊎◌, inl, inr, List, [], ◌∷◌, ◌++◌, length, refl, sym, ap, subst, arith}
 use Rattle.std.specs.List.{AllZip}
+use Rattle.std.specs.Option.{option_map}
 use Rattle.std.proofs.lemmas.List.{append-nil}
 use Rattle.pfr_claims.specs.declared.gathered.Gathered.{Gathered}
 use Rattle.pfr_states.specs.declared.change.Change.{Change}
@@ -8,12 +9,11 @@ use Rattle.pfr_capture.specs.declared.capture.Record.{Record}
 use Rattle.pfr_packet.specs.Job.{RunJob}
 use Rattle.pfr_commit.specs.declared.book.Book.{Book}
 use Rattle.pfr_commit.specs.Books.{StandsAt, job_of}
-use Rattle.pfr_commit.specs.Emissions.{with_more}
 use Rattle.pfr_commit.specs.World.{Texts, World, opening}
-use Rattle.pfr_work.specs.Runs.{AreClaims, Call, Calls, Cut, IsPiece, Over, Point, Refused, Shows, Went, behind, counts_of, first_point}
-use Rattle.pfr_work.specs.Runs.Call.{ended, gave, rested, took}
-use Rattle.pfr_work.specs.Turns.{AddsEntry, CutsShort, SoFar, TakesBatch, TakesWhole}
-use Rattle.pfr_work.proofs.ViewLemmas.{one_more}
+use Rattle.pfr_turns.specs.Runs.{AreClaims, Call, Calls, Cut, IsPiece, Over, Point, Refused, Shows, Went, behind, counts_of, first_point}
+use Rattle.pfr_turns.specs.Runs.Call.{ended, gave, rested, took}
+use Rattle.pfr_turns.specs.Turns.{AddsEntry, CutsShort, SoFar, TakesBatch, TakesWhole}
+use Rattle.pfr_turns.proofs.ViewLemmas.{one_more}
 
 -- ---- claims
 
@@ -56,12 +56,16 @@ unfolding opening
 shows_first job None nothing = tt
 shows_first job (Some changes) nothing = nothing
 
+-- what is shown, and more behind it
+abbrev pub shown_with : Option (List Change) → List Change → Option (List Change)
+shown_with shown more = option_map (λ changes. changes ++ more) shown
+
 -- what one batch more does is shown behind that
-shows_next : (shown : Option (List Change)) (before after : World) (more : List Change) → ShowsAll shown before → after.changes ≡ before.changes ++ more → ShowsAll (with_more shown more) after
+shows_next : (shown : Option (List Change)) (before after : World) (more : List Change) → ShowsAll shown before → after.changes ≡ before.changes ++ more → ShowsAll (shown_with shown more) after
 shows_next None before after more shows grown = tt
 shows_next (Some changes) before after more shows grown = ap (λ (cs : List Change). cs ++ more) shows ∙ sym grown
 
-some_next : (shown : Option (List Change)) (more : List Change) → IsSome shown → IsSome (with_more shown more)
+some_next : (shown : Option (List Change)) (more : List Change) → IsSome shown → IsSome (shown_with shown more)
 some_next None more some = some
 some_next (Some changes) more some = refl
 
@@ -184,7 +188,7 @@ module _ {F : Type 0} (gives : F → List Record → F → Type 0) (ends : F →
 
   pub so_far_took : (start : F) (book book' : Book) (feed feed' : F) (waiting later : List (List Record)) (is_over : Bool) (batches batches' : List Gathered) (shown shown' : Option (List Change)) (workers : ℕ) (batch : List Record) (changes : List Change)
       → Far start book feed waiting is_over batches shown workers → waiting ≡ batch ∷ later → job_of book ≡ job → TakesWhole takes rests book book' feed feed' batch changes → Grows workers (length batch) batches batches'
-      → shown' ≡ with_more shown changes → Far start book' feed' later is_over batches' shown' workers
+      → shown' ≡ shown_with shown changes → Far start book' feed' later is_over batches' shown' workers
   so_far_took start book book' feed feed' waiting later is_over batches batches' shown shown' workers batch changes far waits same whole grows shows =
       let took_it = took_calls start book book' feed feed' waiting later is_over batches batches' shown workers batch changes far waits same whole grows in
       record {

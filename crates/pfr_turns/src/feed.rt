@@ -58,6 +58,12 @@ pub trait Feed {
         ensures told { told self.new ≡ told self.old }
         ensures names { names self.new ≡ names self.old };
 
+    /// Whether its source may not have the next records yet. Nothing rests on it: a run takes the batches that it holds then before
+    /// it asks for a further one.
+    fn may_wait(&self) -> bool {
+        false
+    }
+
     /// Whether contracts speak of its records and its outputs: one over memory tells, one over a file doesn't.
     fn tells(&self) -> bool
         ensures { result ≡ told self.now };

@@ -1,5 +1,5 @@
 -- What a book's batch comes to.
-use Rattle.std.proofs.Common.{◌≡◌, ◌∙◌, Option, Some, List, [], ◌∷◌, ◌++◌, map, refl, sym, ap, subst}
+use Rattle.std.proofs.Common.{◌≡◌, ◌∙◌, Option, Some, Bool, List, [], ◌∷◌, ◌++◌, map, refl, sym, ap, subst}
 use Rattle.std.specs.Option.{option_map_or}
 use Rattle.std.proofs.lemmas.List.{append-nil}
 use Rattle.pfr_headers.specs.declared.packet.View.{View}
@@ -13,9 +13,9 @@ use Rattle.pfr_commit.specs.Emissions.{frame_of, texts_of, with_more}
 use Rattle.pfr_commit.specs.World.{Frame, World, joined, no_texts, online, opening, world_after}
 use Rattle.pfr_commit.proofs.StandLemmas.{nothing_behind}
 use Rattle.pfr_commit.proofs.WorldLemmas as worlds
-use Rattle.pfr_work.specs.Batches.{records_of}
-use Rattle.pfr_work.specs.Runs.{AreViewed}
-use Rattle.pfr_work.specs.Turns.{TakesBatch}
+use Rattle.pfr_turns.specs.Batches.{records_of}
+use Rattle.pfr_turns.specs.Runs.{AreViewed}
+use Rattle.pfr_turns.specs.Turns.{TakesBatch}
 
 pub opening_count : (job : RunJob) (book : Book) → StandsAt book (opening job) → book.count ≡ 0
 unfolding opening
@@ -57,9 +57,9 @@ takes_viewed old new out out' records packets none are leads =
     subst (λ (batch : List Record). TakesBatch old new batch (texts_of out') (world_after (job_of old) (world_in old) (frames_of packets)).changes) are.records_are (takes_batch old new out out' packets none leads)
 
 -- and where a list is lent for what it does to the table
-pub takes_listed : (old new : Book) (out out' : Emitted) (packets : List (Record × View)) (before changes : List Change) → texts_of out ≡ no_texts → LeadsTo old new out out' (λ world. world_after (job_of old) world (frames_of packets))
-    → before ≡ [] → Some changes ≡ with_more (Some before) (world_after (job_of old) (world_in old) (frames_of packets)).changes → TakesBatch old new (records_of packets) (texts_of out') changes
-takes_listed old new out out' packets before changes none leads empty listed =
-    let are = ap (λ (o : Option (List Change)). option_map_or (λ list. list) o []) listed in
+pub takes_listed : (old new : Book) (out out' : Emitted) (packets : List (Record × View)) (kept kept' : Bool) (before changes : List Change) → texts_of out ≡ no_texts → LeadsTo old new out out' (λ world. world_after (job_of old) world (frames_of packets))
+    → before ≡ [] → Some (kept', changes) ≡ with_more (Some (kept, before)) (world_after (job_of old) (world_in old) (frames_of packets)).changes → TakesBatch old new (records_of packets) (texts_of out') changes
+takes_listed old new out out' packets kept kept' before changes none leads empty listed =
+    let are = ap (λ (o : Option (Bool × List Change)). option_map_or (λ it. it.1) o []) listed in
     let same = are ∙ ap (λ (list : List Change). list ++ (world_after (job_of old) (world_in old) (frames_of packets)).changes) empty in
     subst (λ (list : List Change). TakesBatch old new (records_of packets) (texts_of out') list) (sym same) (takes_batch old new out out' packets none leads)

@@ -6,8 +6,8 @@ use Rattle.std.proofs.lemmas.List.Elements.{All-nil, All-push}
 use Rattle.pfr_headers.specs.declared.packet.View.{View}
 use Rattle.pfr_headers.specs.View.{view_of}
 use Rattle.pfr_capture.specs.declared.capture.Record.{Record}
-use Rattle.pfr_work.specs.Batches.{IsViewOf}
-use Rattle.pfr_work.specs.Runs.{AreViewed}
+use Rattle.pfr_turns.specs.Batches.{IsViewOf}
+use Rattle.pfr_turns.specs.Runs.{AreViewed}
 
 -- ---- lists that go together, item by item
 

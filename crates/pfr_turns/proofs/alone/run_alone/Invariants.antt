@@ -1,7 +1,7 @@
 use Rattle.std.proofs.Common.{◌≡◌, ◌≤◌, ◌-◌, ◌^◌, [], false, None}
 use Rattle.pfr_commit.specs.Books.{job_of}
-use Rattle.pfr_work.specs.Turns.{SoFar}
-use Rattle.pfr_work.proofs.alone.run_alone.Given as goal
+use Rattle.pfr_turns.specs.Turns.{SoFar}
+use Rattle.pfr_turns.proofs.alone.run_alone.Given as goal
 
 abbrev pub invariant-turns : goal.invariant-turns
 invariant-turns g l = record {

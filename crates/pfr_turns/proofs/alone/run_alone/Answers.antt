@@ -1,9 +1,9 @@
 use Rattle.std.proofs.Common.{◌∙◌, refl, arith}
 use Rattle.pfr_commit.specs.Books.{job_of}
 use Rattle.pfr_commit.proofs.BookLemmas.{same_job}
-use Rattle.pfr_work.proofs.CallLemmas.{so_far_first}
-use Rattle.pfr_work.proofs.TakeLemmas.{opening_count}
-use Rattle.pfr_work.proofs.alone.run_alone.Goals as goal
+use Rattle.pfr_turns.proofs.CallLemmas.{so_far_first}
+use Rattle.pfr_turns.proofs.TakeLemmas.{opening_count}
+use Rattle.pfr_turns.proofs.alone.run_alone.Goals as goal
 
 pub turns-init : goal.turns-init
 turns-init g c =

@@ -12,7 +12,7 @@ use Rattle.pfr_commit.specs.declared.book.Book.{Book}
 use Rattle.pfr_commit.specs.Books.{StandsAt}
 use Rattle.pfr_commit.specs.Emissions.{frame_of}
 use Rattle.pfr_commit.specs.World.{Texts, World, joined, online, opening, world_after}
-use Rattle.pfr_work.specs.Batches.{records_of}
+use Rattle.pfr_turns.specs.Batches.{records_of}
 
 -- ---- one batch
 

@@ -8,9 +8,9 @@ use Rattle.pfr_capture.specs.declared.capture.Record.{Record}
 use Rattle.pfr_commit.specs.declared.book.Book.{Book}
 use Rattle.pfr_commit.specs.Books.{StandsAt, job_of}
 use Rattle.pfr_commit.specs.World.{Texts, World}
-use Rattle.pfr_work.specs.declared.course.Turn.{Turn}
-use Rattle.pfr_work.specs.declared.course.Turn.TheVariants.{GoesOn, IsOver, IsRefused}
-use Rattle.pfr_work.specs.Runs.{AreClaims, Call, Calls, Cut, IsPiece, Over, Refused, Went, behind, counts_of, first_point}
+use Rattle.pfr_turns.specs.declared.turn.Turn.{Turn}
+use Rattle.pfr_turns.specs.declared.turn.Turn.TheVariants.{GoesOn, IsOver, IsRefused}
+use Rattle.pfr_turns.specs.Runs.{AreClaims, Call, Calls, Cut, IsPiece, Over, Refused, Went, behind, counts_of, first_point}
 
 -- ---- one batch
 

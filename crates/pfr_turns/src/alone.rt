@@ -3,13 +3,14 @@ ghost use Rattle.std.specs.Prelude.{◌≡◌, ◌⊎◌, ◌≤◌, ◌<◌, �
 ghost use Rattle.pfr_packet.specs.Job.{RunJob};
 ghost use Rattle.pfr_commit.specs.Books.{StandsAt, job_of};
 ghost use Rattle.pfr_commit.specs.World.{opening};
-ghost use Rattle.pfr_work.specs.declared.course.Turn.TheVariants.{GoesOn};
-ghost use Rattle.pfr_work.specs.Runs.{Cut, Over, Refused, Went};
-ghost use Rattle.pfr_work.specs.Turns.{Comes, SoFar};
+ghost use Rattle.pfr_turns.specs.declared.turn.Turn.TheVariants.{GoesOn};
+ghost use Rattle.pfr_turns.specs.Runs.{Cut, Over, Refused, Went};
+ghost use Rattle.pfr_turns.specs.Turns.{Comes, SoFar};
 
-use crate::batch::viewed;
-use crate::course::{Room, Turn};
 use crate::feed::Feed;
+use crate::packets::viewed;
+use crate::room::Room;
+use crate::turn::Turn;
 use pfr_commit::Book;
 use std::alloc::{AllocError, Global};
 
@@ -43,7 +44,7 @@ fn take_turn<F: Feed>(alloc: Global, book: &mut Book, feed: &mut F, room: &mut R
 }
 
 /// Takes the batches of a feed one after the other, and hands the feed what each adds before it asks for the next.
-pub(crate) fn run_alone<F: Feed>(
+pub fn run_alone<F: Feed>(
     alloc: Global,
     mut book: Book,
     mut feed: F,

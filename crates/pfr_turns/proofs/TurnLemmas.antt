@@ -10,11 +10,11 @@ use Rattle.pfr_packet.specs.Job.{RunJob}
 use Rattle.pfr_commit.specs.declared.book.Book.{Book}
 use Rattle.pfr_commit.specs.Books.{StandsAt}
 use Rattle.pfr_commit.specs.World.{Texts, opening}
-use Rattle.pfr_work.specs.declared.course.Turn.{Turn}
-use Rattle.pfr_work.specs.declared.course.Turn.TheVariants.{IsOver}
-use Rattle.pfr_work.specs.Runs.{Refused, Went}
-use Rattle.pfr_work.specs.Turns.{Comes, Fits, SoFar, mapped}
-use Rattle.pfr_work.proofs.CallLemmas.{ends_over, refused_given, so_far_ended, so_far_first, so_far_gave}
+use Rattle.pfr_turns.specs.declared.turn.Turn.{Turn}
+use Rattle.pfr_turns.specs.declared.turn.Turn.TheVariants.{IsOver}
+use Rattle.pfr_turns.specs.Runs.{Refused, Went}
+use Rattle.pfr_turns.specs.Turns.{Comes, Fits, SoFar, mapped}
+use Rattle.pfr_turns.proofs.CallLemmas.{ends_over, refused_given, so_far_ended, so_far_first, so_far_gave}
 
 -- ---- batches that wait
 

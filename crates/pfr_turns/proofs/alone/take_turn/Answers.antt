@@ -1,8 +1,8 @@
 use Rattle.std.proofs.Common.{◌∷◌, [], None, false, inl, inr, refl, arith}
 use Rattle.pfr_commit.specs.Emissions.{texts_of}
-use Rattle.pfr_work.proofs.CallLemmas.{ends_cut, ends_over, none_grows, refused_given, refused_taken, so_far_ended, so_far_gave, so_far_took}
-use Rattle.pfr_work.proofs.TakeLemmas.{takes_viewed}
-use Rattle.pfr_work.proofs.alone.take_turn.Goals as goal
+use Rattle.pfr_turns.proofs.CallLemmas.{ends_cut, ends_over, none_grows, refused_given, refused_taken, so_far_ended, so_far_gave, so_far_took}
+use Rattle.pfr_turns.proofs.TakeLemmas.{takes_viewed}
+use Rattle.pfr_turns.proofs.alone.take_turn.Goals as goal
 
 pub returns-in_default-clause-comes : goal.returns-in_default-clause-comes
 returns-in_default-clause-comes g c = λ job start same far.

@@ -1,0 +1,4 @@
+pub mod CallLemmas
+pub mod TakeLemmas
+pub mod TurnLemmas
+pub mod ViewLemmas

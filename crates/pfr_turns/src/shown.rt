@@ -1,0 +1,47 @@
+//! What a batch did to the table, as it is published.
+ghost use Rattle.std.specs.Prelude.{◌≡◌, ◌++◌, MatchResult};
+ghost use Rattle.pfr_commit.specs.Emissions.{listed};
+ghost use Rattle.pfr_published.specs.Ends.{list_of};
+
+use pfr_commit::Changes;
+use pfr_history::History;
+use pfr_published::{Published, StoreWriter, TableNaming, known};
+use pfr_states::Change;
+use std::alloc::{AllocError, Global};
+use std::sync::Wait;
+
+/// Hides the table, behind what a batch did to it.
+fn hide<J: TableNaming, R: Wait>(
+    rt: &R,
+    alloc: Global,
+    history: &History<J, Change>,
+    published: Published<StoreWriter<J>>,
+    changes: &[Change],
+) -> (Published<StoreWriter<J>>, Result<(), AllocError>)
+    ensures list { MatchResult result.1 (λ _. list_of result.0 ≡ list_of published ++ changes.now) (λ _. list_of result.0 ≡ list_of published) }
+{
+    match known(alloc, changes) {
+        Ok(known) => published.publish_hidden(rt, history, known.as_slice()),
+        Err(refused) => (published, Err(refused)),
+    }
+}
+
+/// Shows what a batch did to the table. Where workers are given up, nobody is shown the table any more.
+pub fn show<J: TableNaming, R: Wait>(
+    rt: &R,
+    alloc: Global,
+    history: &History<J, Change>,
+    published: Published<StoreWriter<J>>,
+    changes: &Changes,
+    are_given_up: bool,
+) -> (Published<StoreWriter<J>>, Result<(), AllocError>)
+    ensures list { MatchResult result.1 (λ _. list_of result.0 ≡ list_of published ++ listed changes.now) (λ _. list_of result.0 ≡ list_of published) }
+{
+    match changes {
+        Changes::Kept(list) if are_given_up => {
+            hide(rt, alloc, history, published, list.as_slice())
+        }
+        Changes::Kept(list) => published.publish(rt, history, list.as_slice()),
+        Changes::Known(list) => published.publish_hidden(rt, history, list.as_slice()),
+    }
+}
