@@ -44,7 +44,7 @@ def parts(has_disks):
         yield Part(readers.streams, (mixed, batch))
         yield Part(disks.answer_at_limit, (mixed, batch))
         yield from (Part(disks.files_at_limit, (kind, batch)) for kind in kinds.longest_kinds())
-        yield from (Part(pauses.pauses, (*kind, batch)) for kind in pauses.KINDS)
+        yield from (Part(pauses.pauses, (kind, batch)) for kind in pauses.KINDS)
         if has_disks:
             yield Part(disks.small_disks, (mixed, batch))
     yield from (Part(cuts.cut_records, (count,)) for count in cuts.COUNTS)

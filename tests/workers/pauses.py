@@ -1,7 +1,7 @@
 """Runs with workers on captures that come through a pipe and pause for a while.
 
-What has come is written meanwhile. Where workers rest, or are given up, that is each batch that is whole. Where they
-evaluate ahead, two whole batches may be missing. Once the capture has come to its end the run is as any other.
+What has come is written meanwhile: each batch that is whole, whether workers rest, are given up or evaluate ahead. Once
+the capture has come to its end the run is as any other.
 """
 
 import contextlib
@@ -16,8 +16,7 @@ from workers.pipes import beside, wait_until
 
 # packets before the pause, 40 batches of 256 and a part of one, and so many in all
 BEFORE, ALL = 40 * 256 + 3, 43 * 256
-# kinds of runs, each with the number of whole batches that may be missing where there are workers
-KINDS = ((kinds.resting, 0), (kinds.given_up, 0), (kinds.ahead, 2))
+KINDS = (kinds.resting, kinds.given_up, kinds.ahead)
 # seconds for which a source pauses at most; other comparisons may run at the same time
 PATIENCE = 20
 
@@ -45,16 +44,15 @@ class Source(NamedTuple):
         return self.written()
 
 
-def pauses(comparison, make, missing, batch, patience=PATIENCE):
-    """Runs of a kind whose source pauses once, when so many whole batches may be missing."""
+def pauses(comparison, make, batch, patience=PATIENCE):
+    """Runs of a kind whose source pauses once."""
     kind = make(ALL)
     expected = run_of(comparison, kind.case, Choice(0, batch), kind.form)
     if expected is None:
         raise SystemExit(f"{kind.case.name}: it takes too long without workers")
     # of the messages nothing is asked
-    whole = Whole(expected.files, [0] * (ALL + 1))
+    least = Whole(expected.files, [0] * (ALL + 1)).online(BEFORE // batch * batch)
     for workers in WORKERS:
-        least = whole.online((BEFORE // batch - (missing if workers else 0)) * batch)
         paused(comparison, kind, Choice(workers, batch), least, expected, patience)
 
 

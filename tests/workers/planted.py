@@ -54,7 +54,7 @@ def cut(comparison):
 
 
 def pausing(comparison):
-    pauses.pauses(comparison, kinds.resting, 0, BATCH, PATIENCE)
+    pauses.pauses(comparison, kinds.resting, BATCH, PATIENCE)
 
 
 PLANTS = (

@@ -272,25 +272,25 @@ fn a_read_and_a_write_fail_at_each_place(rt: HostRuntime) -> Result<(), Fail> {
     Ok(())
 }
 
-/// Replays a capture of ten datagrams, a packet at a time, whose source gives the header and then a record at each read and fails
-/// behind so many. The first write of lines fails. It answers whether that is how the run stops, and whether the next read
-/// fails: if so, it has made just so many.
-fn reads_just<R: AllocGlobal + Threads + Wait + Clock + Sync>(
+/// Replays a capture whose source fails behind so many reads. The first write of lines fails. It answers whether that is how the run
+/// stops, and whether the next read fails: if so, it has made just so many.
+fn makes_all_reads<R: AllocGlobal + Threads + Wait + Clock + Sync>(
     rt: &R,
-    reads: u64,
+    mut source: Mem,
+    batch: usize,
     workers: u64,
 ) -> Result<bool, AllocError>
+    requires batch { (1 ≤ batch) × (batch ≤ 4096) }
     requires workers { workers ≤ 64 }
 {
     let alloc = rt.alloc();
-    let mut source = capture(alloc, 10, 0)?.at_most(44).failing_after(reads);
     let verdicts = Mem::new(Vec::new(alloc)).failing_after(0);
     let mut outputs = sinks(alloc, verdicts);
     let end = replay_in_memory(
         rt,
         &mut source,
         b"pass out\n",
-        1,
+        batch,
         workers,
         Form::File,
         &mut outputs,
@@ -303,12 +303,77 @@ fn reads_just<R: AllocGlobal + Threads + Wait + Clock + Sync>(
     Ok(stops && read)
 }
 
-/// By the first write three batches were read, and without workers one. The first read gives the header and 20 bytes of the
-/// first record, and each one more what is left of a record and 20 bytes of the next.
+/// By the first write three batches were read, and without workers one. A read gives 65536 bytes, which are the header and 1488
+/// records, and a part of one more.
 #[test]
 fn reads_ahead(rt: HostRuntime) -> Result<(), Fail> {
-    for (workers, reads) in [(0, 2), (1, 4), (2, 4), (8, 4)] {
-        assert!(rt; reads_just(&rt, reads, workers)?, "{workers} workers");
+    for (workers, reads) in [(0, 1), (1, 3), (2, 3), (8, 3)] {
+        let source = capture(rt.alloc(), 4500, 0)?.failing_after(reads);
+        assert!(rt;
+            makes_all_reads(&rt, source, 1400, workers)?,
+            "{workers} workers"
+        );
+    }
+    Ok(())
+}
+
+/// Where a source is slow, what was read is written before more is asked for. The first read gives the header and 20 bytes of the
+/// first record, and each one more what is left of a record and 20 bytes of the next.
+#[test]
+fn a_slow_source_is_not_read_ahead(rt: HostRuntime) -> Result<(), Fail> {
+    for workers in [0, 1, 2, 8] {
+        let source = capture(rt.alloc(), 10, 0)?.at_most(44).failing_after(2);
+        assert!(rt;
+            makes_all_reads(&rt, source, 1, workers)?,
+            "{workers} workers"
+        );
+    }
+    Ok(())
+}
+
+/// How a run ends whose source gives 65536 bytes at a time and fails behind so many reads, and its lines.
+fn read_part<R: AllocGlobal + Threads + Wait + Clock + Sync>(
+    rt: &R,
+    reads: u64,
+    workers: u64,
+) -> Result<(End, Vec<u8>), AllocError>
+    requires workers { workers ≤ 64 }
+{
+    let alloc = rt.alloc();
+    let mut source = capture(alloc, 4500, 0)?.failing_after(reads);
+    let mut outputs = sinks(alloc, Mem::new(Vec::new(alloc)));
+    let end = replay_in_memory(
+        rt,
+        &mut source,
+        b"pass out\n",
+        300,
+        workers,
+        Form::File,
+        &mut outputs,
+        &Turns::by(rt, Freely),
+    );
+    drop(source);
+    let lines = Vec::from_slice(alloc, outputs.verdicts.bytes());
+    drop(outputs);
+    Ok((end_of(end, Output::Verdicts), lines?))
+}
+
+/// A read fails while two batches wait to be taken. They are, and the packets that were read behind them.
+#[test]
+fn a_read_fails_while_batches_wait(rt: HostRuntime) -> Result<(), Fail> {
+    for (reads, packets) in [(0, 0), (1, 1488), (2, 2978), (3, 4467), (4, 4500)] {
+        let (_end, lines) = read_part(&rt, reads, 0)?;
+        for workers in [0, 1, 2, 8] {
+            let (end, left) = read_part(&rt, reads, workers)?;
+            assert!(rt;
+                end == End::Read(packets),
+                "{workers} workers, {reads} reads"
+            );
+            assert!(rt;
+                left.as_slice() == lines.as_slice(),
+                "{workers} workers, {reads} reads"
+            );
+        }
     }
     Ok(())
 }

@@ -11,20 +11,21 @@ use std::test::Fail;
 use std::thread::Threads;
 use std::time::Clock;
 
-/// Rules that block all, so no packet changes anything.
-fn rules(alloc: Global, count: u64) -> Result<Vec<u8>, AllocError> {
+/// So many rules that block all, so no packet changes anything, and then others.
+fn rules(alloc: Global, count: u64, others: &[u8]) -> Result<Vec<u8>, AllocError> {
     let mut text = Vec::new(alloc);
     for _rule in 0..count {
         text.extend_from_slice(b"block\n")?;
     }
+    text.extend_from_slice(others)?;
     Ok(text)
 }
 
-/// What a gate is told in a run of so many packets through so many rules: the sum of the numbers of the packets that workers
-/// start, of those that they answer, and of those that the committer evaluates.
-fn told<R: AllocGlobal + Threads + Wait + Clock + Sync>(
+/// What a gate is told in a run of so many packets through rules: the sum of the numbers of the packets that workers start, of those
+/// that they answer, and of those that the committer evaluates.
+fn told_by<R: AllocGlobal + Threads + Wait + Clock + Sync>(
     rt: &R,
-    count: u64,
+    text: Vec<u8>,
     packets: u32,
     batch: usize,
     workers: u64,
@@ -33,7 +34,6 @@ fn told<R: AllocGlobal + Threads + Wait + Clock + Sync>(
     requires workers { workers ≤ 64 }
 {
     let alloc = rt.alloc();
-    let text = rules(alloc, count)?;
     let mut source = capture(alloc, packets, packets)?;
     let mut outputs = sinks(alloc, Mem::new(Vec::new(alloc)));
     let turns = Turns::by(rt, Freely);
@@ -55,6 +55,21 @@ fn told<R: AllocGlobal + Threads + Wait + Clock + Sync>(
         Ok(_) => Ok((seen.starts.sum, seen.answered.sum, seen.again.sum)),
         Err(_) => Err(AllocError),
     }
+}
+
+/// The same by so many rules that block all.
+fn told<R: AllocGlobal + Threads + Wait + Clock + Sync>(
+    rt: &R,
+    count: u64,
+    packets: u32,
+    batch: usize,
+    workers: u64,
+) -> Result<(u64, u64, u64), AllocError>
+    requires batch { (1 ≤ batch) × (batch ≤ 4096) }
+    requires workers { workers ≤ 64 }
+{
+    let text = rules(rt.alloc(), count, &[])?;
+    told_by(rt, text, packets, batch, workers)
 }
 
 /// The sum of the numbers from one up to another, which is left out.
@@ -114,5 +129,16 @@ fn workers_go_on_where_they_pay(rt: HostRuntime) -> Result<(), Fail> {
     let answered = beginnings(&[0, 1, 2]).saturating_add(sum(3073, 5121));
     let again = sum(1, 5121).saturating_sub(answered);
     assert!(rt; told(&rt, 200, 5120, 1024, 2)? == (answered, answered, again));
+    Ok(())
+}
+
+/// The packets are those of one connection, so nearly no result holds, and each of them changes the table. Three batches are opened
+/// before the first is judged. Then workers rest for the batch 1, and two more are opened before the batch 2 is judged. By then
+/// enough packets have come to give them up.
+#[test]
+fn workers_are_given_up_where_packets_change_the_table(rt: HostRuntime) -> Result<(), Fail> {
+    let started = beginnings(&[0, 1, 2, 3, 4]);
+    let text = rules(rt.alloc(), 200, b"pass out\n")?;
+    assert!(rt; told_by(&rt, text, 12288, 1024, 2)?.0 == started);
     Ok(())
 }
