@@ -36,7 +36,7 @@ pub(crate) struct Feeding<'a, R, S> {
     pub(crate) alloc: Global,
     pub(crate) capture: &'a mut Capture,
     pub(crate) source: &'a mut R,
-    /// The most records of a batch, and the bytes of the last one.
+    /// The most records of a batch, and the bytes of the largest one so far.
     pub(crate) most: usize,
     pub(crate) bytes: usize,
     pub(crate) channel: &'a mut Channel,
@@ -117,7 +117,8 @@ impl<R: Source, S: Sink> Feed for Feeding<'_, R, S> {
         let _ = records.reserve(self.most);
         let before = self.capture.taken();
         self.end = read_batch(self.capture, self.source, self.most, &mut records);
-        self.bytes = self.capture.taken().wrapping_sub(before);
+        let bytes = self.capture.taken().wrapping_sub(before);
+        self.bytes = self.bytes.max(bytes);
         if records.is_empty() {
             return None;
         }
