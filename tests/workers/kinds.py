@@ -91,3 +91,9 @@ def given_up(count):
 def ahead(count):
     """A run in which workers evaluate ahead all the time."""
     return kind("many rules", "block in\npass out no state", (PACKETS * count)[:count], MANY)
+
+
+def uneven(count):
+    """The same with larger packets in one batch of 256 and small ones in the next. A read brings more than a batch."""
+    (large, small), batches = (strangers(256, payload) for payload in (bytes(120), b"")), count // 512 + 1
+    return kind("many rules, packets that differ in length", "block in", ((large + small) * batches)[:count], MANY)

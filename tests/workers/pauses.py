@@ -7,7 +7,8 @@ the capture has come to its end the run is as any other.
 import contextlib
 from typing import NamedTuple
 
-from faults.replay import HEADER, Whole
+from captures.model import HEADER, RECORD_HEADER, records_of
+from faults.replay import Whole
 from runs.devices import with_file
 from workers import kinds
 from workers.choices import Choice, run_of
@@ -15,8 +16,8 @@ from workers.lawful import WORKERS
 from workers.pipes import beside, wait_until
 
 # packets before the pause, 40 batches of 256 and a part of one, and so many in all
-BEFORE, ALL = 40 * 256 + 3, 43 * 256
-KINDS = (kinds.resting, kinds.given_up, kinds.ahead)
+BEFORE, ALL = 40 * 256 + 100, 43 * 256
+KINDS = (kinds.resting, kinds.given_up, kinds.ahead, kinds.uneven)
 # seconds for which a source pauses at most; other comparisons may run at the same time
 PATIENCE = 20
 
@@ -59,8 +60,8 @@ def pauses(comparison, make, batch, patience=PATIENCE):
 def paused(comparison, kind, choice, least, expected, patience):
     """A run whose source pauses until at least so much is written."""
     files, pipe, capture = comparison.files, comparison.folder / "pipe", kind.case.capture
-    # all packets are of one length
-    place = HEADER + BEFORE * ((len(capture) - HEADER) // ALL)
+    records, _ = records_of(capture, "<")
+    place = HEADER + sum(RECORD_HEADER + len(given.frame) for given in records[:BEFORE])
     lengths = {files.verdicts: len(least.verdicts), files.packets: len(least.packets)}
     source = Source(capture, place, lengths, patience)
     comparison.prepare(kind.case)
