@@ -70,7 +70,8 @@ impl Claims {
 
     /// Draws the next number of the batch with a pass. A number below the count is a place in the batch, from 0; at any
     /// other the pass ends. It waits for nobody, takes no memory and can't fail.
-    #[inline]
+    // A call would hand the claim back through memory, for which the step before has to wait.
+    #[inline(always)]
     pub fn claim(&self, pass: ClaimPass) -> Claim
         requires { pass.batch ≡ self.now }
         ensures { Claimed self.now pass.drawn result }
