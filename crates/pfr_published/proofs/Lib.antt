@@ -1,1 +1,1 @@
-pub mod OneMore
+pub mod MoreBehind

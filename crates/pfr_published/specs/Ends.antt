@@ -6,7 +6,7 @@ use Rattle.pfr_history.specs.declared.history.Naming as naming
 use Rattle.pfr_states.specs.declared.change.Change.{Change}
 use Rattle.pfr_published.specs.declared.store.TableNaming as tables
 use Rattle.pfr_published.specs.declared.published.Published.{Published}
-use Rattle.pfr_published.specs.declared.store.Added.{Added}
+use Rattle.pfr_published.specs.declared.added.Added.{Added}
 use Rattle.pfr_published.specs.declared.store.Store.{Store}
 
 module _ {J V P A S : Type 0} {n : tables.Ghosts J} {h : naming.Ghosts J} {g : absorb.Ghosts (Store J n h) (Added J n h) S} where

@@ -6,10 +6,12 @@
 //! table of before. Where nobody is to look at the table any more it is hidden, and the list alone goes on.
 #![tactic(auto)]
 
+mod added;
 mod published;
 mod store;
 mod viewer;
 
+pub use added::{Added, known};
 pub use published::{Published, StoreWriter};
-pub use store::{Added, Store, TableNaming, known};
+pub use store::{Store, TableNaming};
 pub use viewer::{Showing, Told, Viewer};

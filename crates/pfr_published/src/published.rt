@@ -2,7 +2,8 @@
 ghost use Rattle.std.specs.Prelude.{◌≡◌, ◌^◌, ◌<◌, ◌++◌, [], IfOk, IfSome, IsErr, IsTrue, MatchResult, true, false};
 ghost use Rattle.pfr_states.specs.States.{table_of};
 
-use crate::store::{Added, Store, TableNaming};
+use crate::added::Added;
+use crate::store::{Store, TableNaming};
 use crate::viewer::{Told, Viewer};
 use crossbeam_utils::rule::Unruled;
 use left_right::writer::Writer;
@@ -69,21 +70,17 @@ impl<J: TableNaming> Published<StoreWriter<J>> {
         self,
         rt: &R,
         history: &History<J, Change>,
-        changes: &[Change],
+        changes: Vec<Change>,
     ) -> (Published<StoreWriter<J>>, Result<(), AllocError>)
-        ensures list { MatchResult result.1 (λ _. list_of result.0 ≡ list_of self ++ changes.now) (λ _. list_of result.0 ≡ list_of self) }
+        ensures list { MatchResult result.1 (λ _. list_of result.0 ≡ list_of self ++ changes.items) (λ _. list_of result.0 ≡ list_of self) }
         ensures refuses { MatchResult result.1 (λ _. result.0.refused ≡ false) (λ _. result.0.refused ≡ true) }
         ensures refused { self.refused ≡ true → IsErr result.1 }
     {
-        let Published {
-            mut writer,
-            refused,
-        } = self;
-        let is_refused = refused || writer.has_pending_operations();
-        if is_refused || !Self::append_all(&mut writer, history, changes) {
-            return Self::refuse(writer);
+        let front = self.writer.published().front.again();
+        match Added::of(front, history, changes) {
+            Some(added) => self.show(rt, added),
+            None => self.refuse(),
         }
-        Self::show(rt, writer)
     }
 
     /// Adds changes that the proofs alone know, all of them or none, and hides the table: nobody is shown it any more, and it
@@ -98,23 +95,20 @@ impl<J: TableNaming> Published<StoreWriter<J>> {
         ensures refuses { MatchResult result.1 (λ _. result.0.refused ≡ false) (λ _. result.0.refused ≡ true) }
         ensures refused { self.refused ≡ true → IsErr result.1 }
     {
-        let Published {
-            mut writer,
-            refused,
-        } = self;
-        let is_refused = refused || writer.has_pending_operations();
-        if is_refused || !Self::append_front(&mut writer, history, changes) {
-            return Self::refuse(writer);
+        let front = self.writer.published().front.again();
+        match Added::of_known(front, history, changes) {
+            Some(added) => self.show(rt, added),
+            None => self.refuse(),
         }
-        Self::show(rt, writer)
     }
 
     /// Nothing is published any more.
-    fn refuse(writer: StoreWriter<J>) -> (Published<StoreWriter<J>>, Result<(), AllocError>)
-        ensures list { list_of result.0 ≡ shown_by writer }
+    fn refuse(self) -> (Published<StoreWriter<J>>, Result<(), AllocError>)
+        ensures list { list_of result.0 ≡ list_of self }
         ensures refused { result.0.refused ≡ true }
         ensures err { IsErr result.1 }
     {
+        let Published { writer, refused: _ } = self;
         let published = Published {
             writer,
             refused: true,
@@ -122,14 +116,24 @@ impl<J: TableNaming> Published<StoreWriter<J>> {
         (published, Err(AllocError))
     }
 
-    /// Shows the table behind the changes that the writer keeps.
+    /// Shows the table behind what was added.
     fn show<R: Wait>(
+        self,
         rt: &R,
-        writer: StoreWriter<J>,
+        added: Added<J>,
     ) -> (Published<StoreWriter<J>>, Result<(), AllocError>)
-        ensures list { MatchResult result.1 (λ _. list_of result.0 ≡ list_behind writer) (λ _. list_of result.0 ≡ shown_by writer) }
+        ensures list { MatchResult result.1 (λ _. list_of result.0 ≡ added.front) (λ _. list_of result.0 ≡ list_of self) }
         ensures refuses { MatchResult result.1 (λ _. result.0.refused ≡ false) (λ _. result.0.refused ≡ true) }
+        ensures refused { self.refused ≡ true → IsErr result.1 }
     {
+        let Published {
+            mut writer,
+            refused,
+        } = self;
+        let is_refused = refused || writer.has_pending_operations();
+        if is_refused || !Self::append(&mut writer, added) {
+            return Published { writer, refused }.refuse();
+        }
         let (writer, shown) = writer.publish_as::<Unruled, R>(rt);
         let published = Published {
             writer,
@@ -138,53 +142,13 @@ impl<J: TableNaming> Published<StoreWriter<J>> {
         (published, shown)
     }
 
-    /// Adds changes to the list, and has the writer keep how far it has come then. It answers whether it did.
-    fn append_front(
-        writer: &mut StoreWriter<J>,
-        history: &History<J, Change>,
-        changes: &[KnownChange],
-    ) -> bool
+    /// Has the writer keep what was added, and says whether it did.
+    fn append(writer: &mut StoreWriter<J>, added: Added<J>) -> bool
         requires { kept_by writer.old ≡ [] }
         ensures desk { writer.new.desk ≡ writer.old.desk }
-        ensures list { IsTrue result → list_behind writer.new ≡ shown_by writer.old ++ changes.now }
+        ensures list { IsTrue result → list_behind writer.new ≡ added.front }
     {
-        let mut front = writer.published().front.again();
-        for change in changes {
-            if !front.add_known(history, change.snapshot()) {
-                return false;
-            }
-        }
-        let added = Added {
-            change: None,
-            front,
-        };
         writer.append(added).is_ok()
-    }
-
-    /// Adds changes to the list, and has the writer keep them. It answers whether all were.
-    fn append_all(
-        writer: &mut StoreWriter<J>,
-        history: &History<J, Change>,
-        changes: &[Change],
-    ) -> bool
-        requires { kept_by writer.old ≡ [] }
-        ensures desk { writer.new.desk ≡ writer.old.desk }
-        ensures list { IsTrue result → list_behind writer.new ≡ shown_by writer.old ++ changes.now }
-    {
-        let mut front = writer.published().front.again();
-        for change in changes {
-            if !front.add(history, change) {
-                return false;
-            }
-            let added = Added {
-                change: Some(*change),
-                front: front.again(),
-            };
-            if writer.append(added).is_err() {
-                return false;
-            }
-        }
-        true
     }
 
     /// The table as it was published last, unless it is hidden. It waits until nobody looks at it any more; viewers are shown none

@@ -32,16 +32,16 @@ pub fn show<J: TableNaming, R: Wait>(
     alloc: Global,
     history: &History<J, Change>,
     published: Published<StoreWriter<J>>,
-    changes: &Changes,
+    changes: Changes,
     are_given_up: bool,
 ) -> (Published<StoreWriter<J>>, Result<(), AllocError>)
-    ensures list { MatchResult result.1 (λ _. list_of result.0 ≡ list_of published ++ listed changes.now) (λ _. list_of result.0 ≡ list_of published) }
+    ensures list { MatchResult result.1 (λ _. list_of result.0 ≡ list_of published ++ listed changes) (λ _. list_of result.0 ≡ list_of published) }
 {
     match changes {
         Changes::Kept(list) if are_given_up => {
             hide(rt, alloc, history, published, list.as_slice())
         }
-        Changes::Kept(list) => published.publish(rt, history, list.as_slice()),
+        Changes::Kept(list) => published.publish(rt, history, list),
         Changes::Known(list) => published.publish_hidden(rt, history, list.as_slice()),
     }
 }

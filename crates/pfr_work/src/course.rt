@@ -1,5 +1,5 @@
-//! What a run knows of the batches so far, and how it goes on.
-ghost use Rattle.std.specs.Prelude.{◌≡◌, []};
+//! What a run knows of the batches so far.
+ghost use Rattle.std.specs.Prelude.{◌≡◌, [], IfOk};
 ghost use Rattle.pfr_commit.specs.Emissions.{listed};
 
 use crate::pace::Pace;
@@ -8,8 +8,7 @@ use pfr_commit::Changes;
 use pfr_packet::Job;
 use pfr_track::Clock;
 use pfr_turns::Room;
-use std::alloc::Global;
-use std::mem;
+use std::alloc::{AllocError, Global};
 
 /// What a run with workers knows of the batches so far.
 #[derive(Drop)]
@@ -19,8 +18,8 @@ pub(crate) struct Course {
     pub(crate) pace: Pace,
     /// The room of the next piece.
     pub(crate) room: Room,
-    /// What the batch that was taken last did to the table. Its memory serves the next one.
-    pub(crate) changes: Changes,
+    /// How many changes of the table the batch made that was taken last.
+    pub(crate) changed: usize,
     /// How many packets those have that were opened, and the clock behind them.
     pub(crate) opened: u64,
     pub(crate) clock: Clock,
@@ -35,26 +34,23 @@ impl Course {
             batches: Vec::new(alloc),
             pace: Pace::new(job, workers),
             room: Room::first(),
-            changes: Changes::Kept(Vec::new(alloc)),
+            changed: 0,
             opened: 0,
             clock: Clock(0),
         }
     }
 
-    /// No changes, in the memory of those of the batch before. Once workers are given up nobody is shown them: then the proofs alone
-    /// know which they are.
-    pub(crate) fn no_changes(&mut self, alloc: Global) -> Changes
-        ensures none { listed result ≡ [] }
-        ensures batches { self.new.batches ≡ self.old.batches }
+    /// No changes, with room for as many as the batch before made. Once workers are given up nobody is shown them: then the proofs
+    /// alone know which they are.
+    pub(crate) fn no_changes(&self, alloc: Global) -> Result<Changes, AllocError>
+        ensures { IfOk result (λ changes. listed changes ≡ []) }
     {
-        let known = Changes::Known(Vec::new(alloc));
-        let mut changes = mem::replace(&mut self.changes, known);
-        match &changes {
-            Changes::Kept(_) if self.pace.has_given_up() => Changes::Known(Vec::new(alloc)),
-            _ => {
-                changes.clear();
-                changes
-            }
+        if self.pace.has_given_up() {
+            let known = Vec::with_capacity(alloc, self.changed)?;
+            Ok(Changes::Known(known))
+        } else {
+            let kept = Vec::with_capacity(alloc, self.changed)?;
+            Ok(Changes::Kept(kept))
         }
     }
 }

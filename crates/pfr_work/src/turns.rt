@@ -124,7 +124,7 @@ fn take_batch<J: OfRun + Send + Sync, K: Naming + Send + Sync, R: Wait, G: Gate>
     let own = book.own();
     let packets = batch.packets.as_slice();
     let reruns = Watched { gate };
-    let changes = course.no_changes(alloc);
+    let changes = course.no_changes(alloc)?;
     let Committed { piece, changes } = commit(
         alloc,
         book,
@@ -135,10 +135,8 @@ fn take_batch<J: OfRun + Send + Sync, K: Naming + Send + Sync, R: Wait, G: Gate>
         &reruns,
     )?;
     let own = book.own().saturating_sub(own);
-    let changed = changes.len() as u64;
-    course
-        .pace
-        .note(packets.len() as u64, batch.most, own, changed);
+    course.changed = changes.len();
+    course.pace.note(packets.len() as u64, batch.most, own, course.changed as u64);
     course.room = Room::of(&piece);
     Ok(Taken {
         batch,
@@ -220,8 +218,7 @@ fn take_turn<J: OfRun + Send + Sync, K: Naming + Send + Sync, R: Wait, F: Feed, 
     match take_oldest(rt, alloc, book, feed, course, oldest, gate) {
         Ok(Some(changes)) => {
             let are_given_up = course.pace.has_given_up();
-            let (shown, outcome) = show(rt, alloc, history, published, &changes, are_given_up);
-            course.changes = changes;
+            let (shown, outcome) = show(rt, alloc, history, published, changes, are_given_up);
             match outcome {
                 Ok(()) => (shown, Turn::GoesOn),
                 Err(_) => (shown, Turn::IsRefused),

@@ -118,7 +118,7 @@ impl<'s, J: TableNaming + Send + Sync + 's, R: Threads + Wait + Clock + Sync> Co
         self.is_whole = self.signals.tell(told).is_ok() && self.is_whole;
     }
 
-    /// Publishes, and says of that whether it was done. It isn't begun where there is no memory for what is hidden.
+    /// Publishes, and says of that whether it was done. It isn't begun where there is no memory for the list of changes.
     fn publish(
         &mut self,
         published: Published<StoreWriter<J>>,
@@ -131,7 +131,12 @@ impl<'s, J: TableNaming + Send + Sync + 's, R: Threads + Wait + Clock + Sync> Co
             };
             published.publish_hidden(self.rt, self.history, changes.as_slice())
         } else {
-            published.publish(self.rt, self.history, changes)
+            let mut list = Vec::new(self.alloc);
+            if list.extend_from_slice(changes).is_err() {
+                self.is_whole = false;
+                return published;
+            }
+            published.publish(self.rt, self.history, list)
         };
         self.is_whole = self.published.push(outcome.is_ok()).is_ok() && self.is_whole;
         published

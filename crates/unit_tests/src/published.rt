@@ -19,6 +19,13 @@ fn made(number: u32, deadline: u64) -> Change {
     Change::Apply(TableChange::Made(state(u64::from(number), key, key, deadline)))
 }
 
+/// A list of changes.
+fn list<R: Abort>(rt: &R, alloc: Global, changes: &[Change]) -> Vec<Change> {
+    let mut list = Vec::new(alloc);
+    list.extend_from_slice(changes).expect(rt, "memory");
+    list
+}
+
 /// The viewer behind a look at the table, with how many states it has and the least number of one.
 fn look<J: TableNaming>(viewer: Viewer<J>) -> (Viewer<J>, (usize, u64)) {
     match viewer.enter() {
@@ -80,7 +87,8 @@ fn seen_beside<
         Change::Purge(Clock(60)),
         made(3, 90),
     ];
-    let (published, outcome) = published.publish(&rt, &history, &changes);
+    let changes = list(&rt, alloc, &changes);
+    let (published, outcome) = published.publish(&rt, &history, changes);
     *told.lock(&rt) = Some(published.tell());
     let seen = child.expect(&rt, "a thread").join(&rt);
     let table = published.close(&rt).expect(&rt, "a table");
@@ -109,9 +117,11 @@ fn learns_late<J: TableNaming, R: Wait + Abort>(
     let mut viewer = published.viewer(&history).expect(rt, "a place");
     let other = published.viewer(&history).expect(rt, "another place");
     assert!(rt; published.viewer(&history).is_err());
-    let (published, first) = published.publish(rt, &history, &[made(1, 60)]);
+    let one = list(rt, alloc, &[made(1, 60)]);
+    let (published, first) = published.publish(rt, &history, one);
     let early = published.tell();
-    let (published, second) = published.publish(rt, &history, &[made(2, 60), made(3, 60)]);
+    let two = list(rt, alloc, &[made(2, 60), made(3, 60)]);
+    let (published, second) = published.publish(rt, &history, two);
     let late = published.tell();
     assert!(rt; first.is_ok() && second.is_ok());
     viewer.learn(late);
@@ -138,13 +148,12 @@ fn refuses<J: TableNaming, R: Wait + Abort>(
     let history = opened.named::<J>();
     let published = Published::new(alloc, &history, limit, 1).expect(rt, "memory");
     let mut viewer = published.viewer(&history).expect(rt, "a place");
-    let (published, first) = published.publish(rt, &history, &[made(1, 60)]);
-    let (published, full) = published.publish(
-        rt,
-        &history,
-        &[Change::Purge(Clock(9)), made(2, 60)],
-    );
-    let (published, later) = published.publish(rt, &history, &[Change::Purge(Clock(60))]);
+    let one = list(rt, alloc, &[made(1, 60)]);
+    let (published, first) = published.publish(rt, &history, one);
+    let purged_and_made = list(rt, alloc, &[Change::Purge(Clock(9)), made(2, 60)]);
+    let (published, full) = published.publish(rt, &history, purged_and_made);
+    let purged = list(rt, alloc, &[Change::Purge(Clock(60))]);
+    let (published, later) = published.publish(rt, &history, purged);
     assert!(rt; first.is_ok() && full.is_err() && later.is_err());
     viewer.learn(published.tell());
     let (viewer, seen) = look(viewer);
@@ -173,12 +182,14 @@ fn hides<J: TableNaming, R: Wait + Abort>(
     let history = opened.named::<J>();
     let published = Published::new(alloc, &history, limit, 1).expect(rt, "memory");
     let viewer = published.viewer(&history).expect(rt, "a place");
-    let (published, first) = published.publish(rt, &history, &[made(1, 60)]);
+    let one = list(rt, alloc, &[made(1, 60)]);
+    let (published, first) = published.publish(rt, &history, one);
     let (mut viewer, seen) = look(viewer);
     assert!(rt; first.is_ok() && seen == (1, 1));
     let two = known(alloc, &[made(2, 60), made(3, 60)]).expect(rt, "memory");
     let (published, second) = published.publish_hidden(rt, &history, two.as_slice());
-    let (published, third) = published.publish(rt, &history, &[made(4, 60)]);
+    let more = list(rt, alloc, &[made(4, 60)]);
+    let (published, third) = published.publish(rt, &history, more);
     assert!(rt; second.is_ok() && third.is_ok());
     viewer.learn(published.tell());
     let seen = look(viewer).1;

@@ -13,7 +13,11 @@ use Rattle.pfr_work.proofs.turns.take_batch.Goals as goal
 
 pub returns-in_err-piece-clause-claims_refused : goal.returns-in_err-piece-clause-claims_refused
 returns-in_err-piece-clause-claims_refused g c =
-    on_err c.from_residual-in_err-piece.result _ (inr (adds_claims _ _ _ _ c.in-Some.gathered (rw c.in-Some.is at c.finish-groups.ensures.sizes) (ap (λ batches. batches.items) c.no_changes-changes.ensures.batches ∙ c.in_ok-add_entry.ensures.added)))
+    on_err c.from_residual-in_err-piece.result _ (inr (adds_claims _ _ _ _ c.in-Some.gathered (rw c.in-Some.is at c.finish-groups.ensures.sizes) c.in_ok-add_entry.ensures.added))
+
+pub returns-in_err-changes-clause-claims_refused : goal.returns-in_err-changes-clause-claims_refused
+returns-in_err-changes-clause-claims_refused g c =
+    on_err c.from_residual-in_err-changes.result _ (inr (adds_claims _ _ _ _ c.in-Some.gathered (rw c.in-Some.is at c.finish-groups.ensures.sizes) c.in_ok-add_entry.ensures.added))
 
 pub returns-in_err-groups-clause-claims_refused : goal.returns-in_err-groups-clause-claims_refused
 returns-in_err-groups-clause-claims_refused g c =
@@ -32,4 +36,4 @@ returns-clause-taken g c =
     c.in_ok-piece.ensures.taken
 
 pub returns-clause-claims : goal.returns-clause-claims
-returns-clause-claims g c = adds_claims _ _ _ _ c.in-Some.gathered (rw c.in-Some.is at c.finish-groups.ensures.sizes) (ap (λ batches. batches.items) c.no_changes-changes.ensures.batches ∙ c.in_ok-add_entry.ensures.added)
+returns-clause-claims g c = adds_claims _ _ _ _ c.in-Some.gathered (rw c.in-Some.is at c.finish-groups.ensures.sizes) c.in_ok-add_entry.ensures.added
