@@ -10,6 +10,15 @@ const STARTING: u64 = 1500;
 /// To show workers a change of the table takes about as long as to ask a packet so many rules: two more copies take it over.
 const SHOWING: u64 = 100;
 
+/// To evaluate a packet ahead takes about as long as to ask so many rules beside its own. To take one over whose result holds is reckoned
+/// as long for the committer as to ask so many rules, and where the packet changes the table so many more. That is somewhat more than it
+/// takes: one worker too many slows all threads down, as they share caches and processors.
+const EVALUATING: u64 = 100;
+
+const TAKING: u64 = 100;
+
+const CHANGING: u64 = 300;
+
 /// So many packets are evaluated ahead before it is judged whether that pays: the first of a run, and of a batch behind a rest.
 const TRIAL: u64 = 256;
 
@@ -22,8 +31,9 @@ const LONGEST_REST: u64 = 262_144;
 ///
 /// A result that holds saves asking the rules, but each result has to be handed over, and each worker to begin each batch. So
 /// workers pay where there are many rules and results hold, and not where packets go by the states that packets of the same
-/// batch change. Where a batch didn't pay they rest, and are tried again from time to time. It hangs on the ruleset and the
-/// capture alone, and not on time.
+/// batch change. Where a batch didn't pay they rest, and are tried again from time to time. Where few workers keep up with the
+/// committer no more of them are given a batch, since each one that begins it takes a processor from the others for a while. It
+/// hangs on the ruleset and the capture alone, and not on time.
 ///
 /// Where there are too few rules workers are given up for good as soon as they were judged. While they rest the table at which they
 /// look takes each change all the same. So where many packets change it, they are given up once enough packets have come to tell:
@@ -31,11 +41,14 @@ const LONGEST_REST: u64 = 262_144;
 #[derive(Clone, Copy)]
 pub(crate) struct Pace {
     workers: u64,
+    rules: u64,
     /// What evaluating a packet ahead saves where its result holds, in rules.
     saves: u64,
     /// How many packets were evaluated ahead so far, and whether it paid the last time.
     evaluated: u64,
     pays: bool,
+    /// So many workers are needed to keep up with the committer: all, as long as no batch has told how many are.
+    needed: u64,
     /// Whether it paid at any time.
     has_paid: bool,
     /// For how many packets workers rest from here on, and for how many they do the next time.
@@ -45,6 +58,16 @@ pub(crate) struct Pace {
     taken: u64,
     changed: u64,
     given_up: bool,
+}
+
+/// The least number of workers that evaluate packets more quickly than the committer takes them over, in a batch of so many packets
+/// that made so many changes of the table.
+fn needed_for(rules: u64, count: u64, changed: u64) -> u64 {
+    let evaluating = rules.saturating_add(EVALUATING).saturating_mul(count);
+    let taking = count.saturating_mul(TAKING);
+    let changing = changed.saturating_mul(CHANGING);
+    let slower = evaluating / taking.saturating_add(changing).max(1);
+    slower.saturating_add(1)
 }
 
 /// Many packets change the table where one of so many does. So many have to come before that is known.
@@ -59,10 +82,12 @@ impl Pace {
         let rules = u64::from(filter).saturating_add(u64::from(translation));
         Pace {
             workers,
+            rules,
             // one worker alone saves what the committer does beside it, and that is what handing over costs again
             saves: rules.saturating_sub(rules / workers.max(1)),
             evaluated: 0,
             pays: false,
+            needed: workers,
             has_paid: false,
             rests: 0,
             next_rest: FIRST_REST,
@@ -94,11 +119,21 @@ impl Pace {
         }
     }
 
+    /// To how many workers the next batch is given: to none while they rest.
+    pub(crate) fn workers(&self) -> u64 {
+        if self.rests() { 0 } else { self.needed }
+    }
+
+    /// Whether no batch is opened behind those that are open, which have so many packets: they tell whether it pays, which isn't known.
+    pub(crate) fn waits(&self, open: u64) -> bool {
+        !self.pays && open >= TRIAL
+    }
+
     /// Whether it pays to evaluate a batch of so many packets ahead that made so many changes, where so many packets were and so many of
     /// their results held.
     fn pays_for(&self, count: u64, changed: u64, evaluated: u64, held: u64) -> bool {
         let handing = count.saturating_mul(HANDING);
-        let starting = self.workers.saturating_mul(STARTING);
+        let starting = self.needed.saturating_mul(STARTING);
         let showing = changed.saturating_mul(SHOWING);
         let costs = handing.saturating_add(starting).saturating_add(showing);
         let saved = held.saturating_mul(self.saves).saturating_mul(count);
@@ -122,6 +157,7 @@ impl Pace {
         let held = count.saturating_sub(own);
         self.pays = self.pays_for(count, changed, evaluated, held);
         if self.pays {
+            self.needed = needed_for(self.rules, count, changed).min(self.workers);
             self.has_paid = true;
             self.next_rest = FIRST_REST;
         } else {

@@ -57,7 +57,8 @@ fn open_batch<J: OfRun + Send + Sync, K: Naming + Send + Sync, R: Threads + Wait
         most,
         told,
     };
-    crew.open(rt, alloc, openings, batch, count, most == 0)
+    let workers = course.pace.workers() as usize;
+    crew.open(rt, alloc, openings, batch, count, workers)
 }
 
 /// Asks a feed for the next batch, and opens it. There is none where the reading ends.

@@ -87,7 +87,7 @@ impl<J: TableNaming> Trace<StoreWriter<J>> {
 }
 
 /// So many bytes are asked for and let go of at the start of a run.
-const KEPT: usize = 1 << 24;
+const KEPT: usize = 1 << 22;
 
 /// Has the system's allocator keep the memory of a batch for the next one. It gives memory back to the system where more is free
 /// than twice the greatest piece that was let go of before (mallopt(3)), and each batch would begin with pages that have to be

@@ -261,8 +261,9 @@ fn take_one_turn<
         → Comes F.gives F.ends F.takes F.rests F.cuts job start result.1 book.new feed.new (mapped waiting.new.items (λ open_batch. records_of (arc_value open_batch.batch).packets.items)) is_over.new course.new.batches.items (Some (list_of result.0)) (vec_len crew.now.desks) }
     ensures nearer { result.1 ≡ GoesOn → 3 * (2 ^ 43 - F.given feed.new) + length waiting.new.items + cond is_over.new 0 1 < 3 * (2 ^ 43 - F.given feed.old) + length waiting.old.items + cond is_over.old 0 1 }
 {
+    let open = course.opened.saturating_sub(book.committed());
     // while workers rest, what one batch leaves in the processor's caches serves the next one
-    let one_at_a_time = course.pace.rests() || feed.may_wait();
+    let one_at_a_time = course.pace.rests() || course.pace.waits(open) || feed.may_wait();
     if reads_ahead(*is_over, waiting, one_at_a_time) {
         let told = published.tell();
         let turn = read_turn(

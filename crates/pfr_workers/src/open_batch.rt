@@ -119,8 +119,8 @@ fn give_all<J: Naming, R: Wait, B: Drop, G: Drop>(
 }
 
 impl<J: Naming, B: Drop, G: Drop> Crew<J, B, G> {
-    /// Opens a batch of so many numbers, at most 4096. Each worker is given its pass, unless workers rest: the passes wait all then. The
-    /// only error is that memory was refused.
+    /// Opens a batch of so many numbers, at most 4096. Of the workers at most so many are given their passes; the others' passes wait.
+    /// The only error is that memory was refused.
     pub fn open<R: Wait>(
         &self,
         rt: &R,
@@ -128,7 +128,7 @@ impl<J: Naming, B: Drop, G: Drop> Crew<J, B, G> {
         openings: &mut Openings<J>,
         batch: B,
         count: u64,
-        rests: bool,
+        most: usize,
     ) -> Result<OpenBatch<J, B, G>, AllocError>
         requires count { count ≤ 4096 }
         requires workers { (0 < vec_len self.now.desks) × (vec_len self.now.desks ≤ 64) }
@@ -142,7 +142,8 @@ impl<J: Naming, B: Drop, G: Drop> Crew<J, B, G> {
         let batch = Arc::new(alloc, batch)?;
         let ended = Vec::with_capacity(alloc, self.desks.len())?;
         let (results, inbox) = unbounded(alloc)?;
-        let desks = if rests { &[] } else { self.desks.as_slice() };
+        let given = most.min(self.desks.len());
+        let desks = &self.desks[..given];
         let kept = give_all(
             rt, alloc, desks, &claims, &batch, results, &numbered, passes,
         )?;

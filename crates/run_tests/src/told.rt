@@ -4,15 +4,16 @@ ghost use Rattle.std.specs.Prelude.{◌≤◌};
 use crate::given::{capture, replay_in_memory, sinks};
 use crate::turns::{Freely, Turns};
 use pfr_capture::Mem;
-use pfr_out::Form;
+use pfr_out::{Form, Gate};
 use std::alloc::{AllocError, AllocGlobal, Global};
 use std::sync::Wait;
+use std::sync::atomic::{AtomicU64, Ordering};
 use std::test::Fail;
-use std::thread::Threads;
-use std::time::Clock;
+use std::thread::{Threads, sleep};
+use std::time::{Clock, Duration};
 
 /// So many rules that block all, so no packet changes anything, and then others.
-fn rules(alloc: Global, count: u64, others: &[u8]) -> Result<Vec<u8>, AllocError> {
+pub(crate) fn rules(alloc: Global, count: u64, others: &[u8]) -> Result<Vec<u8>, AllocError> {
     let mut text = Vec::new(alloc);
     for _rule in 0..count {
         text.extend_from_slice(b"block\n")?;
@@ -100,45 +101,117 @@ fn beginnings(batches: &[u64]) -> u64 {
     all
 }
 
-/// By one rule they can't pay. Three batches are opened before the first is judged, so workers evaluate the beginnings of these.
-/// Behind that they are given up.
+/// By one rule they can't pay. Workers evaluate the beginning of the first batch, and no other one is opened before that is judged.
+/// Behind it they are given up.
 #[test]
 fn workers_are_given_up_where_they_cannot_pay(rt: HostRuntime) -> Result<(), Fail> {
-    let answered = beginnings(&[0, 1, 2]);
+    let answered = beginnings(&[0]);
     let again = sum(1, 8193).saturating_sub(answered);
     assert!(rt; told(&rt, 1, 8192, 1024, 2)? == (answered, answered, again));
     Ok(())
 }
 
-/// By 120 rules two workers save as much as it takes to hand results over, and to begin each batch they need more. Three batches are
-/// opened before the first is judged. Then they rest for 1024 packets: the batch 1, which is counted as it is taken, and behind
-/// which nothing is read ahead. Two more are opened before the batch 2 is judged. Then they rest for 4096 packets: the batches 3 to
-/// 6, which are taken one by one. The batch 7 is opened next, and they evaluate its beginning.
+/// By 120 rules two workers save as much as it takes to hand results over, and to begin each batch they need more. They evaluate the
+/// beginning of the first batch, and rest for 1024 packets once it is judged: the batch 1. They evaluate the beginning of the
+/// batch 2 then, and rest for 4096 packets: the batches 3 to 6. The batch 7 is opened next, and they evaluate its beginning.
 #[test]
 fn workers_rest_where_they_do_not_pay(rt: HostRuntime) -> Result<(), Fail> {
-    let answered = beginnings(&[0, 1, 2, 3, 4, 7]);
+    let answered = beginnings(&[0, 2, 7]);
     let again = sum(1, 8193).saturating_sub(answered);
     assert!(rt; told(&rt, 120, 8192, 1024, 2)? == (answered, answered, again));
     Ok(())
 }
 
-/// By many rules they do. Three batches are opened before the first is judged, and workers evaluate the beginnings of these. The
-/// fourth is opened behind that, and they evaluate all of it and of what comes then.
+/// By many rules they do. Workers evaluate the beginning of the first batch. Once it is judged they evaluate all of those that come.
 #[test]
 fn workers_go_on_where_they_pay(rt: HostRuntime) -> Result<(), Fail> {
-    let answered = beginnings(&[0, 1, 2]).saturating_add(sum(3073, 5121));
+    let answered = beginnings(&[0]).saturating_add(sum(1025, 5121));
     let again = sum(1, 5121).saturating_sub(answered);
     assert!(rt; told(&rt, 200, 5120, 1024, 2)? == (answered, answered, again));
     Ok(())
 }
 
-/// The packets are those of one connection, so nearly no result holds, and each of them changes the table. Three batches are opened
-/// before the first is judged. Then workers rest for the batch 1, and two more are opened before the batch 2 is judged. By then
-/// enough packets have come to give them up.
+/// The packets are those of one connection, so nearly no result holds, and each of them changes the table. Workers evaluate the
+/// beginning of the first batch, rest for the next one, and evaluate the beginning of the batch 2. Once that is judged enough
+/// packets have come to give them up.
 #[test]
 fn workers_are_given_up_where_packets_change_the_table(rt: HostRuntime) -> Result<(), Fail> {
-    let started = beginnings(&[0, 1, 2, 3, 4]);
+    let started = beginnings(&[0, 2]);
     let text = rules(rt.alloc(), 200, b"pass out\n")?;
     assert!(rt; told_by(&rt, text, 12288, 1024, 2)?.0 == started);
+    Ok(())
+}
+
+/// Counts how many packets workers evaluate at once, but for the first ones of a run. It holds each of them up for a while.
+#[derive(Drop)]
+struct AtOnce<'a, R> {
+    rt: &'a R,
+    first: u64,
+    now: AtomicU64,
+    most: AtomicU64,
+}
+
+impl<'a, R: Clock + Sync> Gate for AtOnce<'a, R> {
+    fn starts(&self, number: u64) {
+        if number < self.first {
+            return;
+        }
+        let others = self.now.fetch_add(1, Ordering::SeqCst);
+        self.most
+            .fetch_max(others.saturating_add(1), Ordering::SeqCst);
+        sleep(self.rt, Duration::from_micros(100));
+    }
+
+    fn answered(&self, number: u64) {
+        if number >= self.first {
+            self.now.fetch_sub(1, Ordering::SeqCst);
+        }
+    }
+
+    fn ran_again(&self, _number: u64) {}
+}
+
+/// The most packets that so many workers evaluate at once, in the two batches behind the first one, of 1024 packets each.
+fn most_at_once<R: AllocGlobal + Threads + Wait + Clock + Sync>(
+    rt: &R,
+    text: &[u8],
+    workers: u64,
+) -> Result<u64, AllocError>
+    requires workers { workers ≤ 64 }
+{
+    let alloc = rt.alloc();
+    let mut source = capture(alloc, 3072, 3072)?;
+    let mut outputs = sinks(alloc, Mem::new(Vec::new(alloc)));
+    let gate = AtOnce {
+        rt,
+        first: 1025,
+        now: AtomicU64::new(0),
+        most: AtomicU64::new(0),
+    };
+    let end = replay_in_memory(
+        rt,
+        &mut source,
+        text,
+        1024,
+        workers,
+        Form::None,
+        &mut outputs,
+        &gate,
+    );
+    drop(source);
+    drop(outputs);
+    match end {
+        Ok(_) => Ok(gate.most.load(Ordering::SeqCst)),
+        Err(_) => Err(AllocError),
+    }
+}
+
+/// By 150 rules three workers evaluate packets more quickly than the committer takes them over. So no more of eight are given the
+/// batches behind the first one.
+#[test]
+fn no_more_workers_are_given_a_batch_than_it_takes(rt: HostRuntime) -> Result<(), Fail> {
+    let text = rules(rt.alloc(), 150, &[])?;
+    let most = most_at_once(&rt, text.as_slice(), 8)?;
+    assert!(rt; most > 0 && most <= 3, "{most} at once");
     Ok(())
 }

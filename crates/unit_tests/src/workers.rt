@@ -122,11 +122,11 @@ fn hands<'a, R: Clock + Sync>(
     Ok(hands)
 }
 
-/// A batch that is to be opened: of how many numbers, and whether workers rest.
+/// A batch that is to be opened: of how many numbers, and how many workers it is given to at most.
 #[derive(Clone, Copy)]
 struct Planned {
     count: u64,
-    rests: bool,
+    most: usize,
     ghost few: { count ≤ 4096 },
 }
 
@@ -142,14 +142,14 @@ fn open_all<K: Naming, R: Wait>(
 {
     let mut open_batches = Vec::new(alloc);
     for (index, planned) in plan.iter().enumerate() {
-        let Planned { count, rests } = *planned;
+        let Planned { count, most } = *planned;
         let sheet = Sheet {
             id: index as u64,
             count,
             begun: AtomicU64::new(0),
             told: AtomicU64::new(0),
         };
-        open_batches.push(crew.open(rt, alloc, &mut openings, sheet, count, rests)?)?;
+        open_batches.push(crew.open(rt, alloc, &mut openings, sheet, count, most)?)?;
     }
     Ok(open_batches)
 }
@@ -325,10 +325,7 @@ fn each_number_is_answered_once(rt: HostRuntime) -> Result<(), Fail> {
             workers,
             missing: 0,
         };
-        let plan = [Planned {
-            count,
-            rests: false,
-        }];
+        let plan = [Planned { count, most: 64 }];
         let seen = play(&rt, rt.alloc(), staff, &plan)?;
         assert!(rt; seen.as_slice() == [whole(0, word, workers, answers)].as_slice());
     }
@@ -339,10 +336,7 @@ fn each_number_is_answered_once(rt: HostRuntime) -> Result<(), Fail> {
 fn answered(count: u64) -> Planned
     requires { count ≤ 4096 }
 {
-    Planned {
-        count,
-        rests: false,
-    }
+    Planned { count, most: 64 }
 }
 
 /// Batches that are open at once each have answers of their own alone.
@@ -374,10 +368,35 @@ fn workers_rest(rt: HostRuntime) -> Result<(), Fail> {
     };
     let resting = Planned {
         count: 200,
-        rests: true,
+        most: 0,
     };
     let plan = [answered(64), resting, answered(5)];
     let expected = [whole(0, 67, 3, 43), whole(1, 203, 0, 0), whole(2, 8, 3, 4)];
+    let seen = play(&rt, rt.alloc(), staff, &plan)?;
+    assert!(rt; seen.as_slice() == expected.as_slice());
+    Ok(())
+}
+
+/// A batch is given to as many workers as are asked for, and these answer all its numbers.
+#[test]
+fn few_workers_are_given_a_batch(rt: HostRuntime) -> Result<(), Fail> {
+    let staff = Staff {
+        workers: 3,
+        missing: 0,
+    };
+    let plan = [
+        Planned {
+            count: 200,
+            most: 2,
+        },
+        Planned { count: 64, most: 1 },
+        Planned { count: 5, most: 3 },
+    ];
+    let expected = [
+        whole(0, 203, 2, 134),
+        whole(1, 67, 1, 43),
+        whole(2, 8, 3, 4),
+    ];
     let seen = play(&rt, rt.alloc(), staff, &plan)?;
     assert!(rt; seen.as_slice() == expected.as_slice());
     Ok(())
