@@ -1,14 +1,15 @@
 #!/usr/bin/env python3
-"""Measures the program with workers beside itself without and prints a table for each of three captures.
+"""Measures the program with workers beside itself without and prints a table for each of four captures.
 
     workers.py [PROGRAM] [--captures NAME ..] [--packets N] [--rules N ..] [--batches N ..] [--workers N ..]
     workers.py [PROGRAM] --long [N ..]
 
 The packets of the capture `stateless` are decided by a rule that makes no state, each of those of `making` makes a
 state, and those of `matching` match the states of a few connections. No rule but the last matches a packet, so each
-packet that has no state is asked about all of them. A row is of so many rules and packets in a batch. Of each number
-of workers it has the speed as a multiple of that without, and in brackets the time of processors as a multiple. Behind
-them are the peaks of memory without workers and with the last number of them.
+packet that has no state is asked about all of them. Those of `early` are decided by the first rule. A row is of so many
+rules and packets in a batch. Of each number of workers it has the speed as a multiple of that without, and in brackets
+the time of processors as a multiple. Behind them are the peaks of memory without workers and with the last number of
+them.
 
 With --long it prints another table instead, of what a packet costs, and of the peak of memory, as captures grow.
 """
@@ -46,10 +47,11 @@ MOST_LONG_QUESTIONS = 10**9
 
 class Kind(NamedTuple):
     """A kind of captures: the rules that decide on its packets, what writes so many of them, and how many of these are
-    decided by the rules, where that is known. The others match a state."""
+    decided by the rules, where that is known. The others match a state. A rule may stand before all others."""
     rules: str
     write: Callable
     decided: Optional[Callable] = None
+    first: Optional[str] = None
 
     def written(self, folder, packets):
         """A capture of so many packets in a folder."""
@@ -66,6 +68,7 @@ KINDS = {
     "making": MAKING,
     "matching": Kind("pass all keep state", lambda count, file: write_flows(count, file, FEW),
                      lambda count: min(count, FEW)),
+    "early": Kind("pass all no state", write_capture, lambda count: count, "pass quick all no state"),
 }
 
 
@@ -82,8 +85,9 @@ class Contest:
         self.folder, self.program, self.kind = folder, program, kind
         self.capture, self.packets, self.count, self.batch = capture, packets, count, batch
         self.rules = folder / "rules"
-        vain = [rule for rule, _ in vain_pairs(count - 1, capture.read_bytes())]
-        self.rules.write_text("\n".join([f"set limit states {packets}", *vain, f"{kind.rules}\n"]))
+        first = [kind.first] if kind.first else []
+        vain = [rule for rule, _ in vain_pairs(count - 1 - len(first), capture.read_bytes())]
+        self.rules.write_text("\n".join([f"set limit states {packets}", *first, *vain, f"{kind.rules}\n"]))
 
     def on(self, capture, packets):
         """The same program and rules on another capture of the same kind."""

@@ -13,6 +13,7 @@ pub mod laws;
 mod pace;
 mod reading;
 mod run;
+mod sample;
 mod stream;
 mod turns;
 mod views;

@@ -1,5 +1,6 @@
 //! How many packets it pays to have evaluated ahead.
 
+use crate::sample::Sample;
 use pfr_packet::Job;
 
 /// To hand a result over takes about as long as to ask a packet so many rules, and so does to have a worker begin a batch.
@@ -27,6 +28,14 @@ const FIRST_REST: u64 = 1024;
 
 const LONGEST_REST: u64 = 262_144;
 
+/// Of how many packets that are evaluated ahead it is looked at one, how many rules it is asked about: until it is known whether that
+/// pays, and then. At least so many have to be looked at before it is told how many rules a packet is asked about.
+const ONE_OF_FEW: u64 = 16;
+
+const ONE_OF_MANY: u64 = 4096;
+
+const LOOKS: u64 = 8;
+
 /// Says of each batch how many of its packets workers evaluate ahead.
 ///
 /// A result that holds saves asking the rules, but each result has to be handed over, and each worker to begin each batch. So
@@ -42,8 +51,9 @@ const LONGEST_REST: u64 = 262_144;
 pub(crate) struct Pace {
     workers: u64,
     rules: u64,
-    /// What evaluating a packet ahead saves where its result holds, in rules.
-    saves: u64,
+    /// How many rules a packet is asked about: all, as long as none has told; and what was seen of packets since it was told last.
+    asks: u64,
+    seen: Sample,
     /// How many packets were evaluated ahead so far, and whether it paid the last time.
     evaluated: u64,
     pays: bool,
@@ -60,8 +70,8 @@ pub(crate) struct Pace {
     given_up: bool,
 }
 
-/// The least number of workers that evaluate packets more quickly than the committer takes them over, in a batch of so many packets
-/// that made so many changes of the table.
+/// The least number of workers that evaluate packets more quickly than the committer takes them over, where each is asked about so many
+/// rules, in a batch of so many packets that made so many changes of the table.
 fn needed_for(rules: u64, count: u64, changed: u64) -> u64 {
     let evaluating = rules.saturating_add(EVALUATING).saturating_mul(count);
     let taking = count.saturating_mul(TAKING);
@@ -83,8 +93,11 @@ impl Pace {
         Pace {
             workers,
             rules,
-            // one worker alone saves what the committer does beside it, and that is what handing over costs again
-            saves: rules.saturating_sub(rules / workers.max(1)),
+            asks: rules,
+            seen: Sample {
+                packets: 0,
+                rules: 0,
+            },
             evaluated: 0,
             pays: false,
             needed: workers,
@@ -129,6 +142,34 @@ impl Pace {
         !self.pays && open >= TRIAL
     }
 
+    /// The packets whose numbers have none of these bits are looked at, how many rules they are asked about.
+    pub(crate) fn others(&self) -> u64 {
+        if self.pays {
+            ONE_OF_MANY - 1
+        } else {
+            ONE_OF_FEW - 1
+        }
+    }
+
+    /// Takes note of how many rules some packets were asked about.
+    pub(crate) fn saw(&mut self, some: Sample) {
+        self.seen.packets = self.seen.packets.saturating_add(some.packets);
+        self.seen.rules = self.seen.rules.saturating_add(some.rules);
+        if self.seen.packets >= LOOKS {
+            self.asks = self.seen.rules / self.seen.packets.max(1);
+            self.seen = Sample {
+                packets: 0,
+                rules: 0,
+            };
+        }
+    }
+
+    /// What evaluating packets ahead saves for each whose result holds, where so many rules are asked: in rules. One worker alone saves
+    /// what the committer does beside it, and that is what handing over costs again.
+    fn saves(&self, rules: u64) -> u64 {
+        rules.saturating_sub(rules / self.workers.max(1))
+    }
+
     /// Whether it pays to evaluate a batch of so many packets ahead that made so many changes, where so many packets were and so many of
     /// their results held.
     fn pays_for(&self, count: u64, changed: u64, evaluated: u64, held: u64) -> bool {
@@ -136,7 +177,9 @@ impl Pace {
         let starting = self.needed.saturating_mul(STARTING);
         let showing = changed.saturating_mul(SHOWING);
         let costs = handing.saturating_add(starting).saturating_add(showing);
-        let saved = held.saturating_mul(self.saves).saturating_mul(count);
+        let saved = held
+            .saturating_mul(self.saves(self.asks))
+            .saturating_mul(count);
         saved >= evaluated.saturating_mul(costs)
     }
 
@@ -157,7 +200,7 @@ impl Pace {
         let held = count.saturating_sub(own);
         self.pays = self.pays_for(count, changed, evaluated, held);
         if self.pays {
-            self.needed = needed_for(self.rules, count, changed).min(self.workers);
+            self.needed = needed_for(self.asks, count, changed).min(self.workers);
             self.has_paid = true;
             self.next_rest = FIRST_REST;
         } else {
@@ -169,7 +212,7 @@ impl Pace {
 
     /// Whether there are rules enough that workers may pay.
     fn may_pay(&self) -> bool {
-        self.saves >= HANDING
+        self.saves(self.rules) >= HANDING
     }
 
     /// Whether many of the packets change the table, as far as enough have come.

@@ -23,6 +23,7 @@ use crate::found::{FoundOut, OfRun};
 use crate::gate::Gate;
 use crate::reading::{Open, read_turn};
 use crate::run::Trace;
+use crate::sample::sample_of;
 use pfr_capture::Record;
 use pfr_commit::{Book, Changes, Emitted, Reruns};
 use pfr_headers::View;
@@ -111,6 +112,8 @@ fn take_batch<J: OfRun + Send + Sync, K: Naming + Send + Sync, R: Wait, G: Gate>
     ensures refused { OnErr result ((book.new ≡ book.old) ⊎ (book.new.is_over ≡ true)) }
     ensures claims_refused { OnErr result ((course.new.batches.items ≡ course.old.batches.items) ⊎ AddsEntry oldest.workers oldest.count course.old.batches.items course.new.batches.items) }
 {
+    let sample = sample_of(alloc, book, &oldest.batch, course.pace.others());
+    course.pace.saw(sample);
     let Finished {
         groups,
         batch,

@@ -131,6 +131,19 @@ fn workers_go_on_where_they_pay(rt: HostRuntime) -> Result<(), Fail> {
     Ok(())
 }
 
+/// There are many rules, but the first one decides, so results save nothing. Workers evaluate the beginning of the first batch, rest for
+/// the next one, and evaluate the beginning of the batch 2.
+#[test]
+fn workers_rest_where_few_rules_are_asked(rt: HostRuntime) -> Result<(), Fail> {
+    let mut text = Vec::new(rt.alloc());
+    text.extend_from_slice(b"block quick\n")?;
+    text.extend_from_slice(rules(rt.alloc(), 200, &[])?.as_slice())?;
+    let answered = beginnings(&[0, 2]);
+    let again = sum(1, 5121).saturating_sub(answered);
+    assert!(rt; told_by(&rt, text, 5120, 1024, 2)? == (answered, answered, again));
+    Ok(())
+}
+
 /// The packets are those of one connection, so nearly no result holds, and each of them changes the table. Workers evaluate the
 /// beginning of the first batch, rest for the next one, and evaluate the beginning of the batch 2. Once that is judged enough
 /// packets have come to give them up.
