@@ -119,6 +119,16 @@ impl Visits {
         self.last.count_in(tallies);
     }
 
+    /// How many numbers there are, at most 2^64 - 1. Nothing rests on it: it tells what a walk costs.
+    pub fn len(&self) -> u64 {
+        let mut count = self.last.count as u64;
+        let before = self.before.as_slice();
+        for run in before {
+            count = count.saturating_add(run.count as u64);
+        }
+        count
+    }
+
     /// A copy of the numbers.
     pub fn numbers(&self, alloc: Global) -> Result<Items<usize>, AllocError>
         ensures { IfOk result (λ numbers. numbers ≡ self.now) }

@@ -2,6 +2,7 @@
 //! their deadline comes.
 #![tactic(auto)]
 
+mod ahead;
 pub mod change;
 mod due;
 mod indexed;
@@ -11,6 +12,7 @@ pub mod laws;
 pub mod stored;
 pub mod table;
 
+pub use ahead::{AHEAD, Lookup};
 pub use change::{Change, KnownChange, Side, TableChange, TableError};
 pub use pfr_index::Guess;
 pub use pfr_places::Place;
