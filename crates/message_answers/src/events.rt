@@ -12,7 +12,7 @@
 use crate::given::Given;
 use crate::printing::put_content;
 use pfr_net::{Direction, Endpoint, IfName, Ipv4Address, Port, Protocol, RuleNumber, Timeout};
-use pfr_sync::{Change, Event, Message, Queue};
+use pfr_sync::{EventKind, Event, Message, Queue};
 use pfr_track::{
     Clock, DatagramPeer, Deadline, Key, Peers, Sequence, State, StateNumber, StateRules, TcpPeer,
     TcpPeerState, Traffic,
@@ -160,15 +160,15 @@ fn state(given: &mut Given<'_>) -> State {
 }
 
 fn event(given: &mut Given<'_>) -> Event {
-    let change = match given.byte() {
-        0 => Change::Made,
-        1 => Change::Touched,
-        _ => Change::Removed,
+    let kind = match given.byte() {
+        0 => EventKind::Made,
+        1 => EventKind::Touched,
+        _ => EventKind::Removed,
     };
     let clock = Clock(given.number());
     let state = state(given);
     Event {
-        change,
+        kind,
         state,
         clock,
     }

@@ -13,7 +13,7 @@ use Rattle.pfr_states.specs.States.{all_due, purged, state_of}
 use Rattle.pfr_states.proofs.Membership.{here as first_there, in_cons, in_none, there}
 use Rattle.pfr_packet.specs.Job.{RunJob}
 use Rattle.pfr_messages.specs.Messages.{Content}
-use Rattle.pfr_sync.specs.declared.event.Change.TheVariants.{Made, Touched, Removed}
+use Rattle.pfr_sync.specs.declared.event.EventKind.TheVariants.{Made, Touched, Removed}
 use Rattle.pfr_sync.specs.declared.event.Event.{Event}
 use Rattle.pfr_sync.specs.declared.origin.Origin.{Origin}
 use Rattle.pfr_sync.specs.Laws.{closed_of}

@@ -3,14 +3,14 @@ use Rattle.std.proofs.Common.{◌≡◌, ℕ, suc, ◌+◌, ◌≤◌, List, len
 use Rattle.std.proofs.lemmas.Bool.{false≢true}
 use Rattle.std.proofs.lemmas.List.{set_split}
 use Rattle.pfr_track.specs.declared.state.State.{State}
-use Rattle.pfr_sync.specs.declared.queue.Entry.{Entry}
-use Rattle.pfr_sync.specs.declared.queue.Told.{Told}
+use Rattle.pfr_sync.specs.declared.queue.QueuedState.{QueuedState}
+use Rattle.pfr_sync.specs.declared.queue.Action.{Action}
 use Rattle.pfr_sync.specs.Edits.{behind, edited}
 
 -- an entry that is written over
-pub set_edit : (entries : List Entry) (place : ℕ) (state : State) (old new : Option Told) (told : Told) → is_some old ≡ true → new ≡ Some told → behind place old ≤ length entries
-    → set entries place (record { told = told; state = state }) ≡ edited state (record { place = place; old = old; new = new }) entries
-set_edit entries place state None new told there is within = absurd (false≢true there)
-set_edit entries place state (Some old) new told there is within =
+pub set_edit : (entries : List QueuedState) (place : ℕ) (state : State) (old new : Option Action) (action : Action) → is_some old ≡ true → new ≡ Some action → behind place old ≤ length entries
+    → set entries place (record { action = action; state = state }) ≡ edited state (record { place = place; old = old; new = new }) entries
+set_edit entries place state None new action there is within = absurd (false≢true there)
+set_edit entries place state (Some old) new action there is within =
     let next : place + 1 ≡ suc place = omega arith in
-    rw (is, next) (set_split entries place (record { told = told; state = state }) (omega arith))
+    rw (is, next) (set_split entries place (record { action = action; state = state }) (omega arith))

@@ -3,7 +3,7 @@ use Rattle.std.proofs.Common.{◌≡◌, ℕ, ◌<◌, ◌==◌, true, false, na
 use Rattle.std.specs.List.{cons_option, list_any}
 use Rattle.std.proofs.lemmas.Bool.{and_parts, or_parts, cases_order, cases_Bool, lt-ltb, ltb-true, eq-eqb, ne_eqb, eqb-false, false≢true}
 use Rattle.pfr_sync.specs.declared.event.Event.{Event}
-use Rattle.pfr_sync.specs.declared.queue.Entry.{Entry}
+use Rattle.pfr_sync.specs.declared.queue.QueuedState.{QueuedState}
 use Rattle.pfr_sync.specs.Events.{MayCome, is_of}
 use Rattle.pfr_sync.specs.Laws.{has}
 use Rattle.pfr_sync.specs.Messages.{entries_by, entries_of, numbers_of, with_number}
@@ -15,14 +15,14 @@ use Rattle.pfr_sync.proofs.ToldLemmas.{Follows, IsOf, told_at, told_begins, told
 
 -- ---- entries of numbers
 
-put_is : (told : Option Entry) (rest : List Entry) → (elim told [ None ↦ rest | Some entry ↦ entry ∷ rest ]) ≡ cons_option told rest
+put_is : (told : Option QueuedState) (rest : List QueuedState) → (elim told [ None ↦ rest | Some entry ↦ entry ∷ rest ]) ≡ cons_option told rest
 put_is None rest = refl
 put_is (Some entry) rest = refl
 
 pub entries_step : (events : List Event) (n : ℕ) (numbers : List ℕ) → entries_by events (n ∷ numbers) ≡ cons_option (told_at n events) (entries_by events numbers)
 entries_step events n numbers = put_is (told_at n events) (entries_by events numbers)
 
-above_put : (k n : ℕ) (told : Option Entry) (rest : List Entry) → IsOf n told → nat_lt k n ≡ true → are_above k rest ≡ true → are_above k (cons_option told rest) ≡ true
+above_put : (k n : ℕ) (told : Option QueuedState) (rest : List QueuedState) → IsOf n told → nat_lt k n ≡ true → are_above k rest ≡ true → are_above k (cons_option told rest) ≡ true
 above_put k n None rest is it above = above
 above_put k n (Some entry) rest is it above = rw (is, it) above
 
@@ -33,13 +33,13 @@ entries_above events k (n ∷ numbers) above =
     rw (entries_step events n numbers) (above_put k n (told_at n events) (entries_by events numbers) (told_is_of n events) parts.0 (entries_above events k numbers parts.1))
 
 -- an entry goes before those of higher numbers
-begun_before : (e : Event) (entries : List Entry) → are_above e.state.number.0 entries ≡ true → with_entry e entries ≡ begun e ∷ entries
+begun_before : (e : Event) (entries : List QueuedState) → are_above e.state.number.0 entries ≡ true → with_entry e entries ≡ begun e ∷ entries
 begun_before e [] above = refl
 begun_before e (x ∷ entries) above =
     with_before e x entries (ltb-true e.state.number.0 (number_of x) (and_parts (nat_lt e.state.number.0 (number_of x)) (are_above e.state.number.0 entries) above).0)
 
 -- and behind one of a lower number
-with_put : (e : Event) (n : ℕ) (told : Option Entry) (rest : List Entry) → IsOf n told → n < e.state.number.0 → with_entry e (cons_option told rest) ≡ cons_option told (with_entry e rest)
+with_put : (e : Event) (n : ℕ) (told : Option QueuedState) (rest : List QueuedState) → IsOf n told → n < e.state.number.0 → with_entry e (cons_option told rest) ≡ cons_option told (with_entry e rest)
 with_put e n None rest is low = refl
 with_put e n (Some entry) rest is low = with_behind e entry rest (rw is low)
 
@@ -95,7 +95,7 @@ begins events e (m ∷ numbers) in_order none none_of =
 
 -- ---- a state of which something was told
 
-with_told : (e : Event) (told next : Option Entry) (rest : List Entry) → IsOf e.state.number.0 told → Follows told e next → cons_option next rest ≡ with_entry e (cons_option told rest)
+with_told : (e : Event) (told next : Option QueuedState) (rest : List QueuedState) → IsOf e.state.number.0 told → Follows told e next → cons_option next rest ≡ with_entry e (cons_option told rest)
 with_told e told next rest is_of follows =
     let entry = follows.entry in
     let of_entry : IsOf e.state.number.0 (Some entry) = rw follows.is at is_of in

@@ -9,7 +9,7 @@ use Rattle.pfr_messages.specs.declared.records.Deletion.{Deletion}
 use Rattle.pfr_messages.specs.Records.{insertion, update, deletion}
 use Rattle.pfr_messages.specs.Messages.{Content, Fits, inserts, updating, deletes}
 use Rattle.pfr_sync.specs.declared.origin.Origin.{Origin}
-use Rattle.pfr_sync.specs.declared.queue.Entry.{Entry}
+use Rattle.pfr_sync.specs.declared.queue.QueuedState.{QueuedState}
 use Rattle.pfr_sync.specs.Events.{insertion_of, update_of, deletion_of}
 use Rattle.pfr_sync.specs.Messages.{content_of, is_insert, is_update, is_delete, messages_by}
 use Rattle.pfr_sync.specs.Queues.{IsQueue}
@@ -22,12 +22,12 @@ pub record Fit (c : Content) : Type 0 where
   pub updates : list_all update.fits c.updates ≡ true
   pub deletions : list_all deletion.fits c.deletions ≡ true
 
-pub content_fits : (origin : Origin) (clock : Clock) (entry : Entry) (entries : List Entry)
-    → IsQueue (record { origin = origin; entries = entry ∷ entries })
+pub content_fits : (origin : Origin) (clock : Clock) (entry : QueuedState) (entries : List QueuedState)
+    → IsQueue origin (entry ∷ entries)
     → Fit (content_of origin clock (entry ∷ entries))
     → Fits (content_of origin clock (entry ∷ entries))
 content_fits origin clock entry entries queue fit =
-    let all : List Entry = entry ∷ entries in
+    let all : List QueuedState = entry ∷ entries in
     let few = leb-true _ 1480 (queue.short clock) in
     let whole = length_message origin clock all queue.interface queue.checksum in
     let part = length_sections origin clock all queue.interface in
@@ -36,20 +36,20 @@ content_fits origin clock entry entries queue fit =
       insertions = fit.insertions;
       updates = fit.updates;
       deletions = fit.deletions;
-      insertions_rise = rise_records inserts (λ (e : Entry). insertion_of origin clock e.state) is_insert (λ _. refl) all queue.in_order;
-      updates_rise = rise_records updating (λ (e : Entry). update_of origin clock e.state) is_update (λ _. refl) all queue.in_order;
-      deletions_rise = rise_records deletes (λ (e : Entry). deletion_of origin e.state) is_delete (λ _. refl) all queue.in_order;
-      some = some_kind (λ (e : Entry). insertion_of origin clock e.state) (λ (e : Entry). update_of origin clock e.state) (λ (e : Entry). deletion_of origin e.state) entry.told entry.state entries;
+      insertions_rise = rise_records inserts (λ (e : QueuedState). insertion_of origin clock e.state) is_insert (λ _. refl) all queue.in_order;
+      updates_rise = rise_records updating (λ (e : QueuedState). update_of origin clock e.state) is_update (λ _. refl) all queue.in_order;
+      deletions_rise = rise_records deletes (λ (e : QueuedState). deletion_of origin e.state) is_delete (λ _. refl) all queue.in_order;
+      some = some_kind (λ (e : QueuedState). insertion_of origin clock e.state) (λ (e : QueuedState). update_of origin clock e.state) (λ (e : QueuedState). deletion_of origin e.state) entry.action entry.state entries;
       short = omega arith;
     }
 
 -- the message of entries from its records
-pub record Told (origin : Origin) (clock : Clock) (entries : List Entry) (content : Content) : Type 0 where
+pub record IsTold (origin : Origin) (clock : Clock) (entries : List QueuedState) (content : Content) : Type 0 where
   pub fits : Fits content
   pub is : content ∷ [] ≡ messages_by origin clock entries
 
-pub told_from : (origin : Origin) (clock : Clock) (entries : List Entry) (insertions : List Insertion) (updates : List Update) (deletions : List Deletion)
-    → IsQueue (record { origin = origin; entries = entries })
+pub told_from : (origin : Origin) (clock : Clock) (entries : List QueuedState) (insertions : List Insertion) (updates : List Update) (deletions : List Deletion)
+    → IsQueue origin entries
     → nat_eq (length entries) 0 ≡ false
     → insertions ≡ map (λ e. insertion_of origin clock e.state) (filter is_insert entries)
     → updates ≡ map (λ e. update_of origin clock e.state) (filter is_update entries)
@@ -57,7 +57,7 @@ pub told_from : (origin : Origin) (clock : Clock) (entries : List Entry) (insert
     → list_all insertion.fits insertions ≡ true
     → list_all update.fits updates ≡ true
     → list_all deletion.fits deletions ≡ true
-    → Told origin clock entries (record { checksum = origin.checksum; insertions = insertions; updates = updates; deletions = deletions })
+    → IsTold origin clock entries (record { checksum = origin.checksum; insertions = insertions; updates = updates; deletions = deletions })
 told_from origin clock [] is us ds queue some insertions updates deletions i_fit u_fit d_fit = absurd cc
 told_from origin clock (e ∷ entries) is us ds queue some insertions updates deletions i_fit u_fit d_fit =
     let fit : Fit (content_of origin clock (e ∷ entries)) = record {

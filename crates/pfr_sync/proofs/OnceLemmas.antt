@@ -11,9 +11,9 @@ use Rattle.pfr_track.specs.declared.time.Clock.{Clock}
 use Rattle.pfr_messages.specs.Messages.{Content}
 use Rattle.pfr_sync.specs.declared.event.Event.{Event}
 use Rattle.pfr_sync.specs.declared.origin.Origin.{Origin}
-use Rattle.pfr_sync.specs.declared.queue.Entry.{Entry}
-use Rattle.pfr_sync.specs.declared.queue.Told.{Told}
-use Rattle.pfr_sync.specs.declared.queue.Told.TheVariants.{Insert, Update, Delete}
+use Rattle.pfr_sync.specs.declared.queue.QueuedState.{QueuedState}
+use Rattle.pfr_sync.specs.declared.queue.Action.{Action}
+use Rattle.pfr_sync.specs.declared.queue.Action.TheVariants.{Insert, Update, Delete}
 use Rattle.pfr_sync.specs.Laws.{AStateIsToldOfOnce, numbers_in}
 use Rattle.pfr_sync.specs.Messages.{content_of, entries_by, entries_of, is_delete, is_insert, is_update, message_of, messages_by, numbers_of, parts_of}
 use Rattle.pfr_sync.specs.Queues.{number_of, rise}
@@ -24,7 +24,7 @@ use Rattle.pfr_sync.proofs.ToldLemmas.{IsOf, told_at, told_is_of}
 
 -- ---- entries rise
 
-rise_put : (n : ℕ) (told : Option Entry) (rest : List Entry) → IsOf n told → are_above n rest ≡ true → rise rest ≡ true → rise (cons_option told rest) ≡ true
+rise_put : (n : ℕ) (told : Option QueuedState) (rest : List QueuedState) → IsOf n told → are_above n rest ≡ true → rise rest ≡ true → rise (cons_option told rest) ≡ true
 rise_put n None rest is above in_order = in_order
 rise_put n (Some entry) rest is above in_order = rw is (and_from (are_above n rest) (rise rest) above in_order)
 
@@ -39,14 +39,14 @@ entries_rise events = rise_by events (numbers_of events) (numbers_ascend events)
 
 -- ---- so their numbers differ
 
-above_apart : (n : ℕ) (entries : List Entry) → are_above n entries ≡ true → AllByRecursion (λ m. (n == m) ≡ false) (map number_of entries)
+above_apart : (n : ℕ) (entries : List QueuedState) → are_above n entries ≡ true → AllByRecursion (λ m. (n == m) ≡ false) (map number_of entries)
 above_apart n [] above = tt
 above_apart n (e ∷ entries) above =
     let parts = and_parts (nat_lt n (number_of e)) (are_above n entries) above in
     let less = ltb-true n (number_of e) parts.0 in
     (ne_eqb n (number_of e) (λ same. absurd (omega arith)), above_apart n entries parts.1)
 
-rise_apart : (entries : List Entry) → rise entries ≡ true → IsDistinct (λ n m. n == m) (map number_of entries)
+rise_apart : (entries : List QueuedState) → rise entries ≡ true → IsDistinct (λ n m. n == m) (map number_of entries)
 unfolding IsDistinct
 rise_apart [] in_order = tt
 rise_apart (e ∷ entries) in_order =
@@ -55,7 +55,7 @@ rise_apart (e ∷ entries) in_order =
 
 -- ---- each is told in one place
 
-abbrev told_numbers : List Entry → List ℕ
+abbrev told_numbers : List QueuedState → List ℕ
 told_numbers entries = map number_of (filter is_insert entries) ++ map number_of (filter is_update entries) ++ map number_of (filter is_delete entries)
 
 put_middle : (n : ℕ) (xs ys zs all : List ℕ) → IsPermutation (xs ++ ys ++ zs) all → IsPermutation (xs ++ n ∷ ys ++ zs) (n ∷ all)
@@ -67,15 +67,15 @@ put_middle n xs ys zs all same =
 put_last : (n : ℕ) (front zs all : List ℕ) → IsPermutation (front ++ zs) all → IsPermutation (front ++ n ∷ zs) (n ∷ all)
 put_last n front zs all same = IsPermutation-trans (front ++ n ∷ zs) (n ∷ (front ++ zs)) (n ∷ all) (IsPermutation-middle front n zs) (IsPermutation-cons n (front ++ zs) all same)
 
-put_told : (told : Told) (state : State) (entries : List Entry) (all : List ℕ) → IsPermutation (told_numbers entries) all
-    → IsPermutation (told_numbers (record { told = told; state = state } ∷ entries)) (state.number.0 ∷ all)
+put_told : (action : Action) (state : State) (entries : List QueuedState) (all : List ℕ) → IsPermutation (told_numbers entries) all
+    → IsPermutation (told_numbers (record { action = action; state = state } ∷ entries)) (state.number.0 ∷ all)
 put_told Insert state entries all same = IsPermutation-cons state.number.0 (told_numbers entries) all same
 put_told Update state entries all same = put_middle state.number.0 (map number_of (filter is_insert entries)) (map number_of (filter is_update entries)) (map number_of (filter is_delete entries)) all same
 put_told Delete state entries all same = put_last state.number.0 (map number_of (filter is_insert entries) ++ map number_of (filter is_update entries)) (map number_of (filter is_delete entries)) all same
 
-told_same : (entries : List Entry) → IsPermutation (told_numbers entries) (map number_of entries)
+told_same : (entries : List QueuedState) → IsPermutation (told_numbers entries) (map number_of entries)
 told_same [] = IsPermutation-refl []
-told_same (e ∷ entries) = put_told e.told e.state entries (map number_of entries) (told_same entries)
+told_same (e ∷ entries) = put_told e.action e.state entries (map number_of entries) (told_same entries)
 
 flips : (n m : ℕ) → (n == m) ≡ (m == n)
 flips n m = elim (cases_Bool (n == m)) [
@@ -89,20 +89,20 @@ pub map_twice : {X Y : Type 0} (f : Y → ℕ) (g : X → Y) (xs : List X) → m
 map_twice f g [] = refl
 map_twice f g (x ∷ xs) = ap (λ (rest : List ℕ). f (g x) ∷ rest) (map_twice f g xs)
 
-numbers_told : (origin : Origin) (clock : Clock) (entries : List Entry) → numbers_in (content_of origin clock entries) ≡ told_numbers entries
+numbers_told : (origin : Origin) (clock : Clock) (entries : List QueuedState) → numbers_in (content_of origin clock entries) ≡ told_numbers entries
 numbers_told origin clock entries = simp map_twice refl
 
 -- a message of entries of which no two have one number
 abbrev Once : Content → Type 0
 Once content = IsDistinct (λ n m. n == m) (numbers_in content)
 
-content_once : (origin : Origin) (clock : Clock) (entries : List Entry) → rise entries ≡ true → Once (content_of origin clock entries)
+content_once : (origin : Origin) (clock : Clock) (entries : List QueuedState) → rise entries ≡ true → Once (content_of origin clock entries)
 content_once origin clock entries in_order =
     subst (IsDistinct (λ n m. n == m)) (sym (numbers_told origin clock entries))
     (IsDistinct-IsPermutation (λ n m. n == m) flips (map number_of entries) (told_numbers entries)
     (IsPermutation-sym (told_numbers entries) (map number_of entries) (told_same entries)) (rise_apart entries in_order))
 
-messages_once : (origin : Origin) (clock : Clock) (entries : List Entry) → rise entries ≡ true → All Once (messages_by origin clock entries)
+messages_once : (origin : Origin) (clock : Clock) (entries : List QueuedState) → rise entries ≡ true → All Once (messages_by origin clock entries)
 messages_once origin clock [] in_order = All-nil Once
 messages_once origin clock (e ∷ entries) in_order = All-cons Once (content_of origin clock (e ∷ entries)) [] (content_once origin clock (e ∷ entries) in_order) (All-nil Once)
 

@@ -11,7 +11,7 @@ use Rattle.pfr_messages.specs.Fields.{name, are_padded}
 use Rattle.pfr_messages.specs.Records.{insertion_spelling, update_spelling, deletion_spelling}
 use Rattle.pfr_messages.specs.Messages.{Kind, inserts, updating, deletes, header, section, sections, spelling}
 use Rattle.pfr_sync.specs.declared.origin.Origin.{Origin}
-use Rattle.pfr_sync.specs.declared.queue.Entry.{Entry}
+use Rattle.pfr_sync.specs.declared.queue.QueuedState.{QueuedState}
 use Rattle.pfr_sync.specs.Events.{insertion_of, update_of, deletion_of}
 use Rattle.pfr_sync.specs.Messages.{content_of, is_insert, is_update, is_delete, is_short}
 use Rattle.pfr_sync.specs.Sizes.{counts_of, has_room, section_size, size_of}
@@ -25,7 +25,7 @@ length_update r = refl
 length_deletion : (r : Deletion) → length (deletion_spelling r) ≡ 12
 length_deletion r = refl
 
-length_flat : {R : Type 0} (g : R → List ℕ) (f : Entry → R) (size : ℕ) → ((e : Entry) → length (g (f e)) ≡ size) → (entries : List Entry) → length (flat_map g (map f entries)) ≡ size * length entries
+length_flat : {R : Type 0} (g : R → List ℕ) (f : QueuedState → R) (size : ℕ) → ((e : QueuedState) → length (g (f e)) ≡ size) → (entries : List QueuedState) → length (flat_map g (map f entries)) ≡ size * length entries
 length_flat g f size each [] = omega arith
 length_flat g f size each (e ∷ entries) =
     let rest = length_flat g f size each entries in
@@ -33,14 +33,14 @@ length_flat g f size each (e ∷ entries) =
     let all = length-append (g (f e)) (flat_map g (map f entries)) in
     omega arith
 
-length_section : {R : Type 0} (kind : Kind R) (f : Entry → R) (size : ℕ) → ((e : Entry) → length (kind.format.spelling (f e)) ≡ size) → (entries : List Entry) → length (section kind (map f entries)) ≡ section_size size (length entries)
+length_section : {R : Type 0} (kind : Kind R) (f : QueuedState → R) (size : ℕ) → ((e : QueuedState) → length (kind.format.spelling (f e)) ≡ size) → (entries : List QueuedState) → length (section kind (map f entries)) ≡ section_size size (length entries)
 length_section kind f size each [] = refl
 length_section kind f size each (e ∷ entries) =
     let rest : length (flat_map kind.format.spelling (map f (e ∷ entries))) ≡ size * length (e ∷ entries) = length_flat kind.format.spelling f size each (e ∷ entries) in
     let more : suc (suc (suc (suc (length (flat_map kind.format.spelling (map f (e ∷ entries))))))) ≡ 4 + size * length (e ∷ entries) = omega (arith, rest) in
     rw (ne_eqb (suc (length entries)) 0 (λ is. absurd (omega arith))) more
 
-pub length_sections : (origin : Origin) (clock : Clock) (entries : List Entry) → name.fits origin.interface ≡ true → 20 + length (sections (content_of origin clock entries)) ≡ size_of (counts_of entries)
+pub length_sections : (origin : Origin) (clock : Clock) (entries : List QueuedState) → name.fits origin.interface ≡ true → 20 + length (sections (content_of origin clock entries)) ≡ size_of (counts_of entries)
 length_sections origin clock entries fits =
     let sixteen : length origin.interface.bytes ≡ 16 = eqb-true (length origin.interface.bytes) 16 (and_parts (length origin.interface.bytes == 16) (are_padded false origin.interface.bytes) fits).0 in
     let c = content_of origin clock entries in
@@ -52,11 +52,11 @@ length_sections origin clock entries fits =
     let last = length-append (section deletes c.deletions) (header 12 1) in
     omega arith
 
-pub length_message : (origin : Origin) (clock : Clock) (entries : List Entry) → name.fits origin.interface ≡ true → length origin.checksum ≡ 16 → length (spelling (content_of origin clock entries)) ≡ size_of (counts_of entries)
+pub length_message : (origin : Origin) (clock : Clock) (entries : List QueuedState) → name.fits origin.interface ≡ true → length origin.checksum ≡ 16 → length (spelling (content_of origin clock entries)) ≡ size_of (counts_of entries)
 length_message origin clock entries fits sixteen =
     let all = length_sections origin clock entries fits in
     let text = length-append origin.checksum (sections (content_of origin clock entries)) in
     omega arith
 
-pub short_is : (origin : Origin) (clock : Clock) (entries : List Entry) → name.fits origin.interface ≡ true → length origin.checksum ≡ 16 → is_short origin clock entries ≡ has_room entries
+pub short_is : (origin : Origin) (clock : Clock) (entries : List QueuedState) → name.fits origin.interface ≡ true → length origin.checksum ≡ 16 → is_short origin clock entries ≡ has_room entries
 short_is origin clock entries fits sixteen = ap (λ n. nat_le n 1480) (length_message origin clock entries fits sixteen)

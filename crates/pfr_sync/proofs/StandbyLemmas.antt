@@ -12,7 +12,7 @@ use Rattle.pfr_track.specs.declared.time.Clock.{Clock}
 use Rattle.pfr_messages.specs.Messages.{Content}
 use Rattle.pfr_sync.specs.declared.event.Event.{Event}
 use Rattle.pfr_sync.specs.declared.origin.Origin.{Origin}
-use Rattle.pfr_sync.specs.declared.queue.Entry.{Entry}
+use Rattle.pfr_sync.specs.declared.queue.QueuedState.{QueuedState}
 use Rattle.pfr_sync.specs.Events.{is_made, is_of, is_removed}
 use Rattle.pfr_sync.specs.Laws.{AStandbyHoldsWhatIsLeft, IsHistory, has, is_left, leave_it, numbers_after}
 use Rattle.pfr_sync.specs.Messages.{content_of, entries_by, entries_of, is_delete, is_insert, last_of, message_of, messages_by, messages_of, numbers_of, parts_of, told_by, told_of}
@@ -26,7 +26,7 @@ use Rattle.pfr_sync.proofs.ToldLemmas.{IsOf, last_all, lives_by, moved_by, none_
 -- ---- what is told of a number
 
 -- something is told, and it passes a test
-abbrev passes : (Entry → Bool) → Option Entry → Bool
+abbrev passes : (QueuedState → Bool) → Option QueuedState → Bool
 passes p None = false
 passes p (Some entry) = p entry
 
@@ -38,7 +38,7 @@ or_less : (b c : Bool) → (b || (c && b)) ≡ b
 or_less true c = refl
 or_less false c = and_nothing c
 
-has_put : (p : Entry → Bool) (n m : ℕ) (told : Option Entry) (rest : List Entry) → IsOf m told
+has_put : (p : QueuedState → Bool) (n m : ℕ) (told : Option QueuedState) (rest : List QueuedState) → IsOf m told
     → has n (map number_of (filter p (cons_option told rest))) ≡ ((m == n && passes p told) || has n (map number_of (filter p rest)))
 has_put p n m None rest is = rw (and_nothing (m == n)) refl
 has_put p n m (Some entry) rest is = elim (cases_Bool (p entry)) [
@@ -46,10 +46,10 @@ has_put p n m (Some entry) rest is = elim (cases_Bool (p entry)) [
   | inr not_it ↦ rw (not_it, and_nothing (m == n)) refl
 ]
 
-has_told : (p : Entry → Bool) (n : ℕ) (events : List Event) (numbers : List ℕ) → has n (map number_of (filter p (entries_by events numbers))) ≡ (has n numbers && passes p (told_at n events))
+has_told : (p : QueuedState → Bool) (n : ℕ) (events : List Event) (numbers : List ℕ) → has n (map number_of (filter p (entries_by events numbers))) ≡ (has n numbers && passes p (told_at n events))
 has_told p n events [] = refl
 has_told p n events (m ∷ numbers) =
-    ap (λ (entries : List Entry). has n (map number_of (filter p entries))) (entries_step events m numbers)
+    ap (λ (entries : List QueuedState). has n (map number_of (filter p entries))) (entries_step events m numbers)
     ∙ has_put p n m (told_at m events) (entries_by events numbers) (told_is_of m events)
     ∙ ap (λ (rest : Bool). (m == n && passes p (told_at m events)) || rest) (has_told p n events numbers)
     ∙ elim (cases_Bool (m == n)) [
@@ -58,7 +58,7 @@ has_told p n events (m ∷ numbers) =
     ]
 
 -- the entries that pass a test have the number where it is told of so
-has_entries : (p : Entry → Bool) (n : ℕ) (events : List Event) → has n (map number_of (filter p (entries_of events))) ≡ passes p (told_at n events)
+has_entries : (p : QueuedState → Bool) (n : ℕ) (events : List Event) → has n (map number_of (filter p (entries_of events))) ≡ passes p (told_at n events)
 has_entries p n events =
     has_told p n events (numbers_of events)
     ∙ ap (λ (some : Bool). some && passes p (told_at n events)) (numbers_have n events)
@@ -81,7 +81,7 @@ after_content n numbers content =
     any-filter_same (λ (m : ℕ). m == n) (λ (m : ℕ). not (has m went)) (not (has n went)) (λ m is. ap (λ (k : ℕ). not (has k went)) (eqb-true m n is)) (numbers ++ came)
     ∙ ap (λ (b : Bool). not (has n went) && b) (list_any-append (λ (m : ℕ). m == n) numbers came)
 
-after_entries : (origin : Origin) (clock : Clock) (n : ℕ) (numbers : List ℕ) (entries : List Entry)
+after_entries : (origin : Origin) (clock : Clock) (n : ℕ) (numbers : List ℕ) (entries : List QueuedState)
     → has n (fold numbers_after numbers (messages_by origin clock entries)) ≡ changed (has n numbers) (has n (map number_of (filter is_insert entries))) (has n (map number_of (filter is_delete entries)))
 after_entries origin clock n numbers [] = sym (or_nothing (has n numbers))
 after_entries origin clock n numbers (e ∷ entries) = after_content n numbers (content_of origin clock (e ∷ entries)) ∙ simp map_twice refl

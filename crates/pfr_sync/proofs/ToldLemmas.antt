@@ -7,39 +7,39 @@ use Rattle.std.proofs.lemmas.List.Elements.{filter-append, recursion_from_All}
 use Rattle.pfr_track.specs.declared.state.State.{State}
 use Rattle.pfr_track.specs.declared.time.Clock.{Clock}
 use Rattle.pfr_sync.specs.declared.event.Event.{Event}
-use Rattle.pfr_sync.specs.declared.event.Change.{Change}
-use Rattle.pfr_sync.specs.declared.event.Change.TheVariants.{Made, Touched, Removed}
-use Rattle.pfr_sync.specs.declared.queue.Entry.{Entry}
-use Rattle.pfr_sync.specs.declared.queue.Told.TheVariants.{Insert, Update, Delete}
+use Rattle.pfr_sync.specs.declared.event.EventKind.{EventKind}
+use Rattle.pfr_sync.specs.declared.event.EventKind.TheVariants.{Made, Touched, Removed}
+use Rattle.pfr_sync.specs.declared.queue.QueuedState.{QueuedState}
+use Rattle.pfr_sync.specs.declared.queue.Action.TheVariants.{Insert, Update, Delete}
 use Rattle.pfr_sync.specs.Events.{MayCome, is_made, is_of, is_removed}
 use Rattle.pfr_sync.specs.Messages.{last_of, told_by, told_of}
 use Rattle.pfr_sync.specs.Queues.{begun, followed, number_of}
 
 -- ---- the first event of a state
 
-begun_by : (change : Change) (state : State) (clock : Clock) → let e : Event = record { change = change; state = state; clock = clock } in told_by e e ≡ Some (begun e)
+begun_by : (kind : EventKind) (state : State) (clock : Clock) → let e : Event = record { kind = kind; state = state; clock = clock } in told_by e e ≡ Some (begun e)
 begun_by Made state clock = refl
 begun_by Touched state clock = refl
 begun_by Removed state clock = refl
 
 pub told_first : (e : Event) → told_of (e ∷ []) ≡ Some (begun e)
-told_first e = begun_by e.change e.state e.clock
+told_first e = begun_by e.kind e.state e.clock
 
 -- ---- another one
 
-pub record Follows (told : Option Entry) (e : Event) (next : Option Entry) : Type 0 where
-  pub entry : Entry
+pub record Follows (told : Option QueuedState) (e : Event) (next : Option QueuedState) : Type 0 where
+  pub entry : QueuedState
   pub is : told ≡ Some entry
-  pub next_is : next ≡ followed entry.told e
+  pub next_is : next ≡ followed entry.action e
 
-follows_made : (change : Change) (state : State) (clock : Clock) → let e : Event = record { change = change; state = state; clock = clock } in is_made e ≡ false
-    → (if is_removed e then None else Some (record { told = Insert; state = e.state })) ≡ followed Insert e
+follows_made : (kind : EventKind) (state : State) (clock : Clock) → let e : Event = record { kind = kind; state = state; clock = clock } in is_made e ≡ false
+    → (if is_removed e then None else Some (record { action = Insert; state = e.state })) ≡ followed Insert e
 follows_made Made state clock it = absurd cc
 follows_made Touched state clock it = refl
 follows_made Removed state clock it = refl
 
-follows_moved : (change : Change) (state : State) (clock : Clock) → let e : Event = record { change = change; state = state; clock = clock } in is_made e ≡ false
-    → (if is_removed e then Some (record { told = Delete; state = e.state }) else Some (record { told = Update; state = e.state })) ≡ followed Update e
+follows_moved : (kind : EventKind) (state : State) (clock : Clock) → let e : Event = record { kind = kind; state = state; clock = clock } in is_made e ≡ false
+    → (if is_removed e then Some (record { action = Delete; state = e.state }) else Some (record { action = Update; state = e.state })) ≡ followed Update e
 follows_moved Made state clock it = absurd cc
 follows_moved Touched state clock it = refl
 follows_moved Removed state clock it = refl
@@ -47,14 +47,14 @@ follows_moved Removed state clock it = refl
 follows : (first last e : Event) → is_removed last ≡ false → is_made e ≡ false → Follows (told_by first last) e (told_by first e)
 follows first last e lives moved = elim (cases_Bool (is_made first)) [
   | inl made ↦ record {
-    entry = record { told = Insert; state = last.state };
+    entry = record { action = Insert; state = last.state };
     is = rw (made, lives) refl;
-    next_is = rw made (follows_made e.change e.state e.clock moved);
+    next_is = rw made (follows_made e.kind e.state e.clock moved);
   }
   | inr made ↦ record {
-    entry = record { told = Update; state = last.state };
+    entry = record { action = Update; state = last.state };
     is = rw (made, lives) refl;
-    next_is = rw made (follows_moved e.change e.state e.clock moved);
+    next_is = rw made (follows_moved e.kind e.state e.clock moved);
   }
 ]
 
@@ -106,7 +106,7 @@ some_kept p (x ∷ events) some = elim (cases_Bool (p x)) [
 -- ---- with one event more
 
 -- what is told of a state
-abbrev pub told_at : ℕ → List Event → Option Entry
+abbrev pub told_at : ℕ → List Event → Option QueuedState
 told_at n events = told_of (filter (is_of n) events)
 
 kept_one : (n : ℕ) (e : Event) → is_of n e ≡ true → filter (is_of n) (e ∷ []) ≡ e ∷ []
@@ -135,7 +135,7 @@ told_follows events e may some it =
 
 -- ---- whose it is
 
-abbrev pub IsOf : ℕ → Option Entry → Type 0
+abbrev pub IsOf : ℕ → Option QueuedState → Type 0
 IsOf n None = Unit {0}
 IsOf n (Some entry) = number_of entry ≡ n
 

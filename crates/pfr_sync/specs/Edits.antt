@@ -3,20 +3,20 @@ use Rattle.std.specs.Prelude.{ℕ, ◌+◌, List, ◌++◌, take, drop, Option, 
 use Rattle.std.specs.List.{cons_option}
 use Rattle.pfr_track.specs.declared.state.State.{State}
 use Rattle.pfr_sync.specs.declared.edit.Edit.{Edit}
-use Rattle.pfr_sync.specs.declared.queue.Entry.{Entry}
-use Rattle.pfr_sync.specs.declared.queue.Told.{Told}
+use Rattle.pfr_sync.specs.declared.queue.QueuedState.{QueuedState}
+use Rattle.pfr_sync.specs.declared.queue.Action.{Action}
 
--- the entry that tells this of a state; none where nothing is told
-abbrev pub entry_of : State → Option Told → Option Entry
+-- the entry that tells an action of a state; none if nothing is told
+abbrev pub entry_of : State → Option Action → Option QueuedState
 entry_of state None = None
-entry_of state (Some told) = Some (record { told = told; state = state })
+entry_of state (Some action) = Some (record { action = action; state = state })
 
--- the place behind the entry that gives way
-abbrev pub behind : ℕ → Option Told → ℕ
+-- the place after the entry that is replaced
+abbrev pub behind : ℕ → Option Action → ℕ
 behind place None = place
-behind place (Some told) = place + 1
+behind place (Some action) = place + 1
 
 -- the entries after the edit
-abbrev pub edited : State → Edit → List Entry → List Entry
+abbrev pub edited : State → Edit → List QueuedState → List QueuedState
 edited state edit entries =
     take edit.place entries ++ cons_option (entry_of state edit.new) (drop (behind edit.place edit.old) entries)

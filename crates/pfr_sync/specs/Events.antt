@@ -1,4 +1,4 @@
--- What becomes of states, and what a message says of it.
+-- Events of states, and what a message says of them.
 use Rattle.std.specs.Prelude.{◌≡◌, ℕ, ◌-◌, ◌^◌, min, ◌==◌, Bool, true, false, nat_lt, if◌then◌else◌, List, Option, Some, None}
 use Rattle.std.specs.List.{All}
 use Rattle.pfr_net.specs.declared.rule_number.RuleNumber.{RuleNumber}
@@ -16,7 +16,7 @@ use Rattle.pfr_messages.specs.declared.records.Insertion.{Insertion}
 use Rattle.pfr_messages.specs.declared.records.Update.{Update}
 use Rattle.pfr_messages.specs.declared.records.Deletion.{Deletion}
 use Rattle.pfr_sync.specs.declared.event.Event.{Event}
-use Rattle.pfr_sync.specs.declared.event.Change.TheVariants.{Made, Touched, Removed}
+use Rattle.pfr_sync.specs.declared.event.EventKind.TheVariants.{Made, Touched, Removed}
 use Rattle.pfr_sync.specs.declared.origin.Origin.{Origin}
 
 -- ---- what a record holds of a state
@@ -49,12 +49,12 @@ other_of (peers.Other maker other) = coded_peer (datagram.code_of other)
 abbrev pub parties_of : Key → Parties
 parties_of key = record { outside = key.outside; inside = key.inside }
 
--- a rule whose number 32 bits hold; no ruleset has others
+-- a rule whose number fits in 32 bits; no ruleset has others
 abbrev pub rule_of : Option RuleNumber → Option RuleNumber
 rule_of None = None
 rule_of (Some rule) = if nat_lt rule.0 (2 ^ 32 - 1) then Some rule else None
 
--- seconds until a state is no more, from a clock on; no timeout is longer than 32 bits hold
+-- seconds from a clock until a state's deadline; every timeout fits in 32 bits
 abbrev pub remaining : Clock → State → ℕ
 remaining clock state = min (state.deadline.0 - clock.0) (2 ^ 32 - 1)
 
@@ -97,11 +97,11 @@ abbrev pub is_of : ℕ → Event → Bool
 is_of number event = event.state.number.0 == number
 
 abbrev pub is_made : Event → Bool
-is_made event = elim event.change [ Made ↦ true | Touched ↦ false | Removed ↦ false ]
+is_made event = elim event.kind [ Made ↦ true | Touched ↦ false | Removed ↦ false ]
 
 abbrev pub is_removed : Event → Bool
-is_removed event = elim event.change [ Made ↦ false | Touched ↦ false | Removed ↦ true ]
+is_removed event = elim event.kind [ Made ↦ false | Touched ↦ false | Removed ↦ true ]
 
--- Of one state, made comes only as the first event, and none comes after the removal: such an event may come next.
+-- This event may come next: of one state, only the first event is a making, and none follows the removal.
 abbrev pub MayCome : List Event → Event → Type 0
 MayCome events event = All (λ before. is_of event.state.number.0 before ≡ true → (is_removed before ≡ false) × (is_made event ≡ false)) events

@@ -1,4 +1,4 @@
--- Words of the laws.
+-- The statements of the laws.
 use Rattle.std.specs.Prelude.{◌≡◌, ◌≤◌, ◌<◌, ℕ, ◌+◌, ◌^◌, ◌==◌, ◌&&◌, Bool, true, false, not, List, [], ◌∷◌, ◌++◌, length, map, fold}
 use Rattle.std.specs.List.{All, IsDistinct, filter, flat_map, list_any}
 use Rattle.pfr_net.specs.declared.address.Ipv4Address.{Ipv4Address}
@@ -18,7 +18,7 @@ use Rattle.pfr_sync.specs.Messages.{last_of, message_of, messages_of, parts_of}
 abbrev pub closed_of : Origin → List Event → List Content
 closed_of origin events = flat_map (message_of origin) (parts_of origin events).closed
 
--- they are a beginning of those of the events with more
+-- with more events, the closed messages begin with these
 abbrev pub ClosedMessagesStay : Type 0
 ClosedMessagesStay =
     (origin : Origin) (events more : List Event) → (rest : List Content) × (closed_of origin (events ++ more) ≡ closed_of origin events ++ rest)
@@ -27,7 +27,7 @@ ClosedMessagesStay =
 abbrev pub FileHeaderVerifies : Type 0
 FileHeaderVerifies = (source : Ipv4Address) (len : ℕ) → source.0 < 2 ^ 32 → len ≤ 1480 → Verifies (sum_of_words 10 (ip_header source len))
 
--- the packet of a message of so many bytes: of protocol 240, from a source to 224.0.0.240, with no options
+-- the packet of a message of `len` bytes: protocol 240, from a source to 224.0.0.240, with no options
 abbrev pub packet_of_message : Ipv4Address → ℕ → Packet
 packet_of_message source len = record {
   header_length = 20;
@@ -44,12 +44,12 @@ FileMessageIsAPacket =
     (source : Ipv4Address) (text : List ℕ) → source.0 < 2 ^ 32 → length text ≤ 1480
     → view_of 101 (ip_header source (length text) ++ text) ≡ Ipv4 (packet_of_message source (length text))
 
--- the numbers of the states of which a message tells
+-- the numbers of the states in a message
 abbrev pub numbers_in : Content → List ℕ
 numbers_in content =
     map (λ r. r.number.0) content.insertions ++ map (λ r. r.number.0) content.updates ++ map (λ r. r.number.0) content.deletions
 
--- each message of events tells of a state once at most
+-- each message of events tells of a state at most once
 abbrev pub AStateIsToldOfOnce : Type 0
 AStateIsToldOfOnce =
     (origin : Origin) (events : List Event) → All (λ content. IsDistinct (λ n m. n == m) (numbers_in content)) (messages_of origin events)
@@ -60,32 +60,32 @@ AStateIsToldOfOnce =
 abbrev pub has : ℕ → List ℕ → Bool
 has n numbers = list_any (λ m. m == n) numbers
 
--- the numbers that are held after a message: those of its insertions come in, and then those of its deletions go out
+-- the numbers held after a message: its insertions are added, and then its deletions are removed
 abbrev pub numbers_after : List ℕ → Content → List ℕ
 numbers_after numbers content =
     filter (λ n. not (has n (map (λ r. r.number.0) content.deletions))) (numbers ++ map (λ r. r.number.0) content.insertions)
 
--- the numbers that are held after messages
+-- the numbers held after messages
 abbrev pub held_after : List Content → List ℕ
 held_after contents = fold numbers_after [] contents
 
--- the events of one state leave it there: the first is that it was made, and the last isn't its removal
+-- the events of one state leave it in the table: the first is its making, and the last isn't its removal
 abbrev pub leave_it : List Event → Bool
 leave_it [] = false
 leave_it (first ∷ events) = is_made first && not (is_removed (last_of first events))
 
--- the state of a number is there after events
+-- events leave the state of a number in the table
 abbrev pub is_left : ℕ → List Event → Bool
 is_left n events = leave_it (filter (is_of n) events)
 
--- each event may come after those before it, and the first one of a state is that it was made
+-- each event may come after those before it, and the first one of a state is its making
 pub record IsHistory (events : List Event) : Type 0 where
   pub may_come : (before : List Event) (event : Event) (more : List Event) → events ≡ before ++ event ∷ more → MayCome before event
   pub begins :
       (before : List Event) (event : Event) (more : List Event) → events ≡ before ++ event ∷ more
       → list_any (is_of event.state.number.0) before ≡ false → is_made event ≡ true
 
--- who applies the messages of events holds the numbers of the states that are there after them, and no others
+-- a standby that applies the messages of events holds the numbers of the states that they leave, and no others
 abbrev pub AStandbyHoldsWhatIsLeft : Type 0
 AStandbyHoldsWhatIsLeft =
     (origin : Origin) (events : List Event) → IsHistory events → (n : ℕ) → has n (held_after (messages_of origin events)) ≡ is_left n events

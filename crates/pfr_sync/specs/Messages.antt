@@ -5,8 +5,8 @@ use Rattle.pfr_track.specs.declared.time.Clock.{Clock}
 use Rattle.pfr_messages.specs.Messages.{Content, spelling}
 use Rattle.pfr_sync.specs.declared.event.Event.{Event}
 use Rattle.pfr_sync.specs.declared.origin.Origin.{Origin}
-use Rattle.pfr_sync.specs.declared.queue.Entry.{Entry}
-use Rattle.pfr_sync.specs.declared.queue.Told.TheVariants.{Insert, Update, Delete}
+use Rattle.pfr_sync.specs.declared.queue.QueuedState.{QueuedState}
+use Rattle.pfr_sync.specs.declared.queue.Action.TheVariants.{Insert, Update, Delete}
 use Rattle.pfr_sync.specs.Events.{deletion_of, insertion_of, is_made, is_of, is_removed, update_of}
 
 -- ---- what a part tells
@@ -18,7 +18,7 @@ with_number n (m ∷ numbers) =
     if nat_lt n m then n ∷ m ∷ numbers else
     if n == m then m ∷ numbers else m ∷ with_number n numbers
 
--- the numbers of the states of which events speak, rising, each once
+-- the numbers of the states of events, rising, each once
 abbrev pub numbers_of : List Event → List ℕ
 numbers_of events = fold (λ numbers event. with_number event.state.number.0 numbers) [] events
 
@@ -26,20 +26,20 @@ abbrev pub last_of : Event → List Event → Event
 last_of event [] = event
 last_of event (next ∷ events) = last_of next events
 
--- What is told of a state by its first event and its last one: that it came to be, or nothing where it is gone again; else that it is
--- gone, or that it moved on. The state is that of the last event.
-abbrev pub told_by : Event → Event → Option Entry
+-- What is told of a state by its first event and its last one. If it was made, an insertion, or nothing if it is removed again; else a
+-- deletion if it is removed, and an update if it isn't. The state is that of the last event.
+abbrev pub told_by : Event → Event → Option QueuedState
 told_by first last =
     if is_made first
-    then (if is_removed last then None else Some (record { told = Insert; state = last.state }))
-    else (if is_removed last then Some (record { told = Delete; state = last.state }) else Some (record { told = Update; state = last.state }))
+    then (if is_removed last then None else Some (record { action = Insert; state = last.state }))
+    else (if is_removed last then Some (record { action = Delete; state = last.state }) else Some (record { action = Update; state = last.state }))
 
-abbrev pub told_of : List Event → Option Entry
+abbrev pub told_of : List Event → Option QueuedState
 told_of [] = None
 told_of (event ∷ events) = told_by event (last_of event events)
 
 -- what events tell of the states of these numbers
-abbrev pub entries_by : List Event → List ℕ → List Entry
+abbrev pub entries_by : List Event → List ℕ → List QueuedState
 entries_by events [] = []
 entries_by events (n ∷ numbers) = elim (told_of (filter (is_of n) events)) [
   | None ↦ entries_by events numbers
@@ -47,22 +47,22 @@ entries_by events (n ∷ numbers) = elim (told_of (filter (is_of n) events)) [
 ]
 
 -- what events tell, by rising number
-abbrev pub entries_of : List Event → List Entry
+abbrev pub entries_of : List Event → List QueuedState
 entries_of events = entries_by events (numbers_of events)
 
 -- ---- a part's message
 
-abbrev pub is_insert : Entry → Bool
-is_insert entry = elim entry.told [ Insert ↦ true | Update ↦ false | Delete ↦ false ]
+abbrev pub is_insert : QueuedState → Bool
+is_insert entry = elim entry.action [ Insert ↦ true | Update ↦ false | Delete ↦ false ]
 
-abbrev pub is_update : Entry → Bool
-is_update entry = elim entry.told [ Insert ↦ false | Update ↦ true | Delete ↦ false ]
+abbrev pub is_update : QueuedState → Bool
+is_update entry = elim entry.action [ Insert ↦ false | Update ↦ true | Delete ↦ false ]
 
-abbrev pub is_delete : Entry → Bool
-is_delete entry = elim entry.told [ Insert ↦ false | Update ↦ false | Delete ↦ true ]
+abbrev pub is_delete : QueuedState → Bool
+is_delete entry = elim entry.action [ Insert ↦ false | Update ↦ false | Delete ↦ true ]
 
--- the message that tells this at a clock
-abbrev pub content_of : Origin → Clock → List Entry → Content
+-- the message that tells entries at a clock
+abbrev pub content_of : Origin → Clock → List QueuedState → Content
 content_of origin clock entries = record {
   checksum = origin.checksum;
   insertions = map (λ entry. insertion_of origin clock entry.state) (filter is_insert entries);
@@ -71,7 +71,7 @@ content_of origin clock entries = record {
 }
 
 -- a message has at most 1480 bytes: 1500 with the IP header before it
-abbrev pub is_short : Origin → Clock → List Entry → Bool
+abbrev pub is_short : Origin → Clock → List QueuedState → Bool
 is_short origin clock entries = nat_le (length (spelling (content_of origin clock entries))) 1480
 
 -- ---- parts
@@ -97,8 +97,8 @@ with_event origin parts event =
 abbrev pub parts_of : Origin → List Event → Parts
 parts_of origin events = fold (with_event origin) (record { closed = []; last = [] }) events
 
--- the message of a part, at the part's clock; none where nothing is told
-abbrev pub messages_by : Origin → Clock → List Entry → List Content
+-- the message of a part, at the part's clock; none if nothing is told
+abbrev pub messages_by : Origin → Clock → List QueuedState → List Content
 messages_by origin clock [] = []
 messages_by origin clock (entry ∷ entries) = content_of origin clock (entry ∷ entries) ∷ []
 
@@ -113,7 +113,7 @@ messages_of origin events =
 
 -- ---- a moment
 
--- the last part, where it may still go on at a clock
+-- the last part, if it may still go on at a clock
 abbrev pub going_on : Clock → List Event → List Event
 going_on clock [] = []
 going_on clock (first ∷ part) = if first.clock.0 == clock.0 then first ∷ part else []

@@ -1,4 +1,4 @@
--- What all messages of a run say of who tells.
+-- The checksum that all messages of a run carry.
 use Rattle.std.specs.Prelude.{ℕ, List}
 use Rattle.md5.specs.Md5.{md5}
 

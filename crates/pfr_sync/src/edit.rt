@@ -3,52 +3,52 @@ ghost use Rattle.std.specs.Prelude.{◌≡◌, ◌+◌, ◌≤◌, ◌<◌, ◌+
 ghost use Rattle.pfr_track.specs.declared.state.State.{State as S};
 ghost use Rattle.pfr_track.specs.declared.time.Clock.{Clock as C};
 ghost use Rattle.pfr_sync.specs.declared.event.Event.{Event as E};
-ghost use Rattle.pfr_sync.specs.declared.queue.Entry.{Entry as N};
+ghost use Rattle.pfr_sync.specs.declared.queue.QueuedState.{QueuedState as N};
 ghost use Rattle.pfr_sync.specs.Edits as edits;
 ghost use Rattle.pfr_sync.specs.Queues as spec;
 ghost use Rattle.pfr_sync.specs.Sizes as sizes;
 
 use crate::entries::Entries;
-use crate::event::Change;
-use crate::queue::Told;
+use crate::event::EventKind;
+use crate::queue::Action;
 use pfr_track::{State, StateNumber};
 use std::alloc::AllocError;
 
-/// What is told of a state of which nothing was told.
-pub fn begun(change: Change) -> Told
-    ensures { (state : S) (clock : C) → record { told = result; state = state } ≡ spec.begun (record { change = change; state = state; clock = clock }) }
+/// The action told of a state of which nothing was told.
+pub fn begun(kind: EventKind) -> Action
+    ensures { (state : S) (clock : C) → record { action = result; state = state } ≡ spec.begun (record { kind = kind; state = state; clock = clock }) }
 {
-    match change {
-        Change::Made => Told::Insert,
-        Change::Touched => Told::Update,
-        Change::Removed => Told::Delete,
+    match kind {
+        EventKind::Made => Action::Insert,
+        EventKind::Touched => Action::Update,
+        EventKind::Removed => Action::Delete,
     }
 }
 
-/// What is told of a state of which something was told.
-fn followed(told: Told, change: Change) -> Option<Told>
-    ensures { (state : S) (clock : C) → edits.entry_of state result ≡ spec.followed told (record { change = change; state = state; clock = clock }) }
+/// The action that follows one already told of the state; None if nothing is told any more.
+fn followed(action: Action, kind: EventKind) -> Option<Action>
+    ensures { (state : S) (clock : C) → edits.entry_of state result ≡ spec.followed action (record { kind = kind; state = state; clock = clock }) }
 {
-    let told = match (told, change) {
-        (Told::Insert, Change::Removed) => return None,
-        (Told::Insert, _) => Told::Insert,
-        (_, Change::Removed) => Told::Delete,
-        _ => Told::Update,
+    let action = match (action, kind) {
+        (Action::Insert, EventKind::Removed) => return None,
+        (Action::Insert, _) => Action::Insert,
+        (_, EventKind::Removed) => Action::Delete,
+        _ => Action::Update,
     };
-    Some(told)
+    Some(action)
 }
 
-/// At a place what was told of a state gives way to what is told now.
+/// One edit of the entries: at `place`, the action `new` replaces `old`.
 #[derive(Clone, Copy)]
 pub struct Edit {
     pub place: usize,
-    /// What the entry at the place tells. None where it is another state's: then the new one goes before it.
-    pub old: Option<Told>,
-    /// None where nothing is told any more.
-    pub new: Option<Told>,
+    /// The action of the entry at the place. None if that is another state's entry: then the new one goes before it.
+    pub old: Option<Action>,
+    /// None if nothing is told any more.
+    pub new: Option<Action>,
 }
 
-/// The first place whose entry isn't of a lower number than this.
+/// The first place whose entry's number isn't below this one.
 fn place_of(entries: &Entries, number: StateNumber) -> usize
     requires { spec.rise entries.now ≡ true }
     ensures within { result ≤ length entries.now }
@@ -68,10 +68,10 @@ fn place_of(entries: &Entries, number: StateNumber) -> usize
     low
 }
 
-/// What an event does to the entries, at whatever clock.
-pub fn edit_of(entries: &Entries, change: Change, state: &State) -> Edit
+/// The edit that an event makes to the entries. It doesn't depend on the clock.
+pub fn edit_of(entries: &Entries, kind: EventKind, state: &State) -> Edit
     requires { spec.rise entries.now ≡ true }
-    ensures entries { (clock : C) → spec.with_entry (record { change = change; state = state.now; clock = clock }) entries.now ≡ edits.edited state.now result entries.now }
+    ensures entries { (clock : C) → spec.with_entry (record { kind = kind; state = state.now; clock = clock }) entries.now ≡ edits.edited state.now result entries.now }
     ensures within { edits.behind result.place result.old ≤ length entries.now }
     ensures gone { IfNone result.new (IsSome result.old) }
     ensures counts { sizes.Exchanges result.old result.new (sizes.counts_of entries.now) (sizes.counts_of (edits.edited state.now result entries.now)) }
@@ -81,19 +81,19 @@ pub fn edit_of(entries: &Entries, change: Change, state: &State) -> Edit
         Edit {
             place,
             old: None,
-            new: Some(begun(change)),
+            new: Some(begun(kind)),
         }
     } else {
-        let told = entries.get(place).told;
+        let action = entries.get(place).action;
         Edit {
             place,
-            old: Some(told),
-            new: followed(told, change),
+            old: Some(action),
+            new: followed(action, kind),
         }
     }
 }
 
-/// Edits the entries. Where memory is refused nothing changes.
+/// Edits the entries. If memory is refused nothing changes.
 pub fn apply(entries: &mut Entries, edit: Edit, state: &State) -> Result<(), AllocError>
     requires within { edits.behind edit.place edit.old ≤ length entries.old }
     requires gone { IfNone edit.new (IsSome edit.old) }
@@ -102,22 +102,22 @@ pub fn apply(entries: &mut Entries, edit: Edit, state: &State) -> Result<(), All
 {
     match edit.new {
         None => entries.remove(edit.place),
-        Some(told) => {
+        Some(action) => {
             if edit.old.is_some() {
-                entries.write(edit.place, told, state);
+                entries.write(edit.place, action, state);
             } else {
-                entries.insert(edit.place, told, state)?;
+                entries.insert(edit.place, action, state)?;
             }
         }
     }
     Ok(())
 }
 
-/// Leaves the entry of an event alone, in the place of the first.
-pub fn start(entries: &mut Entries, told: Told, state: &State)
+/// Replaces all entries with the one of an event.
+pub fn start(entries: &mut Entries, action: Action, state: &State)
     requires { 0 < length entries.old }
-    ensures { entries.new ≡ record { told = told; state = state.now } ∷ [] }
+    ensures { entries.new ≡ record { action = action; state = state.now } ∷ [] }
 {
     entries.truncate(1);
-    entries.write(0, told, state);
+    entries.write(0, action, state);
 }

@@ -2,28 +2,28 @@
 ghost use Rattle.std.specs.Prelude.{◌≡◌, ◌+◌, ◌≤◌, ◌<◌, ◌++◌, [], ◌∷◌, take, drop, length, slice_index_or, slice_set, OnOk, OnErr};
 ghost use Rattle.pfr_sync.specs.Entries as spec;
 
-use crate::queue::{Entry, Told};
+use crate::queue::{Action, QueuedState};
 use pfr_track::State;
 use std::alloc::{AllocError, Global};
 use std::marker::Model;
 
-/// Entries in an order. An entry is large, so it stays in the slot where it was put: only numbers of slots move.
+/// Entries in order. An entry is large, so it stays in its slot: only slot numbers move.
 #[derive(Drop)]
 pub struct Entries {
-    /// The entries, and slots that are free for others.
-    slots: Vec<Entry>,
-    /// The numbers of all slots: those of the entries in their order, and then the free ones.
+    /// The entries, and free slots.
+    slots: Vec<QueuedState>,
+    /// The numbers of all slots: those of the entries in order, and then the free ones.
     order: Vec<usize>,
-    /// How many entries there are.
+    /// The number of entries.
     count: usize,
 }
 
 impl Model for Entries {
     ghost use Rattle.std.specs.Prelude.{◌≤◌, List, length, take};
-    ghost use Rattle.pfr_sync.specs.declared.queue.Entry.{Entry};
+    ghost use Rattle.pfr_sync.specs.declared.queue.QueuedState.{QueuedState};
     ghost use Rattle.pfr_sync.specs.Entries.{AreSlots, in_order};
 
-    ghost Value = { List Entry };
+    ghost Value = { List QueuedState };
 
     ghost view = { λ e. in_order (take e.count e.order.items) e.slots.items };
 
@@ -31,7 +31,7 @@ impl Model for Entries {
 }
 
 impl Entries {
-    /// No entries. They take memory only once there are some.
+    /// No entries. The first one takes memory.
     pub fn new(alloc: Global) -> Entries
         ensures { result ≡ [] }
     {
@@ -42,7 +42,7 @@ impl Entries {
         }
     }
 
-    /// How many entries there are.
+    /// The number of entries.
     #[inline]
     pub fn len(&self) -> usize
         ensures { result ≡ length self.now }
@@ -52,7 +52,7 @@ impl Entries {
 
     /// The entry at a place.
     #[inline]
-    pub fn get(&self, place: usize) -> &Entry
+    pub fn get(&self, place: usize) -> &QueuedState
         requires { place < length self.now }
         ensures { result.now ≡ slice_index_or self.now place result.now }
     {
@@ -60,35 +60,35 @@ impl Entries {
         &self.slots[slot]
     }
 
-    /// Puts an entry before those from a place on. Where memory is refused nothing changes.
-    pub fn insert(&mut self, place: usize, told: Told, state: &State) -> Result<(), AllocError>
+    /// Inserts an entry at a place, before those from there on. If memory is refused nothing changes.
+    pub fn insert(&mut self, place: usize, action: Action, state: &State) -> Result<(), AllocError>
         requires { place ≤ length self.old }
-        ensures entries { OnOk result (self.new ≡ take place self.old ++ record { told = told; state = state.now } ∷ drop place self.old) }
+        ensures entries { OnOk result (self.new ≡ take place self.old ++ record { action = action; state = state.now } ∷ drop place self.old) }
         ensures kept { OnErr result (self.new ≡ self.old) }
     {
-        make_room(&mut self.slots, &mut self.order, self.count, told, state)?;
+        make_room(&mut self.slots, &mut self.order, self.count, action, state)?;
         let slot = self.order[self.count];
         self.order.copy_within(place..self.count, place + 1);
         self.order[place] = slot;
         self.count += 1;
         let entry = &mut self.slots[slot];
-        entry.told = told;
+        entry.action = action;
         entry.state = *state;
         Ok(())
     }
 
-    /// Writes an entry over the one at a place.
-    pub fn write(&mut self, place: usize, told: Told, state: &State)
+    /// Replaces the entry at a place.
+    pub fn write(&mut self, place: usize, action: Action, state: &State)
         requires { place < length self.old }
-        ensures { self.new ≡ slice_set self.old place (record { told = told; state = state.now }) }
+        ensures { self.new ≡ slice_set self.old place (record { action = action; state = state.now }) }
     {
         let slot = self.order[place];
         let entry = &mut self.slots[slot];
-        entry.told = told;
+        entry.action = action;
         entry.state = *state;
     }
 
-    /// Takes the entry at a place out.
+    /// Removes the entry at a place.
     pub fn remove(&mut self, place: usize)
         requires { place < length self.old }
         ensures { self.new ≡ take place self.old ++ drop (place + 1) self.old }
@@ -100,7 +100,7 @@ impl Entries {
         self.count = last;
     }
 
-    /// Takes all entries out but those before a place.
+    /// Removes the entries from a place on.
     pub fn truncate(&mut self, place: usize)
         requires { place ≤ length self.old }
         ensures { self.new ≡ take place self.old }
@@ -109,12 +109,12 @@ impl Entries {
     }
 }
 
-/// Makes a free slot where there is none. The entries stay.
+/// Makes a free slot if there is none. The entries stay.
 fn make_room(
-    slots: &mut Vec<Entry>,
+    slots: &mut Vec<QueuedState>,
     order: &mut Vec<usize>,
     count: usize,
-    told: Told,
+    action: Action,
     state: &State,
 ) -> Result<(), AllocError>
     requires slots { spec.AreSlots (length slots.old.items) order.old.items }
@@ -127,16 +127,16 @@ fn make_room(
     if count < order.len() {
         return Ok(());
     }
-    add_slot(slots, order, told, state)
+    add_slot(slots, order, action, state)
 }
 
-/// Makes a free slot. Some entry has to stand in it, and this one does.
-// It is seldom called, and has large locals.
+/// Adds a free slot. Each slot holds some entry, so it gets this one.
+// It is seldom called and has large locals.
 #[inline(never)]
 fn add_slot(
-    slots: &mut Vec<Entry>,
+    slots: &mut Vec<QueuedState>,
     order: &mut Vec<usize>,
-    told: Told,
+    action: Action,
     state: &State,
 ) -> Result<(), AllocError>
     requires { spec.AreSlots (length slots.old.items) order.old.items }
@@ -147,8 +147,8 @@ fn add_slot(
 {
     order.reserve(1)?;
     let slot = slots.len();
-    slots.push(Entry {
-        told,
+    slots.push(QueuedState {
+        action,
         state: *state,
     })?;
     order.push(slot)?;

@@ -1,19 +1,19 @@
-//! What becomes of states.
+//! Events of states.
 use pfr_track::{Clock, State};
 
-/// What became of a state.
+/// What happened to a state.
 #[derive(Clone, Copy, Debug, PartialEq, Eq)]
-pub enum Change {
+pub enum EventKind {
     Made,
     Touched,
     Removed,
 }
 
-/// What became of a state at a clock.
+/// What happened to a state, and at which clock.
 #[derive(Clone, Copy)]
 pub struct Event {
-    pub change: Change,
-    /// The state as it was left; a removed one as it was before.
+    pub kind: EventKind,
+    /// The state after the event; a removed state as it was before.
     pub state: State,
     pub clock: Clock,
 }

@@ -1,10 +1,10 @@
-//! Messages in a file, where each one stands behind an IP header.
+//! Messages in a file: each one follows an IP header.
 ghost use Rattle.std.specs.Prelude.{◌≡◌, ◌≤◌};
 ghost use Rattle.pfr_sync.specs.Files as spec;
 
 use pfr_net::Ipv4Address;
 
-/// The IP header (RFC 791) that stands before a message of so many bytes, from an interface's address to 224.0.0.240.
+/// The IP header (RFC 791) before a message of `len` bytes, from an interface's address to 224.0.0.240.
 pub fn ip_header(source: Ipv4Address, len: u16) -> [u8; 20]
     requires one_message { len ≤ 1480 }
     ensures { result ≡ spec.ip_header source len }

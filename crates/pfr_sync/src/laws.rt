@@ -6,7 +6,7 @@ ghost use Rattle.pfr_sync.specs.Laws.{AStandbyHoldsWhatIsLeft, AStateIsToldOfOnc
 
 pub use pfr_messages::laws::{one_spelling, readable};
 
-/// The messages of all parts of events but the last stay as they are, whatever events come after.
+/// The messages of all parts of events but the last stay as they are, with any events that follow.
 pub fn closed_messages_stay()
     ensures { ClosedMessagesStay }
 {}
@@ -29,8 +29,8 @@ pub fn a_state_is_told_of_once()
     ensures { AStateIsToldOfOnce }
 {}
 
-/// Whoever applies the messages of events to a set of numbers, which is empty at first, holds at the end the numbers of the states
-/// that the events leave, and no others.
+/// A standby that applies the messages of events to an empty set of numbers ends with the numbers of the states that the events
+/// leave, and no others.
 pub fn a_standby_holds_what_is_left()
     ensures { AStandbyHoldsWhatIsLeft }
 {}

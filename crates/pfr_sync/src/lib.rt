@@ -1,13 +1,13 @@
-//! What a standby is told: the checksum of the rules, and messages of what becomes of states.
+//! What a standby is told: the checksum of the rules, and messages about states.
 //!
-//! [`checksum`] is the MD5 of a ruleset's text. Its contract says so of every text, of whatever length. No contract
+//! [`checksum`] is the MD5 of a ruleset's text. Its contract holds for every text, of any length. No contract
 //! says that texts with one checksum are the same: MD5 is broken as a cryptographic hash.
 //!
 //! A [`Queue`] takes [`Event`]s, in the order in which states are made, touched and removed. It holds what the open message
-//! tells, an entry a state, and answers the messages that close. Its contracts say so for every list of events: the messages
+//! tells, one entry per state, and returns the messages that close. Its contracts hold for every list of events: the messages
 //! are those of the list's parts, as the definition cuts it. [`encode`] spells a [`Message`], and [`decode`] reads one.
 //!
-//! In a file each message stands behind an IP header, [`ip_header`]. Its checksum verifies (`laws::file_header_verifies`).
+//! In a file each message follows an IP header, [`ip_header`]. Its checksum verifies (`laws::file_header_verifies`).
 #![tactic(auto)]
 
 mod digest;
@@ -24,7 +24,7 @@ mod sizes;
 mod telling;
 
 pub use digest::checksum;
-pub use event::{Change, Event};
+pub use event::{Event, EventKind};
 pub use file::ip_header;
 pub use origin::Origin;
 pub use pfr_messages::{Message, SyncError, decode, encode, encode_onto};

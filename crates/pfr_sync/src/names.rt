@@ -4,7 +4,7 @@ ghost use Rattle.pfr_sync.specs.Queues as spec;
 
 use pfr_net::IfName;
 
-/// The name that stands before the first zero.
+/// The bytes of a name before its first zero.
 pub fn plain_name(name: &IfName) -> IfName
     ensures { result ≡ spec.plain_name name.now }
 {

@@ -8,6 +8,6 @@ pub struct Origin {
     pub interface: IfName,
     /// The checksum of the ruleset's text.
     pub checksum: [u8; 16],
-    /// The number by which the firewall is known (pf.conf(5), "hostid").
+    /// The firewall's number (pf.conf(5), "hostid").
     pub creator: u32,
 }

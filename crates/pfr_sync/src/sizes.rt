@@ -1,10 +1,10 @@
-//! How many bytes a message has.
+//! The size of a message in bytes.
 ghost use Rattle.std.specs.Prelude.{◌≡◌, ◌+◌, ◌≤◌};
 ghost use Rattle.pfr_sync.specs.Sizes as spec;
 
-use crate::queue::Told;
+use crate::queue::Action;
 
-/// How many records of each kind a message has.
+/// The number of records of each kind in a message.
 #[derive(Clone, Copy)]
 pub struct Counts {
     pub insertions: usize,
@@ -12,16 +12,16 @@ pub struct Counts {
     pub deletions: usize,
 }
 
-/// The count of what is told of one state.
-pub fn one_of(told: Option<Told>) -> Counts
-    ensures counts { result ≡ spec.one_of told }
+/// The counts of one action, or of none.
+pub fn one_of(action: Option<Action>) -> Counts
+    ensures counts { result ≡ spec.one_of action }
     ensures one { result.insertions + (result.updates + result.deletions) ≤ 1 }
 {
-    let (insertions, updates, deletions) = match told {
+    let (insertions, updates, deletions) = match action {
         None => (0, 0, 0),
-        Some(Told::Insert) => (1, 0, 0),
-        Some(Told::Update) => (0, 1, 0),
-        Some(Told::Delete) => (0, 0, 1),
+        Some(Action::Insert) => (1, 0, 0),
+        Some(Action::Update) => (0, 1, 0),
+        Some(Action::Delete) => (0, 0, 1),
     };
     Counts {
         insertions,
@@ -30,8 +30,8 @@ pub fn one_of(told: Option<Told>) -> Counts
     }
 }
 
-/// The counts where what was told of a state gives way to what is told now.
-pub fn exchanged(counts: Counts, old: Option<Told>, new: Option<Told>) -> Counts
+/// The counts after the action told of a state is replaced by another.
+pub fn exchanged(counts: Counts, old: Option<Action>, new: Option<Action>) -> Counts
     requires few { counts.insertions + (counts.updates + counts.deletions) ≤ 1000 }
     requires insertions { (spec.one_of old).insertions ≤ counts.insertions + (spec.one_of new).insertions }
     requires updates { (spec.one_of old).updates ≤ counts.updates + (spec.one_of new).updates }

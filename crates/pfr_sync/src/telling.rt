@@ -10,14 +10,14 @@ ghost use Rattle.pfr_sync.specs.Queues.{IsQueue};
 
 use crate::entries::Entries;
 use crate::origin::Origin;
-use crate::queue::Told;
+use crate::queue::Action;
 use crate::records::{deletion_of, insertion_of, update_of};
 use crate::sizes::Counts;
 use pfr_messages::{Deletion, Insertion, Message, Update};
 use pfr_track::Clock;
 use std::alloc::{AllocError, Global};
 
-/// The insertions. The count is how many to make room for at once.
+/// The insertions. Room for `count` of them is made at once.
 fn insertions_of(
     alloc: Global,
     origin: &Origin,
@@ -32,14 +32,14 @@ fn insertions_of(
     let mut found = Vec::with_capacity(alloc, count)?;
     for place in 0..entries.len() {
         let entry = entries.get(place);
-        if let Told::Insert = entry.told {
+        if let Action::Insert = entry.action {
             found.push(insertion_of(*origin, clock, entry.state))?;
         }
     }
     Ok(found)
 }
 
-/// The updates. The count is how many to make room for at once.
+/// The updates. Room for `count` of them is made at once.
 fn updates_of(
     alloc: Global,
     origin: &Origin,
@@ -53,14 +53,14 @@ fn updates_of(
     let mut found = Vec::with_capacity(alloc, count)?;
     for place in 0..entries.len() {
         let entry = entries.get(place);
-        if let Told::Update = entry.told {
+        if let Action::Update = entry.action {
             found.push(update_of(*origin, clock, entry.state))?;
         }
     }
     Ok(found)
 }
 
-/// The deletions. The count is how many to make room for at once.
+/// The deletions. Room for `count` of them is made at once.
 fn deletions_of(
     alloc: Global,
     origin: &Origin,
@@ -73,15 +73,14 @@ fn deletions_of(
     let mut found = Vec::with_capacity(alloc, count)?;
     for place in 0..entries.len() {
         let entry = entries.get(place);
-        if let Told::Delete = entry.told {
+        if let Action::Delete = entry.action {
             found.push(deletion_of(*origin, entry.state))?;
         }
     }
     Ok(found)
 }
 
-/// The message that tells entries at a clock; none where there are none. The counts say how many records to make room
-/// for at once.
+/// The message that tells entries at a clock; None if there are none. Room for `counts` records of each kind is made at once.
 pub fn message_of(
     alloc: Global,
     origin: &Origin,
@@ -89,7 +88,7 @@ pub fn message_of(
     entries: &Entries,
     counts: Counts,
 ) -> Result<Option<Message>, AllocError>
-    requires { IsQueue (record { origin = origin.now; entries = entries.now }) }
+    requires { IsQueue origin.now entries.now }
     ensures { IfOk result (λ message. option_to_list message ≡ messages.messages_by origin.now clock entries.now) }
 {
     if entries.len() == 0 {

@@ -8,7 +8,7 @@ use Rattle.pfr_states.specs.declared.change.TableChange.TheVariants as table
 use Rattle.pfr_states.specs.Laws.{AnswersDue}
 use Rattle.pfr_states.specs.States.{all_due, due, with_change}
 use Rattle.pfr_messages.specs.Messages.{Content}
-use Rattle.pfr_sync.specs.declared.event.Change.TheVariants.{Removed}
+use Rattle.pfr_sync.specs.declared.event.EventKind.TheVariants.{Removed}
 use Rattle.pfr_sync.specs.declared.event.Event.{Event}
 use Rattle.pfr_sync.specs.Events.{MayCome}
 use Rattle.pfr_telling.specs.declared.telling.Telling.{Telling}
@@ -32,10 +32,10 @@ due_there clock states state None is answers = absurd (cc is)
 -- that one is told to be removed
 pub purge_told : (before : List Content) (telling telling' : Telling) (count : ℕ) (clock : Clock) (states : List State) (events done : List Event) (state : State) → due clock states ≡ Some state → AnswersDue clock states (due clock states)
     → HasTold before telling clock (events ++ done) × AreTold count clock states (events ++ done)
-    → (HasTold before telling clock (events ++ done) → MayCome (events ++ done) (record { change = Removed; state = state; clock = clock }) → HasTold before telling' clock ((events ++ done) ++ told Removed clock state))
+    → (HasTold before telling clock (events ++ done) → MayCome (events ++ done) (record { kind = Removed; state = state; clock = clock }) → HasTold before telling' clock ((events ++ done) ++ told Removed clock state))
     → HasTold before telling' clock (events ++ (done ++ told Removed clock state)) × AreTold count clock (with_change (table.Removed state.number) states) (events ++ (done ++ told Removed clock state))
 purge_told before telling telling' count clock states events done state is_due first was tell =
     let is_there = due_there clock states state (due clock states) is_due first in
     subst (λ (all : List Event). HasTold before telling' clock all × AreTold count clock (with_change (table.Removed state.number) states) all)
     (append_assoc events done (told Removed clock state))
-    (tell was.0 (may_come count clock states (events ++ done) (record { change = Removed; state = state; clock = clock }) state was.1 is_there refl refl), told_of_removal count clock states (events ++ done) state was.1 is_there)
+    (tell was.0 (may_come count clock states (events ++ done) (record { kind = Removed; state = state; clock = clock }) state was.1 is_there refl refl), told_of_removal count clock states (events ++ done) state was.1 is_there)

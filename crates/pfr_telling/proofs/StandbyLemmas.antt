@@ -16,8 +16,8 @@ use Rattle.pfr_states.proofs.FilterLemmas.{rise_filter}
 use Rattle.pfr_states.proofs.FindLemmas.{found_none, found_there, none_any, some_any}
 use Rattle.pfr_states.proofs.Membership.{from_filter, here, in_cons, in_none, there, to_filter}
 use Rattle.pfr_states.proofs.PurgeLemmas.{first_of_due, purged_on}
-use Rattle.pfr_sync.specs.declared.event.Change.{Change}
-use Rattle.pfr_sync.specs.declared.event.Change.TheVariants.{Made, Touched, Removed}
+use Rattle.pfr_sync.specs.declared.event.EventKind.{EventKind}
+use Rattle.pfr_sync.specs.declared.event.EventKind.TheVariants.{Made, Touched, Removed}
 use Rattle.pfr_sync.specs.declared.event.Event.{Event}
 use Rattle.pfr_sync.specs.Events.{is_of}
 use Rattle.pfr_sync.specs.Laws.{is_left}
@@ -37,20 +37,20 @@ nothing_leaves = record {
 
 -- ---- where nothing is told
 
-told_none : (change : Change) (clock : Clock) (state : State) → state.rules.is_synchronised ≡ false → told change clock state ≡ []
-told_none change clock state is = ap (λ (test : Bool). if test then record { change = change; state = state; clock = clock } ∷ [] else []) is
+told_none : (kind : EventKind) (clock : Clock) (state : State) → state.rules.is_synchronised ≡ false → told kind clock state ≡ []
+told_none kind clock state is = ap (λ (test : Bool). if test then record { kind = kind; state = state; clock = clock } ∷ [] else []) is
 
-abbrev event : Change → Clock → State → Event
-event change clock state = record { change = change; state = state; clock = clock }
+abbrev event : EventKind → Clock → State → Event
+event kind clock state = record { kind = kind; state = state; clock = clock }
 
 -- what is left with the events of a state, where they are told and where they aren't
-by_told : (change : Change) (clock : Clock) (state : State) (states : List State) (events : List Event)
-    → (state.rules.is_synchronised ≡ true → Leave states (events ++ event change clock state ∷ []))
+by_told : (kind : EventKind) (clock : Clock) (state : State) (states : List State) (events : List Event)
+    → (state.rules.is_synchronised ≡ true → Leave states (events ++ event kind clock state ∷ []))
     → (state.rules.is_synchronised ≡ false → Leave states events)
-    → Leave states (events ++ told change clock state)
-by_told change clock state states events are_told are_not = elim (cases_Bool state.rules.is_synchronised) [
-  | inl is ↦ subst (λ (more : List Event). Leave states (events ++ more)) (sym (told_is change clock state is)) (are_told is)
-  | inr is ↦ subst (λ (all : List Event). Leave states all) (sym (ap (λ (more : List Event). events ++ more) (told_none change clock state is) ∙ append-nil events)) (are_not is)
+    → Leave states (events ++ told kind clock state)
+by_told kind clock state states events are_told are_not = elim (cases_Bool state.rules.is_synchronised) [
+  | inl is ↦ subst (λ (more : List Event). Leave states (events ++ more)) (sym (told_is kind clock state is)) (are_told is)
+  | inr is ↦ subst (λ (all : List Event). Leave states all) (sym (ap (λ (more : List Event). events ++ more) (told_none kind clock state is) ∙ append-nil events)) (are_not is)
 ]
 
 -- ---- a removal

@@ -12,8 +12,8 @@ use Rattle.pfr_states.specs.declared.change.TableChange.TheVariants as table
 use Rattle.pfr_states.specs.States.{StateTable, is_number, state_of, with_change, with_state, with_touched}
 use Rattle.pfr_states.proofs.FindLemmas.{found_there}
 use Rattle.pfr_states.proofs.Membership.{from_filter, here, in_cons, in_none, there}
-use Rattle.pfr_sync.specs.declared.event.Change.{Change}
-use Rattle.pfr_sync.specs.declared.event.Change.TheVariants.{Made, Touched, Removed}
+use Rattle.pfr_sync.specs.declared.event.EventKind.{EventKind}
+use Rattle.pfr_sync.specs.declared.event.EventKind.TheVariants.{Made, Touched, Removed}
 use Rattle.pfr_sync.specs.declared.event.Event.{Event}
 use Rattle.pfr_sync.specs.Events.{MayCome, is_made, is_of, is_removed}
 use Rattle.pfr_telling.specs.Telling.{AreTold, IsNextChange, changed, events_of_change, events_of_removal, told}
@@ -64,23 +64,23 @@ one_at_most : (test : Bool) (x e : Event) → Contains (if test then x ∷ [] el
 one_at_most true x e at = elim (in_cons x [] e at) [ inl same ↦ sym same | inr none ↦ absurd (in_none e none) ]
 one_at_most false x e at = absurd (in_none e at)
 
-pub what_is_told : (change : Change) (clock : Clock) (state : State) (e : Event) → Contains (told change clock state) e → e ≡ record { change = change; state = state; clock = clock }
-what_is_told change clock state e at = one_at_most state.rules.is_synchronised (record { change = change; state = state; clock = clock }) e at
+pub what_is_told : (kind : EventKind) (clock : Clock) (state : State) (e : Event) → Contains (told kind clock state) e → e ≡ record { kind = kind; state = state; clock = clock }
+what_is_told kind clock state e at = one_at_most state.rules.is_synchronised (record { kind = kind; state = state; clock = clock }) e at
 
-pub told_is : (change : Change) (clock : Clock) (state : State) → state.rules.is_synchronised ≡ true → told change clock state ≡ record { change = change; state = state; clock = clock } ∷ []
-told_is change clock state is = ap (λ (test : Bool). if test then record { change = change; state = state; clock = clock } ∷ [] else []) is
+pub told_is : (kind : EventKind) (clock : Clock) (state : State) → state.rules.is_synchronised ≡ true → told kind clock state ≡ record { kind = kind; state = state; clock = clock } ∷ []
+told_is kind clock state is = ap (λ (test : Bool). if test then record { kind = kind; state = state; clock = clock } ∷ [] else []) is
 
 -- ---- one event more
 
-numbers_more : (count : ℕ) (change : Change) (clock : Clock) (state : State) (events : List Event) → state.number.0 ≤ count → All (λ event. event.state.number.0 ≤ count) events → All (λ event. event.state.number.0 ≤ count) (events ++ told change clock state)
-numbers_more count change clock state events below all =
-    All-append (IsToldWithin count) events (told change clock state) all
-    (each_of (IsToldWithin count) (told change clock state) (λ (e : Event) at. rw (what_is_told change clock state e at) below))
+numbers_more : (count : ℕ) (kind : EventKind) (clock : Clock) (state : State) (events : List Event) → state.number.0 ≤ count → All (λ event. event.state.number.0 ≤ count) events → All (λ event. event.state.number.0 ≤ count) (events ++ told kind clock state)
+numbers_more count kind clock state events below all =
+    All-append (IsToldWithin count) events (told kind clock state) all
+    (each_of (IsToldWithin count) (told kind clock state) (λ (e : Event) at. rw (what_is_told kind clock state e at) below))
 
-clocks_more : (change : Change) (clock : Clock) (state : State) (events : List Event) → All (λ event. event.clock.0 ≤ clock.0) events → All (λ event. event.clock.0 ≤ clock.0) (events ++ told change clock state)
-clocks_more change clock state events all =
-    All-append (IsBy clock) events (told change clock state) all
-    (each_of (IsBy clock) (told change clock state) (λ (e : Event) at. rw (what_is_told change clock state e at) (omega arith)))
+clocks_more : (kind : EventKind) (clock : Clock) (state : State) (events : List Event) → All (λ event. event.clock.0 ≤ clock.0) events → All (λ event. event.clock.0 ≤ clock.0) (events ++ told kind clock state)
+clocks_more kind clock state events all =
+    All-append (IsBy clock) events (told kind clock state) all
+    (each_of (IsBy clock) (told kind clock state) (λ (e : Event) at. rw (what_is_told kind clock state e at) (omega arith)))
 
 pub told_of_removal : (count : ℕ) (clock : Clock) (states : List State) (events : List Event) (state : State) → AreTold count clock states events → Contains states state
     → AreTold count clock (with_change (table.Removed state.number) states) (events ++ told Removed clock state)
@@ -194,6 +194,6 @@ told_of_change count clock before events (Some change) are next = next_told coun
 
 -- the removal of a state that is found by its number
 pub removal_may_come : (count : ℕ) (clock : Clock) (states : List State) (events : List Event) (number : StateNumber) (state : State) → AreTold count clock states events → state_of number states ≡ Some state
-    → MayCome events (record { change = Removed; state = state; clock = clock })
+    → MayCome events (record { kind = Removed; state = state; clock = clock })
 removal_may_come count clock states events number state are is =
-    may_come count clock states events (record { change = Removed; state = state; clock = clock }) state are (found_there (is_number number) states state is).0 refl refl
+    may_come count clock states events (record { kind = Removed; state = state; clock = clock }) state are (found_there (is_number number) states state is).0 refl refl

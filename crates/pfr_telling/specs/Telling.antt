@@ -1,4 +1,4 @@
--- What becomes of the states of a table at a packet, as far as a standby is told of it.
+-- What a standby is told of the states of a table at a packet.
 use Rattle.std.specs.Prelude.{◌≡◌, ℕ, ◌≤◌, ◌+◌, true, if◌then◌else◌, List, [], ◌∷◌, ◌++◌, Option, Some, None, ⊤}
 use Rattle.std.specs.List.{All, Contains, flat_map}
 use Rattle.pfr_track.specs.declared.state.State.{State}
@@ -7,8 +7,8 @@ use Rattle.pfr_states.specs.declared.change.TableChange.{TableChange}
 use Rattle.pfr_states.specs.declared.change.TableChange.TheVariants as table
 use Rattle.pfr_states.specs.States.{StateTable, all_due, purged, state_of, with_change}
 use Rattle.pfr_messages.specs.Messages.{Content}
-use Rattle.pfr_sync.specs.declared.event.Change.{Change}
-use Rattle.pfr_sync.specs.declared.event.Change.TheVariants.{Made, Touched, Removed}
+use Rattle.pfr_sync.specs.declared.event.EventKind.{EventKind}
+use Rattle.pfr_sync.specs.declared.event.EventKind.TheVariants.{Made, Touched, Removed}
 use Rattle.pfr_sync.specs.declared.event.Event.{Event}
 use Rattle.pfr_sync.specs.Events.{is_removed}
 use Rattle.pfr_sync.specs.Messages.{closed_at}
@@ -17,27 +17,27 @@ use Rattle.pfr_telling.specs.declared.telling.Telling.{Telling}
 
 -- ---- the table
 
--- a table that has taken over what a packet changes
+-- a table after a packet's change
 abbrev pub changed : Option TableChange → StateTable → StateTable
 changed None table = table
 changed (Some change) table = record { states = with_change change table.states; limit = table.limit }
 
 -- ---- events
 
--- what is told of a change of a state: nothing where its rule says `no-sync`
-abbrev pub told : Change → Clock → State → List Event
-told change clock state = if state.rules.is_synchronised then record { change = change; state = state; clock = clock } ∷ [] else []
+-- what is told of an event of a state: nothing if its rule says `no-sync`
+abbrev pub told : EventKind → Clock → State → List Event
+told kind clock state = if state.rules.is_synchronised then record { kind = kind; state = state; clock = clock } ∷ [] else []
 
--- the states go whose deadline has come, by deadline, and of one deadline by number
+-- the states whose deadline has come are removed, by deadline, and with one deadline by number
 abbrev pub events_of_purge : Clock → List State → List Event
 events_of_purge clock states = flat_map (told Removed clock) (all_due clock states)
 
--- a state that is no more, as it was
+-- the removal of a state, as it was before
 abbrev pub events_of_removal : Clock → Option State → List Event
 events_of_removal clock None = []
 events_of_removal clock (Some state) = told Removed clock state
 
--- what a packet changes among states
+-- the events of a packet's own change
 abbrev pub events_of_change : Clock → Option TableChange → List State → List Event
 events_of_change clock None states = []
 events_of_change clock (Some (table.Made state)) states = told Made clock state
@@ -50,27 +50,26 @@ events_of clock change states = events_of_purge clock states ++ events_of_change
 
 -- ---- what events say of packets, clocks and states
 
--- These events were told while so many packets were taken, up to this clock, which have left these states. So it is in each world of a
--- run.
+-- These events were told during the first `count` packets, up to this clock, and these states are left. It holds in each world of a run.
 pub record AreTold (count : ℕ) (clock : Clock) (states : List State) (events : List Event) : Type 0 where
-  -- each state is of one of the packets
+  -- each state was made by one of the packets
   pub of_packets : All (λ state. state.number.0 ≤ count) states
   pub numbers : All (λ event. event.state.number.0 ≤ count) events
   pub clocks : All (λ event. event.clock.0 ≤ clock.0) events
-  -- a state that was told to be removed isn't there
+  -- a state whose removal was told isn't there
   pub gone : (event : Event) (state : State) → Contains events event → Contains states state → is_removed event ≡ true → event.state.number.0 ≡ state.number.0 → ⊥
 
 -- ---- what was told
 
--- At a clock, what is told of the open part of these events is in the queue, and all other messages of them are these and then those
--- that the packet that is taken has closed.
+-- At a clock, the queue has the open part of these events. Their other messages are these and then those that the current packet has
+-- closed.
 pub record HasTold (before : List Content) (telling : Telling) (clock : Clock) (events : List Event) : Type 0 where
   pub tells : Tells telling.queue clock events
   pub closed : closed_at telling.queue.origin clock events ≡ before ++ telling.closed.items
 
 -- ---- the next packet
 
--- What the next packet may change among these states: it makes one with its own number, or touches one of them.
+-- What the next packet may change among these states: it makes a state with its own number, or touches one of them.
 abbrev pub IsNextChange : ℕ → List State → TableChange → Type 0
 IsNextChange count states (table.Made state) = state.number.0 ≡ count + 1
 IsNextChange count states (table.Touched state) = (before : State) × Contains states before × (state.number ≡ before.number)

@@ -8,13 +8,13 @@ ghost use Rattle.pfr_states.specs.States.{purged, refusal, with_change};
 ghost use Rattle.pfr_sync.specs.declared.event.Event.{Event as E};
 ghost use Rattle.pfr_sync.specs.Events.{MayCome};
 ghost use Rattle.pfr_sync.specs.Messages.{closed_at, message_of, open_at};
-ghost use Rattle.pfr_sync.specs.Queues.{Tells, plain_name};
+ghost use Rattle.pfr_sync.specs.Queues.{Tells, new_queue, plain_name};
 ghost use Rattle.pfr_telling.specs.Telling as spec;
 
 use pfr_net::IfName;
 use pfr_states::laws::{a_purge_goes_state_by_state, due_is_the_first};
 use pfr_states::{Place, Table, TableChange, TableError};
-use pfr_sync::{Change, Message, Queue};
+use pfr_sync::{EventKind, Message, Queue};
 use pfr_track::{Clock, State, StateNumber};
 use std::alloc::{AllocError, Global};
 
@@ -22,20 +22,20 @@ use std::alloc::{AllocError, Global};
 #[derive(Drop)]
 pub struct Telling {
     pub(crate) queue: Queue,
-    /// The messages that the packet that is taken has closed.
+    /// The messages that the current packet has closed.
     pub closed: Vec<Message>,
 }
 
-/// Takes a state out of a table, and settles what is due next at a clock.
+/// Removes a state from a table, and settles what is due next at a clock.
 fn remove(table: &mut Table, number: StateNumber, clock: Clock)
     ensures { table.new ≡ record { states = with_change (Removed number) table.old.states; limit = table.old.limit } }
 {
-    // no memory is asked for that
+    // a removal takes no memory
     let _ = table.apply(TableChange::Removed(number));
     table.settle(clock);
 }
 
-/// Has a table take over what a packet changes. A state that is touched may stand at a place that is named.
+/// Applies a packet's change to a table. `place` may name the place of a state that is touched.
 fn apply(table: &mut Table, change: &TableChange, place: Option<Place>) -> Result<(), AllocError>
     requires { refusal change.now table.old.limit table.old.states ≡ None }
     ensures { OnOk result (table.new ≡ record { states = with_change change.now table.old.states; limit = table.old.limit }) }
@@ -51,9 +51,9 @@ fn apply(table: &mut Table, change: &TableChange, place: Option<Place>) -> Resul
 impl Telling {
     ghost use Rattle.pfr_telling.specs.Telling.{AreTold, HasTold, IsNextChange};
 
-    /// Nothing yet, by messages of an interface, a checksum of rules and a creator.
+    /// Nothing is told yet. Messages name an interface, the checksum of the rules and the firewall's number.
     pub fn new(alloc: Global, interface: &IfName, checksum: [u8; 16], creator: u32) -> Telling
-        ensures queue { result.queue ≡ record { origin = record { interface = plain_name interface.now; checksum = checksum; creator = creator }; entries = [] } }
+        ensures queue { result.queue ≡ new_queue (record { interface = plain_name interface.now; checksum = checksum; creator = creator }) }
     {
         Telling {
             queue: Queue::new(alloc, interface, checksum, creator),
@@ -61,7 +61,7 @@ impl Telling {
         }
     }
 
-    /// Begins with the next packet, which comes at a clock: the open message is closed where that is a later one.
+    /// Begins with the next packet, at the clock `later`. If that is above the last one, the open message is closed.
     pub fn begin(&mut self, clock: Clock, later: Clock) -> Result<(), AllocError>
         requires { clock.0 ≤ later.0 }
         ensures told { OnOk result ((before : List Content) (events : List E) → Tells self.old.queue clock events → closed_at self.old.queue.origin clock events ≡ before
@@ -72,22 +72,22 @@ impl Telling {
         self.close_before(clock, later)
     }
 
-    /// Tells what became of a state at a clock, unless its rule says `no-sync`.
-    fn tell(&mut self, change: Change, state: &State, clock: Clock) -> Result<(), AllocError>
-        ensures told { OnOk result ((before : List Content) (events : List E) → HasTold before self.old clock events → MayCome events (record { change = change; state = state.now; clock = clock })
-            → HasTold before self.new clock (events ++ spec.told change clock state.now)) }
+    /// Tells an event of a state, unless its rule says `no-sync`.
+    fn tell(&mut self, kind: EventKind, state: &State, clock: Clock) -> Result<(), AllocError>
+        ensures told { OnOk result ((before : List Content) (events : List E) → HasTold before self.old clock events → MayCome events (record { kind = kind; state = state.now; clock = clock })
+            → HasTold before self.new clock (events ++ spec.told kind clock state.now)) }
         ensures origin { self.new.queue.origin ≡ self.old.queue.origin }
     {
         if !state.rules.is_synchronised {
             return Ok(());
         }
-        if let Some(message) = self.queue.tell(change, state, clock)? {
+        if let Some(message) = self.queue.tell(kind, state, clock)? {
             self.closed.push(message)?;
         }
         Ok(())
     }
 
-    /// Closes the open message at its clock, where a later one comes.
+    /// Closes the open message at its clock if the next clock is later.
     fn close_before(&mut self, clock: Clock, later: Clock) -> Result<(), AllocError>
         requires { clock.0 ≤ later.0 }
         ensures told { OnOk result ((before : List Content) (events : List E) → HasTold before self.old clock events → All (λ event. event.clock.0 ≤ clock.0) events → HasTold before self.new later events) }
@@ -101,26 +101,26 @@ impl Telling {
         Ok(())
     }
 
-    /// Takes out the states whose deadline has come, one after the other, and tells of each.
+    /// Removes the states whose deadline has come, one after the other, and tells of each.
     pub fn purge(&mut self, table: &mut Table, clock: Clock) -> Result<(), AllocError>
         ensures table { OnOk result (table.new ≡ record { states = purged clock table.old.states; limit = table.old.limit }) }
         ensures told { OnOk result ((before : List Content) (events : List E) (count : ℕ) → HasTold before self.old clock events → AreTold count clock table.old.states events
             → HasTold before self.new clock (events ++ spec.events_of_purge clock table.old.states) × AreTold count clock table.new.states (events ++ spec.events_of_purge clock table.old.states)) }
         ensures origin { self.new.queue.origin ≡ self.old.queue.origin }
     {
-        // what is due first is a state of the table, and a purge is to take out what is due first until nothing is
+        // the state that is due first is in the table, and a purge removes it until none is due
         due_is_the_first();
         a_purge_goes_state_by_state();
-        // whatever the table is asked, its states are those of a table
+        // a call on the table gives the prover its invariant
         let _ = table.len();
         while let Some(state) = table.due(clock) {
-            self.tell(Change::Removed, &state, clock)?;
+            self.tell(EventKind::Removed, &state, clock)?;
             remove(table, state.number, clock);
         }
         Ok(())
     }
 
-    /// Tells of a change before the table takes it over.
+    /// Tells of a change before it is applied to the table.
     fn tell_change(
         &mut self,
         table: &Table,
@@ -132,17 +132,17 @@ impl Telling {
         ensures origin { self.new.queue.origin ≡ self.old.queue.origin }
     {
         match change {
-            TableChange::Made(state) => self.tell(Change::Made, state, clock),
-            TableChange::Touched(state) => self.tell(Change::Touched, state, clock),
+            TableChange::Made(state) => self.tell(EventKind::Made, state, clock),
+            TableChange::Touched(state) => self.tell(EventKind::Touched, state, clock),
             TableChange::Removed(number) => match table.get(*number) {
-                Some(state) => self.tell(Change::Removed, &state, clock),
+                Some(state) => self.tell(EventKind::Removed, &state, clock),
                 None => Ok(()),
             },
         }
     }
 
-    /// Tells of what a packet changes in a table, and has the table take it over. A state that is touched may stand at a place that
-    /// is named, and nothing rests on it that it does.
+    /// Tells of a packet's change, and applies it to the table. `place` may name the place of a state that is touched: a hint, which
+    /// may be wrong.
     pub fn change(
         &mut self,
         table: &mut Table,
@@ -163,7 +163,7 @@ impl Telling {
         apply(table, change, place)
     }
 
-    /// Closes the open message at the end of a run: none where nothing is told.
+    /// Closes the open message at the end of a run, and returns it if anything is told.
     pub fn close(&mut self, clock: Clock) -> Result<Option<Message>, AllocError>
         ensures { IfOk result (λ message. (events : List E) → Tells self.old.queue clock events → option_to_list message ≡ message_of self.old.queue.origin (open_at self.old.queue.origin clock events)) }
     {

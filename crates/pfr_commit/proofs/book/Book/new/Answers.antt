@@ -10,7 +10,7 @@ unfolding opening
 returns-clause-world c = record {
   left = rw (c.new-2.ensures, c.in_ok-counters.ensures, c.counts.ensures, c.rules-rules.ensures, c.deref.ensures) refl;
   origin_is = ap (λ (q : Queued). q.origin) c.new-telling.ensures.queue ∙ (rw (c.interface.ensures, c.deref-2.ensures, c.checksum.ensures, c.text.ensures, c.deref-3.ensures, c.rules-rules.ensures, c.deref.ensures) refl);
-  tells = ap (λ (q : Queued). q.entries) c.new-telling.ensures.queue;
+  tells = (ap (λ (q : Queued). q.entries) c.new-telling.ensures.queue, λ some. ap (λ (q : Queued). q.clock) c.new-telling.ensures.queue);
   told = record {
     of_packets = λ k d below. absurd (omega (arith, below));
     numbers = λ k d below. absurd (omega (arith, below));

@@ -1,5 +1,5 @@
 use Rattle.std.proofs.Common.{rules, arith, ◌≤◌, ◌<◌, length, ◌∙◌}
-use Rattle.pfr_sync.specs.declared.queue.Entry.{Entry}
+use Rattle.pfr_sync.specs.declared.queue.QueuedState.{QueuedState}
 use Rattle.pfr_sync.proofs.OrderLemmas.{count_is, insert_at, slot_at}
 use Rattle.pfr_sync.proofs.entries.Entries.insert.Goals as goal
 
@@ -42,7 +42,7 @@ invariant_of-self-2 c =
     let s = c.self.inside in
     let new = c.make_room.new in
     let room = c.in_ok-make_room.ensures in
-    let entry : Entry = record { state = c.args.state.now; told = c.args.told } in
+    let entry : QueuedState = record { state = c.args.state.now; action = c.args.action } in
     let inserted = insert_at new.slots.items new.order.items s.count c.args.place c.index-slot.result.now entry c.args.self.now c.copy_within.new.self.items room.slots room.free (room.entries ∙ c.self.view_is) c.requires c.index-slot.ensures c.copy_within.ensures.items in
     (inserted.are_slots, inserted.count)
 
@@ -51,6 +51,6 @@ returns-clause-entries c =
     let s = c.self.inside in
     let new = c.make_room.new in
     let room = c.in_ok-make_room.ensures in
-    let entry : Entry = record { state = c.args.state.now; told = c.args.told } in
+    let entry : QueuedState = record { state = c.args.state.now; action = c.args.action } in
     let inserted = insert_at new.slots.items new.order.items s.count c.args.place c.index-slot.result.now entry c.args.self.now c.copy_within.new.self.items room.slots room.free (room.entries ∙ c.self.view_is) c.requires c.index-slot.ensures c.copy_within.ensures.items in
     inserted.is

@@ -2,7 +2,7 @@ use Rattle.std.proofs.Common.{◌≡◌, ◌++◌, List, ℕ, Some, sym, ap, ◌
 use Rattle.pfr_states.specs.declared.change.TableChange.TheVariants as table
 use Rattle.pfr_states.specs.States.{StateTable, due, purged, with_change}
 use Rattle.pfr_messages.specs.Messages.{Content}
-use Rattle.pfr_sync.specs.declared.event.Change.TheVariants.{Removed}
+use Rattle.pfr_sync.specs.declared.event.EventKind.TheVariants.{Removed}
 use Rattle.pfr_sync.specs.declared.event.Event.{Event}
 use Rattle.pfr_telling.specs.Telling.{told}
 use Rattle.pfr_telling.proofs.PurgeLemmas.{first_told, none_told, purge_told}

@@ -1,4 +1,4 @@
-use Rattle.std.proofs.Common.{List, Option, ◌++◌, ap, sym, subst, ◌∙◌}
+use Rattle.std.proofs.Common.{List, Option, ◌++◌, ap, sym, subst, ◌∙◌, arith}
 use Rattle.std.specs.Option.{option_to_list}
 use Rattle.std.proofs.lemmas.List.{append-nil}
 use Rattle.pfr_messages.specs.Messages.{Content}
@@ -14,8 +14,8 @@ returns-in_default-clause-told c = λ (before : List Content) (events : List Eve
     let self = c.args.self.now in
     let new : Telling = record { queue = c.tell.new.self; closed = self.closed } in
     let closed_before = closed_at self.queue.origin c.args.clock events in
-    let went = c.in_ok-message.ensures.events events told.tells may in
+    let went = c.in_ok-message.ensures.events events c.args.clock told.tells (omega arith, λ below. absurd (omega (arith, below)), may) in
     let closed = went.1 ∙ ap (λ (message : Option Content). closed_before ++ option_to_list message) c.in_default.is ∙ append-nil closed_before ∙ told.closed in
     subst (λ (more : List Event). HasTold before new c.args.clock (events ++ more))
-    (sym (told_is c.args.change c.args.clock c.args.state.now c.if-not-state.false))
+    (sym (told_is c.args.kind c.args.clock c.args.state.now c.if-not-state.false))
     (record { tells = went.0; closed = rw c.in_ok-message.ensures.origin closed })
