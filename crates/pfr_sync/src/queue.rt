@@ -139,26 +139,20 @@ impl Queue {
         self.entries.len() > 0 && self.clock.0 < clock.0
     }
 
-    /// Closes the open message at a clock, and begins the next one with an event alone. If memory is refused nothing changes.
+    /// Closes the open message at the clock `end`, and begins the next one with an event alone. If memory is refused nothing changes.
     fn restart(
         &mut self,
-        closing: Clock,
+        end: Clock,
         kind: EventKind,
         state: &State,
         clock: Clock,
     ) -> Result<Option<Message>, AllocError>
         requires { 0 < length self.old.entries }
-        ensures restarts { IfOk result (λ message. spec.Restarts self.old closing (record { kind = kind; state = state.now; clock = clock }) self.new (option_to_list message)) }
+        ensures restarts { IfOk result (λ message. spec.Restarts self.old end (record { kind = kind; state = state.now; clock = clock }) self.new (option_to_list message)) }
         ensures origin { self.new.origin ≡ self.old.origin }
         ensures kept { OnErr result (self.new ≡ self.old) }
     {
-        let message = message_of(
-            self.alloc,
-            &self.origin,
-            closing,
-            &self.entries,
-            self.counts,
-        )?;
+        let message = message_of(self.alloc, &self.origin, end, &self.entries, self.counts)?;
         let action = begun(kind);
         start(&mut self.entries, action, state);
         self.counts = one_of(Some(action));
