@@ -16,6 +16,7 @@ use Rattle.pfr_messages.specs.declared.records.Insertion.{Insertion}
 use Rattle.pfr_messages.specs.declared.records.Update.{Update}
 use Rattle.pfr_messages.specs.declared.records.Deletion.{Deletion}
 use Rattle.pfr_sync.specs.declared.event.Event.{Event}
+use Rattle.pfr_sync.specs.declared.event.EventKind.{EventKind}
 use Rattle.pfr_sync.specs.declared.event.EventKind.TheVariants.{Made, Touched, Removed}
 use Rattle.pfr_sync.specs.declared.origin.Origin.{Origin}
 
@@ -92,6 +93,10 @@ abbrev pub deletion_of : Origin → State → Deletion
 deletion_of origin state = record { number = state.number; creator = origin.creator }
 
 -- ---- lists of events
+
+-- an event by its parts
+abbrev pub event_of : EventKind → State → Clock → Event
+event_of kind state clock = record { kind = kind; state = state; clock = clock }
 
 abbrev pub is_of : ℕ → Event → Bool
 is_of number event = event.state.number.0 == number

@@ -1,7 +1,7 @@
 //! The open message.
-ghost use Rattle.std.specs.Prelude.{◌≡◌, ◌≤◌, ◌<◌, ◌∷◌, [], length, IfOk, OnOk, OnErr};
+ghost use Rattle.std.specs.Prelude.{◌≡◌, ◌≤◌, ◌<◌, [], length, IfOk, OnOk, OnErr};
 ghost use Rattle.std.specs.Option.{option_to_list};
-ghost use Rattle.pfr_sync.specs.declared.event.Event.{Event as E};
+ghost use Rattle.pfr_sync.specs.Events.{event_of};
 ghost use Rattle.pfr_sync.specs.Messages as messages;
 ghost use Rattle.pfr_sync.specs.Queues as spec;
 
@@ -110,13 +110,13 @@ impl Queue {
         state: &State,
         clock: Clock,
     ) -> Result<Option<Message>, AllocError>
-        ensures message { IfOk result (λ message. option_to_list message ≡ spec.closed_before self.old (record { kind = kind; state = state.now; clock = clock })) }
-        ensures entries { OnOk result (self.new.entries ≡ spec.after self.old (record { kind = kind; state = state.now; clock = clock })) }
+        ensures message { IfOk result (λ message. option_to_list message ≡ spec.closed_before self.old (event_of kind state.now clock)) }
+        ensures entries { OnOk result (self.new.entries ≡ spec.after self.old (event_of kind state.now clock)) }
         ensures clock { OnOk result (self.new.clock ≡ clock) }
         ensures origin { self.new.origin ≡ self.old.origin }
         ensures kept { OnErr result (self.new ≡ self.old) }
         // for every list of events that the queue tells, as above
-        ensures events { IfOk result (λ message. spec.Takes self.old (record { kind = kind; state = state.now; clock = clock }) self.new (option_to_list message)) }
+        ensures events { IfOk result (λ message. spec.Takes self.old (event_of kind state.now clock) self.new (option_to_list message)) }
     {
         if self.has_older(clock) {
             return self.restart(self.clock, kind, state, clock);
@@ -148,7 +148,7 @@ impl Queue {
         clock: Clock,
     ) -> Result<Option<Message>, AllocError>
         requires { 0 < length self.old.entries }
-        ensures restarts { IfOk result (λ message. spec.Restarts self.old end (record { kind = kind; state = state.now; clock = clock }) self.new (option_to_list message)) }
+        ensures restarts { IfOk result (λ message. spec.Restarts self.old end (event_of kind state.now clock) self.new (option_to_list message)) }
         ensures origin { self.new.origin ≡ self.old.origin }
         ensures kept { OnErr result (self.new ≡ self.old) }
     {
