@@ -1,1 +1,3 @@
+pub mod Entries
 pub mod MoreBehind
+pub mod NextChange

@@ -1,1 +1,5 @@
+pub mod Copies
 pub mod Ends
+pub mod Entries
+pub mod Refusals
+pub mod Steps

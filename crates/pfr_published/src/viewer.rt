@@ -1,9 +1,9 @@
 //! Those who look at the published table.
-ghost use Rattle.std.specs.Prelude.{◌≡◌, IfOk, IfErr};
+ghost use Rattle.std.specs.Prelude.{◌≡◌, is_some, true, IfOk, IfErr, OnErr};
 ghost use mathlib.Core.List.{IsPrefix};
 ghost use Rattle.pfr_states.specs.States.{table_of};
 
-use crate::store::{Store, TableNaming};
+use crate::copy::{TableCopy, TableNaming};
 use crossbeam_utils::rule::Unruled;
 use left_right::reader::{Reader, Reading};
 use pfr_history::Front;
@@ -39,7 +39,7 @@ impl<J: TableNaming> Told<J> {
 /// Someone who may look at the table. Contracts see the changes that are known to be in it.
 #[derive(Drop)]
 pub struct Viewer<J: TableNaming> {
-    pub(crate) reader: Reader<Store<J>, (), Unruled>,
+    pub(crate) reader: Reader<TableCopy<J>, (), Unruled>,
     pub(crate) known: Front<J, Change>,
 }
 
@@ -55,7 +55,7 @@ impl<J: TableNaming> Model for Viewer<J> {
 /// A viewer while it looks at the table, which stays the same until it leaves. Contracts see the changes that are in it.
 /// It is not `Drop`: end it by [`Showing::leave`].
 pub struct Showing<J: TableNaming> {
-    reading: Reading<Store<J>, (), Unruled>,
+    reading: Reading<TableCopy<J>, (), Unruled>,
     known: Front<J, Change>,
 }
 
@@ -87,21 +87,31 @@ impl<J: TableNaming> Viewer<J> {
     {
         let Viewer { reader, known } = self;
         match reader.enter_as::<Unruled>() {
-            Ok(reading) => {
-                let front = reading.get().front.again();
-                if reading.get().table.is_some() && known.begins(&front) {
-                    Ok(Showing {
-                        reading,
-                        known: front,
-                    })
-                } else {
-                    Err(Viewer {
-                        reader: reading.leave(),
-                        known,
-                    })
-                }
-            }
+            Ok(reading) => Viewer::look(reading, known),
             Err(reader) => Err(Viewer { reader, known }),
+        }
+    }
+
+    /// Looks at the copy that is read, unless its table is hidden or it lacks changes that are known.
+    fn look(
+        reading: Reading<TableCopy<J>, (), Unruled>,
+        known: Front<J, Change>,
+    ) -> Result<Showing<J>, Viewer<J>>
+        ensures begins { IfOk result (λ showing. IsPrefix known showing) }
+        ensures kept { IfErr result (λ viewer. viewer ≡ known) }
+        ensures refused { OnErr result (is_some reading.part.value.table ≡ true → IsPrefix known reading.part.value.front → ⊥) }
+    {
+        let front = reading.get().front.again();
+        if reading.get().table.is_some() && known.begins(&front) {
+            Ok(Showing {
+                reading,
+                known: front,
+            })
+        } else {
+            Err(Viewer {
+                reader: reading.leave(),
+                known,
+            })
         }
     }
 }

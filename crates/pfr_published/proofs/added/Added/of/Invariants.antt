@@ -1,5 +1,0 @@
-use Rattle.std.proofs.Common.{◌≡◌, ◌++◌, take}
-use Rattle.pfr_published.proofs.added.Added.of.Given as goal
-
-abbrev pub invariant-loop-change : goal.invariant-loop-change
-invariant-loop-change g l = record { front : l.front ≡ l.fn.front ++ take l.change-index l.fn.changes.items }
