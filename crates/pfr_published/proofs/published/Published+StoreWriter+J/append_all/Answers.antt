@@ -19,9 +19,9 @@ loop-index-preserved g c =
     let entries = c.args.changes.items in
     let same : changes.items ≡ entries = ap (λ list. list.items) c.in-Ok.ensures.ok in
     let begun : loop.front ++ entry_at changes.items loop.index ≡ (start ++ take loop.index entries) ++ entry_at entries loop.index =
-        λ t. loop.invariant.front t ++ entry_at (same t) loop.index in
+    λ t. loop.invariant.front t ++ entry_at (same t) loop.index in
     let joined : (start ++ take loop.index entries) ++ entry_at entries loop.index ≡ start ++ take (loop.index + 1) entries =
-        append_assoc start (take loop.index entries) (entry_at entries loop.index) ∙ ap (λ more. start ++ more) (sym (take_more entries loop.index)) in
+    append_assoc start (take loop.index entries) (entry_at entries loop.index) ∙ ap (λ more. start ++ more) (sym (take_more entries loop.index)) in
     record {
       desk = step.desk ∙ loop.invariant.desk;
       front = longer ∙ begun ∙ joined;
