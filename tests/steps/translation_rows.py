@@ -14,6 +14,14 @@ from steps.translation_words import (ASKED, EXHAUSTED, GRE, H2, INSIDE_END, NAT,
 TWO_PORTS = "nat on em0 proto udp from 10.0.0.0/8 to any -> 192.0.2.1 port 50001:50002\npass out"
 # bytes of seeds, with the two ports in the order in which the first two packets of a run get them
 SEEDS = ((0, 50002, 50001), (1, 50001, 50002), (2, 50001, 50002), (7, 50002, 50001), (255, 50002, 50001))
+# a datagram as it is captured and as it is written, and an error about the written one in both forms, each before the
+# datagram that it tells of
+ERROR_RULES = "nat on em0 proto udp from 10.0.0.0/8 to any -> 192.0.2.1 port 50001\npass out"
+CAPTURED, ON_THE_WIRE, ERROR, ERROR_INSIDE = (bytes.fromhex(octets) for octets in (
+    "4500001c00010000401146910a000005c633640703e800350008c781",
+    "4500001c0001000040118e94c0000201c6336407c35100350008501b",
+    "450000380002000040017cb8cb007109c00002010303e95200000000",
+    "4500003800020000400134b5cb0071090a0000050303315600000000"))
 
 
 def verdict_lines(words):
@@ -74,16 +82,10 @@ def nat_rows():
 
 
 def error_rows():
-    rules = "nat on em0 proto udp from 10.0.0.0/8 to any -> 192.0.2.1 port 50001\npass out"
-    captured, on_the_wire, error, error_inside = (bytes.fromhex(octets) for octets in (
-        "4500001c00010000401146910a000005c633640703e800350008c781",
-        "4500001c0001000040118e94c0000201c6336407c35100350008501b",
-        "450000380002000040017cb8cb007109c00002010303e95200000000",
-        "4500003800020000400134b5cb0071090a0000050303315600000000"))
-    yield row("a datagram and an error about it, byte for byte", rules, [captured, error + on_the_wire],
+    yield row("a datagram and an error about it, byte for byte", ERROR_RULES, [CAPTURED, ERROR + ON_THE_WIRE],
               [made("out", "192.0.2.1:50001"), told("in", INSIDE_END)],
               counters="filter 0 1 2 84\ntranslation 0 1 2 84\ntotal 2 2 0 0 0\n", passed=[1, 2],
-              written={1: on_the_wire, 2: error_inside + captured})
+              written={1: ON_THE_WIRE, 2: ERROR_INSIDE + CAPTURED})
     came, sent_in = udp(P, 9, E, 53), udp(P, 9, SERVER, 5353)
     errors = [(SERVER, UNREACHABLE, 3), (ROUTER, TIME_EXCEEDED, 0)]
     yield row("errors from the inside about a redirected datagram",

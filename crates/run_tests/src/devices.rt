@@ -2,9 +2,8 @@
 ghost use Rattle.std.specs.Prelude.{◌≤◌};
 
 use crate::given::{capture, replay_in_memory, sinks};
-use crate::told::rules;
 use crate::turns::{Freely, Turns};
-use pfr_capture::{Mem, Source, Tail};
+use pfr_capture::{Mem, Tail};
 use pfr_out::{Form, Output, Report, Sinks, Stop};
 use std::alloc::{AllocError, AllocGlobal, Global};
 use std::process::Abort;
@@ -35,7 +34,7 @@ struct Faults {
 
 /// How a run ended, and how many packets were committed.
 #[derive(Clone, Copy, PartialEq, Eq)]
-enum End {
+pub(crate) enum End {
     Whole(u64),
     Read(u64),
     Write(u64),
@@ -66,7 +65,7 @@ fn is_same(first: Output, second: Output) -> bool {
 }
 
 /// How a run ended in which this output was to fail.
-fn end_of(end: Result<Report, Stop>, output: Output) -> End {
+pub(crate) fn end_of(end: Result<Report, Stop>, output: Output) -> End {
     match end {
         Ok(
             Report {
@@ -269,83 +268,6 @@ fn a_read_and_a_write_fail_at_each_place(rt: HostRuntime) -> Result<(), Fail> {
         for reads in 0..READS + 1 {
             see_all_writes(&rt, Output::Verdicts, reads, workers)?;
         }
-    }
-    Ok(())
-}
-
-/// Replays a capture whose source fails behind so many reads. A write of lines fails behind so many. It answers whether that is how
-/// the run stops, and whether the next read fails: if so, it has made just so many.
-fn makes_all_reads<R: AllocGlobal + Threads + Wait + Clock + Sync>(
-    rt: &R,
-    mut source: Mem,
-    text: &[u8],
-    writes: u64,
-    batch: usize,
-    workers: u64,
-) -> Result<bool, AllocError>
-    requires batch { (1 ≤ batch) × (batch ≤ 4096) }
-    requires workers { workers ≤ 64 }
-{
-    let alloc = rt.alloc();
-    let verdicts = Mem::new(Vec::new(alloc)).failing_after(writes);
-    let mut outputs = sinks(alloc, verdicts);
-    let end = replay_in_memory(
-        rt,
-        &mut source,
-        text,
-        batch,
-        workers,
-        Form::File,
-        &mut outputs,
-        &Turns::by(rt, Freely),
-    );
-    let taken = writes.saturating_mul(batch as u64);
-    let stops = end_of(end, Output::Verdicts) == End::Write(taken);
-    let read = source.read(&mut [0; 44]).is_err();
-    drop(source);
-    drop(outputs);
-    Ok(stops && read)
-}
-
-/// The write of the second batch fails. By many rules several workers pay, and three batches are read ahead then: that one and two
-/// more. One worker doesn't, and rests. A read gives 65536 bytes, which are the header and 1488 records, and a part of one more.
-#[test]
-fn reads_ahead(rt: HostRuntime) -> Result<(), Fail> {
-    let text = rules(rt.alloc(), 200, &[])?;
-    for (workers, reads) in [(0, 2), (1, 2), (2, 4), (8, 4)] {
-        let source = capture(rt.alloc(), 6000, 0)?.failing_after(reads);
-        assert!(rt;
-            makes_all_reads(&rt, source, text.as_slice(), 1, 1400, workers)?,
-            "{workers} workers"
-        );
-    }
-    Ok(())
-}
-
-/// Until the first batch has told whether workers pay, no other one is read where that one has packets enough to tell.
-#[test]
-fn reads_no_further_than_it_takes_to_tell(rt: HostRuntime) -> Result<(), Fail> {
-    let text = rules(rt.alloc(), 200, &[])?;
-    for workers in [0, 1, 2, 8] {
-        let source = capture(rt.alloc(), 4500, 0)?.failing_after(1);
-        assert!(rt;
-            makes_all_reads(&rt, source, text.as_slice(), 0, 1400, workers)?,
-            "{workers} workers"
-        );
-    }
-    Ok(())
-}
-
-/// Where a source is slow, what was read is written before more is asked for. The first read gives the header and 20 bytes of the
-/// first record, and each one more what is left of a record and 20 bytes of the next.
-#[test]
-fn a_slow_source_is_not_read_ahead(rt: HostRuntime) -> Result<(), Fail> {
-    for workers in [0, 1, 2, 8] {
-        let source = capture(rt.alloc(), 10, 0)?.at_most(44).failing_after(2);
-        assert!(rt;
-            makes_all_reads(&rt, source, b"pass out\n", 0, 1, workers)?,
-            "{workers} workers"
-        );
     }
     Ok(())
 }

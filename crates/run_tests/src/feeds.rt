@@ -229,7 +229,21 @@ impl<'a> Run<'a> {
         }
     }
 
-    /// Runs by so many workers, and has calls wait as a plan says.
+    /// Runs with `workers` workers, and tells a gate of their turns.
+    pub(crate) fn under<R: AllocGlobal + Threads + Wait + Sync, G: Gate + Watch>(
+        self,
+        rt: &R,
+        workers: u64,
+        gate: &G,
+    ) -> Result<Left, AllocError>
+        requires workers { workers ≤ 64 }
+    {
+        let alloc = rt.alloc();
+        let book = book(alloc, self.rules)?;
+        Ok(ran(rt, book, self.feed(alloc, gate), workers, gate))
+    }
+
+    /// Runs with `workers` workers, and has calls wait as a plan says.
     pub(crate) fn by<R: AllocGlobal + Threads + Wait + Clock + Sync, P: Plan + Sync + Drop>(
         self,
         rt: &R,
@@ -238,10 +252,8 @@ impl<'a> Run<'a> {
     ) -> Result<(Left, Told), AllocError>
         requires workers { workers ≤ 64 }
     {
-        let alloc = rt.alloc();
-        let book = book(alloc, self.rules)?;
         let turns = Turns::by(rt, plan);
-        let left = ran(rt, book, self.feed(alloc, &turns), workers, &turns);
+        let left = self.under(rt, workers, &turns)?;
         Ok((left, turns.told()))
     }
 }

@@ -3,7 +3,7 @@ ghost use Rattle.std.specs.Prelude.{◌≤◌, IfOk};
 ghost use Rattle.pfr_commit.specs.Books.{StandsAt, job_of};
 ghost use Rattle.pfr_commit.specs.World.{opening};
 
-use pfr_capture::{Mem, Record};
+use pfr_capture::{Mem, Record, Source};
 use pfr_commit::Book;
 use pfr_net::{IfName, Ipv4Address, Net};
 use pfr_out::{Form, Gate, Report, Settings, Sinks, Stop, replay};
@@ -100,9 +100,9 @@ pub(crate) fn sinks(alloc: Global, verdicts: Mem) -> Sinks<Mem> {
 }
 
 /// Replays a capture by these rules, so many packets at a time and by so many workers.
-pub(crate) fn replay_in_memory<R: AllocGlobal + Threads + Wait + Sync, G: Gate>(
+pub(crate) fn replay_in_memory<R: AllocGlobal + Threads + Wait + Sync, S: Source, G: Gate>(
     rt: &R,
-    source: &mut Mem,
+    source: &mut S,
     rules: &[u8],
     batch: usize,
     workers: u64,

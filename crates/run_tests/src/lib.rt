@@ -6,6 +6,8 @@
 #[cfg(test)]
 mod ahead;
 #[cfg(test)]
+mod answers;
+#[cfg(test)]
 mod devices;
 #[cfg(test)]
 mod feeds;
@@ -13,6 +15,8 @@ mod feeds;
 mod given;
 #[cfg(test)]
 mod orders;
+#[cfg(test)]
+mod reading;
 #[cfg(test)]
 mod runs;
 #[cfg(test)]

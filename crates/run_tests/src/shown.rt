@@ -55,6 +55,15 @@ fn a_batch_is_opened_to_the_table_behind_the_one_three_before(rt: HostRuntime) -
     Ok(())
 }
 
+/// The batch of the first packet is published before the fourth one is opened, which finds its state.
+#[test]
+fn sees_published(rt: HostRuntime) -> Result<(), Fail> {
+    let packets = [(1000, 0), (1001, 0), (1002, 0), (1000, 0)];
+    let (left, told) = Run::passing(&packets, 1).by(&rt, 2, Freely)?;
+    assert!(rt; left.is_ok && left.own == 0 && told.answered.sum == 10);
+    Ok(())
+}
+
 /// When in a run of so many batches, of a packet each, a batch is the oldest: once the second one behind it is asked for, since by
 /// then the one before it is published. Behind the last batch one more is asked for, which there isn't.
 fn once_oldest(batch: u64, batches: u64) -> Option<Until> {
@@ -74,10 +83,10 @@ impl Plan for InItsTurn {
     }
 }
 
-/// All packets but the last are of one connection, each a batch. Where each waits until all before it are published, its result
+/// All packets but the last are of one connection, each a batch. If each waits until all before it are published, its result
 /// holds.
 #[test]
-fn sees_published(rt: HostRuntime) -> Result<(), Fail> {
+fn each_packet_waits_for_all_before_it(rt: HostRuntime) -> Result<(), Fail> {
     let mut packets = Vec::new(rt.alloc());
     for second in 0..10 {
         packets.push((1000, second / 2))?;
