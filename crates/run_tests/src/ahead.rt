@@ -8,7 +8,7 @@ use std::test::Fail;
 const LINES: &[u8] =
     b"1 0 out pass rule r=0 t=- s=1\n2 0 out pass rule r=0 t=- s=2\n3 0 out pass state r=0 t=- s=1\n";
 
-/// Packets of different connections hang on nothing of one another, so each result holds.
+/// Packets of different connections don't depend on one another, so each result holds.
 #[test]
 fn none_is_evaluated_again(rt: HostRuntime) -> Result<(), Fail> {
     let mut packets = Vec::new(rt.alloc());
@@ -41,7 +41,7 @@ impl Plan for SecondFirst {
     }
 }
 
-/// Two workers evaluate beside each other.
+/// Two workers evaluate side by side.
 #[test]
 fn the_second_packet_is_answered_first(rt: HostRuntime) -> Result<(), Fail> {
     let (left, told) = Run::passing(&[(1000, 0), (1001, 0)], 2).by(&rt, 2, SecondFirst)?;

@@ -18,13 +18,13 @@ const LINES: &[u8] =
 
 const COUNTERS: &[u8] = b"filter 0 1 5 140\ntotal 5 5 0 0 0\n";
 
-/// The bytes of a message with one INS, behind its IP header.
+/// The bytes of a message with one INS and of its IP header.
 const MESSAGE: usize = 290;
 
-/// Behind so many reads of 28 bytes at most a capture of 244 bytes is at its end, and was told so.
+/// The reads of 28 bytes at most after which a capture of 244 bytes has ended, with the one that finds the end.
 const READS: u64 = 10;
 
-/// Where devices fail: the source behind so many reads, and an output behind so many writes.
+/// The calls that fail: a read of the source after `reads` reads, and a write to an output after `writes` writes.
 #[derive(Clone, Copy)]
 struct Faults {
     reads: u64,
@@ -89,7 +89,7 @@ fn length_in(whole: &[u8], device: &Mem) -> usize {
     }
 }
 
-/// Outputs in memory, of which one fails behind so many writes.
+/// Outputs in memory, one of which fails.
 fn failing(alloc: Global, faults: Faults) -> Sinks<Mem> {
     let mut outputs = sinks(alloc, Mem::new(Vec::new(alloc)));
     let device = Mem::new(Vec::new(alloc)).failing_after(faults.writes);
@@ -103,7 +103,7 @@ fn failing(alloc: Global, faults: Faults) -> Sinks<Mem> {
     outputs
 }
 
-/// Replays a capture of five datagrams through `pass out`, by so many workers. Its source gives 28 bytes at most at a time.
+/// Replays a capture of five datagrams through `pass out`, with `workers` workers. Its source gives 28 bytes at most at a time.
 fn run<R: AllocGlobal + Threads + Wait + Clock + Sync>(
     rt: &R,
     faults: Faults,
@@ -141,7 +141,7 @@ fn run<R: AllocGlobal + Threads + Wait + Clock + Sync>(
     Ok(left)
 }
 
-/// What a run leaves that stops with so many packets committed, of which so many lines and packets were written.
+/// What a run leaves that stops after `lines` lines and `packets` packets were written.
 fn stopped(end: End, lines: u64, packets: u64) -> Left {
     Left {
         end,
@@ -206,7 +206,7 @@ fn expected(faults: Faults, batch: u64) -> Left {
     }
 }
 
-/// Sees that a run by so many workers leaves what is expected.
+/// Sees that a run with `workers` workers leaves what is expected.
 fn see<R: Abort + AllocGlobal + Threads + Wait + Clock + Sync>(
     rt: &R,
     faults: Faults,
@@ -228,7 +228,7 @@ fn see<R: Abort + AllocGlobal + Threads + Wait + Clock + Sync>(
     Ok(())
 }
 
-/// Sees that runs by so many workers leave what is expected, wherever this output fails.
+/// Sees that runs with `workers` workers leave what is expected, wherever this output fails.
 fn see_all_writes<R: Abort + AllocGlobal + Threads + Wait + Clock + Sync>(
     rt: &R,
     output: Output,
@@ -261,7 +261,7 @@ fn an_output_fails_at_each_place(rt: HostRuntime) -> Result<(), Fail> {
     Ok(())
 }
 
-/// A read fails, and the write of lines that were read before, also where the read comes first.
+/// A read fails, and the write of lines that were read before, also if the read comes first.
 #[test]
 fn a_read_and_a_write_fail_at_each_place(rt: HostRuntime) -> Result<(), Fail> {
     for workers in 0..3 {
@@ -272,7 +272,7 @@ fn a_read_and_a_write_fail_at_each_place(rt: HostRuntime) -> Result<(), Fail> {
     Ok(())
 }
 
-/// How a run ends whose source gives 65536 bytes at a time and fails behind so many reads, and its lines.
+/// How a run ends whose source gives 65536 bytes at a time and fails after `reads` reads, and its lines.
 fn read_part<R: AllocGlobal + Threads + Wait + Clock + Sync>(
     rt: &R,
     reads: u64,
@@ -299,7 +299,7 @@ fn read_part<R: AllocGlobal + Threads + Wait + Clock + Sync>(
     Ok((end_of(end, Output::Verdicts), lines?))
 }
 
-/// A read fails while two batches wait to be taken. They are, and the packets that were read behind them.
+/// A read fails while two batches wait to be taken. They are, and so are the packets that were read after them.
 #[test]
 fn a_read_fails_while_batches_wait(rt: HostRuntime) -> Result<(), Fail> {
     for (reads, packets) in [(0, 0), (1, 1488), (2, 2978), (3, 4467), (4, 4500)] {

@@ -27,7 +27,7 @@ pub(crate) struct Outputs {
 }
 
 impl Outputs {
-    /// Puts a piece behind the others.
+    /// Puts a piece after the others.
     fn put(&mut self, piece: &Emitted) -> Result<(), AllocError> {
         self.lines.extend_from_slice(piece.verdicts.as_slice())?;
         self.packets.extend_from_slice(piece.packets.as_slice())?;
@@ -43,7 +43,7 @@ impl Outputs {
     }
 }
 
-/// Gives datagrams, so many at a time, and keeps what it takes.
+/// Gives datagrams, `size` at a time, and keeps what it takes.
 #[derive(Drop)]
 struct Listed<'a, W> {
     alloc: Global,
@@ -52,7 +52,7 @@ struct Listed<'a, W> {
     left: &'a [(u16, u32)],
     size: usize,
     given: u64,
-    /// How many batches were asked for, how many were given and not taken yet, and the most of that.
+    /// How many batches were requested, how many were given and not taken yet, and the most of that.
     asked: u64,
     held: u64,
     most_held: u64,

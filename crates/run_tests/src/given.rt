@@ -24,14 +24,14 @@ const HEADER: [u8; 24] = [
     0xd4, 0xc3, 0xb2, 0xa1, 2, 0, 4, 0, 0, 0, 0, 0, 0, 0, 0, 0, 0, 0, 4, 0, 101, 0, 0, 0,
 ];
 
-/// A datagram from 10.0.0.5:1000 to 198.51.100.7:53, behind the second at which it was captured.
+/// A record of a datagram from 10.0.0.5:1000 to 198.51.100.7:53, without the second at which it was captured.
 const RECORD: [u8; 40] = [
     0, 0, 0, 0, 28, 0, 0, 0, 28, 0, 0, 0, //
     0x45, 0, 0, 28, 0, 1, 0, 0, 0x40, 17, 0x46, 0x91, 10, 0, 0, 5, 198, 51, 100, 7, //
     3, 0xe8, 0, 53, 0, 8, 0xc7, 0x81,
 ];
 
-/// A capture of so many such datagrams, the first of this second. Each other one is a second earlier than the one before it,
+/// A capture of `packets` such datagrams, the first one at `second`. Each other one is a second earlier than the one before it,
 /// or of second 0 too, so the clock stands still.
 pub(crate) fn capture(alloc: Global, packets: u32, second: u32) -> Result<Mem, AllocError> {
     let mut bytes = Vec::from_slice(alloc, &HEADER)?;
@@ -99,7 +99,7 @@ pub(crate) fn sinks(alloc: Global, verdicts: Mem) -> Sinks<Mem> {
     }
 }
 
-/// Replays a capture by these rules, so many packets at a time and by so many workers.
+/// Replays a capture by these rules, `batch` packets at a time and with `workers` workers.
 pub(crate) fn replay_in_memory<R: AllocGlobal + Threads + Wait + Sync, S: Source, G: Gate>(
     rt: &R,
     source: &mut S,

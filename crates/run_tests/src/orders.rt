@@ -71,7 +71,7 @@ impl Row {
     }
 }
 
-/// Whether a row comes to what is expected where its packets are evaluated in an order, by as many workers as there are packets.
+/// Whether a row comes to what is expected if its packets are evaluated in an order, by as many workers as there are packets.
 fn is_expected_in_order<R: AllocGlobal + Threads + Wait + Clock + Sync>(
     rt: &R,
     row: &Row,

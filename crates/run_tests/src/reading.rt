@@ -68,8 +68,8 @@ fn reads_ahead(rt: HostRuntime) -> Result<(), Fail> {
     Ok(())
 }
 
-/// Replays a capture whose source fails behind so many reads. A write of lines fails behind so many. It answers whether that is how
-/// the run stops, and whether the next read fails: if so, it has made just so many.
+/// Replays a capture whose source fails at one read. A write of lines fails after `writes` writes. It answers whether that is how the run
+/// stops, and whether the next read is the one that fails: if so, the run has made all reads before that one.
 fn makes_all_reads<R: AllocGlobal + Threads + Wait + Clock + Sync>(
     rt: &R,
     mut source: Mem,
@@ -102,7 +102,7 @@ fn makes_all_reads<R: AllocGlobal + Threads + Wait + Clock + Sync>(
     Ok(stops && read)
 }
 
-/// The write of the second batch fails. By many rules several workers pay, and three batches are read ahead then: that one and two
+/// The write of the second batch fails. With many rules several workers pay, and three batches are read ahead then: that one and two
 /// more. One worker doesn't, and rests. A read gives 65536 bytes, which are the header and 1488 records, and a part of one more.
 #[test]
 fn three_batches_are_read_ahead_if_workers_pay(rt: HostRuntime) -> Result<(), Fail> {
@@ -117,7 +117,7 @@ fn three_batches_are_read_ahead_if_workers_pay(rt: HostRuntime) -> Result<(), Fa
     Ok(())
 }
 
-/// Until the first batch has told whether workers pay, no other one is read where that one has packets enough to tell.
+/// Until the first batch has told whether workers pay, no other one is read, if that one has packets enough to tell.
 #[test]
 fn reads_no_further_than_it_takes_to_tell(rt: HostRuntime) -> Result<(), Fail> {
     let text = rules(rt.alloc(), 200, &[])?;
@@ -131,7 +131,7 @@ fn reads_no_further_than_it_takes_to_tell(rt: HostRuntime) -> Result<(), Fail> {
     Ok(())
 }
 
-/// Where a source is slow, what was read is written before more is asked for. The first read gives the header and 20 bytes of the
+/// If a source is slow, what was read is written before more is requested. The first read gives the header and 20 bytes of the
 /// first record, and each one more what is left of a record and 20 bytes of the next.
 #[test]
 fn a_slow_source_is_not_read_ahead(rt: HostRuntime) -> Result<(), Fail> {

@@ -13,7 +13,7 @@ const TWO_LINES: &[u8] = b"1 0 out pass rule r=0 t=- s=1\n2 0 out pass state r=0
 
 const COUNTERS: &[u8] = b"filter 0 1 5 140\ntotal 5 5 0 0 0\n";
 
-/// The bytes of a message with one INS, behind its IP header.
+/// The bytes of a message with one INS and of its IP header.
 const MESSAGE: usize = 290;
 
 /// How a run ended, and what it left: whether the lines of the first two packets alone, how many bytes of packets, of counters
@@ -42,7 +42,7 @@ impl Left {
     }
 }
 
-/// Who waits for no packet's turn.
+/// A gate that waits for no packet's turn.
 struct Unwatched;
 
 impl Gate for Unwatched {
@@ -53,8 +53,8 @@ impl Gate for Unwatched {
     fn ran_again(&self, _number: u64) {}
 }
 
-/// Replays a capture of five datagrams through `pass out`, by so many workers. Its source gives 28 bytes at most at a time, and
-/// fails behind so many reads; the verdicts fail behind so many writes.
+/// Replays a capture of five datagrams through `pass out`, with `workers` workers. Its source gives 28 bytes at most at a time, and
+/// fails after `reads` reads; the verdicts fail after `writes` writes.
 fn run<R: AllocGlobal + Threads + Wait + Sync>(
     rt: &R,
     reads: u64,

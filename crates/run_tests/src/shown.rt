@@ -10,8 +10,8 @@ use std::test::Fail;
 use std::thread::Threads;
 use std::time::Clock;
 
-/// Runs by so many workers, as a plan has calls wait, and answers which packets the committer evaluated. There is no answer where
-/// something didn't come that was waited for, a result is missing, or what came of it isn't that of a run without workers.
+/// Runs with `workers` workers, as a plan has calls wait, and answers which packets the committer evaluated. There is no answer if
+/// something didn't come that a call waited for, if a result is missing, or if a run without workers leaves something else.
 fn own_of<R: AllocGlobal + Threads + Wait + Clock + Sync, P: Plan + Sync + Drop>(
     rt: &R,
     run: Run<'_>,
@@ -64,8 +64,8 @@ fn sees_published(rt: HostRuntime) -> Result<(), Fail> {
     Ok(())
 }
 
-/// When in a run of so many batches, of a packet each, a batch is the oldest: once the second one behind it is asked for, since by
-/// then the one before it is published. Behind the last batch one more is asked for, which there isn't.
+/// When a batch is the oldest, in a run of `batches` batches of a packet each: once the second one after it is requested, since the one
+/// before it is published by then. After the last batch one more is requested, which there isn't.
 fn once_oldest(batch: u64, batches: u64) -> Option<Until> {
     let asked = batch.saturating_add(2).min(batches.saturating_add(1));
     Some(Until::Asked(asked))
@@ -103,7 +103,7 @@ fn each_packet_waits_for_all_before_it(rt: HostRuntime) -> Result<(), Fail> {
     Ok(())
 }
 
-/// Who has found out about a packet goes on once its batch is the oldest.
+/// A worker that has found out about a packet goes on once the packet's batch is the oldest.
 #[derive(Clone, Copy)]
 struct HeldUp {
     batches: u64,
@@ -115,8 +115,8 @@ impl Plan for HeldUp {
     }
 }
 
-/// A worker that is held up holds up no batch but its own: while a packet is told of, it looks at no table, for which a batch before
-/// would have to wait that is published.
+/// A worker that is held up holds up no batch but its own. While the gate is told of a packet, the worker looks at no table, so no batch
+/// before has to wait until it is published.
 #[test]
 fn whoever_is_told_of_a_packet_holds_up_no_other_batch(rt: HostRuntime) -> Result<(), Fail> {
     let mut packets = Vec::new(rt.alloc());
@@ -134,8 +134,8 @@ fn whoever_is_told_of_a_packet_holds_up_no_other_batch(rt: HostRuntime) -> Resul
     Ok(())
 }
 
-/// Nine packets of three batches are evaluated before the piece of the first batch is taken, so on the empty table. What the
-/// second piece waits for, and the evaluation of the packets of later batches, is said.
+/// Nine packets of three batches are evaluated before the piece of the first batch is taken, so on the empty table. The fields say what
+/// the second piece waits for, and what packets of later batches wait for.
 #[derive(Clone, Copy)]
 struct Stale {
     second: Option<Until>,
@@ -233,7 +233,7 @@ fn all_are_evaluated_on_the_empty_table(rt: HostRuntime) -> Result<(), Fail> {
     Ok(())
 }
 
-/// The fourth batch is evaluated once it is the oldest: the sixth one is asked for, which there isn't. Its first packet finds the
+/// The fourth batch is evaluated once it is the oldest: the sixth one is requested, which there isn't. Its first packet finds the
 /// state as the ninth packet left it, its second one doesn't find what the first did, and its third is the first of a connection.
 /// Those of the second batch and the third were evaluated on the empty table.
 #[test]

@@ -10,7 +10,7 @@ use std::test::Fail;
 use std::thread::Threads;
 use std::time::Clock;
 
-/// So many pairs of datagrams that make states: of the ports 1000, 1001 and so on, two pairs of each.
+/// `count` pairs of datagrams that make states: of the ports 1000, 1001 and so on, two pairs of each.
 fn pairs(alloc: Global, count: u16) -> Result<Vec<(u16, u32)>, AllocError>
     requires { count ≤ 100 }
 {
@@ -23,7 +23,7 @@ fn pairs(alloc: Global, count: u16) -> Result<Vec<(u16, u32)>, AllocError>
     Ok(packets)
 }
 
-/// Runs over so many pairs, a pair at a time, of which so many are taken whole.
+/// Runs over `count` pairs, a pair at a time, of which `takes` are taken whole.
 fn run_of<R: AllocGlobal + Threads + Wait + Clock + Sync>(
     rt: &R,
     count: u16,
@@ -49,7 +49,7 @@ fn lines(text: &[u8]) -> usize {
 }
 
 /// Whatever the number of workers, a run comes to the same lines, states and table, and reads two batches ahead. All packets come
-/// back, as workers have let go of a batch that is taken.
+/// back, as workers have released a batch that is taken.
 #[test]
 fn each_number_of_workers_comes_to_the_same(rt: HostRuntime) -> Result<(), Fail> {
     let (first, _told) = run_of(&rt, 20, 100, 1)?;
@@ -64,7 +64,7 @@ fn each_number_of_workers_comes_to_the_same(rt: HostRuntime) -> Result<(), Fail>
     Ok(())
 }
 
-/// Without workers a batch is taken before the next one is asked for, nobody is told of a packet's start, and no table is shown.
+/// Without workers a batch is taken before the next one is requested, nobody is told of a packet's start, and no table is shown.
 #[test]
 fn a_run_without_workers_reads_nothing_ahead(rt: HostRuntime) -> Result<(), Fail> {
     let (left, told) = run_of(&rt, 20, 100, 0)?;
@@ -94,7 +94,7 @@ const ENDS: [(u64, usize, usize, usize); 6] = [
     (5, 12, 3, 3),
 ];
 
-/// Where a piece isn't taken whole, the run ends, whatever the piece and the number of workers. The table shows what the batches
+/// If a piece isn't taken whole, the run ends, whatever the piece and the number of workers. The table shows what the batches
 /// before it did.
 #[test]
 fn a_piece_is_taken_in_part(rt: HostRuntime) -> Result<(), Fail> {
@@ -132,7 +132,7 @@ impl Plan for UntilStopped {
     }
 }
 
-/// Behind a stop nothing is evaluated that wasn't begun by then.
+/// After a stop nothing is evaluated that wasn't begun by then.
 #[test]
 fn nothing_is_evaluated_behind_a_stop(rt: HostRuntime) -> Result<(), Fail> {
     let packets = pairs(rt.alloc(), 10)?;

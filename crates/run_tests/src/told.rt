@@ -12,7 +12,7 @@ use std::test::Fail;
 use std::thread::{Threads, sleep};
 use std::time::{Clock, Duration};
 
-/// So many rules that block all, so no packet changes anything, and then others.
+/// `count` rules that block all, so no packet changes anything, and then others.
 pub(crate) fn rules(alloc: Global, count: u64, others: &[u8]) -> Result<Vec<u8>, AllocError> {
     let mut text = Vec::new(alloc);
     for _rule in 0..count {
@@ -22,7 +22,7 @@ pub(crate) fn rules(alloc: Global, count: u64, others: &[u8]) -> Result<Vec<u8>,
     Ok(text)
 }
 
-/// What a gate is told in a run of so many packets through rules: the sum of the numbers of the packets that workers start, of those
+/// What a gate is told in a run of `packets` packets through rules: the sum of the numbers of the packets that workers start, of those
 /// that they answer, and of those that the committer evaluates.
 fn told_by<R: AllocGlobal + Threads + Wait + Clock + Sync>(
     rt: &R,
@@ -58,7 +58,7 @@ fn told_by<R: AllocGlobal + Threads + Wait + Clock + Sync>(
     }
 }
 
-/// The same by so many rules that block all.
+/// The same with `count` rules that block all.
 fn told<R: AllocGlobal + Threads + Wait + Clock + Sync>(
     rt: &R,
     count: u64,
@@ -101,8 +101,8 @@ fn beginnings(batches: &[u64]) -> u64 {
     all
 }
 
-/// By one rule they can't pay. Workers evaluate the beginning of the first batch, and no other one is opened before that is judged.
-/// Behind it they are given up.
+/// With one rule they can't pay. Workers evaluate the beginning of the first batch, and no other one is opened before that is judged.
+/// After it they are given up.
 #[test]
 fn workers_are_given_up_where_they_cannot_pay(rt: HostRuntime) -> Result<(), Fail> {
     let answered = beginnings(&[0]);
@@ -111,7 +111,7 @@ fn workers_are_given_up_where_they_cannot_pay(rt: HostRuntime) -> Result<(), Fai
     Ok(())
 }
 
-/// By 120 rules two workers save as much as it takes to hand results over, and to begin each batch they need more. They evaluate the
+/// With 120 rules two workers save as much as it takes to hand results over, and to begin each batch they need more. They evaluate the
 /// beginning of the first batch, and rest for 1024 packets once it is judged: the batch 1. They evaluate the beginning of the
 /// batch 2 then, and rest for 4096 packets: the batches 3 to 6. The batch 7 is opened next, and they evaluate its beginning.
 #[test]
@@ -122,7 +122,7 @@ fn workers_rest_where_they_do_not_pay(rt: HostRuntime) -> Result<(), Fail> {
     Ok(())
 }
 
-/// By many rules they do. Workers evaluate the beginning of the first batch. Once it is judged they evaluate all of those that come.
+/// With many rules they do. Workers evaluate the beginning of the first batch. Once it is judged they evaluate all of those that come.
 #[test]
 fn workers_go_on_where_they_pay(rt: HostRuntime) -> Result<(), Fail> {
     let answered = beginnings(&[0]).saturating_add(sum(1025, 5121));
@@ -184,7 +184,7 @@ impl<'a, R: Clock + Sync> Gate for AtOnce<'a, R> {
     fn ran_again(&self, _number: u64) {}
 }
 
-/// The most packets that so many workers evaluate at once, in the two batches behind the first one, of 1024 packets each.
+/// The most packets that `workers` workers evaluate at once, in the two batches after the first one, of 1024 packets each.
 fn most_at_once<R: AllocGlobal + Threads + Wait + Clock + Sync>(
     rt: &R,
     text: &[u8],
@@ -219,8 +219,8 @@ fn most_at_once<R: AllocGlobal + Threads + Wait + Clock + Sync>(
     }
 }
 
-/// By 150 rules three workers evaluate packets more quickly than the committer takes them over. So no more of eight are given the
-/// batches behind the first one.
+/// With 150 rules three workers evaluate packets more quickly than the committer takes them over. So no more of eight are given the
+/// batches after the first one.
 #[test]
 fn no_more_workers_are_given_a_batch_than_it_takes(rt: HostRuntime) -> Result<(), Fail> {
     let text = rules(rt.alloc(), 150, &[])?;

@@ -5,10 +5,10 @@ use std::sync::atomic::{AtomicU64, Ordering};
 use std::thread::sleep;
 use std::time::{Clock, Duration};
 
-/// For how many turns a call waits at most, of 50 microseconds or more each.
+/// The most turns that a call waits, of 50 microseconds or more each.
 const TURNS: u32 = 40_000;
 
-/// Within so many milliseconds a run whose piece wasn't taken whole has its workers stop, however busy the machine is.
+/// The milliseconds within which a run whose piece wasn't taken whole has its workers stop, however busy the machine is.
 const STOPPING: u64 = 1000;
 
 /// How many calls there were, and the sum of the numbers that they told.
@@ -62,12 +62,12 @@ pub(crate) struct Told {
 /// What a call may wait for.
 #[derive(Clone, Copy)]
 pub(crate) enum Until {
-    /// So many batches were asked for. Each behind the third is asked for once what the one three before it did to the table is
+    /// This number of batches were requested. Each after the third is requested once what the one three before it did to the table is
     /// published.
     Asked(u64),
-    /// So many packets were started.
+    /// This number of packets were started.
     Started(u64),
-    /// So many packets were answered.
+    /// This number of packets were answered.
     Answered(u64),
     /// A piece wasn't taken whole, and the run has stopped by then.
     Stopped,
@@ -97,9 +97,9 @@ pub(crate) struct Freely;
 
 impl Plan for Freely {}
 
-/// Who is told of the calls of a feed. A call may wait.
+/// Is told of the calls of a feed. A call may wait.
 pub(crate) trait Watch {
-    /// The next batch is asked for.
+    /// The next batch is requested.
     fn asks(&self, batch: u64);
 
     /// The piece of a batch is about to be taken.
@@ -161,7 +161,7 @@ impl<'a, R: Clock, P: Plan> Turns<'a, R, P> {
         }
     }
 
-    /// Waits until it has come, for some seconds at most, and says whether it has. Where anything didn't come before, it doesn't wait.
+    /// Waits until it has come, for some seconds at most, and says whether it has. If anything didn't come before, it doesn't wait.
     fn comes(&self, until: Until) -> bool {
         for _turn in 0..TURNS {
             if self.has_come(until) {
