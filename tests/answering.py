@@ -1,4 +1,4 @@
-"""What a program answers to records, and where answers differ from those that are expected."""
+"""What a program answers to records, and which answers differ from those that are expected."""
 
 import subprocess
 
@@ -9,7 +9,7 @@ SHOWN = 5
 
 
 def cut(lines):
-    """The lines before each line `end`, and then those behind the last one."""
+    """The lines before each line `end`, and then those after the last one."""
     answers = [[]]
     for line in lines:
         if line == "end":

@@ -28,7 +28,7 @@ def is_stale(program):
 
 
 def ran(words, folder):
-    """Runs a command that builds; where it fails, what it printed is the last that is said."""
+    """Runs a command that builds; if it fails, what it printed is the last that is said."""
     done = subprocess.run(words, cwd=folder, stdin=subprocess.DEVNULL, stdout=subprocess.PIPE,
                           stderr=subprocess.STDOUT, text=True, check=False)
     if done.returncode:
@@ -36,7 +36,7 @@ def ran(words, folder):
 
 
 def built(name, *words):
-    """The program of a crate, built where it isn't or where a source is newer. By the words it answers nothing."""
+    """The program of a crate, built if it isn't there or a source is newer. With these words it answers nothing."""
     program = CRATES / name / "out" / name
     if is_stale(program):
         ran(["rt", "run", "--", *words], CRATES / name)
@@ -54,16 +54,16 @@ def message_answers(word):
 
 
 def schedule_answers():
-    """The command by which `schedule_answers` answers scripts; nothing is answered where there are none."""
+    """The command by which `schedule_answers` answers scripts; without any it answers nothing."""
     return [str(built("schedule_answers"))]
 
 
 def published_answers():
-    """The command by which `published_answers` answers scripts; nothing is answered where there are none."""
+    """The command by which `published_answers` answers scripts; without any it answers nothing."""
     return [str(built("published_answers"))]
 
 
 def pfreplay():
-    """The program pfreplay, which its script builds where a source is newer."""
+    """The program pfreplay, which its script builds if a source is newer."""
     ran(["./pfreplay", "--help"], ROOT)
     return CRATES / "pfr_cli" / "out" / "pfr_cli"

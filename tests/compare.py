@@ -1,13 +1,13 @@
 #!/usr/bin/env python3
-"""Compares what the programs of this repository answer with models of it, and with what is written out by hand.
+"""Compares what the programs of this repository answer with models, and with answers written by hand.
 
     compare.py [--model] [WORD ..]
 
 Each word names a comparison, and no word stands for all of them. Each one runs in a process of its own, as many at once
 as there are processors. What it prints comes whole, in the order of the words, under its name and the seconds that it
-took. The status is 1 where one of them failed.
+took. The status is 1 if one of them failed.
 
-With `--model` the models alone are asked what is written out, and no program is needed.
+With `--model` the models alone are compared with the answers written by hand, and no program is needed.
 """
 
 import argparse
@@ -27,7 +27,7 @@ TESTS = Path(__file__).resolve().parent
 # each is a package with a module `compare`
 WORDS = ("runs", "rulesets", "expansions", "tracking", "table", "steps", "commits", "messages", "schedules",
          "published", "workers", "matrix", "faults")
-# those of which nothing is written out
+# those without answers written by hand
 WITHOUT_MODEL_ALONE = ("table", "workers")
 # those of the program pfreplay, of message_answers, of schedule_answers and of published_answers; all others are of the
 # program `answers`
@@ -80,7 +80,7 @@ def compare(words, function):
 
 def main():
     parser = argparse.ArgumentParser(description="Compares the programs with models.")
-    parser.add_argument("--model", action="store_true", help="ask the models alone what is written out")
+    parser.add_argument("--model", action="store_true", help="compare the models with the answers written by hand")
     parser.add_argument("words", nargs="*", metavar="WORD", help=f"a comparison: {', '.join(WORDS)}")
     asked = parser.parse_args()
     words = tuple(dict.fromkeys(asked.words)) or WORDS

@@ -57,7 +57,7 @@ def ipv4(source, destination, protocol, payload=b"", identification=0, ip_option
 
 
 def fragments(packet, size):
-    """A packet without options in two fragments, the first with so many bytes (a multiple of 8) of the payload."""
+    """A packet without options in two fragments, the first with `size` bytes (a multiple of 8) of the payload."""
     ends = socket.inet_ntoa(packet[12:16]), socket.inet_ntoa(packet[16:20])
     identification = int.from_bytes(packet[4:6], "big")
     payload = packet[20:]

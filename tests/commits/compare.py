@@ -76,7 +76,7 @@ def disagreeing(title, books):
 
 
 def seen_as_written(lines, answers):
-    """So many lines of an answer as are written out, with sizes for messages as these have."""
+    """The lines of an answer that are written by hand, with sizes for messages if these have them."""
     return list(with_sizes(answers[:len(lines)]))
 
 

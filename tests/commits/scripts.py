@@ -192,7 +192,7 @@ def scripts_of(runs):
 
 
 def some_scripts(packets):
-    """Random scripts with so many packets in all."""
+    """Random scripts with `packets` packets in all."""
     return scripts_of(steps.random_runs.runs(packets))
 
 
@@ -202,7 +202,7 @@ def some_translated(packets):
 
 
 def some_runs_with_messages(count):
-    """Runs of which much is told to a standby: so many, without those with a second that no record has."""
+    """`count` runs of which much is told to a standby, without those with a second that no record has."""
     return [run for run in messages.random_runs.runs(count) if run.records[-1][0] <= LAST_SECOND]
 
 

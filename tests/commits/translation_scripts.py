@@ -52,7 +52,7 @@ def filled(numbers, clock):
 
 
 def answer(run, packets, own, *sizes):
-    """What a batch of these packets is answered with, behind which the book has evaluated so many itself, and at which
+    """What a batch of these packets is answered with, after which the book has evaluated `own` itself, and at which
     messages of these sizes close."""
     records = Script(run, [], []).records()
     octets = b"".join(records[each.number - 1].header + each.frame for each in packets if each.frame)
@@ -163,7 +163,7 @@ def touched_script():
 
 
 def roomless_script():
-    """A packet that is blocked by a key that is taken, so that it doesn't hang on the room in the table."""
+    """A packet that is blocked by a key that is taken, so that it doesn't depend on the room in the table."""
     rules = "set limit states 2\nrdr to em0 port { 80, 8080 } -> 10.0.0.1 port 80\npass in"
     run = at_once("a key that is taken and the room", rules,
                   *(tcp(source, 9, E, port, SYN, 1) for source, port in ((P, 80), (OTHER, 80), (P, 8080))))

@@ -140,12 +140,12 @@ class Judged:
         return "".join(self.written.get(int(line.split(" ")[0]), "") for line in verdicts) or "-"
 
     def messages_of(self, count):
-        """The bytes in hex of the messages that close at so many next packets."""
+        """The bytes in hex of the messages that close at the next `count` packets."""
         closed = closed_messages(self.lines) if count else []
         return "".join(closed[self.committed:self.committed + count]) or "-"
 
     def judge_part(self, verdicts, most):
-        """Judges one batch, for which the book may take so many packets; these are the lines of all packets."""
+        """Judges one batch, of which the book may take `most` packets; these are the lines of all packets."""
         part, right = self.seen.part(), self.whole.part()
         came = len(part.verdicts)
         if part.verdicts != verdicts[self.committed:self.committed + came] or part.committed != self.committed + came:

@@ -49,7 +49,7 @@ def telling_capture():
 
 def run_ends_lawfully(program, capture, rules, messages=FILE, judge="replay", workers=0, batch=BATCH):
     """Whether the command `run` does by a judge, on the files of a capture and a ruleset, with its messages in a file,
-    to a peer or without them, with so many workers and packets in a batch."""
+    to a peer or without them, with `workers` workers and `batch` packets in a batch."""
     print(" ".join(("run", capture.name, rules.name, *messages)) + f", {workers} workers, batches of {batch}: {judge}")
     outputs = [word for name in (*REQUIRED, *messages) for word in (f"--{name}", name)]
     return ends_lawfully(judge, [program, "run", capture, rules, *INTERFACE,

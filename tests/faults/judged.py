@@ -46,14 +46,14 @@ def trial_of(capture, rules, form):
 
 
 class Pieces:
-    """What the outputs hold after so many packets."""
+    """What the outputs hold after some packets."""
 
     def __init__(self, trial):
         self.whole = replay.texts_of(trial.clean.files)
         self.told = replay.whole_of(trial)
 
     def online(self, count, **others):
-        """Behind so many packets, but that some outputs are others."""
+        """After `count` packets, but with some other outputs."""
         return self.told.online(count)._replace(**others)
 
     def ended(self, **others):

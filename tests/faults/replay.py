@@ -149,7 +149,7 @@ class Whole:
         return ends
 
     def online(self, count):
-        """What the files hold once so many packets are written, and the run goes on."""
+        """What the files hold once `count` packets are written, and the run goes on."""
         verdicts, packets, _, _, messages = self.files
         return Files(verdicts[:self.lines_end[count]], packets[:self.packets_end[count]], b"", b"",
                      messages[:self.messages_end[count]])
@@ -159,7 +159,7 @@ class Whole:
         return sorted({*range(self.batch, self.count + 1, self.batch), self.count} - {0})
 
     def is_held(self, count, files):
-        """Whether files hold at least what belongs to so many packets."""
+        """Whether files hold at least what belongs to `count` packets."""
         return all(len(text) >= len(least) for text, least in zip(files, self.online(count)))
 
     def held(self, files):
@@ -171,7 +171,7 @@ class Whole:
         return min((boundary for boundary in self.boundaries() if boundary > count), default=count)
 
     def most(self, committed):
-        """What the files may hold at most where so many packets are told as committed."""
+        """What the files may hold at most if `committed` packets are told as committed."""
         return self.files if committed == self.count else self.online(self.behind(committed))
 
     def writes(self):

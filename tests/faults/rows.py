@@ -68,7 +68,7 @@ def write_rows():
 
 
 def left_of(files, before):
-    """What files hold, where so many bytes stand before each message in a file and aren't there."""
+    """What files hold; `before` bytes stand before each message in a file that aren't there."""
     verdicts, packets, counters, states, messages = files
     return Left(verdicts.count(b"\n"), len(packets), counters.count(b"\n"), states.count(b"\n"),
                 tuple(len(piece) + before for piece in pieces(messages)))

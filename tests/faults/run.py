@@ -27,7 +27,7 @@ from faults.trial import Fault, Trial, Unlawful
 
 MOST_SHOWN = 10
 MOST_OUTPUT = 1 << 28
-# once so many runs took too long the others aren't waited for
+# the runs that may take too long before the others aren't waited for
 MOST_SLOW = 4
 NOT_REACHED, NOT_TRIED = "not reached", "not tried"
 

@@ -142,7 +142,7 @@ class Trial:
                         tuple(taken if name == PEER else written.get(name) for name in self.outputs))
 
     def beginning(self, name, length):
-        """A file, open in a `with`, that holds so many bytes of the one named."""
+        """A file, open in a `with`, that holds the first `length` bytes of the one named."""
         file = tempfile.NamedTemporaryFile(dir=self.folder)
         file.write(Path(name).read_bytes()[:length])
         file.flush()

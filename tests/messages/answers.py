@@ -75,8 +75,8 @@ def file_answers():
     yield whole[:59], "short"
 
 
-# The first three of the five messages, by their bytes: how many of them stand behind one another of which each may have
-# so many of the 256 values while all others stay
+# The first three of the five messages, by their bytes: how many bytes in a row, and how many of
+# the 256 values each of them may have while all others stay
 
 ANY = 256
 PEER = [(8, 1), (8, ANY), (4, 1), (2, ANY), (2, 1), (1, 11), (1, 16), (6, 1)]

@@ -120,7 +120,7 @@ def to_hold(states):
 # Lists of events
 
 def on_the_way(origin, packets, closed, places):
-    """What is wrong with the messages that are out behind so many packets."""
+    """What is wrong with the messages that are out after each of some numbers of packets."""
     for place in places:
         if cut.online(origin, packets[:place]) != list(chain.from_iterable(closed[:place])):
             yield f"behind {place} packets other messages are out by the cut and by the queue"

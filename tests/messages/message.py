@@ -81,7 +81,7 @@ class Message(NamedTuple):
 
 
 def size(counts):
-    """The bytes of a message with so many records of each kind, with its IP header: there is a header, a subheader for
+    """The bytes of a message with these counts of records, with its IP header: there is a header, a subheader for
     each kind that has records, the records, and a subheader that ends it."""
     kinds = sum(SUBHEADER + count * RECORD_BYTES[kind] for kind, count in counts.items() if count)
     return IP_HEADER + HEADER + kinds + SUBHEADER

@@ -130,6 +130,6 @@ def some_list(draw):
 
 
 def lists(count=LISTS):
-    """So many lists, the same at every time."""
+    """`count` lists, the same every time."""
     draw = random.Random(SEED)
     return (some_list(draw) for _ in range(count))

@@ -13,7 +13,7 @@ OFFERS = (None, None, 0, 1, 7, 14)
 
 
 def some_number(draw, bits, near):
-    """A number of so many bits, mostly one of a few."""
+    """A number of `bits` bits, mostly one of a few."""
     return draw.choice(near) if draw.random() < 0.6 else draw.getrandbits(bits)
 
 
@@ -74,7 +74,7 @@ def some_numbers(draw, count):
 
 
 def some_message(draw, counts):
-    """A message with so many records of each kind. A number may stand in several kinds."""
+    """A message with these counts of records of each kind. A number may stand in several kinds."""
     records = (tuple(MAKERS[kind](draw, number) for number in some_numbers(draw, count))
                for kind, count in zip(KINDS, counts))
     return Message(draw.randbytes(16), *records)

@@ -102,6 +102,6 @@ def some_run(draw, number):
 
 
 def runs(count=RUNS):
-    """So many runs, the same at every time."""
+    """`count` runs, the same every time."""
     draw = random.Random(SEED)
     return (some_run(draw, number) for number in range(count))

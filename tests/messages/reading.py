@@ -159,7 +159,7 @@ class Reader:
         return Delete(number, self.number(4))
 
     def records(self, action, count):
-        """So many records of one kind."""
+        """`count` records of one kind."""
         read = {INS: self.insert, UPD_C: self.update, DEL_C: self.delete}[action]
         records = []
         for _ in range(count):

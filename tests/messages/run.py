@@ -27,7 +27,7 @@ class Told(NamedTuple):
         return cut.whole(self.origin, self.packets)
 
     def online(self, count):
-        """Those that are out behind so many packets, while the run goes on."""
+        """Those that are out after `count` packets, while the run goes on."""
         return cut.online(self.origin, self.packets[:count])
 
     def closed(self):

@@ -25,7 +25,7 @@ def update(place):
 
 
 def message(inserts, updates, deletes):
-    """A message with so many records of each kind."""
+    """A message with these numbers of records of each kind."""
     numbers = iter(range(1, 1 + inserts + updates + deletes))
     return Message(SUM, tuple(insert(next(numbers)) for _ in range(inserts)),
                    tuple(update(next(numbers)) for _ in range(updates)),

@@ -77,7 +77,7 @@ def bare(message):
 
 
 def ip_header(length, address):
-    """The IP header before a message of so many bytes, from an interface's address to the group of pfsync."""
+    """The IP header before a message of `length` bytes, from an interface's address to the group of pfsync."""
     head = bytes.fromhex("4510") + number(IP_HEADER + length, 2) + bytes.fromhex("00004000fff0")
     ends = socket.inet_aton(address) + bytes.fromhex("e00000f0")
     return head + number(checksum(head + bytes(2) + ends), 2) + ends

@@ -48,14 +48,14 @@ class RunWriter(KindWriter):
 
 
 def changes_behind(writer, place):
-    """The changes that a writer has written behind so many calls, each with whether the table has taken it."""
+    """The changes that a writer writes after the call at `place`, each with whether the table takes it."""
     for call, (answer, *_) in zip(writer.lines[place + 1:], writer.answers[place:]):
         if call.split()[0] in CHANGES:
             yield call, answer == "done"
 
 
 def taken_changes(writer, count):
-    """The changes among so many steps of a writer that its table takes."""
+    """The changes among `count` steps of a writer that its table takes."""
     place = len(writer.answers)
     for _ in range(count):
         writer.step()
@@ -345,6 +345,6 @@ KINDS = {"random": some_script, "busy": busy_script, "large": large_script}
 
 
 def scripts(kind, count):
-    """So many scripts of a kind."""
+    """`count` scripts of a kind."""
     draw = random.Random(f"{SEED} {kind}")
     return [KINDS[kind](draw, f"{kind} {number}") for number in range(1, count + 1)]

@@ -32,7 +32,7 @@ def script(name, limit, viewers, deeds, places=None):
 
 
 def published(count):
-    """The lines of so many publications that are done."""
+    """The lines of `count` publications that are done."""
     return ["published"] * count
 
 
@@ -143,7 +143,7 @@ CLOSED = ("0", ONE, THREE, LAST_TWO)
 
 
 def answer(*lines, done=3, closed=None):
-    """An answer with the lines of the viewer, where so many publications are done and the others are refused."""
+    """An answer with the lines of the viewer, if `done` publications are done and the others are refused."""
     return [*published(done), *["refused"] * (3 - done), *lines, f"closed {closed or CLOSED[done]}"]
 
 

@@ -11,7 +11,7 @@ from rulesets.tree import ANY, Criteria, Form, Host, Interface, Network, Part, P
 from rulesets.words import (BAD_ADDRESS, BAD_NUMBER, GRAMMAR_WORDS, LEFT_OUT_WORDS, NAME, PLAIN, PROTOCOLS, QUOTED,
                             SERVICES, SIGN, USE, Fault, is_name, left_out)
 
-# names of interfaces have at most so many bytes
+# the most bytes of an interface's name
 LONGEST_INTERFACE = 15
 MOST_PROTOCOL, MOST_BITS, MOST_PORT = 255, 32, 65535
 # no number of the language is as great as this one

@@ -14,7 +14,7 @@ BAD_BYTE, UNTERMINATED, UNKNOWN = "bad byte", "unterminated", "unknown word"
 BAD_NUMBER, BAD_ADDRESS = "bad number", "bad address"
 OUT_OF_ORDER, TOO_DEEP = "out of order", "too deep"
 
-# macros and tables have names of at most so many bytes
+# the most bytes of the name of a macro or a table
 LONGEST_NAME = 31
 
 GRAMMAR_WORDS = frozenset("""

@@ -12,7 +12,7 @@ EXAMPLE_INSIDES = {"gateway": "198.51.100.64/27,192.0.2.1", "home": "10.0.0.0/24
 FIRST_RULES = (b"block in all\npass in quick from 198.51.100.0/24 to any no state\n"
                b"block in from 198.51.100.7 to any\n")
 INSIDE = "10.0.0.0/8"
-# the seed of a run where none is told
+# the seed of a run if none is told
 NO_SEED = "0" * 64
 PACKETS = [udp("198.51.100.7", 9, "192.0.2.1", 9), udp("203.0.113.9", 9, "192.0.2.1", 9),
            udp("10.0.0.5", 9, "198.51.100.7", 9)]

@@ -20,7 +20,7 @@ def examples():
 
 
 def edges():
-    """Outputs that end at, before and behind whole numbers of the 64 KiB that are written at once."""
+    """Outputs that end at, before and after whole numbers of the 64 KiB that are written at once."""
     for length in (65535, 65536, 65537, 131072):
         # the capture's header and two records, so that the second one ends there
         rest = length - 24 - 16 - len(PACKETS[0]) - 16

@@ -29,8 +29,8 @@ class Check(NamedTuple):
 
 
 def counted(name, text, count, checksum, interface="em0", network="192.0.2.1/24", translations=0):
-    """A row of a text that is accepted, of so many filter and translation rules. Its checksum was told by another
-    program."""
+    """A row of a text that is accepted, of `count` filter rules and `translations` rules of translation. Its checksum
+    was told by another program."""
     line = f"{count} filter, {translations} translation, {checksum}\n"
     return (Check(name, text, interface, network), line.encode(), b"", 0)
 
@@ -94,7 +94,7 @@ def all_cases():
 
 
 def bad_command_lines():
-    """Command lines that don't fit, the words behind `check`. The ruleset has a fault that isn't to be met."""
+    """Command lines that don't fit, the words after `check`. The ruleset has a fault that isn't to be met."""
     interface, address = FITTING[:2], FITTING[2:]
     yield Line(())
     yield Line((RULES,))

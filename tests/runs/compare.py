@@ -17,7 +17,7 @@ MOST_SHOWN = 10
 
 
 def end(comparison):
-    """Tells what went wrong, and exits with 1 where anything did."""
+    """Tells what went wrong, and exits with 1 if anything did."""
     comparison.show(MOST_SHOWN)
     print(f"{comparison.count} cases, {len(comparison.wrong)} not as expected")
     sys.exit(bool(comparison.wrong))

@@ -11,7 +11,7 @@ from runs.peers import Peer
 TIME_LIMIT = 60
 # longer than the text of many a run, so that what isn't emptied shows
 OLD_BYTES = b"as it was\n" * 50
-# what a fault of the command line is shown as where the program says something else
+# what a fault of the command line is shown as if the program says something else
 ONE_LINE = b"pfreplay: (one line)\n"
 
 
@@ -29,7 +29,7 @@ class Comparison:
         self.wrong = []
 
     def execute(self, words, out=subprocess.PIPE, peer=None, err=subprocess.PIPE, before=None):
-        """One run of the program, with the peer to which it may send, and what its process does before; None where it
+        """One run of the program, with the peer to which it may send, and what its process does before; None if it
         takes too long."""
         with subprocess.Popen([self.program, *map(str, words)], stdin=subprocess.DEVNULL, stdout=out, stderr=err,
                               preexec_fn=before) as run:
@@ -94,7 +94,7 @@ def flags_of(case, files):
 
 
 def a_line(seen, beginning, parts=()):
-    """What was said where it is one line with this beginning and these parts, else what stands for such a line."""
+    """What was said if it is one line with this beginning and these parts, else what stands for such a line."""
     if seen is None or seen.err.find(b"\n") != len(seen.err) - 1:
         return ONE_LINE
     return seen.err if seen.err.startswith(beginning) and all(part in seen.err for part in parts) else ONE_LINE

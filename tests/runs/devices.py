@@ -15,7 +15,7 @@ from runs.comparison import a_line, flags_of
 from runs.model import EMPTY, FILE, NONE, OUTPUTS, PEER, Files, Outcome
 from runs.peers import Peer, nobody
 
-# packets are committed so many at a time
+# the packets that are committed at a time
 BATCH = 256
 
 
@@ -182,8 +182,8 @@ def timed_capture(records):
 
 
 def full_disk_of_messages(comparison):
-    """Messages alone to a full disk, by how many packets are committed before the first one closes. Behind so many the
-    verdicts and packets are written, and nothing else."""
+    """Messages alone to a full disk, by how many packets are committed before the first one closes. The verdicts and
+    packets of these are written, and nothing else."""
     silence, later = [PACKETS[1]] * BATCH, [(1, packet) for packet in flows(7, 100)]
     for title, records, committed in (
             ("closes in the first batch", at(0, flows(7)), 0),
@@ -281,7 +281,7 @@ def peers(comparison):
     no_peers(comparison, Case("no peer", b"block in\npass out", INSIDE, capture_of(PACKETS)))
     many = timed_capture([(number // 100, packet) for number, packet in enumerate(flows(1200))])
     case = Case("peers", b"pass out", INSIDE, many)
-    # the connection takes one message, and can't take so many
+    # the connection takes one message, and can't take the others
     few = case._replace(capture=timed_capture(at(0, flows(1))))
     quitters(comparison, few, endings(few))
     quitters(comparison, case, endings(case)[1:])

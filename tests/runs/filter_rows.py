@@ -103,7 +103,7 @@ def verdict_rows():
     # the rules that are visited have a gap at each anchor
     yield row("300 anchors that don't hold", "anchor proto tcp {\nblock quick\n}\npass in\n" * 300,
               (UDP_NINE, "in pass rule r=599"), (PING, "in pass rule r=599"))
-    # behind the first the second would be of its state
+    # after the first the second would be of its state
     yield row("an answer that nobody asked for", "block\npass out keep state",
               (udp("10.0.0.5", 9, OUTSIDE, 9), "out pass rule r=1"), (udp(OUTSIDE, 9, "10.0.0.5", 9), "in block rule r=0"))
 
@@ -164,7 +164,7 @@ def icmp_rows():
                   (message(3, 1), False))
     yield passing("an ICMP type with all codes", "pass in icmp-type unreach", (message(3, 0), True),
                   (message(3, 13), True), (message(0, 3), False))
-    # the first two bytes behind the header are those of type 3 and code 1 in each of these
+    # the first two bytes after the header are those of type 3 and code 1 in each of these
     looks_alike = 3 << 8 | 1
     yield passing("an ICMP type and other protocols", "pass in icmp-type 3 code 1",
                   (udp(OUTSIDE, looks_alike, HERE, 9), False), (tcp(OUTSIDE, looks_alike, HERE, 9, SYN, 1), False),

@@ -1,8 +1,8 @@
 """Random runs of which much is to be told to a standby, in captures of every form: those of messages.random_runs,
 states that go as soon as they have moved on, and many states that come and go together.
 
-A few captures end inside a record, or with one that is too long. Each thing that messages hang on has to come up often
-enough in all of them.
+A few captures end inside a record, or with one that is too long. Each thing that messages depend on has to come up
+often enough in all of them.
 """
 
 import random

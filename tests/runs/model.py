@@ -1,7 +1,7 @@
-"""A model of the program: what its commands `run` and `check` leave, where the command line fits and files open.
+"""A model of the program: what its commands `run` and `check` leave, if the command line fits and files open.
 
-What a run comes to stands in steps.replay, its messages in messages.run, what a ruleset means in expansions.model. Here
-is what is said of it, and what the files hold.
+The outcome of a run stands in steps.replay, its messages in messages.run, what a ruleset means in expansions.model.
+Here is what is said of it, and what the files hold.
 """
 
 import hashlib
@@ -15,16 +15,16 @@ from messages.spelling import bare, in_file
 from rulesets.tree import Network
 from steps.replay import Interface, Replay, job_of, replay_of, ruleset_of
 
-# what each run writes, in the order in which the files are opened; messages are written where that is asked for
+# what each run writes, in the order in which the files are opened; messages are written if that is requested
 REQUIRED = ("verdicts", "packets", "counters", "states")
 OUTPUTS = (*REQUIRED, "messages")
-# the forms of messages: in a file each stands behind an IP header, a peer gets them bare, and there may be none
+# the forms of messages: in a file each stands after an IP header, a peer gets them bare, and there may be none
 FILE, PEER, NONE = "a file of messages", "a peer", "no messages"
 
 
 class Files(NamedTuple):
-    """The bytes of the outputs, None where a file isn't there, or is left as it was. Those of the messages may be what
-    a peer got, None where it wasn't called."""
+    """The bytes of the outputs, None if a file isn't there, or is left as it was. Those of the messages may be what a
+    peer got, None if it wasn't called."""
     verdicts: bytes | None = None
     packets: bytes | None = None
     counters: bytes | None = None
@@ -103,7 +103,7 @@ def spelled(messages, form, address):
 
 
 def opened(form):
-    """What is left where all files were opened, and no more."""
+    """What is left if all files were opened, and no more."""
     return EMPTY._replace(messages=None) if form == NONE else EMPTY
 
 
@@ -134,13 +134,13 @@ def run(case, form=FILE):
 
 
 def message_ends(case, form):
-    """How many bytes of messages are out behind each number of packets, from none on, while the run goes on."""
+    """How many bytes of messages are out after each number of packets, from none on, while the run goes on."""
     *closed, _ = done_of(case).told.closed()
     return list(accumulate((len(spelled(each, form, case.address) or b"") for each in closed), initial=0))
 
 
 def online(case, count, form=FILE):
-    """What stands in the files behind so many packets, while the run goes on."""
+    """What stands in the files after `count` packets, while the run goes on."""
     done = done_of(case)
     written = done.replay.steps[:count]
     messages = spelled(done.told.online(count), form, case.address)

@@ -16,8 +16,8 @@ FEW_BYTES = 2048
 
 
 class Peer:
-    """Listens at a port of its own, and takes one call at a time. It takes so many bytes and hangs up, or all that come
-    where no number is told."""
+    """Listens at a port of its own, and takes one call at a time. It takes `most` bytes and hangs up, or all that come
+    if no number is told."""
 
     def __init__(self, most=None):
         self.most = most
@@ -43,7 +43,7 @@ class Peer:
         return bool(select([self.listener], [], [], seconds)[0])
 
     def call(self, run):
-        """The connection of a program that runs, None where it ends without a call."""
+        """The connection of a program that runs, None if it ends without a call."""
         end = time.monotonic() + TIME_LIMIT
         while not self.is_called(PAUSE):
             if run.poll() is not None and not self.is_called(0):
@@ -55,7 +55,7 @@ class Peer:
         return connection
 
     def take(self, run):
-        """What a program that runs sends, None where it doesn't call."""
+        """What a program that runs sends, None if it doesn't call."""
         connection = self.call(run)
         if connection is None:
             return None

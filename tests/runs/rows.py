@@ -1,4 +1,4 @@
-"""Runs of the program of which texts are written out: those of steps.rows, and captures by where they end."""
+"""Runs of the program whose texts are written by hand: those of steps.rows, and captures by where they end."""
 
 import steps.rows
 from captures.packets import SYN, capture_header, record, tcp
@@ -6,7 +6,7 @@ from expansions.model import dotted
 from messages.rows import SYN_HEADER, SYN_PEERS
 from runs.case import EMPTIED, INSIDE, Case, Written, refused
 
-# a network of the inside that holds no packet's source, where a run has none at all
+# a network of the inside that holds no packet's source, if a run has none at all
 NOBODY = "255.255.255.255"
 SYN_RECORD = record(0, 0, tcp("10.0.0.5", 1000, "198.51.100.7", 80, SYN, 1000, window=1000))
 SYN_LINE = b"1 0 out pass rule r=0 t=- s=1\n"
@@ -76,7 +76,7 @@ def one_syn(packets):
 
 
 def length_rows():
-    """Captured lengths behind a whole record, the longest that is read and one more."""
+    """Captured lengths after a whole record, the longest that is read and one more."""
     whole = capture_header() + SYN_RECORD
     yield refused(syn("a record of 262145 bytes", whole + record(0, 0, b"", captured=262145)),
                   b"capture: record too long 262145, committed 1", **{**EMPTIED, "verdicts": SYN_LINE, "packets": whole})

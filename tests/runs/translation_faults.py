@@ -58,7 +58,7 @@ OTHERS = (
     (f'x = "192.0.2.1 - 192.0.2.9"\n{BINAT} $x', 2, "bad address"),
     (f'x = "80"\n{NAT} em0 port $x', 2, "unknown word"),
     ('x = "{ 80, 90:99 }"\nrdr to port $x -> 10.0.0.1 port 65527:*', 2, "bad number"),
-    # what goes before and behind
+    # what goes before and after
     (f"pass\n{NAT} em0", 2, "out of order"), ("anchor {\npass\n}\nno rdr all", 4, "out of order"),
     ("block in\nrdr-anchor a", 2, "out of order"), (f"{NAT} em0\nset skip on lo0", 2, "out of order"),
     (f"{NAT} em0\n\nset timeout tcp.first 5", 3, "out of order"), (f"anchor {{\n{NAT} em0\n}}", 2, "unknown word"),

@@ -38,9 +38,9 @@ LARGE = Shape((4,) * 6, 3)
 DRAWN, RANDOM = 2000, 2000
 # how many random orders a random run has, and how many runs of rows come behind it
 ORDERS_OF_RUN, ROWS_BETWEEN = 10, 4
-# of shapes with at most so many orders all are counted one by one
+# the most orders that a shape may have for all to be counted one by one
 COUNTED = 10_000
-# a program mostly waits, so several run beside one another; they are handed so many scripts in all at once
+# a program mostly waits, so several run beside one another; `CHUNK` scripts in all are handed to them at once
 PROCESSES, CHUNK = 2 * (os.cpu_count() or 1), 6000
 
 
@@ -199,7 +199,7 @@ def all_with_each_row():
 
 
 def every_order(*batches, workers):
-    """Compares all orders of batches of so many packets and so many workers, with the rows in turn."""
+    """Compares all orders of batches of these numbers of packets, with `workers` workers and the rows in turn."""
     shape = Shape(batches, workers)
     sys.exit(is_one_wrong([(f"{shape.name()}, all orders", in_turn(shape, all_orders(shape)))]))
 

@@ -131,7 +131,7 @@ def unevenly_drawn_order(draw, shape):
 # Which tables workers may see
 
 def taken_behind(shape, fed):
-    """How many batches are taken behind so many calls of the feed."""
+    """How many batches are taken after `fed` calls of the feed."""
     return sum(step.call == TAKE for step in feed_calls(shape)[:fed])
 
 

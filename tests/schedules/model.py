@@ -1,7 +1,7 @@
 """A model of what a run with workers may come to where its calls return in an order.
 
 What it hands its feed, and what it leaves, is what the packets one by one come to. How many packets the committer
-evaluates itself hangs on the tables that workers looked at: where a packet was evaluated on the table behind some
+evaluates itself depends on the tables that workers looked at: if a packet was evaluated on the table after some
 batches, its result is taken if that table gave the answers that the table gives when the packet is committed.
 """
 
@@ -15,7 +15,7 @@ from steps.run import Run
 RECORD_HEADER = bytes(16)
 
 
-# What hangs on no order
+# What depends on no order
 
 def book_of(run):
     """A book that has committed nothing. The headers of its records are zeros."""

@@ -1,6 +1,6 @@
-"""The packets of the runs: in each row what a packet comes to hangs on one some packets before it.
+"""The packets of the runs: in each row the outcome of a packet depends on one some packets before it.
 
-A row has six packets. Where a run has fewer it has the first ones, and where it has more they come again, later by some
+A row has six packets. A run that has fewer has the first ones. In a run that has more they come again, later by some
 seconds.
 """
 
@@ -31,7 +31,7 @@ class Row(NamedTuple):
     period: int
 
     def run(self, count):
-        """A run of so many packets."""
+        """A run of `count` packets."""
         records = []
         for place in range(count):
             turn, which = divmod(place, len(self.packets))
@@ -60,12 +60,12 @@ ROWS = (
 
 
 def is_fit(run, count):
-    """Whether a run has so many packets, and is of what the program takes."""
+    """Whether a run has `count` packets, and is one that the program takes."""
     return (len(run.records), run.link, run.interface, run.inside) == (count, LINKTYPE_RAW, INTERFACE, INSIDE)
 
 
 def random_runs(count):
-    """Random runs of so many packets, without end, each other one with translation."""
+    """Random runs of `count` packets, without end, every second one with translation."""
     draw, number = random.Random(SEED), 0
     while True:
         run = steps.random_runs.some_run(draw, number, count, (count, count))

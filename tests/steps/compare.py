@@ -6,7 +6,7 @@ translation each verdict, each reason and each kind of packet that translation_k
 
     python3 -Bc "from steps import compare; compare.translated(1000000)"
 
-in the folder `tests` compares so many packets of random runs with translation.
+in the folder `tests` compares this number of packets of random runs with translation.
 """
 
 import sys
@@ -164,7 +164,7 @@ def compare_counts(counts):
 
 
 def translated(packets):
-    """Compares so many packets of random runs with translation; for use by hand."""
+    """Compares `packets` packets of random runs with translation; for use by hand."""
     sys.exit(bool(compare_translated(building.answers("steps"), packets)))
 
 

@@ -239,7 +239,7 @@ class Packets:
 
 
 def with_packets(draw, run, packets, count):
-    """A run with so many packets, which are drawn by such ones; or with none where its ruleset has a fault."""
+    """A run with `count` packets, which `packets` draws; or with none if its ruleset has a fault."""
     try:
         job = job_of(run.rules.encode(), run.interface, run.inside, run.seed)
     except Refused:
@@ -250,7 +250,7 @@ def with_packets(draw, run, packets, count):
 
 
 def some_run(draw, number, most, counts=COUNTS):
-    """A run of some number of packets and at most so many, or of none where the ruleset has a fault."""
+    """A run of `most` packets at most, or of none if the ruleset has a fault."""
     rules, link = some_text(draw), draw.choice(LINKS)
     count = min(draw.randint(*counts), most)
     interface = INTERFACE if draw.random() < 0.9 else draw.choice(OTHER_INTERFACES)
@@ -259,7 +259,7 @@ def some_run(draw, number, most, counts=COUNTS):
 
 
 def runs(packets):
-    """Runs with so many packets in all, the same at every time."""
+    """Runs with `packets` packets in all, the same every time."""
     draw = random.Random(SEED)
     left, number = packets, 0
     while left:

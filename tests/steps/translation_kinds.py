@@ -9,7 +9,7 @@ from tracking.connections import connection, told_connection
 WAYS = ("nat", "rdr", "binat out", "binat in")
 TRANSPORTS, OTHER_TRANSPORT = {TCP: "TCP", UDP: "UDP", ICMP: "an echo"}, "another protocol"
 DIRECTIONS = ("in", "out")
-# ranges of at most so many ports are few
+# the most ports of a range of few
 FEW = 8
 
 # what is counted, by titles

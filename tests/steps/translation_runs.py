@@ -91,7 +91,7 @@ class TranslatedPackets(Packets):
 
 
 def some_run(draw, number, most, seed, counts=COUNTS):
-    """A run of some number of packets and at most so many, under a seed."""
+    """A run of `most` packets at most, under a seed."""
     rules, link = some_text(draw), draw.choice(LINKS)
     count = min(draw.randint(*counts), most)
     inside = INSIDE if draw.random() < 0.9 else draw.choice(OTHER_INSIDES)
@@ -100,7 +100,7 @@ def some_run(draw, number, most, seed, counts=COUNTS):
 
 
 def runs(packets):
-    """Runs with so many packets in all, the same at every time."""
+    """Runs with `packets` packets in all, the same every time."""
     draw = random.Random(SEED)
     left, number = packets, 0
     while left:

@@ -1,6 +1,6 @@
 """The ends, packets and words of lines that the cases of translation share, and their form.
 
-Most ranges have one port or two, so that few picks hang on the words of the seed.
+Most ranges have one port or two, so that few picks depend on the words of the seed.
 """
 
 from captures.packets import LINKTYPE_RAW, SYN, tcp, udp

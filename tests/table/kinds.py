@@ -93,7 +93,7 @@ class KindWriter(Writer):
         self.touch_by(state, self.moved(state.deadline, self.source.choice(ways), spread))
 
     def touched_often(self, count, spread, ways):
-        """So many states which are touched over and over; others come for those that are purged."""
+        """`count` states which are touched over and over; others come for those that are purged."""
         for _ in range(400):
             self.clock += self.source.choice((0, 0, 1))
             while len(self.table.states) < count:
@@ -110,8 +110,8 @@ class KindWriter(Writer):
             self.touch_by(state, state.deadline + self.source.randrange(1, 3000))
 
     def moved_earlier(self, count):
-        """So many states whose deadlines move earlier, so that there are many by which no state waits any more; before
-        that and behind it those of some move later."""
+        """`count` states whose deadlines move earlier, so that there are many deadlines that no state has any more.
+        Before that and after it those of some move later."""
         for _ in range(count):
             self.make_new(self.source.randrange(100000, 101000))
         self.move_some_later(count // 3)
@@ -124,7 +124,7 @@ class KindWriter(Writer):
         self.purge_by_and_by({state.deadline for state in self.table.states.values()})
 
     def all_moved(self, count, ways):
-        """So many states, whose deadlines all move before it is purged at each clock that was a deadline."""
+        """`count` states, whose deadlines all move before it is purged at each clock that was a deadline."""
         clocks = self.source.sample(range(1000, 1000 + 3 * count), count)
         for clock in clocks:
             self.make_new(clock)

@@ -10,7 +10,7 @@ from typing import NamedTuple
 from table.model import State, Table, answer
 
 LIMITS = (1, 2, 3, 100000)
-# every second list of the last limit has so many keys and numbers to pick from
+# the keys and numbers to pick from in every second list of the last limit
 MANY_KEYS = 20000
 MANY_NUMBERS = 20000
 GREATEST_CLOCK = 2**32 - 1
@@ -156,7 +156,7 @@ class RandomWriter(Writer):
 
 
 def random_lists(count, calls):
-    """So many lists of so many calls, the settlings before others not counted, and what drains the table then."""
+    """`count` lists of `calls` calls, the settlings before others not counted, and what drains the table then."""
     for place in range(count):
         limit = LIMITS[place % len(LIMITS)]
         writer = RandomWriter(place, limit, limit == LIMITS[-1] and place // len(LIMITS) % 2 == 1)
@@ -221,8 +221,8 @@ class Refusals(Writer):
         self.look()
 
     def touch_earlier(self):
-        """Moves deadlines of states earlier, until there are so many by which none waits any more that those are
-        dropped. Now and then one moves later."""
+        """Moves deadlines of states earlier, until the deadlines that no state has any more are dropped for their
+        number. Now and then one moves later."""
         for turn in range(120):
             state = self.any_state()
             earlier = state.deadline - 1 - turn % 3
@@ -260,8 +260,8 @@ class Refusals(Writer):
             self.add("list")
 
     def grow_and_purge(self, count):
-        """Makes so many states, touches most of them, and purges them one after the other: so the whole order of
-        deadlines is seen, behind a change that was refused too."""
+        """Makes `count` states, touches most of them, and purges them one after the other: so the whole order of
+        deadlines is seen, also after a change that was refused."""
         numbers = range(1, count + 1)
         deadlines = self.source.sample(range(1000, 1000 + 2 * count), 2 * count)
         for number in numbers:

@@ -103,6 +103,6 @@ def conversation(draw):
 
 
 def conversations(count):
-    """So many, the same in every run."""
+    """`count` conversations, the same in every run."""
     draw = random.Random(SEED)
     return [conversation(draw) for _ in range(count)]

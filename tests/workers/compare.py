@@ -1,8 +1,9 @@
 """Runs pfreplay on random cases with workers and batches of several sizes, and compares each run with the one without
 workers: all outputs, what is printed and the status.
 
-Each choice of workers and a size comes up among so many cases as there are choices. Each case is run with one choice,
-some times on all cores and once on one core. Of the first run that differs the files stay, with its command line.
+Each choice of workers and a size comes up once among as many cases as there are choices. Each case is run with one
+choice, some times on all cores and once on one core. Of the first run that differs the files stay, with its command
+line.
 
 Behind them come runs that a device ends or delays (`endings`).
 """
@@ -35,7 +36,7 @@ CHOICES = tuple(Choice(*pair) for pair in product(WORKERS, BATCHES))
 REFERENCE = Choice(0, 256)
 # how often a choice runs on all cores
 RUNS = 3
-# what has to come up once in so many cases at least
+# the cases in which each thing has to come up once at least
 COMING_UP = 20
 COUNTED = ("rule", "state", "state-error", "state-mismatch", "state-insert", "state-limit", "nat-exhausted",
            "states that are gone")
@@ -144,7 +145,7 @@ def tell(results):
 
 
 def compare(count, first=0):
-    """Compares so many cases, from one on: how much is wrong."""
+    """Compares `count` cases from `first` on: how much is wrong."""
     program = building.pfreplay()
     numbers = range(first, first + count)
     with ProcessPoolExecutor(os.cpu_count()) as pool:

@@ -26,8 +26,8 @@ def cut_headers(comparison):
 
 
 def cut_records(comparison, count):
-    """Captures that end in each way behind so many records. Where they are cut the outputs are those of these records,
-    and where a record is too long what is written of these before the end."""
+    """Captures that end in each way after `count` records. If they are cut, the outputs are those of these records. If
+    a record is too long, they are what is written of these before the end."""
     case = kinds.mixed_kind(kinds.FEW, count).case
     whole = model.run(case)
     for place, last in CUTS.items():

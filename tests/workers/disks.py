@@ -13,7 +13,7 @@ from pathlib import Path
 from faults import replay
 from workers.choices import run_of
 
-# a small disk has one page of memory, or so many where it has all outputs
+# a small disk has one page of memory, or `SHARED` pages if it has all outputs
 PAGE, SHARED = resource.getpagesize(), 8
 # a limit that no output reaches
 LARGE = 1 << 24
@@ -69,7 +69,7 @@ def answer_at_limit(comparison, kind, batch):
 
 
 def answered(comparison, kind, choice, room):
-    """A run whose standard output is a file with room for so many bytes more."""
+    """A run whose standard output is a file with room for `room` bytes more."""
     file = comparison.folder / "answer"
     with open(file, "wb") as made:
         made.truncate(LARGE - room)
@@ -83,8 +83,8 @@ def answered(comparison, kind, choice, room):
 # Small disks
 
 def keeper_of(place, size):
-    """A process that keeps a disk of so many bytes in memory, mounted at a place that it alone sees. The disk is gone
-    with it. None where none may be mounted."""
+    """A process that keeps a disk of `size` bytes in memory, mounted at a place that it alone sees. The disk is gone
+    with it. None if none may be mounted."""
     for namespace in NAMESPACES:
         with contextlib.suppress(FileNotFoundError):
             keeper = subprocess.Popen([*namespace, "sh", "-c", MOUNT, "sh", str(size), str(place)],
@@ -97,7 +97,7 @@ def keeper_of(place, size):
 
 @contextlib.contextmanager
 def small_disk(place, size):
-    """The name by which all reach a disk of so many bytes, None where none may be mounted."""
+    """The name by which all reach a disk of `size` bytes, None if none may be mounted."""
     place.mkdir(exist_ok=True)
     with keeper_of(place, size) or contextlib.nullcontext() as keeper:
         yield keeper and Path(f"/proc/{keeper.pid}/root{place}")
@@ -113,8 +113,8 @@ def are_mounted(folder):
 
 
 def first_full(whole, names, size):
-    """The output of which a write is the first one past a disk of so many bytes that has these outputs, in whole pages
-    each; None where none is."""
+    """The output of which a write is the first one past a disk of `size` bytes that has these outputs, in whole pages
+    each; None if none is."""
     pages = dict.fromkeys(names, 0)
     for name, length in whole.writes():
         if name in pages:
@@ -133,7 +133,7 @@ def small_disks(comparison, kind, batch):
 
 
 def on_a_disk(comparison, kind, known, names, size):
-    """Runs with these outputs on a disk of so many bytes."""
+    """Runs with these outputs on a disk of `size` bytes."""
     elsewhere = comparison.files
     with small_disk(comparison.folder / "disk", size) as disk:
         comparison.files = elsewhere._replace(**{name: disk / name for name in names})

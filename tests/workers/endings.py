@@ -18,7 +18,7 @@ from workers import cuts, disks, kinds, pauses, planted, readers
 from workers.lawful import BATCHES, Judging
 
 MOST_SHOWN = 10
-# the endings that are judged, each of which has to come up so many times
+# the endings that are judged, and how often each one has to come up
 ENDINGS = ("whole", *(f"{name} failed" for name in (*OUTPUTS, "answer")))
 LEAST = 10
 

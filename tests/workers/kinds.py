@@ -21,7 +21,7 @@ from rules import vain_pairs
 
 # packets: three batches of 256 and a part of one, and fewer
 COUNT, SHORT = 780, 600
-# rules that hold for no packet: so many that it pays to evaluate ahead, more than a page of counters, and many
+# rules that hold for no packet: enough for evaluating ahead to pay, more than a page of counters, and many
 FEW, SOME, MANY = 150, 300, 1000
 PAYLOAD = bytes(100)
 # packets a second
@@ -42,7 +42,7 @@ class Kind(NamedTuple):
 
 
 def kind(name, rules, packets, vain=0, form=FILE, longest=""):
-    """A run of these packets by so many rules that hold for none of them, and by these rules behind them."""
+    """A run of these packets with `vain` rules that hold for none of them, and these rules after those."""
     capture = capture_header() + records(packets)
     plain = Case(name, rules.encode(), INSIDE, capture)
     before = "".join(f"{rule}\n" for rule, _ in vain_pairs(vain, capture))
@@ -50,7 +50,7 @@ def kind(name, rules, packets, vain=0, form=FILE, longest=""):
 
 
 def records(packets):
-    """Records of these packets, so many a second."""
+    """Records of these packets, `PACE` a second."""
     return b"".join(record(place // PACE, 0, packet) for place, packet in enumerate(packets))
 
 

@@ -8,7 +8,7 @@ from runs.comparison import Comparison
 from workers.choices import Choice, run_of
 
 WORKERS, BATCHES = (0, 1, 2, 4, 8), (1, 7, 256)
-# once so many runs took too long the others aren't tried
+# the runs that may take too long before the others aren't tried
 MOST_SLOW = 2
 
 

@@ -15,7 +15,7 @@ from workers.choices import Choice, run_of
 from workers.lawful import WORKERS
 from workers.pipes import beside, wait_until
 
-# packets before the pause, 40 batches of 256 and a part of one, and so many in all
+# packets before the pause, 40 batches of 256 and a part of one, and those in all
 BEFORE, ALL = 40 * 256 + 100, 43 * 256
 KINDS = (kinds.resting, kinds.given_up, kinds.ahead, kinds.uneven)
 # seconds for which a source pauses at most; other comparisons may run at the same time

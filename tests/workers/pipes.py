@@ -17,7 +17,7 @@ def beside(pipe, partner, run):
         other = pool.submit(partner, pipe)
         outcome = run()
         while not other.done():
-            # one that still waits for the program is let go of
+            # one that still waits for the program is released
             os.close(os.open(pipe, os.O_RDWR | os.O_NONBLOCK))
             time.sleep(PAUSE)
     pipe.unlink()
@@ -25,7 +25,7 @@ def beside(pipe, partner, run):
 
 
 def wait_until(holds, seconds):
-    """Whether something holds within so many seconds."""
+    """Whether something holds within `seconds` seconds."""
     end = time.monotonic() + seconds
     while not (is_so := holds()) and time.monotonic() < end:
         time.sleep(PAUSE)

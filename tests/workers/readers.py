@@ -29,7 +29,7 @@ class Taken(NamedTuple):
 
 
 def take(pipe, most):
-    """Takes so many bytes of a pipe, or all where there are fewer, and goes away."""
+    """Takes `most` bytes of a pipe, or all if there are fewer, and goes away."""
     with open(pipe, "rb", buffering=0) as file:
         # one with more bytes in it already stays as it is
         with contextlib.suppress(OSError):
@@ -52,7 +52,7 @@ def written(known, name, outcome, taken):
 
 
 def taken_from(comparison, kind, choice, name, most):
-    """What a run comes to, and what a reader of one of its outputs takes that takes so many bytes."""
+    """The outcome of a run, and what a reader of one of its outputs takes, which takes `most` bytes at most."""
     pipe, file = comparison.folder / "pipe", getattr(comparison.files, name)
     comparison.prepare(kind.case)
     words = [*with_file(comparison.command(kind.case, kind.form), file, pipe), *choice.words()]

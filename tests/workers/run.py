@@ -1,5 +1,5 @@
 #!/usr/bin/env python3
-"""Compares runs with workers with runs without, on so many random cases.
+"""Compares runs with workers with runs without, on random cases.
 
     run.py [N] [--first K]
 
