@@ -77,6 +77,7 @@ def compare_failing(comparison):
 def compare_check(comparison):
     """One run of the command `check`."""
     text, answer = rows.EMPTY_RULESET
+    comparison.prepare()
     comparison.rules.write_bytes(text)
     comparison.expect("an_empty_ruleset", Outcome(answer, b"", 0),
                       comparison.execute(["check", comparison.rules, *FITTING]))
