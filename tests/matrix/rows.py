@@ -12,7 +12,7 @@ from steps.rows import (FIRST_SYN, FOUR_OPTION_BYTES, HERE, KEYS, LATE, LATE_OPE
                         p_to_h, scale)
 from steps.translation_rows import CAPTURED, ERROR, ERROR_INSIDE, ERROR_RULES, ON_THE_WIRE, TWO_PORTS
 
-# lines of packets that make a state, or go by the one that the first packet made
+# the line of a packet that makes a state, and of one that passes by the state of the first packet
 MADE, TOUCHED = "{} 0 out pass rule r=0 t=- s={}", "{} 0 {} pass state r=0 t=- s=1"
 OPENED_LINES = [MADE.format(1, 1), TOUCHED.format(2, "in"), TOUCHED.format(3, "out")]
 TOUCHED_BY_DATA, REFUSED_DATA = TOUCHED.format(4, "out"), "4 0 out block state-mismatch r=0 t=- s=1"
@@ -206,10 +206,10 @@ def headers_that_are_refused():
 
 # Calls that fail
 
-def left_after_two(count, error, rules="pass out"):
+def left_after_two(count, error):
     """What is left of a run of flows that stops after two of them: their lines and packets, and no message, as the one
     that tells of them is open."""
-    case = Case("", rules.encode(), INSIDE, capture_of(flows(count)))
+    case = Case("", b"pass out", INSIDE, capture_of(flows(count)))
     return Scene(case, {"out": b"", "err": f"pfreplay: {error}, committed 2\n".encode(), "status": 3,
                         "verdicts": text_of([MADE.format(1, 1), MADE.format(2, 2)]), "packets": capture_of(flows(2)),
                         "counters": b"", "states": b"", "messages": b""})

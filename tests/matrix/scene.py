@@ -3,7 +3,6 @@
 from typing import NamedTuple
 
 from captures.packets import capture_header, record
-from messages.message import IP_HEADER
 from runs.case import INSIDE, NO_SEED, Case
 from runs.message_rows import numbers_of, pieces
 from runs.model import FILE
