@@ -1,5 +1,5 @@
 -- The entries of a list, one after the other.
-use Rattle.std.proofs.Common.{◌≡◌, ℕ, zero, suc, ◌+◌, ◌<◌, List, [], ◌∷◌, ◌++◌, length, take, drop, get_or, ap, subst, refl, ◌∙◌, arith}
+use Rattle.std.proofs.Common.{◌≡◌, ℕ, zero, suc, ◌+◌, ◌<◌, List, [], ◌∷◌, ◌++◌, length, take, get_or, ap, refl, ◌∙◌, arith}
 use Rattle.pfr_published.specs.Entries.{entry_at}
 
 pub entry_is : {X : Type 0} (xs : List X) (i : ℕ) (x : X) → i < length xs → entry_at xs i ≡ get_or xs i x ∷ []

@@ -1,5 +1,5 @@
 -- What is done to each copy of the table.
-use Rattle.std.specs.Prelude.{ℕ, Bool, false, List, ◌-◌, ◌==◌, length, if◌then◌else◌}
+use Rattle.std.specs.Prelude.{Bool, false, List, ◌-◌, ◌==◌, length, if◌then◌else◌}
 use Rattle.pfr_history.specs.declared.history.Naming as naming
 use Rattle.pfr_states.specs.declared.change.Change.{Change}
 use Rattle.pfr_published.specs.declared.copy.TableNaming as tables
