@@ -12,7 +12,7 @@
 use crate::given::Given;
 use crate::printing::put_content;
 use pfr_net::{Direction, Endpoint, IfName, Ipv4Address, Port, Protocol, RuleNumber, Timeout};
-use pfr_sync::{EventKind, Event, Message, Queue};
+use pfr_sync::{Event, EventKind, Message, Queue};
 use pfr_track::{
     Clock, DatagramPeer, Deadline, Key, Peers, Sequence, State, StateNumber, StateRules, TcpPeer,
     TcpPeerState, Traffic,
@@ -167,11 +167,7 @@ fn event(given: &mut Given<'_>) -> Event {
     };
     let clock = Clock(given.number());
     let state = state(given);
-    Event {
-        kind,
-        state,
-        clock,
-    }
+    Event { kind, state, clock }
 }
 
 /// Puts the line of a message, if there is one.
