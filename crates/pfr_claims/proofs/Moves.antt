@@ -9,7 +9,7 @@ use Rattle.atomic_table.specs.Table.{State, Me, step, opening, Allows, Splits, J
 use Rattle.atomic_table.specs.Table.Act.{keeps}
 use Rattle.atomic_table.proofs.Lists.{at_set, at_snoc, set_again}
 use Rattle.pfr_claims.specs.declared.rule.Sizes.{Sizes}
-use Rattle.pfr_claims.specs.declared.rule.View.{View}
+use Rattle.pfr_claims.specs.declared.rule.SeatView.{SeatView}
 use Rattle.pfr_claims.specs.Counting.{times, once_below}
 use Rattle.pfr_claims.specs.Drawing.{knows, total, Fits, Drawn, drew, Draws, Closes, rest_of, pass_of, both, spent}
 use Rattle.pfr_claims.proofs.Sums.{total_set, total_at, total_snoc, total_alone, times_append, all_below, once_more, rises_push}
@@ -20,13 +20,13 @@ use Rattle.pfr_claims.proofs.Sums.{total_set, total_at, total_snoc, total_alone,
 no_rise : IsStrictlyIncreasing []
 no_rise k within = absurd (omega arith)
 
-each_set : (P : View → Type 0) (views : List View) (id : ℕ) (w : View) → P w → ((seat : ℕ) (view : View) → get_elem? views seat ≡ some view → P view)
-    → (seat : ℕ) (view : View) → get_elem? (set views id w) seat ≡ some view → P view
+each_set : (P : SeatView → Type 0) (views : List SeatView) (id : ℕ) (w : SeatView) → P w → ((seat : ℕ) (view : SeatView) → get_elem? views seat ≡ some view → P view)
+    → (seat : ℕ) (view : SeatView) → get_elem? (set views id w) seat ≡ some view → P view
 each_set P views id w new each seat view at =
     ⊎_elim (λ h. subst P h.1 new) (λ h. each seat view h.1) (at_set views id seat w view at)
 
-each_snoc : (P : View → Type 0) (views : List View) (w : View) → P w → ((seat : ℕ) (view : View) → get_elem? views seat ≡ some view → P view)
-    → (seat : ℕ) (view : View) → get_elem? (views ++ w ∷ []) seat ≡ some view → P view
+each_snoc : (P : SeatView → Type 0) (views : List SeatView) (w : SeatView) → P w → ((seat : ℕ) (view : SeatView) → get_elem? views seat ≡ some view → P view)
+    → (seat : ℕ) (view : SeatView) → get_elem? (views ++ w ∷ []) seat ≡ some view → P view
 each_snoc P views w new each seat view at =
     ⊎_elim (λ h. each seat view h) (λ h. subst P h new) (at_snoc views w view seat at)
 
@@ -62,7 +62,7 @@ opens sizes few workers = record {
 -- ---- a number is drawn
 
 -- the word does not wrap: it is past the count by the passes that ended, and the one that draws has not
-no_wrap : (sizes : Sizes) (s : State (Unit {0}) View) (id : ℕ) (drawn : List ℕ) → Drawn sizes s → get_elem? s.views id ≡ some (knows sizes drawn 1 0) → slice_index s.words 0 < sizes.count + sizes.workers
+no_wrap : (sizes : Sizes) (s : State (Unit {0}) SeatView) (id : ℕ) (drawn : List ℕ) → Drawn sizes s → get_elem? s.views id ≡ some (knows sizes drawn 1 0) → slice_index s.words 0 < sizes.count + sizes.workers
 no_wrap sizes s id drawn h at =
     let live : 1 ≤ total (λ view. view.live) s.views = total_at (λ view. view.live) s.views id (knows sizes drawn 1 0) at in
     let whole = h.whole in let past = h.past in omega arith
@@ -108,7 +108,7 @@ closes sizes id slots drawn positive s h homes at fits =
     let past = h.past in
     let whole = h.whole in
     let all : sizes.workers ≤ total (λ view. view.ended) s.views = total_at (λ view. view.ended) s.views id v at in
-    let idle : (other : ℕ) (w : View) → get_elem? s.views other ≡ some w → w.ended ≡ 0 → w.drawn ≡ [] =
+    let idle : (other : ℕ) (w : SeatView) → get_elem? s.views other ≡ some w → w.ended ≡ 0 → w.drawn ≡ [] =
     λ other w there none. let live = total_at (λ view. view.live) s.views other w there in (h.each other w there).none (omega arith) in
     let drew_all : (number : ℕ) → times number drawn ≡ once_below number (slice_index s.words 0) =
     λ number.
@@ -129,7 +129,7 @@ deals sizes id live positive s h at =
     let v = knows sizes [] live 0 in
     let rest = rest_of v in
     let pass = pass_of v in
-    let sum : (of : View → ℕ) → total of (set s.views id rest ++ pass ∷ []) + of v ≡ total of s.views + of rest + of pass =
+    let sum : (of : SeatView → ℕ) → total of (set s.views id rest ++ pass ∷ []) + of v ≡ total of s.views + of rest + of pass =
     λ of. let t = total_set of s.views id v rest at in omega (arith, total_snoc of (set s.views id rest) pass) in
     let lives = sum (λ view. view.live) in
     let ends = sum (λ view. view.ended) in
@@ -155,7 +155,7 @@ collects sizes id other ended drawn drawn' positive s h at apart at' =
     let v = knows sizes drawn 0 ended in
     let w = knows sizes drawn' 0 1 in
     let joint = both v w in
-    let sum : (of : View → ℕ) → total of (set (set s.views id joint) other spent) + of v + of w ≡ total of s.views + of joint + of spent =
+    let sum : (of : SeatView → ℕ) → total of (set (set s.views id joint) other spent) + of v + of w ≡ total of s.views + of joint + of spent =
     λ of. let t = total_set of s.views id v joint at in let u = total_set of (set s.views id joint) other w spent at' in omega arith in
     let lives = sum (λ view. view.live) in
     let ends = sum (λ view. view.ended) in
@@ -177,26 +177,26 @@ collects sizes id other ended drawn drawn' positive s h at apart at' =
 
 -- ---- each at an equation, which is how the code has it
 
-pub draws_at : (key sizes : Sizes) (id slots : ℕ) (drawn : List ℕ) (me : Me (Unit {0}) View) → key ≡ sizes → me ≡ (knows sizes drawn 1 0, [])
+pub draws_at : (key sizes : Sizes) (id slots : ℕ) (drawn : List ℕ) (me : Me (Unit {0}) SeatView) → key ≡ sizes → me ≡ (knows sizes drawn 1 0, [])
     → Allows (Drawn key) slots id me 0 (λ n. (n + 1) % 2 ^ 64) (Draws (step slots 0 1 0 none) me)
 draws_at key sizes id slots drawn me same is =
-    let P : Sizes × Me (Unit {0}) View → Type 0 = λ p. Allows (Drawn p.0) slots id p.1 0 (λ n. (n + 1) % 2 ^ 64) (Draws (step slots 0 1 0 none) p.1) in
+    let P : Sizes × Me (Unit {0}) SeatView → Type 0 = λ p. Allows (Drawn p.0) slots id p.1 0 (λ n. (n + 1) % 2 ^ 64) (Draws (step slots 0 1 0 none) p.1) in
     subst P (λ i. (sym same i, sym is i)) (draws sizes id slots drawn)
 
-pub closes_at : (key sizes : Sizes) (id slots ended : ℕ) (drawn : List ℕ) (me : Me (Unit {0}) View) → 0 < ended → key ≡ sizes → ended ≡ sizes.workers → me ≡ (knows sizes drawn 0 ended, [])
+pub closes_at : (key sizes : Sizes) (id slots ended : ℕ) (drawn : List ℕ) (me : Me (Unit {0}) SeatView) → 0 < ended → key ≡ sizes → ended ≡ sizes.workers → me ≡ (knows sizes drawn 0 ended, [])
     → Allows (Drawn key) slots id me 0 (λ n. n) (Closes (step slots 0 0 0 none) me)
 closes_at key sizes id slots ended drawn me positive same all is =
-    let P : Sizes × Me (Unit {0}) View → Type 0 = λ p. Allows (Drawn p.0) slots id p.1 0 (λ n. n) (Closes (step slots 0 0 0 none) p.1) in
+    let P : Sizes × Me (Unit {0}) SeatView → Type 0 = λ p. Allows (Drawn p.0) slots id p.1 0 (λ n. n) (Closes (step slots 0 0 0 none) p.1) in
     let is' : me ≡ (knows sizes drawn 0 sizes.workers, []) = is ∙ ap (λ n. (knows sizes drawn 0 n, [])) all in
     subst P (λ i. (sym same i, sym is' i)) (closes sizes id slots drawn (omega arith))
 
-pub deals_at : (key sizes : Sizes) (id live : ℕ) (v : View) → 0 < live → key ≡ sizes → v ≡ knows sizes [] live 0 → Splits (Drawn key) id v (rest_of v) (pass_of v)
+pub deals_at : (key sizes : Sizes) (id live : ℕ) (v : SeatView) → 0 < live → key ≡ sizes → v ≡ knows sizes [] live 0 → Splits (Drawn key) id v (rest_of v) (pass_of v)
 deals_at key sizes id live v positive same is =
-    let P : Sizes × View → Type 0 = λ p. Splits (Drawn p.0) id p.1 (rest_of p.1) (pass_of p.1) in
+    let P : Sizes × SeatView → Type 0 = λ p. Splits (Drawn p.0) id p.1 (rest_of p.1) (pass_of p.1) in
     subst P (λ i. (sym same i, sym is i)) (deals sizes id live positive)
 
-pub collects_at : (key sizes : Sizes) (id other ended : ℕ) (drawn drawn' : List ℕ) (v w : View) → 0 < ended → key ≡ sizes → v ≡ knows sizes drawn 0 ended → w ≡ knows sizes drawn' 0 1
+pub collects_at : (key sizes : Sizes) (id other ended : ℕ) (drawn drawn' : List ℕ) (v w : SeatView) → 0 < ended → key ≡ sizes → v ≡ knows sizes drawn 0 ended → w ≡ knows sizes drawn' 0 1
     → Joins (Drawn key) id v other w (both v w) spent
 collects_at key sizes id other ended drawn drawn' v w positive same is is' =
-    let P : Sizes × View × View → Type 0 = λ p. Joins (Drawn p.0) id p.1 other p.2 (both p.1 p.2) spent in
+    let P : Sizes × SeatView × SeatView → Type 0 = λ p. Joins (Drawn p.0) id p.1 other p.2 (both p.1 p.2) spent in
     subst P (λ i. (sym same i, sym is i, sym is' i)) (collects sizes id other ended drawn drawn' positive)

@@ -7,30 +7,30 @@ use Rattle.std.specs.List.{All}
 use Rattle.std.specs.List.Sorted.{IsStrictlyIncreasing}
 use mathlib.Core.Option.{some, some-injective, some-ne-none}
 use lib.ListN.{get_elem?}
-use Rattle.pfr_claims.specs.declared.rule.View.{View}
+use Rattle.pfr_claims.specs.declared.rule.SeatView.{SeatView}
 use Rattle.pfr_claims.specs.Counting.{times, once_below}
 use Rattle.pfr_claims.specs.Drawing.{total}
 
 -- ---- sums over views
 
 -- the sum after one view has changed
-pub total_set : (of : View → ℕ) (views : List View) (seat : ℕ) (v w : View) → get_elem? views seat ≡ some v → total of (set views seat w) + of v ≡ total of views + of w
+pub total_set : (of : SeatView → ℕ) (views : List SeatView) (seat : ℕ) (v w : SeatView) → get_elem? views seat ≡ some v → total of (set views seat w) + of v ≡ total of views + of w
 total_set of [] seat v w at = absurd (some-ne-none v (sym at))
 total_set of (x ∷ xs) zero v w at = let same : of x ≡ of v = ap of (some-injective x v at) in omega arith
 total_set of (x ∷ xs) (suc seat) v w at = let rest = total_set of xs seat v w at in omega arith
 
 -- one view has no more than all
-pub total_at : (of : View → ℕ) (views : List View) (seat : ℕ) (v : View) → get_elem? views seat ≡ some v → of v ≤ total of views
+pub total_at : (of : SeatView → ℕ) (views : List SeatView) (seat : ℕ) (v : SeatView) → get_elem? views seat ≡ some v → of v ≤ total of views
 total_at of [] seat v at = absurd (some-ne-none v (sym at))
 total_at of (x ∷ xs) zero v at = let same : of x ≡ of v = ap of (some-injective x v at) in omega arith
 total_at of (x ∷ xs) (suc seat) v at = let rest = total_at of xs seat v at in omega arith
 
-pub total_snoc : (of : View → ℕ) (views : List View) (v : View) → total of (views ++ v ∷ []) ≡ total of views + of v
+pub total_snoc : (of : SeatView → ℕ) (views : List SeatView) (v : SeatView) → total of (views ++ v ∷ []) ≡ total of views + of v
 total_snoc of [] v = omega arith
 total_snoc of (x ∷ xs) v = let rest = total_snoc of xs v in omega arith
 
 -- where views with no whole have no part, and there is no whole, there is no part
-total_none : (whole part : View → ℕ) (views : List View) → total whole views ≡ 0 → ((seat : ℕ) (w : View) → get_elem? views seat ≡ some w → whole w ≡ 0 → part w ≡ 0) → total part views ≡ 0
+total_none : (whole part : SeatView → ℕ) (views : List SeatView) → total whole views ≡ 0 → ((seat : ℕ) (w : SeatView) → get_elem? views seat ≡ some w → whole w ≡ 0 → part w ≡ 0) → total part views ≡ 0
 total_none whole part [] none idle = refl
 total_none whole part (x ∷ xs) none idle =
     let here : part x ≡ 0 = idle zero x refl (omega arith) in
@@ -38,8 +38,8 @@ total_none whole part (x ∷ xs) none idle =
     omega arith
 
 -- the same, where one view has the whole: it has every part
-pub total_alone : (whole part : View → ℕ) (views : List View) (seat : ℕ) (v : View) → get_elem? views seat ≡ some v → total whole views ≡ whole v
-    → ((other : ℕ) (w : View) → get_elem? views other ≡ some w → whole w ≡ 0 → part w ≡ 0) → total part views ≡ part v
+pub total_alone : (whole part : SeatView → ℕ) (views : List SeatView) (seat : ℕ) (v : SeatView) → get_elem? views seat ≡ some v → total whole views ≡ whole v
+    → ((other : ℕ) (w : SeatView) → get_elem? views other ≡ some w → whole w ≡ 0 → part w ≡ 0) → total part views ≡ part v
 total_alone whole part [] seat v at all idle = absurd (some-ne-none v (sym at))
 total_alone whole part (x ∷ xs) zero v at all idle =
     let same : whole x ≡ whole v = ap whole (some-injective x v at) in

@@ -6,7 +6,7 @@ ghost use Rattle.pfr_claims.specs.Claiming.{Claimed};
 ghost use Rattle.pfr_claims.specs.Drawing.{knows};
 
 use crate::passes::{Claim, ClaimPass, EndedPass};
-use crate::rule::{Deal, Draw, Numbers, Sizes, View};
+use crate::rule::{Deal, Draw, Numbers, SeatView, Sizes};
 use atomic_table::{Seat, Table};
 use std::alloc::{AllocError, Global};
 use std::marker::Model;
@@ -14,7 +14,7 @@ use std::marker::Model;
 /// A batch whose numbers are drawn. Workers share it by reference. Contracts see which batch it is, and its sizes.
 #[derive(Drop)]
 pub struct Claims {
-    pub(crate) table: Table<(), View, Sizes, Numbers, Global>,
+    pub(crate) table: Table<(), SeatView, Sizes, Numbers, Global>,
     pub(crate) sizes: Sizes,
 }
 
@@ -29,11 +29,11 @@ impl Model for Claims {
     ghost invariant = { λ claims. (claims.table.shared.key ≡ claims.sizes) × (claims.table.shared.table_id.words ≡ 1) };
 }
 
-/// Deals a pass to each worker. The seat that deals has drawn nothing, and is let go of once it stands for no pass.
+/// Deals a pass to each worker. The seat that deals has drawn nothing, and is dropped once it stands for no pass.
 fn deal(
     alloc: Global,
-    table: &Table<(), View, Sizes, Numbers, Global>,
-    mut dealer: Seat<(), View>,
+    table: &Table<(), SeatView, Sizes, Numbers, Global>,
+    mut dealer: Seat<(), SeatView>,
     workers: u64,
 ) -> Result<Vec<ClaimPass>, AllocError>
     requires table { (table.now.shared.table_id.words ≡ 1) × (dealer.table_id ≡ table.now.shared.table_id) }
@@ -85,7 +85,7 @@ impl Claims {
         }
     }
 
-    /// Draws with a pass until it ends. What is drawn is let go of: it is for a worker that works no more.
+    /// Draws with a pass until it ends. What is drawn is dropped: this is for a worker that works no more.
     pub fn drain(&self, pass: ClaimPass) -> EndedPass
         requires { pass.batch ≡ self.now }
         ensures batch { result.batch ≡ self.now }

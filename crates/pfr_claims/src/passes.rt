@@ -3,7 +3,7 @@ ghost use Rattle.std.specs.Prelude.{◌≡◌, []};
 ghost use Rattle.std.specs.List.Sorted.{IsStrictlyIncreasing};
 ghost use Rattle.pfr_claims.specs.Drawing.{knows};
 
-use crate::rule::View;
+use crate::rule::SeatView;
 use atomic_table::Seat;
 use std::marker::Model;
 
@@ -11,7 +11,7 @@ use std::marker::Model;
 /// Contracts see its batch and the numbers that were drawn with it so far.
 #[derive(Drop)]
 pub struct ClaimPass {
-    pub(crate) seat: Seat<(), View>,
+    pub(crate) seat: Seat<(), SeatView>,
 }
 
 impl Model for ClaimPass {
@@ -30,7 +30,7 @@ impl Model for ClaimPass {
 /// A pass that has drawn its last number, the one that was at or above the batch's count. It draws no more.
 #[derive(Drop)]
 pub struct EndedPass {
-    pub(crate) seat: Seat<(), View>,
+    pub(crate) seat: Seat<(), SeatView>,
 }
 
 impl Model for EndedPass {
@@ -48,7 +48,7 @@ impl Model for EndedPass {
 
 impl EndedPass {
     /// The seat of the pass.
-    pub(crate) fn into_seat(self) -> Seat<(), View>
+    pub(crate) fn into_seat(self) -> Seat<(), SeatView>
         ensures table { result.table_id ≡ self.batch.table }
         ensures knows { result.me ≡ (knows self.batch.sizes self.drawn 0 1, []) }
         ensures rises { IsStrictlyIncreasing self.drawn }

@@ -11,7 +11,7 @@ pub struct Sizes {
 
 /// What a seat knows: the sizes of the batch, the numbers that were drawn with it, and how many live and ended passes it
 /// stands for. No value of it is made.
-pub struct View {
+pub struct SeatView {
     pub sizes: Sizes,
     pub drawn: LinkedList<u64>,
     pub live: u64,
@@ -21,7 +21,7 @@ pub struct View {
 /// What all passes drew is the numbers below the word, each once.
 pub struct Numbers;
 
-impl TableRule<(), View, Sizes> for Numbers {
+impl TableRule<(), SeatView, Sizes> for Numbers {
     ghost use Rattle.std.specs.Prelude.{[]};
     ghost use Rattle.pfr_claims.specs.Drawing.{knows, Drawn};
 
@@ -33,7 +33,7 @@ impl TableRule<(), View, Sizes> for Numbers {
 /// The step that draws a number.
 pub struct Draw;
 
-impl Play<(), View> for Draw {
+impl Play<(), SeatView> for Draw {
     ghost use Rattle.pfr_claims.specs.Drawing.{Draws};
 
     ghost then = { Draws };
@@ -42,7 +42,7 @@ impl Play<(), View> for Draw {
 /// The step that finds where the word stands once all passes have ended.
 pub struct Close;
 
-impl Play<(), View> for Close {
+impl Play<(), SeatView> for Close {
     ghost use Rattle.pfr_claims.specs.Drawing.{Closes};
 
     ghost then = { Closes };
@@ -51,7 +51,7 @@ impl Play<(), View> for Close {
 /// Gives away one pass.
 pub struct Deal;
 
-impl Split<View> for Deal {
+impl Split<SeatView> for Deal {
     ghost use Rattle.pfr_claims.specs.Drawing.{rest_of, pass_of};
 
     ghost left = { rest_of };
@@ -62,7 +62,7 @@ impl Split<View> for Deal {
 /// Takes in what another pass drew.
 pub struct Collect;
 
-impl Join<View> for Collect {
+impl Join<SeatView> for Collect {
     ghost use Rattle.pfr_claims.specs.Drawing as drawing;
 
     ghost both = { drawing.both };

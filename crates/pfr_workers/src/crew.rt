@@ -9,13 +9,13 @@ use std::alloc::{AllocError, Global};
 use std::sync::Wait;
 use std::thread::{Scope, Threads};
 
-/// For each worker the sender of its tasks, if it was started. Once it is let go of the workers end.
+/// The sender of each worker's tasks, if the worker was started. The workers end once the crew is dropped.
 #[derive(Drop)]
 pub struct Crew<J: Naming, B: Drop, G: Drop> {
     pub(crate) desks: Vec<Option<Sender<Task<J, B, G>>>>,
 }
 
-/// Starts a worker. Where its channel or its thread is refused there is none.
+/// Starts a worker. There is none if its channel or its thread is refused.
 fn start<'s, E, J: Naming + Send + Sync + 's, R: Threads + Wait + Sync, H: Hand + Send + Drop + 's>(
     scope: &Scope<'s, E>,
     rt: &'s R,

@@ -16,24 +16,30 @@ pub trait Hand {
     /// Answers of one worker that are sent together. What a caller may rely on stands in the type's own ghost fields.
     type Group: Send + Drop;
 
-    /// Takes note of a batch before it draws its first number of it.
-    fn begin(&mut self, batch: &Self::Batch);
+    /// It has begun a batch: it knows what came with it.
+    ghost begun: { Self → Self.Batch → Type 0 };
 
-    /// A group with no answers that is to take so many. There is none where memory is refused.
+    /// Takes note of a batch before it draws its first number of it.
+    fn begin(&mut self, batch: &Self::Batch)
+        ensures { begun self.new batch.now };
+
+    /// A group with no answers, which is to take `room` of them. There is none if memory is refused.
     fn group(&self, room: usize) -> Option<Self::Group>;
 
-    /// Answers a number, puts the answer into a group and says so. Nothing is put into it where there is nothing to say about the
-    /// number, or no memory to keep the answer.
-    fn answer(&mut self, batch: &Self::Batch, number: u64, group: &mut Self::Group) -> bool;
+    /// Answers a number of a batch that it has begun, puts the answer into a group and says so. Nothing is put into it if there
+    /// is nothing to say about the number, or no memory to keep the answer.
+    fn answer(&mut self, batch: &Self::Batch, number: u64, group: &mut Self::Group) -> bool
+        requires { begun self.old batch.now }
+        ensures { begun self.new batch.now };
 
     /// Is called once a number's answer is kept to be sent: it goes with the next ones, or when the pass ends. The worker that
     /// answered the number calls this before it draws another one, so who is told may hold a later number up until this one is
-    /// answered. It isn't called where there was no memory to keep the answer. An answer that is kept may still be let go of
-    /// later, where there is no memory to send its group or to receive it.
+    /// answered. It isn't called if there was no memory to keep the answer. An answer that is kept may still be dropped later,
+    /// if there is no memory to send its group or to receive it.
     fn answered(&self, batch: &Self::Batch, number: u64);
 }
 
-/// Draws numbers and answers them until the pass ends.
+/// Draws numbers of a batch that the hand has begun, and answers them until the pass ends.
 fn answer_numbers<J: Naming, R: Wait, H: Hand>(
     rt: &R,
     hand: &mut H,
@@ -42,7 +48,8 @@ fn answer_numbers<J: Naming, R: Wait, H: Hand>(
     outbox: &mut Outbox<J, H::Group>,
     pass: ClaimPass,
 ) -> EndedPass
-    requires { pass.batch ≡ claims.now }
+    requires pass { pass.batch ≡ claims.now }
+    requires begun { H.begun hand.old batch.now }
     ensures { result.batch ≡ claims.now }
 {
     let mut live = pass;
@@ -57,7 +64,7 @@ fn answer_numbers<J: Naming, R: Wait, H: Hand>(
     }
 }
 
-/// Draws the numbers of a task's pass and answers them, and sends the pass back. By then it has let go of the batch.
+/// Draws the numbers of a task's pass and answers them, and sends the pass back. By then it has released the batch.
 fn take_task<J: Naming, R: Wait, H: Hand>(rt: &R, hand: &mut H, task: Task<J, H::Batch, H::Group>) {
     let Task {
         claims,

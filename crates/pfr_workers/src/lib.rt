@@ -8,6 +8,7 @@
 
 mod crew;
 mod hand;
+mod incomplete;
 mod open_batch;
 mod opening;
 mod outbox;
@@ -15,5 +16,6 @@ mod task;
 
 pub use crew::{Crew, hire};
 pub use hand::Hand;
+pub use incomplete::Incomplete;
 pub use open_batch::{Finished, OpenBatch};
-pub use opening::{Entry, Openings};
+pub use opening::{OpenedClaims, Openings};

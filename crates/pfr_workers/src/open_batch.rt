@@ -1,26 +1,28 @@
 //! A batch that workers draw from.
-ghost use Rattle.std.specs.Prelude.{◌≡◌, ◌≤◌, ◌<◌, ◌+◌, [], IfOk, IfSome, vec_len};
+ghost use Rattle.std.specs.Prelude.{◌≡◌, ◌⊎◌, ◌≤◌, ◌<◌, ◌++◌, ◌∷◌, [], IfOk, IfSome, MatchResult, vec_len, vec_capacity};
 ghost use Rattle.std.specs.Arc.{arc_value};
 ghost use Rattle.std.specs.List.{All};
 ghost use Rattle.pfr_workers.specs.Opening.{IsNumbered};
 
 use crate::crew::Crew;
+use crate::incomplete::Incomplete;
 use crate::opening::{Numbered, Openings};
-use crate::task::{Message, Task, pass_of};
+use crate::task::{Reply, Task, pass_of};
 use crossbeam_channel::{Receiver, Sender, unbounded};
 use pfr_claims::{ClaimPass, Claims, EndedPass, Gathered};
 use pfr_history::Naming;
 use std::alloc::{AllocError, Global};
+use std::snapshot::Snapshot;
 use std::sync::{Arc, Wait};
 
-/// A batch that workers draw from: what they share of it, and the passes that wait for the others to end, since no worker could be
-/// given them.
+/// A batch that workers draw from: what they share of it, and the passes that no worker could be given. Those wait until the
+/// others have ended.
 #[derive(Drop)]
 pub struct OpenBatch<J: Naming, B: Drop, G: Drop> {
     pub batch: Arc<B>,
-    claims: Arc<Claims>,
+    pub(crate) claims: Arc<Claims>,
     numbered: Numbered<J>,
-    inbox: Receiver<Message<J, G>>,
+    inbox: Receiver<Reply<J, G>>,
     kept: Vec<ClaimPass>,
     ended: Vec<EndedPass>,
     pub count: u64,
@@ -32,22 +34,22 @@ pub struct OpenBatch<J: Naming, B: Drop, G: Drop> {
     ghost ended_own: { All (λ pass. pass.batch ≡ arc_value claims) ended.items },
 }
 
-/// What came of a batch: the groups of answers in the order in which they arrived, what the workers shared, and the batch with all its
-/// passes ended, if they all came back. A group has answers of one worker, in the order of their numbers.
+/// What came of a batch: the groups of answers in the order in which they arrived, what the workers shared, and the batch with all
+/// its passes ended, if they all came back. A group has answers of one worker, in the order of their numbers.
 #[derive(Drop)]
 pub struct Finished<B: Drop, G: Drop> {
     pub groups: Vec<G>,
     pub batch: Arc<B>,
-    pub gathered: Option<Gathered>,
+    pub gathered: Result<Gathered, Incomplete>,
 }
 
-/// Gives a worker its pass of a batch. The pass comes back where there is no such worker, or memory is refused.
+/// Gives a worker its pass of a batch. The pass comes back if there is no such worker, or memory is refused.
 fn give<J: Naming, R: Wait, B: Drop, G: Drop>(
     rt: &R,
     desk: &Option<Sender<Task<J, B, G>>>,
     claims: &Arc<Claims>,
     batch: &Arc<B>,
-    results: &Sender<Message<J, G>>,
+    results: &Sender<Reply<J, G>>,
     numbered: &Numbered<J>,
     pass: ClaimPass,
 ) -> Option<ClaimPass>
@@ -89,38 +91,39 @@ fn give<J: Naming, R: Wait, B: Drop, G: Drop>(
     }
 }
 
-/// Gives each worker its pass, as far as there are workers. Those come back that no worker could be given.
+/// Gives each worker its pass, as far as there are workers. The passes that no worker could be given go to a list that has room
+/// for all.
 fn give_all<J: Naming, R: Wait, B: Drop, G: Drop>(
     rt: &R,
-    alloc: Global,
     desks: &[Option<Sender<Task<J, B, G>>>],
     claims: &Arc<Claims>,
     batch: &Arc<B>,
-    results: Sender<Message<J, G>>,
+    results: Sender<Reply<J, G>>,
     numbered: &Numbered<J>,
     mut passes: Vec<ClaimPass>,
-) -> Result<Vec<ClaimPass>, AllocError>
+    mut kept: Vec<ClaimPass>,
+) -> Vec<ClaimPass>
     requires own { All (λ pass. pass.batch ≡ arc_value claims.now) passes.items }
+    requires kept { All (λ pass. pass.batch ≡ arc_value claims.now) kept.items }
     requires named { IsNumbered numbered.now.front numbered.now.number (arc_value claims.now) }
-    ensures { IfOk result (λ kept. All (λ pass. pass.batch ≡ arc_value claims.now) kept.items) }
+    ensures { All (λ pass. pass.batch ≡ arc_value claims.now) result.items }
 {
-    let mut kept = Vec::with_capacity(alloc, passes.len())?;
     for desk in desks {
         if let Some(pass) = passes.pop()
             && let Some(pass) = give(rt, desk, claims, batch, &results, numbered, pass)
         {
-            kept.push(pass)?;
+            let _has_room = kept.push(pass);
         }
     }
     while let Some(pass) = passes.pop() {
-        kept.push(pass)?;
+        let _has_room = kept.push(pass);
     }
-    Ok(kept)
+    kept
 }
 
 impl<J: Naming, B: Drop, G: Drop> Crew<J, B, G> {
-    /// Opens a batch of so many numbers, at most 4096. Of the workers at most so many are given their passes; the others' passes wait.
-    /// The only error is that memory was refused.
+    /// Opens a batch of `count` numbers, at most 4096. At most `most` workers are given their passes; the passes of the others
+    /// wait. The only error is that memory was refused: then the batch isn't in the history.
     pub fn open<R: Wait>(
         &self,
         rt: &R,
@@ -134,19 +137,19 @@ impl<J: Naming, B: Drop, G: Drop> Crew<J, B, G> {
         requires workers { (0 < vec_len self.now.desks) × (vec_len self.now.desks ≤ 64) }
         ensures batch { IfOk result (λ open_batch. arc_value open_batch.batch ≡ batch) }
         ensures sizes { IfOk result (λ open_batch. (open_batch.count ≡ count) × (open_batch.workers ≡ vec_len self.now.desks)) }
+        ensures opened { MatchResult result (λ it. openings.new ≡ openings.old ++ arc_value it.claims ∷ []) (λ _. openings.new ≡ openings.old) }
     {
         let workers = self.desks.len() as u64;
         let (claims, passes) = Claims::new(alloc, count, workers)?;
-        let numbered = openings.add(&claims).ok_or(AllocError)?;
         let claims = Arc::new(alloc, claims)?;
         let batch = Arc::new(alloc, batch)?;
+        let kept = Vec::with_capacity(alloc, self.desks.len())?;
         let ended = Vec::with_capacity(alloc, self.desks.len())?;
         let (results, inbox) = unbounded(alloc)?;
+        let numbered = openings.add(&claims).ok_or(AllocError)?;
         let given = most.min(self.desks.len());
         let desks = &self.desks[..given];
-        let kept = give_all(
-            rt, alloc, desks, &claims, &batch, results, &numbered, passes,
-        )?;
+        let kept = give_all(rt, desks, &claims, &batch, results, &numbered, passes, kept);
         Ok(OpenBatch {
             batch,
             claims,
@@ -160,6 +163,14 @@ impl<J: Naming, B: Drop, G: Drop> Crew<J, B, G> {
     }
 }
 
+/// Puts a pass behind others, for which there is room.
+fn keep(ended: &mut Vec<EndedPass>, pass: EndedPass)
+    ensures kept { vec_len ended.old < vec_capacity ended.old → ended.new.items ≡ ended.old.items ++ pass ∷ [] }
+    ensures own { (ended.new.items ≡ ended.old.items) ⊎ (ended.new.items ≡ ended.old.items ++ pass ∷ []) }
+{
+    let _has_room = ended.push(pass);
+}
+
 /// What has come back of a batch.
 #[derive(Drop)]
 struct Returned<G: Drop> {
@@ -168,22 +179,22 @@ struct Returned<G: Drop> {
 }
 
 impl<G: Drop> Returned<G> {
-    /// Takes a message of a batch. A group that there is no memory for is let go of, and so is a pass.
-    fn take<J: Naming>(&mut self, numbered: &Numbered<J>, claims: &Claims, message: Message<J, G>)
+    /// Takes a message of a batch. A group is dropped if there is no memory for it.
+    fn take<J: Naming>(&mut self, numbered: &Numbered<J>, claims: &Claims, reply: Reply<J, G>)
         requires named { IsNumbered numbered.now.front numbered.now.number claims.now }
         requires own { All (λ pass. pass.batch ≡ claims.now) self.old.ended.items }
         ensures { All (λ pass. pass.batch ≡ claims.now) self.new.ended.items }
     {
-        match message {
-            Message::Group(group) => {
+        match reply {
+            Reply::Group(group) => {
                 let _kept = self.groups.push(group);
             }
-            Message::Back(back, last) => {
+            Reply::Back(back, last) => {
                 if let Some(group) = last {
                     let _kept = self.groups.push(group);
                 }
                 if let Some(pass) = pass_of(numbered, claims, back) {
-                    let _kept = self.ended.push(pass);
+                    keep(&mut self.ended, pass);
                 }
             }
         }
@@ -193,7 +204,7 @@ impl<G: Drop> Returned<G> {
 /// Receives groups of answers and passes until the last sender is gone.
 fn receive<J: Naming, R: Wait, G: Drop>(
     rt: &R,
-    inbox: Receiver<Message<J, G>>,
+    inbox: Receiver<Reply<J, G>>,
     numbered: &Numbered<J>,
     claims: &Claims,
     returned: Returned<G>,
@@ -203,8 +214,8 @@ fn receive<J: Naming, R: Wait, G: Drop>(
     ensures { All (λ pass. pass.batch ≡ claims.now) result.ended.items }
 {
     let mut returned = returned;
-    for message in inbox.iter(rt) {
-        returned.take(numbered, claims, message);
+    for reply in inbox.iter(rt) {
+        returned.take(numbered, claims, reply);
     }
     returned
 }
@@ -220,30 +231,33 @@ fn drain_all(
     ensures { All (λ pass. pass.batch ≡ claims.now) result.items }
 {
     while let Some(pass) = passes.pop() {
-        let _kept = ended.push(claims.drain(pass));
+        keep(&mut ended, claims.drain(pass));
     }
     ended
 }
 
-/// The batch with all its passes ended, if they are all here.
-fn gathered(claims: &Claims, workers: u64, ended: Vec<EndedPass>) -> Option<Gathered>
+/// The batch with all its passes ended, if as many came back as there were workers.
+fn gathered(claims: &Claims, workers: u64, ended: Vec<EndedPass>) -> Result<Gathered, Incomplete>
     requires own { All (λ pass. pass.batch ≡ claims.now) ended.items }
     requires workers { (claims.now.sizes.workers ≡ workers) × (0 < workers) }
-    ensures { IfSome result (λ gathered. gathered.sizes ≡ claims.now.sizes) }
+    ensures { MatchResult result (λ gathered. gathered.claims.value ≡ claims.now) (λ lost. lost.claims.value ≡ claims.now) }
 {
-    if ended.len() as u64 == workers {
-        Some(claims.gather(ended))
-    } else {
-        None
+    let came = ended.len() as u64;
+    if came == workers {
+        return Ok(claims.gather(ended));
     }
+    Err(Incomplete {
+        claims: Snapshot::of(claims),
+        came,
+    })
 }
 
 impl<J: Naming, B: Drop, G: Drop> OpenBatch<J, B, G> {
-    /// Waits until all workers have ended their passes of the batch, and draws the other passes to their ends then. Passes are missing
-    /// where a worker was refused memory to send its own back. The workers have let go of what they shared.
+    /// Waits until all workers have ended their passes of the batch, and draws the other passes to their ends then. Passes are
+    /// missing if a worker was refused memory to send its own back. The workers have released what they shared.
     pub fn finish<R: Wait>(self, rt: &R, alloc: Global) -> Finished<B, G>
         ensures batch { result.batch ≡ self.batch }
-        ensures sizes { IfSome result.gathered (λ gathered. (gathered.sizes.count ≡ self.count) × (gathered.sizes.workers ≡ self.workers)) }
+        ensures own { MatchResult result.gathered (λ it. it.claims.value ≡ arc_value self.claims) (λ it. it.claims.value ≡ arc_value self.claims) }
     {
         let OpenBatch {
             batch,

@@ -1,8 +1,7 @@
 //! What a worker has answered and not sent yet.
-ghost use Rattle.std.specs.Prelude.{◌≡◌};
 
 use crate::hand::Hand;
-use crate::task::{Back, Message};
+use crate::task::{Back, Reply};
 use crossbeam_channel::Sender;
 use pfr_history::Naming;
 use std::sync::Wait;
@@ -15,14 +14,14 @@ const GROUP: usize = 128;
 /// A worker's sender, the group that it is to send next, if one is begun, and how many answers were put into that.
 #[derive(Drop)]
 pub(crate) struct Outbox<J: Naming, G: Drop> {
-    sender: Sender<Message<J, G>>,
+    sender: Sender<Reply<J, G>>,
     group: Option<G>,
     count: usize,
 }
 
 impl<J: Naming, G: Drop> Outbox<J, G> {
     /// An outbox with no group begun.
-    pub(crate) fn new(sender: Sender<Message<J, G>>) -> Outbox<J, G> {
+    pub(crate) fn new(sender: Sender<Reply<J, G>>) -> Outbox<J, G> {
         Outbox {
             sender,
             group: None,
@@ -30,9 +29,12 @@ impl<J: Naming, G: Drop> Outbox<J, G> {
         }
     }
 
-    /// Has a number answered into the group that is to be sent next, and says whether it was. Where no memory is left for a group
-    /// it isn't.
-    fn put<H: Hand<Group = G>>(&mut self, hand: &mut H, batch: &H::Batch, number: u64) -> bool {
+    /// Has a number answered into the group that is to be sent next, and says whether it was. It isn't if no memory is left
+    /// for a group.
+    fn put<H: Hand<Group = G>>(&mut self, hand: &mut H, batch: &H::Batch, number: u64) -> bool
+        requires { H.begun hand.old batch.now }
+        ensures { H.begun hand.new batch.now }
+    {
         if self.group.is_none() {
             self.group = hand.group(GROUP);
         }
@@ -46,11 +48,11 @@ impl<J: Naming, G: Drop> Outbox<J, G> {
         true
     }
 
-    /// Sends the group. Where the send is refused for want of memory, it is let go of.
+    /// Sends the group. If the send is refused for want of memory, the group is dropped.
     fn send<R: Wait>(&mut self, rt: &R) {
         self.count = 0;
         if let Some(group) = self.group.take() {
-            let _sent = self.sender.send(rt, Message::Group(group));
+            let _sent = self.sender.send(rt, Reply::Group(group));
         }
     }
 
@@ -61,7 +63,10 @@ impl<J: Naming, G: Drop> Outbox<J, G> {
         hand: &mut H,
         batch: &H::Batch,
         number: u64,
-    ) {
+    )
+        requires { H.begun hand.old batch.now }
+        ensures { H.begun hand.new batch.now }
+    {
         if self.put(hand, batch, number) {
             hand.answered(batch, number);
         }
@@ -70,13 +75,13 @@ impl<J: Naming, G: Drop> Outbox<J, G> {
         }
     }
 
-    /// Sends the pass with the answers that are left, if there are any, and lets go of the sender.
+    /// Sends the pass with the answers that are left, if there are any, and drops the sender.
     pub(crate) fn close<R: Wait>(mut self, rt: &R, back: Back<J>) {
         let last = if self.count > 0 {
             self.group.take()
         } else {
             None
         };
-        let _sent = self.sender.send(rt, Message::Back(back, last));
+        let _sent = self.sender.send(rt, Reply::Back(back, last));
     }
 }

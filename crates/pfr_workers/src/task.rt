@@ -1,5 +1,5 @@
 //! What goes to a worker, and what comes back.
-ghost use Rattle.std.specs.Prelude.{◌≡◌, IfSome};
+ghost use Rattle.std.specs.Prelude.{◌≡◌, ◌≢◌, MatchOption};
 ghost use Rattle.std.specs.Arc.{arc_value};
 ghost use Rattle.pfr_workers.specs.Opening.{IsNumbered};
 
@@ -16,7 +16,7 @@ pub(crate) struct Task<J: Naming, B: Drop, G: Drop> {
     pub(crate) claims: Arc<Claims>,
     pub(crate) pass: ClaimPass,
     pub(crate) batch: Arc<B>,
-    pub(crate) results: Sender<Message<J, G>>,
+    pub(crate) results: Sender<Reply<J, G>>,
     pub(crate) numbered: Numbered<J>,
     pub ghost own: { pass.batch ≡ arc_value claims },
     pub ghost named: { IsNumbered numbered.front numbered.number (arc_value claims) },
@@ -24,7 +24,7 @@ pub(crate) struct Task<J: Naming, B: Drop, G: Drop> {
 
 /// What a worker sends on a batch's channel.
 #[derive(Drop)]
-pub(crate) enum Message<J: Naming, G: Drop> {
+pub(crate) enum Reply<J: Naming, G: Drop> {
     /// What it found out about some numbers.
     Group(G),
     /// Its pass, with its last answers, if there are any.
@@ -39,21 +39,21 @@ pub(crate) struct Back<J: Naming> {
     pub ghost own: { IsNumbered numbered.front numbered.number pass.batch },
 }
 
-/// The pass that came back, if it is of this batch.
+/// The pass that came back: it is turned down only if its number is that of another batch.
+#[tactic(auto, using(crate::proofs::OpeningLemmas::same_batch))]
 pub(crate) fn pass_of<J: Naming>(
     mine: &Numbered<J>,
     claims: &Claims,
     back: Back<J>,
 ) -> Option<EndedPass>
     requires { IsNumbered mine.now.front mine.now.number claims.now }
-    ensures { IfSome result (λ pass. pass.batch ≡ claims.now) }
+    ensures { MatchOption result (back.numbered.number ≢ mine.now.number) (λ pass. pass.batch ≡ claims.now) }
 {
     let Back { numbered, pass } = back;
     if numbered.number != mine.number {
         return None;
     }
-    if !numbered.front.begins(&mine.front) {
-        return None;
-    }
+    // both are beginnings of one history, so one of them begins the other
+    let _longer = mine.front.longer(&numbered.front);
     Some(pass)
 }

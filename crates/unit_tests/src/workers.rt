@@ -2,7 +2,7 @@
 ghost use Rattle.std.specs.Prelude.{◌≡◌, ◌<◌, ◌≤◌, IfOk, vec_len};
 
 use pfr_history::{Naming, Opened};
-use pfr_workers::{Crew, Entry, Finished, Hand, OpenBatch, Openings, hire};
+use pfr_workers::{Crew, Finished, Hand, OpenBatch, OpenedClaims, Openings, hire};
 use std::alloc::{AllocError, Global};
 use std::marker::Brand;
 use std::sync::atomic::{AtomicBool, AtomicU64, Ordering};
@@ -57,6 +57,8 @@ impl<'a, R: Clock + Sync> Hand for Clerk<'a, R> {
     type Batch = Sheet;
 
     type Group = Vec<Answer>;
+
+    ghost begun = { λ clerk sheet. Unit {0} };
 
     fn begin(&mut self, batch: &Sheet) {
         batch.begun.fetch_add(1, Ordering::SeqCst);
@@ -189,7 +191,7 @@ fn in_scope<'s, E, K: Naming + Send + Sync + 's, R: Threads + Wait + Clock + Syn
 fn finished_under<K: Naming + Send + Sync + 'static, R: Threads + Wait + Clock + Sync>(
     rt: &R,
     alloc: Global,
-    opened: Opened<Entry>,
+    opened: Opened<OpenedClaims>,
     staff: Staff,
     plan: &[Planned],
 ) -> Result<Vec<Finished<Sheet, Vec<Answer>>>, AllocError>
@@ -272,7 +274,7 @@ fn seen_of(finished: Finished<Sheet, Vec<Answer>>) -> Option<Seen> {
         gathered,
     } = finished;
     match (Arc::into_inner(batch), gathered) {
-        (Some(sheet), Some(gathered)) => Some(Seen {
+        (Some(sheet), Ok(gathered)) => Some(Seen {
             id: sheet.id,
             word: gathered.word,
             begun: sheet.begun.load(Ordering::SeqCst),
