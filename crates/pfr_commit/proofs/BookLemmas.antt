@@ -18,7 +18,7 @@ pub on_err : {X E : Type 0} (r : Result X E) (P : Type 0) → P → OnErr r P
 on_err (Ok x) P h = tt
 on_err (Err e) P h = h
 
--- an outcome that is held, or one that was written here, where both are the packet's
+-- an outcome that is held, or one that was written here: either is the packet's
 pub by_either : (held : Option (Bor Outcome)) (here which : Bor Outcome) (outcome : Outcome) → which ≡ unwrap_or held here → IfSome held (λ it. it.now ≡ outcome) → IfNone held (here.now ≡ outcome) → which.now ≡ outcome
 by_either None here which outcome is some none = ap (λ (it : Bor Outcome). it.now) is ∙ none
 by_either (Some it) here which outcome is some none = ap (λ (it : Bor Outcome). it.now) is ∙ some

@@ -9,9 +9,9 @@ use Rattle.pfr_packet.specs.Job.{RunJob}
 use Rattle.pfr_packet.specs.Plan.{purged_at}
 use Rattle.pfr_telling.specs.Telling.{changed}
 use Rattle.pfr_commit.specs.Runs.{next_taken}
-use Rattle.pfr_commit.specs.World.{Frame, World, after, changes_of, opening, own_change, purge_by, with_outcome, world_after, world_of}
+use Rattle.pfr_commit.specs.World.{Frame, World, after, changes_of, opening, apply_by, purge_by, with_outcome, world_after, world_of}
 
--- where nothing is due a purge leaves the states
+-- if nothing is due a purge leaves the states
 abbrev pub NothingToPurge : Type 0
 NothingToPurge = (states : List State) (clock : Clock) → due clock states ≡ None → (all_due clock states ≡ []) × (purged clock states ≡ states)
 
@@ -20,15 +20,15 @@ unfolding purged_at
 purge_made nothing clock table None is = ap (λ (states : List State). record { states = states; limit = table.limit }) (sym (nothing table.states clock is).1)
 purge_made nothing clock table (Some state) is = refl
 
-own_made : (table : StateTable) (change : Option TableChange) → fold stepped table (own_change change) ≡ changed change table
-own_made table None = refl
-own_made table (Some change) = refl
+apply_made : (table : StateTable) (change : Option TableChange) → fold stepped table (apply_by change) ≡ changed change table
+apply_made table None = refl
+apply_made table (Some change) = refl
 
 packet_made : NothingToPurge → (clock : Clock) (change : Option TableChange) (table : StateTable) → fold stepped table (changes_of clock change table.states) ≡ changed change (purged_at clock table)
 packet_made nothing clock change table =
-    fold-append stepped table (purge_by clock (due clock table.states)) (own_change change)
-    ∙ ap (λ (t : StateTable). fold stepped t (own_change change)) (purge_made nothing clock table (due clock table.states) refl)
-    ∙ own_made (purged_at clock table) change
+    fold-append stepped table (purge_by clock (due clock table.states)) (apply_by change)
+    ∙ ap (λ (t : StateTable). fold stepped t (apply_by change)) (purge_made nothing clock table (due clock table.states) refl)
+    ∙ apply_made (purged_at clock table) change
 
 next_made : NothingToPurge → (job : RunJob) (limit : ℕ) (world : World) (frame : Frame) → table_of limit world.changes ≡ world.table → table_of limit (after job world frame).changes ≡ (after job world frame).table
 unfolding after with_outcome

@@ -30,7 +30,7 @@ lines_more kind counters n =
 
 -- ---- states by number
 
--- of these states so many are written, and the next one follows them
+-- the first `count` of these states are written, and the next one follows them
 pub record IsWritten (states : List State) (count : ℕ) (next : Option State) (text : List ℕ) : Type 0 where
   pub written : List State
   pub rest : List State
@@ -42,7 +42,7 @@ pub record IsWritten (states : List State) (count : ℕ) (next : Option State) (
 pub none_written : (states : List State) → IsWritten states 0 (first states) []
 none_written states = record { written = []; rest = states; all = refl; counted = refl; next_is = refl; text_is = refl }
 
--- one that is in a list of which each does
+-- what holds of each of a list holds of one that is in it
 each_does : (p : State → Bool) (xs : List State) (x : State) (ys : List State) → list_all p (xs ++ x ∷ ys) ≡ true → p x ≡ true
 each_does p xs x ys all = (and_parts _ _ (and_parts _ _ (sym (list_all-append p xs (x ∷ ys)) ∙ all)).1).0
 

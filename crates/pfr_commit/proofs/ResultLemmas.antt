@@ -1,4 +1,4 @@
--- Where the results of packets stand.
+-- The places of the results of packets.
 use Rattle.std.proofs.Common.{◌≡◌, ◌<◌, ◌≤◌, ◌+◌, ◌-◌, ◌==◌, ℕ, Bool, true, false, is_none, List, [], ◌∷◌, ◌++◌, length, replicate, take, get_or, Option, Some, None, IfSome, Bor, inl, inr, refl, sym, ◌∙◌, ap, subst, arith}
 use Rattle.std.specs.List.{All, find}
 use Rattle.std.specs.Option.{option_map}
@@ -9,7 +9,7 @@ use Rattle.std.proofs.lemmas.List.Folds.{find-append}
 use Rattle.std.proofs.lemmas.List.Elements.{All-append, All-head, All-nil, All-tail}
 use Rattle.pfr_packet.specs.Job.{RunJob}
 use Rattle.pfr_record.specs.declared.speculation.Speculation.{Speculation}
-use Rattle.pfr_commit.specs.Found.{IsOfJob}
+use Rattle.pfr_commit.specs.ResultsByPlace.{IsOfJob}
 use Rattle.pfr_commit.specs.Results.{ArePlaced, Group, Places, Puts, held_at, is_free, is_of, results_of, with_result}
 
 pub none_placed : (first count : ℕ) → ArePlaced [] first (replicate count None)
@@ -98,15 +98,15 @@ put_free first it places behind below free = λ place within.
 
 -- ---- all are of a job
 
--- where all are of a job, so is the one that is found
-pub own_found : (job : RunJob) (test : Speculation → Bool) (results : List Speculation) → All (IsOfJob job) results → IfSome (find test results) (IsOfJob job)
-own_found job test [] all = tt
-own_found job test (found ∷ results) all = elim (cases_Bool (test found)) [
+-- if all are of a job, so is the one that is found
+pub found_of_job : (job : RunJob) (test : Speculation → Bool) (results : List Speculation) → All (IsOfJob job) results → IfSome (find test results) (IsOfJob job)
+found_of_job job test [] all = tt
+found_of_job job test (found ∷ results) all = elim (cases_Bool (test found)) [
   | inl it_is ↦ rw it_is (All-head (IsOfJob job) found results all)
-  | inr other ↦ rw other (own_found job test results (All-tail (IsOfJob job) found results all))
+  | inr other ↦ rw other (found_of_job job test results (All-tail (IsOfJob job) found results all))
 ]
 
-pub own_groups : (job : RunJob) (groups : List Group) → All (λ group. All (IsOfJob job) group.items) groups → All (IsOfJob job) (results_of groups)
-own_groups job [] all = All-nil (IsOfJob job)
-own_groups job (group ∷ groups) all = All-append (IsOfJob job) group.items (results_of groups) (All-head (λ (g : Group). All (IsOfJob job) g.items) group groups all)
-    (own_groups job groups (All-tail (λ (g : Group). All (IsOfJob job) g.items) group groups all))
+pub groups_of_job : (job : RunJob) (groups : List Group) → All (λ group. All (IsOfJob job) group.items) groups → All (IsOfJob job) (results_of groups)
+groups_of_job job [] all = All-nil (IsOfJob job)
+groups_of_job job (group ∷ groups) all = All-append (IsOfJob job) group.items (results_of groups) (All-head (λ (g : Group). All (IsOfJob job) g.items) group groups all)
+    (groups_of_job job groups (All-tail (λ (g : Group). All (IsOfJob job) g.items) group groups all))

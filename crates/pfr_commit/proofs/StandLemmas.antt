@@ -31,14 +31,14 @@ use Rattle.pfr_commit.proofs.BookLemmas.{same_job}
 use Rattle.pfr_commit.proofs.WorldLemmas.{after_is, nothing_taken, part_taken, world_next, world_none}
 
 -- what an evaluation changes, as it is told
-own_is_next : (count : ℕ) (clock : Clock) (states : List State) (outcome : Outcome) (change : TableChange) → IsOwnChange (count + 1) clock states outcome change → IsNextChange count states change
-own_is_next count clock states outcome (Made state) own = own.number_is
-own_is_next count clock states outcome (Touched state) own = (own.before, own.is_there, own.number_is)
-own_is_next count clock states outcome (Removed number) own = tt
+change_is_next : (count : ℕ) (clock : Clock) (states : List State) (outcome : Outcome) (change : TableChange) → IsOwnChange (count + 1) clock states outcome change → IsNextChange count states change
+change_is_next count clock states outcome (Made state) own = own.number_is
+change_is_next count clock states outcome (Touched state) own = (own.before, own.is_there, own.number_is)
+change_is_next count clock states outcome (Removed number) own = tt
 
-pub option_own_is_next : (count : ℕ) (clock : Clock) (states : List State) (outcome : Outcome) (change : Option TableChange) → IfSome change (λ change. IsOwnChange (count + 1) clock states outcome change) → IfSome change (λ change. IsNextChange count states change)
-option_own_is_next count clock states outcome None own = tt
-option_own_is_next count clock states outcome (Some change) own = own_is_next count clock states outcome change own
+pub option_change_is_next : (count : ℕ) (clock : Clock) (states : List State) (outcome : Outcome) (change : Option TableChange) → IfSome change (λ change. IsOwnChange (count + 1) clock states outcome change) → IfSome change (λ change. IsNextChange count states change)
+option_change_is_next count clock states outcome None own = tt
+option_change_is_next count clock states outcome (Some change) own = change_is_next count clock states outcome change own
 
 -- ---- one packet
 
@@ -51,7 +51,7 @@ pub record TellsPacket (old begun purged_telling new : Telling) (clock later : C
       → HasTold before new later (events ++ events_of_change later change purged_states)
   pub origin_is : new.queue.origin ≡ old.queue.origin
 
--- the events of a packet behind others
+-- the events of a packet after others
 packet_events : (clock : Clock) (change : Option TableChange) (states : List State) (events : List Event)
     → (events ++ events_of_purge clock states) ++ events_of_change clock change (purged clock states) ≡ events ++ events_of clock change states
 unfolding events_of
@@ -86,16 +86,16 @@ pub texts_are : (a b : Texts) → a.verdicts ≡ b.verdicts → a.packets ≡ b.
 texts_are a b verdicts packets messages =
     ap (λ (t : List ℕ). texts_by t a.packets a.messages) verdicts ∙ ap (λ (t : List ℕ). texts_by b.verdicts t a.messages) packets ∙ ap (λ (t : List Content). texts_by b.verdicts b.packets t) messages
 
--- nothing behind texts
+-- nothing appended to texts
 pub nothing_behind : (texts more : Texts) → more ≡ no_texts → texts ≡ joined texts more
 nothing_behind texts more none =
     texts_are texts (joined texts no_texts) (sym (append-nil texts.verdicts)) (sym (append-nil texts.packets)) (sym (append-nil texts.messages)) ∙ ap (λ (t : Texts). joined texts t) (sym none)
 
--- one text more behind others
+-- one text more appended to others
 behind_both : {X : Type 0} (all before out out' more : List X) → all ≡ before ++ out → out' ≡ out ++ more → all ++ more ≡ before ++ out'
 behind_both all before out out' more all_is out_is = rw (all_is, out_is) (append_assoc before out more)
 
--- the messages that were closed behind others
+-- the messages that were closed after others
 messages_behind : (origin told_origin job_origin : Origin) (clock later : Clock) (events more : List Event) (before out out' closed : List Content) → told_origin ≡ origin → origin ≡ job_origin
     → closed_at told_origin later more ≡ closed_at origin clock events ++ closed → closed_at job_origin clock events ≡ before ++ out → out' ≡ out ++ closed
     → closed_at job_origin later more ≡ before ++ out'
@@ -119,7 +119,7 @@ outcome_leads old new out out' frame clock outcome begun purged_telling told lef
     go : StandsAt old (around old world) → online (job_of old) (around old world) ≡ joined before (texts_of out) → StandsAt new (with_outcome (around old world) frame clock outcome) × (online (job_of old) (with_outcome (around old world) frame clock outcome) ≡ joined before (texts_of out'))
     go at is =
         let states_are : left.states ≡ purged clock old.table.states = ap (λ (t : StateTable). t.states) left_is in
-        let next = subst (λ (ss : List State). IfSome outcome.change (λ change. IsNextChange old.count ss change)) (sym states_are) (option_own_is_next old.count clock (purged clock old.table.states) outcome outcome.change own) in
+        let next = subst (λ (ss : List State). IfSome outcome.change (λ change. IsNextChange old.count ss change)) (sym states_are) (option_change_is_next old.count clock (purged clock old.table.states) outcome outcome.change own) in
         let both = packet_told old.telling begun purged_telling told old.clock clock old.table.states left.states old.table.limit old.count outcome.change world.events tells is_later states_are at.tells at.told next in
         let all = world.events ++ events_of clock outcome.change old.table.states in (
           record {
@@ -183,7 +183,7 @@ leads_next {X = X} start mid new out out' out'' g xs i d p job_is p_is below fir
     subst (λ (w : World). StandsAt new w × (online (job_of start) w ≡ joined before (texts_of out''))) step
     (led.0, subst (λ (job : RunJob). online job (after (job_of mid) at (g p)) ≡ joined before (texts_of out'')) job_is led.1)
 
--- where memory was refused behind so many packets
+-- memory was refused after `i` packets
 pub leaves_part : {X : Type 0} (start mid : Book) (count : ℕ) (out out' out'' : Emitted) (g : X → Frame) (xs : List X) (i : ℕ) → count ≡ start.count + i → texts_of out'' ≡ texts_of out'
     → LeadsTo start mid out out' (λ world. world_after (job_of start) world (map g (take i xs))) → LeavesTexts start count out out'' (map g xs)
 leaves_part start mid count out out' out'' g xs i count_is texts_is leads world before stands on =

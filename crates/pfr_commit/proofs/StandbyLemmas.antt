@@ -23,7 +23,7 @@ use Rattle.pfr_telling.proofs.ToldLemmas.{told_by_then, told_of_change}
 use Rattle.pfr_commit.specs.Laws.{AStandbyHoldsTheStates}
 use Rattle.pfr_commit.specs.Runs.{next_taken}
 use Rattle.pfr_commit.specs.World.{Frame, World, after, opening, origin_of, with_outcome, world_after, world_of}
-use Rattle.pfr_commit.proofs.StandLemmas.{option_own_is_next}
+use Rattle.pfr_commit.proofs.StandLemmas.{option_change_is_next}
 use Rattle.pfr_commit.proofs.TableLemmas.{NoneRefused, OwnChanges, table_next}
 
 -- a state that is touched is told of as it was
@@ -60,7 +60,7 @@ told_next none own job world frame keeps =
     let are = told_by_then world.count world.clock p.clock states world.events later keeps.told in
     let both = purge_by (length states) world.count p.clock states world.events (due p.clock states) refl refl keeps.table.in_order (are, keeps.leave) in
     let owned = both_next world.count p.clock left p.outcome p.outcome.change in_order (λ c is. own job p.number p.clock (view_of frame.link frame.bytes) world.table c is) in
-    let next = option_own_is_next world.count p.clock left p.outcome p.outcome.change owned.0 in
+    let next = option_change_is_next world.count p.clock left p.outcome p.outcome.change owned.0 in
     let purged_table : StateTable = record { states = left; limit = world.table.limit } in
     let told = told_of_change world.count p.clock purged_table (world.events ++ events_of_purge p.clock states) p.outcome.change both.0 next in
     let leave = change_leaves world.count p.clock purged_table (world.events ++ events_of_purge p.clock states) p.outcome.change both.0 both.1 (together world.count left p.outcome.change next owned.1) in

@@ -37,7 +37,7 @@ after_is job world frame clock view outcome clock_is view_is outcome_is =
     let now : clock ≡ clock_at world.clock frame = ap (λ (n : ℕ). record { 0 = n }) clock_is in
     rw (outcome_is, view_is, now) refl
 
--- a world behind what was written and told before
+-- a world, with what was written and told before it
 abbrev pub behind : World → World → World
 behind before world = record world { verdicts = before.verdicts ++ world.verdicts; packets = before.packets ++ world.packets; changes = before.changes ++ world.changes; events = before.events ++ world.events }
 
@@ -47,7 +47,7 @@ after_behind job before world frame =
     let p = next_taken job world frame in
     rw (append_assoc before.verdicts world.verdicts (verdict_line p.number p.clock p.outcome), append_assoc before.packets world.packets (packet_text frame p.outcome), append_assoc before.changes world.changes (changes_of p.clock p.outcome.change world.table.states), append_assoc before.events world.events (events_of p.clock p.outcome.change world.table.states)) refl
 
--- what packets add doesn't hang on what was written and told before
+-- what packets add doesn't depend on what was written and told before
 pub world_behind : (job : RunJob) (before : World) (frames : List Frame) (world : World) → world_after job (behind before world) frames ≡ behind before (world_after job world frames)
 unfolding world_after
 world_behind job before [] world = refl
@@ -73,29 +73,29 @@ world_next job world g xs i d below =
     let next : i + 1 ≡ suc i = omega arith in
     rw (next, take-suc xs i d below, map-append g (take i xs) (get_or xs i d ∷ []), world_append job world (map g (take i xs)) (g (get_or xs i d) ∷ [])) (world_one job (world_after job world (map g (take i xs))) (g (get_or xs i d)))
 
--- what a packet adds doesn't hang on what was told, or done to the table
+-- what a packet adds doesn't depend on what was told, or done to the table
 after_untold : (job : RunJob) (world : World) (frame : Frame) → untold (after job (untold world) frame) ≡ untold (after job world frame)
 unfolding after with_outcome
 after_untold job world frame = refl
 
 -- one packet more of a batch
-pub batch_next : {X : Type 0} (job own_job : RunJob) (start now : World) (g : X → Frame) (xs : List X) (i : ℕ) (d p : X) → own_job ≡ job → now ≡ untold (world_after job start (map g (take i xs))) → p ≡ get_or xs i d → i < length xs
-    → untold (after own_job now (g p)) ≡ untold (world_after job start (map g (take (i + 1) xs)))
-batch_next {X = X} job own_job start now g xs i d p job_is now_is p_is below =
-    ap (λ (w : World). untold (after own_job w (g p))) now_is
-    ∙ after_untold own_job (world_after job start (map g (take i xs))) (g p)
+pub batch_next : {X : Type 0} (job book_job : RunJob) (start now : World) (g : X → Frame) (xs : List X) (i : ℕ) (d p : X) → book_job ≡ job → now ≡ untold (world_after job start (map g (take i xs))) → p ≡ get_or xs i d → i < length xs
+    → untold (after book_job now (g p)) ≡ untold (world_after job start (map g (take (i + 1) xs)))
+batch_next {X = X} job book_job start now g xs i d p job_is now_is p_is below =
+    ap (λ (w : World). untold (after book_job w (g p))) now_is
+    ∙ after_untold book_job (world_after job start (map g (take i xs))) (g p)
     ∙ ap (λ (j : RunJob). untold (after j (world_after job start (map g (take i xs))) (g p))) job_is
     ∙ ap (λ (x : X). untold (after job (world_after job start (map g (take i xs))) (g x))) p_is
     ∙ ap untold (sym (world_next job start g xs i d below))
 
--- what packets leave doesn't hang on what was written or told, or done to the table
+-- what packets leave doesn't depend on what was written or told, or done to the table
 pub world_bare : (job : RunJob) (frames : List Frame) (world other : World) → bare world ≡ bare other → bare (world_after job world frames) ≡ bare (world_after job other frames)
 unfolding world_after after with_outcome
 world_bare job [] world other same = same
 world_bare job (frame ∷ frames) world other same =
     world_bare job frames (after job world frame) (after job other frame) (ap (λ (w : World). bare (after job w frame)) same)
 
--- what a packet does to the table stands behind what was done to it, and doesn't hang on that
+-- what a packet does to the table follows what was done to it, and doesn't depend on that
 pub changes_behind : (job : RunJob) (world : World) (frame : Frame) → (after job world frame).changes ≡ world.changes ++ (after job (bare world) frame).changes
 unfolding after with_outcome
 changes_behind job world frame = refl
@@ -113,7 +113,7 @@ nothing_taken job world count frames =
     let none : count - count ≡ 0 = omega arith in
     rw none (sym (world_none job world))
 
--- so many of them were taken
+-- the first `index` of them were taken
 pub part_taken : {X : Type 0} (job : RunJob) (world : World) (g : X → Frame) (xs : List X) (start count index : ℕ) → count ≡ start + index
     → world_after job world (map g (take index xs)) ≡ world_after job world (take (count - start) (map g xs))
 part_taken job world g xs start count index is =

@@ -13,7 +13,7 @@ use Rattle.pfr_commit.specs.declared.counters.Counters.{Counters}
 use Rattle.pfr_commit.specs.declared.counters.RuleCounters.{RuleCounters}
 use Rattle.pfr_commit.specs.declared.counters.Totals.{Totals}
 
--- nothing is counted yet of so many rules
+-- nothing is counted yet of these rules
 abbrev pub uncounted : ℕ → RuleCounters
 uncounted rules = record { evaluations = replicate rules 0; packets = replicate rules 0; bytes = replicate rules 0 }
 
@@ -29,7 +29,7 @@ abbrev pub added_to : Option RuleNumber → ℕ → List ℕ → List ℕ
 added_to None amount counts = counts
 added_to (Some rule) amount counts = added counts rule.0 amount
 
--- a packet of so many bytes counts for the rule that it names
+-- a packet counts for the rule that it names, with its length in bytes
 abbrev pub with_packet : Option RuleNumber → ℕ → RuleCounters → RuleCounters
 with_packet rule length counters = record counters { packets = added_to rule 1 counters.packets; bytes = added_to rule length counters.bytes }
 
@@ -82,6 +82,6 @@ with_named outcome length counters = if counts_for_rules outcome.reason then wit
 abbrev pub with_total : Outcome → Counters → Counters
 with_total outcome counters = record counters { totals = with_verdict outcome.verdict counters.totals }
 
--- the counters once a packet came to an outcome
+-- the counters after a packet came to an outcome
 unfoldable pub counted : View → Outcome → Counters → Counters
 counted view outcome counters = with_total outcome (with_named outcome (length_of view) (with_evaluations outcome counters))

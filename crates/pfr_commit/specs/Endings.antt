@@ -3,6 +3,7 @@ use Rattle.std.specs.Prelude.{ℕ, List, ◌∷◌, ◌++◌, [], codes, get_or,
 use Rattle.std.specs.Fmt.{decimal}
 use Rattle.std.specs.List.{flat_map, range_with_len}
 use Rattle.pfr_track.specs.declared.state.State.{State}
+use Rattle.pfr_commit.specs.declared.counter_line.RuleLine.{RuleLine}
 use Rattle.pfr_commit.specs.declared.counters.Counters.{Counters}
 use Rattle.pfr_commit.specs.declared.counters.RuleCounters.{RuleCounters}
 use Rattle.pfr_commit.specs.declared.counters.Totals.{Totals}
@@ -13,6 +14,11 @@ unfoldable pub rule_line : List ℕ → ℕ → ℕ → ℕ → ℕ → List ℕ
 rule_line kind number evaluations packets bytes =
     kind ++ (codes " " ++ (decimal number ++ (codes " " ++ (decimal evaluations ++ (codes " " ++ (decimal packets ++ (codes " " ++ (decimal bytes ++ 10 ∷ []))))))))
 
+-- the same of a line
+abbrev pub rule_text : RuleLine → List ℕ
+rule_text line = rule_line line.kind.now line.number line.evaluations line.packets line.bytes
+
+-- the line of the rule with a number
 abbrev pub line_at : List ℕ → RuleCounters → ℕ → List ℕ
 line_at kind counters place =
     rule_line kind place (get_or counters.evaluations place 0) (get_or counters.packets place 0) (get_or counters.bytes place 0)

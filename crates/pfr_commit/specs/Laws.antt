@@ -2,6 +2,7 @@
 use Rattle.std.specs.Prelude.{◌≡◌, ◌++◌, List, ◌∷◌, ◌<◌, ◌+◌, ◌^◌, length, ℕ, get_or}
 use Rattle.std.specs.List.{flat_map, Any, count_by, sum_by, Contains}
 use Rattle.pfr_track.specs.declared.state.State.{State}
+use Rattle.pfr_states.specs.States.{table_of}
 use Rattle.pfr_packet.specs.Job.{RunJob}
 use Rattle.pfr_packet.specs.declared.verdict.Verdict.{Verdict}
 use Rattle.pfr_commit.specs.declared.counters.Totals.{Totals}
@@ -85,7 +86,13 @@ StatesAreOfPackets =
     → Contains (world_of job frames).table.states state
     → IsMadeAmong (taken_in job frames) state
 
--- who applies the messages of a run holds the numbers of the states that are left, but those of rules with `no-sync`, and no others
+-- what packets did to the table makes it of the empty one
+abbrev pub ChangesMakeTheTable : Type 0
+ChangesMakeTheTable =
+    (job : RunJob) (frames : List Frame)
+    → table_of job.rules.options.state_limit (world_of job frames).changes ≡ (world_of job frames).table
+
+-- who applies the messages of a run holds the numbers of the states that are left, except those of rules with `no-sync`, and no others
 abbrev pub AStandbyHoldsTheStates : Type 0
 AStandbyHoldsTheStates =
     (job : RunJob) (frames : List Frame) (n : ℕ)

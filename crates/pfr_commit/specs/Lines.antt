@@ -13,13 +13,20 @@ use Rattle.pfr_packet.specs.declared.outcome.Outcome.{Outcome}
 use Rattle.pfr_packet.specs.Verdicts.{reason_text, verdict_text}
 use Rattle.pfr_commit.specs.Texts.{direction_text, key_text, rule_text, state_text, traffic_text}
 
+-- " r=R t=T s=S", and the rest of a line
+abbrev pub named_before : Outcome → List ℕ → List ℕ
+named_before outcome rest =
+    codes " r=" ++ (rule_text outcome.rule ++ (codes " t=" ++ (rule_text outcome.translation ++ (codes " s=" ++ (state_text outcome.state ++ rest)))))
+
+-- " DIR VERDICT REASON", and the rest of a line
+abbrev pub words_before : Outcome → List ℕ → List ℕ
+words_before outcome rest =
+    codes " " ++ (direction_text outcome.direction ++ (codes " " ++ (verdict_text outcome.verdict ++ (codes " " ++ (reason_text outcome.reason ++ rest)))))
+
 -- N CLOCK DIR VERDICT REASON r=R t=T s=S
 unfoldable pub verdict_line : ℕ → Clock → Outcome → List ℕ
 verdict_line number clock outcome =
-    decimal number ++ (codes " " ++ (decimal clock.0 ++ (codes " " ++ (direction_text outcome.direction
-    ++ (codes " " ++ (verdict_text outcome.verdict ++ (codes " " ++ (reason_text outcome.reason
-    ++ (codes " r=" ++ (rule_text outcome.rule ++ (codes " t=" ++ (rule_text outcome.translation
-    ++ (codes " s=" ++ (state_text outcome.state ++ 10 ∷ []))))))))))))))
+    decimal number ++ (codes " " ++ (decimal clock.0 ++ words_before outcome (named_before outcome (10 ∷ []))))
 
 -- ---- states
 
@@ -27,8 +34,8 @@ abbrev pub offer_text : Option ℕ → List ℕ
 offer_text (Some shift) = decimal shift
 offer_text None = codes "-"
 
--- what was seen of an end of a TCP connection: its code, behind what it has sent, behind what it may send, its greatest window, the
--- shift that it offered
+-- what was seen of an end of a TCP connection: its code, the sequence number after what it has sent, the one after what it may send, its
+-- greatest window, the shift that it offered
 unfoldable pub tcp_end_text : TcpPeer → List ℕ
 tcp_end_text end =
     decimal (tcp.code_of end.state) ++ (codes "/" ++ (decimal end.low.0 ++ (codes "/" ++ (decimal end.high.0 ++ (codes "/"
@@ -44,11 +51,23 @@ ends_text (peers.Udp maker other) = datagram_end_text maker ++ (codes " " ++ dat
 ends_text peers.Icmp = codes "0/0/0/0/- 0/0/0/0/-"
 ends_text (peers.Other maker other) = datagram_end_text maker ++ (codes " " ++ datagram_end_text other)
 
+-- N PROTO DIR WIRE STACK
+abbrev pub keys_part : State → List ℕ
+keys_part state =
+    decimal state.number.0 ++ (codes " " ++ (decimal state.wire.protocol.0 ++ (codes " " ++ (direction_text (Some state.direction)
+    ++ (codes " " ++ (key_text state.wire ++ (codes " " ++ key_text state.stack)))))))
+
+-- " r=R t=T PEER PEER"
+abbrev pub ends_part : State → List ℕ
+ends_part state =
+    codes " r=" ++ (rule_text state.rules.filter ++ (codes " t=" ++ (rule_text state.rules.translation ++ (codes " " ++ ends_text state.peers))))
+
+-- " MADE DEADLINE P0 B0 P1 B1", and a newline
+abbrev pub traffic_part : State → List ℕ
+traffic_part state =
+    codes " " ++ (decimal state.made.0 ++ (codes " " ++ (decimal state.deadline.0 ++ (codes " " ++ (traffic_text state.forth
+    ++ (codes " " ++ (traffic_text state.back ++ 10 ∷ [])))))))
+
 -- N PROTO DIR WIRE STACK r=R t=T PEER PEER MADE DEADLINE P0 B0 P1 B1
 unfoldable pub state_line : State → List ℕ
-state_line state =
-    decimal state.number.0 ++ (codes " " ++ (decimal state.wire.protocol.0 ++ (codes " " ++ (direction_text (Some state.direction)
-    ++ (codes " " ++ (key_text state.wire ++ (codes " " ++ (key_text state.stack
-    ++ (codes " r=" ++ (rule_text state.rules.filter ++ (codes " t=" ++ (rule_text state.rules.translation
-    ++ (codes " " ++ (ends_text state.peers ++ (codes " " ++ (decimal state.made.0 ++ (codes " " ++ (decimal state.deadline.0
-    ++ (codes " " ++ (traffic_text state.forth ++ (codes " " ++ (traffic_text state.back ++ 10 ∷ []))))))))))))))))))))))
+state_line state = keys_part state ++ (ends_part state ++ traffic_part state)

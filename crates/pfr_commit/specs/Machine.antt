@@ -48,7 +48,7 @@ pub record IsEvaluation (guess : Guess) (job : RunJob) (number : ℕ) (clock : C
 
 -- packets that were opened together
 pub record Batch : Type 0 where
-  -- how many packets come before them, and how many they are
+  -- the number of packets before them, and their own number
   pub first : ℕ
   pub count : ℕ
   -- the claim word, and what was drawn of it: a worker, and the number that it got
@@ -57,19 +57,19 @@ pub record Batch : Type 0 where
 
 pub record Machine : Type 0 where
   pub batches : List Batch
-  -- how many packets they have
+  -- the number of their packets
   pub opened : ℕ
-  -- how many commits a worker sees
+  -- the number of commits that a worker sees
   pub sees : ℕ → ℕ
   -- the speculations on the way
   pub way : List Guess
-  -- how many packets are committed, and the tables after none, one and so on up to all of them
+  -- the number of packets that are committed, and the tables after none, one and so on up to all of them
   pub committed : ℕ
   pub tables : List StateTable
   -- what they have left, and what was emitted
   pub world : World
   pub emitted : Texts
-  -- how many of the commits are published
+  -- the number of commits that are published
   pub published : ℕ
 
 -- before all
@@ -89,11 +89,11 @@ start job = record {
 -- ---- events
 
 pub data Event : Type 0 where
-  -- the next packets, so many, are a batch
+  -- the next packets, of this number, are a batch
   open_batch : ℕ → Event
   -- a worker draws the word of the batch at a place
   claim : ℕ → ℕ → Event
-  -- a worker sees so many commits
+  -- a worker sees this number of commits
   enter : ℕ → ℕ → Event
   -- the batch at a place, a worker, the place of a packet in the batch, and what the worker has found out about the packet
   answer : ℕ → ℕ → ℕ → Guess → Event
@@ -128,7 +128,7 @@ pub record Answers (job : RunJob) (packets : List Frame) (old : Machine) (place 
   pub table_is : slice_get old.tables (old.sees worker) ≡ Some table
   pub evaluated : IsEvaluation guess job (batch.first + index + 1) (clock_at (world_of job (take (batch.first + index) packets)).clock frame) (view_of frame.link frame.bytes) table
 
--- a packet's outcome is that of a speculation on the way, where it applies, and else that of its evaluation here
+-- a packet's outcome is that of a speculation on the way, if it applies, and else that of its evaluation here
 abbrev pub Takes : RunJob → List Guess → Option Guess → ℕ → Clock → View → StateTable → Outcome → Type 0
 Takes job way None number clock view table outcome = outcome ≡ step_of job number clock view table
 Takes job way (Some guess) number clock view table outcome =
@@ -136,7 +136,7 @@ Takes job way (Some guess) number clock view table outcome =
     × ((Applies guess job number clock view table × (outcome ≡ guess.outcome))
     ⊎ ((Applies guess job number clock view table → ⊥) × (outcome ≡ step_of job number clock view table)))
 
--- what a packet that comes to an outcome at a clock adds to what is written of a world: its line, its record where it isn't blocked, and
+-- what a packet that comes to an outcome at a clock adds to what is written of a world: its line, its record if it isn't blocked, and
 -- the messages that no longer may go on
 pub record Emits (job : RunJob) (world : World) (frame : Frame) (clock : Clock) (outcome : Outcome) (added : Texts) : Type 0 where
   pub verdicts_are : added.verdicts ≡ verdict_line (world.count + 1) clock outcome

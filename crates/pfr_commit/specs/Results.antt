@@ -1,5 +1,5 @@
 -- What was found out ahead about the packets of a batch.
-use Rattle.std.specs.Prelude.{◌≡◌, ◌<◌, ◌+◌, ℕ, Bool, ◌==◌, ◌&&◌, nat_lt, is_none, if◌then◌else◌, List, length, get_or, Option, Some, None, Vec}
+use Rattle.std.specs.Prelude.{◌≡◌, ◌<◌, ◌+◌, ℕ, Bool, ◌==◌, ◌&&◌, nat_lt, is_none, if◌then◌else◌, List, ◌++◌, length, get_or, Option, Some, None, Vec}
 use Rattle.std.specs.Borrow.{Bor}
 use Rattle.std.specs.List.{find, flat_map}
 use Rattle.std.specs.Option.{option_map}
@@ -41,3 +41,7 @@ with_result (Some earlier) number found = Some earlier
 -- a result goes to its packet's place, unless there is one before it
 abbrev pub Puts : ℕ → Speculation → (old new : Places) → Type 0
 Puts first found old new = (place : ℕ) → place < length old → held_at new place ≡ with_result (held_at old place) (first + place) found
+
+-- the results of a group go to their places, after the results that are there
+abbrev pub PutsGroup : ℕ → List Speculation → (old new : Places) → Type 0
+PutsGroup first group old new = (before : List Speculation) → ArePlaced before first old → ArePlaced (before ++ group) first new

@@ -95,7 +95,7 @@ pub data RuleKind : Type 0 where
   filter_rule : RuleKind
   translation_rule : RuleKind
 
--- what is counted of them, how many there are, and which one an outcome names
+-- what is counted of them, their number, and the one that an outcome names
 abbrev pub counters_of : RuleKind → Counters → RuleCounters
 counters_of filter_rule counters = counters.filter
 counters_of translation_rule counters = counters.translation

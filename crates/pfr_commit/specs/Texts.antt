@@ -1,4 +1,4 @@
--- Parts of lines. Numbers are decimal, without leading zeros; `-` stands where there is nothing.
+-- Parts of lines. Numbers are decimal, without leading zeros; `-` stands for nothing.
 use Rattle.std.specs.Prelude.{ℕ, ◌/◌, ◌%◌, List, ◌++◌, Option, Some, None, codes}
 use Rattle.std.specs.Fmt.{decimal}
 use Rattle.pfr_net.specs.declared.address.Ipv4Address.{Ipv4Address}

@@ -34,14 +34,14 @@ pub record Frame : Type 0 where
   pub bytes : List ℕ
 
 pub record World : Type 0 where
-  -- how many packets there were
+  -- the number of packets
   pub count : ℕ
   -- the greatest second of their records
   pub clock : Clock
   -- the states that they left
   pub table : StateTable
   pub counters : Counters
-  -- the verdict lines, and the passed packets behind the capture's header
+  -- the verdict lines, and the passed packets, which the output has after the capture's header
   pub verdicts : List ℕ
   pub packets : List ℕ
   -- what they did to the table
@@ -63,19 +63,19 @@ with_bytes link (Some change) bytes = rewritten link change bytes
 unfoldable pub packet_text : Frame → Outcome → List ℕ
 packet_text frame outcome = if is_written outcome.verdict then frame.header ++ with_bytes frame.link outcome.bytes frame.bytes else []
 
--- a purge, where a state goes by it
+-- a purge, if a state goes by it
 abbrev pub purge_by : Clock → Option State → List tables.Change
 purge_by clock None = []
 purge_by clock (Some state) = Purge clock ∷ []
 
 -- what the packet itself does to the table
-abbrev pub own_change : Option TableChange → List tables.Change
-own_change None = []
-own_change (Some change) = Apply change ∷ []
+abbrev pub apply_by : Option TableChange → List tables.Change
+apply_by None = []
+apply_by (Some change) = Apply change ∷ []
 
 -- what a packet does to the table at its clock
 abbrev pub changes_of : Clock → Option TableChange → List State → List tables.Change
-changes_of clock change states = purge_by clock (due clock states) ++ own_change change
+changes_of clock change states = purge_by clock (due clock states) ++ apply_by change
 
 -- the next packet came to an outcome at a clock
 unfoldable pub with_outcome : World → Frame → Clock → Outcome → World
@@ -143,7 +143,7 @@ last_message job world = message_of (origin_of job) (open_at (origin_of job) wor
 abbrev pub no_texts : Texts
 no_texts = record { verdicts = []; packets = []; messages = [] }
 
--- texts behind others
+-- texts appended to others
 abbrev pub joined : Texts → Texts → Texts
 joined texts more = record {
   verdicts = texts.verdicts ++ more.verdicts;

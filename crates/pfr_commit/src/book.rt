@@ -1,24 +1,21 @@
 //! The committer.
-ghost use Rattle.std.specs.Prelude.{◌≡◌, ◌<◌, ◌≤◌, ◌+◌, ◌^◌, ℕ, false, true, max, IfNone, IfOk, IfSome, IsSome, ◌↔◌, OnOk, OnErr, None, Some};
+ghost use Rattle.std.specs.Prelude.{◌≡◌, ◌<◌, ◌≤◌, ◌+◌, ◌^◌, false, true, max, IfNone, IfOk, IfSome, IsSome, ◌↔◌, OnOk, OnErr, None, Some};
 ghost use Rattle.std.specs.Arc.{arc_value};
-ghost use Rattle.std.specs.Option.{option_to_list};
 ghost use Rattle.pfr_headers.specs.declared.packet.View.TheVariants.{Ipv4};
 ghost use Rattle.pfr_headers.specs.View.{view_of};
 ghost use Rattle.pfr_states.specs.States.{purged, refusal};
-ghost use Rattle.pfr_packet.specs.Outcomes.{fresh};
-ghost use Rattle.pfr_packet.specs.Steps.{step_of};
-ghost use Rattle.pfr_commit.specs.Emissions.{frame_of, held_changes, texts_of, with_more};
-ghost use Rattle.pfr_commit.specs.Endings.{counters_text, states_text};
 ghost use Rattle.pfr_packet.specs.Laws.{IsOwnChange};
-ghost use Rattle.pfr_commit.specs.World.{World};
+ghost use Rattle.pfr_packet.specs.Outcomes.{fresh};
+ghost use Rattle.pfr_commit.specs.Emissions.{held_changes};
+ghost use Rattle.pfr_commit.specs.Endings.{counters_text, states_text};
 ghost use Rattle.pfr_commit.specs.World as spec;
 
 use crate::changes::Changes;
 use crate::counters::Counters;
 use crate::emitted::Emitted;
 use crate::ending::Ending;
-use crate::reruns::{Reruns, Unwatched};
-use crate::results::{Found, of_one};
+use crate::gate::{Gate, Unwatched};
+use crate::results::{ResultsByPlace, of_one};
 use pfr_capture::Record;
 use pfr_headers::View;
 use pfr_packet::laws::{
@@ -33,11 +30,10 @@ use pfr_track::Clock;
 use std::alloc::{AllocError, Global};
 use std::sync::Arc;
 
-/// Takes the packets of a run in the order of the capture, one after the other, with what was found out about them before
-/// or without. It has the states and counters that the packets so far have left, what the open message tells, and not what
-/// they have emitted.
+/// Takes the packets of a run in the order of the capture, one after the other, each with a speculation or without. It has the
+/// states and counters that the packets so far have left, and what the open message tells, and not what they have emitted.
 ///
-/// Once memory was refused it answers so for good, and stays as it is.
+/// After memory was refused each call is refused, and the book stays as it is.
 #[derive(Drop)]
 pub struct Book {
     pub(crate) alloc: Global,
@@ -45,6 +41,8 @@ pub struct Book {
     /// How many packets it has taken, and how many of them it has evaluated itself.
     pub(crate) count: u64,
     pub(crate) own: u64,
+    /// How many rules these packets were asked about. Nothing rests on it.
+    visited: u64,
     pub(crate) clock: Clock,
     pub(crate) table: Table,
     pub(crate) counters: Counters,
@@ -54,12 +52,12 @@ pub struct Book {
     ghost few: { own ≤ count },
 }
 
-/// What came of a packet: its outcome, if a speculation holds, and how many were evaluated here, none or one. The state by which it
-/// goes may stand at a place that was found.
+/// What came of a packet: its outcome, if a speculation holds; how many packets were evaluated here, none or one; and a place at
+/// which its state may stand.
 #[derive(Clone, Copy)]
 struct Evaluated<'r> {
     held: Option<&'r Outcome>,
-    own: u64,
+    evaluated_here: u64,
     found: Option<Place>,
 }
 
@@ -70,9 +68,16 @@ fn later(clock: Clock, seconds: u32) -> Clock
     Clock(clock.0.max(seconds))
 }
 
+/// How many rules a packet was asked about.
+fn visits_of(outcome: &Outcome) -> u64 {
+    let translation = outcome.visited.translation.len();
+    outcome.visited.filter.len().saturating_add(translation)
+}
+
 impl Book {
-    ghost use Rattle.pfr_commit.specs.Books.{LeadsTo, MayUse, MayUseNext, StandsAt, job_of, untold, world_in, world_with};
-    ghost use Rattle.pfr_commit.specs.Found.{IsOfJob, IsOwnAt, found_at};
+    ghost use Rattle.pfr_commit.specs.Books.{AddsChanges, AddsLines, IsLastMessage, Keeps, LeadsOn, LeadsTo, MayUseIn, MayUseNext, StandsAt};
+    ghost use Rattle.pfr_commit.specs.Books.{after_outcome, after_packet, job_of, outcome_in, untold, world_in, world_with};
+    ghost use Rattle.pfr_commit.specs.ResultsByPlace.{IsOfJobAt, result_at};
 
     /// A book that has taken no packet of a job.
     #[tactic(auto, unfolding(crate::specs::World::opening))]
@@ -96,6 +101,7 @@ impl Book {
             job,
             count: 0,
             own: 0,
+            visited: 0,
             clock: Clock(0),
             table: Table::new(alloc, limit),
             counters,
@@ -118,6 +124,12 @@ impl Book {
         self.own
     }
 
+    /// How many rules the packets that it has taken were asked about in all, those of the filter and of translation, at most
+    /// 2^64 - 1. Nothing rests on it: it tells what the packets cost.
+    pub fn visited(&self) -> u64 {
+        self.visited
+    }
+
     /// How many packets it has taken.
     pub fn committed(&self) -> u64
         ensures { result ≡ self.now.count }
@@ -132,35 +144,35 @@ impl Book {
         self.clock
     }
 
-    /// The states that the packets have left, as long as memory wasn't refused.
+    /// The states that the packets have left, unless memory was refused.
     pub fn table(&self) -> &Table
         ensures { result.now ≡ self.now.table }
     {
         &self.table
     }
 
-    /// The outcome of the speculation at a place, where it may be used for a packet. The state by which the packet goes may stand at a
-    /// place that is named.
+    /// The outcome of the speculation at a place, if it may be used for a packet. The state by which the packet goes may stand at
+    /// the place of the hint.
     fn usable_outcome<'r>(
         &self,
         number: u64,
         clock: Clock,
         view: &View,
-        results: &Found<'r>,
+        results: &ResultsByPlace<'r>,
         place: usize,
         hint: Option<Place>,
     ) -> Option<&'r Outcome>
-        requires { IsOwnAt (job_of self.now) place results.now }
-        ensures some { IsSome result ↔ MayUse (found_at place results.now) (job_of self.now) number clock view.now self.now.table }
-        ensures outcome { IfSome result (λ outcome. outcome.now ≡ step_of (job_of self.now) number clock view.now self.now.table) }
+        requires { IsOfJobAt (job_of self.now) place results.now }
+        ensures some { IsSome result ↔ MayUseIn (result_at place results.now) self.now number clock view.now }
+        ensures outcome { IfSome result (λ outcome. outcome.now ≡ outcome_in self.now number clock view.now) }
     {
         let speculation = results.at(place)?;
-        let is_own = results.are_own;
-        speculation.outcome_near(is_own, &self.job, number, clock, view, &self.table, hint)
+        let is_of_job = results.are_of_job;
+        speculation.outcome_near(is_of_job, &self.job, number, clock, view, &self.table, hint)
     }
 
-    /// Evaluates a packet, and writes what it comes to over a fresh outcome. The state by which it goes may stand at a place that is
-    /// named. It answers where a state was found for it, if one was.
+    /// Evaluates a packet, and writes what it comes to over a fresh outcome. The state by which the packet goes may stand at the place
+    /// of the hint. The result is the place of the state that was found for it, if one was.
     #[tactic(auto, unfolding(pfr_packet::specs::Steps::step_of))]
     fn run(
         &self,
@@ -171,7 +183,7 @@ impl Book {
         outcome: &mut Outcome,
     ) -> Result<Option<Place>, AllocError>
         requires { outcome.old ≡ fresh }
-        ensures { OnOk result (outcome.new ≡ step_of (job_of self.now) number clock view.now self.now.table) }
+        ensures { OnOk result (outcome.new ≡ outcome_in self.now number clock view.now) }
     {
         let mut answers = Direct {
             table: &self.table,
@@ -191,44 +203,48 @@ impl Book {
         Ok(answers.found)
     }
 
-    /// What a packet comes to: by the speculation at a place, or evaluated here and written over a fresh outcome. The state by which it
-    /// goes may stand at the place that is named.
-    fn evaluate<'r, R: Reruns>(
+    /// What a packet comes to: by the speculation at a place, or evaluated here and written over a fresh outcome. The state by which
+    /// the packet goes may stand at the place of the hint.
+    fn evaluate<'r, G: Gate>(
         &self,
         number: u64,
         clock: Clock,
         view: &View,
-        results: &Found<'r>,
+        results: &ResultsByPlace<'r>,
         place: usize,
         hint: Option<Place>,
-        reruns: &R,
-        own: &mut Outcome,
+        gate: &G,
+        here: &mut Outcome,
     ) -> Result<Evaluated<'r>, AllocError>
-        requires outcome { own.old ≡ fresh }
-        requires own { IsOwnAt (job_of self.now) place results.now }
-        ensures held { IfOk result (λ evaluated. IfSome evaluated.held (λ outcome. outcome.now ≡ step_of (job_of self.now) number clock view.now self.now.table)) }
-        ensures here { IfOk result (λ evaluated. IfNone evaluated.held (own.new ≡ step_of (job_of self.now) number clock view.now self.now.table)) }
-        ensures used { IfOk result (λ evaluated. MayUse (found_at place results.now) (job_of self.now) number clock view.now self.now.table → evaluated.own ≡ 0) }
-        ensures evaluated { IfOk result (λ evaluated. (MayUse (found_at place results.now) (job_of self.now) number clock view.now self.now.table → ⊥) → evaluated.own ≡ 1) }
-        ensures few { IfOk result (λ evaluated. evaluated.own ≤ 1) }
+        requires outcome { here.old ≡ fresh }
+        requires of_job { IsOfJobAt (job_of self.now) place results.now }
+        ensures held { IfOk result (λ evaluated. IfSome evaluated.held (λ outcome. outcome.now ≡ outcome_in self.now number clock view.now)) }
+        ensures here { IfOk result (λ evaluated. IfNone evaluated.held (here.new ≡ outcome_in self.now number clock view.now)) }
+        ensures used { IfOk result (λ evaluated. MayUseIn (result_at place results.now) self.now number clock view.now → evaluated.evaluated_here ≡ 0) }
+        ensures evaluated { IfOk result (λ it. (MayUseIn (result_at place results.now) self.now number clock view.now → ⊥) → it.evaluated_here ≡ 1) }
+        ensures few { IfOk result (λ evaluated. evaluated.evaluated_here ≤ 1) }
     {
         let held = self.usable_outcome(number, clock, view, results, place, hint);
         if held.is_some() {
-            let own = 0;
+            let evaluated_here = 0;
             return Ok(Evaluated {
                 held,
-                own,
+                evaluated_here,
                 found: hint,
             });
         }
-        reruns.runs_again(number);
-        let found = self.run(number, clock, view, hint, own)?;
-        let own = 1;
-        Ok(Evaluated { held, own, found })
+        gate.ran_again(number);
+        let found = self.run(number, clock, view, hint, here)?;
+        let evaluated_here = 1;
+        Ok(Evaluated {
+            held,
+            evaluated_here,
+            found,
+        })
     }
 
-    /// Takes over what the next packet came to at a clock, and puts what it adds behind what was emitted. Where memory is
-    /// refused that stays as it was. The state that it touches may stand at a place that is named.
+    /// Takes over what the next packet came to at a clock, and appends what it adds to what was emitted. If memory is refused, what
+    /// was emitted stays as it was. The state that the packet touches may stand at a place.
     fn take_outcome(
         &mut self,
         clock: Clock,
@@ -242,13 +258,13 @@ impl Book {
         requires few { self.old.count < 2 ^ 43 }
         requires later { self.old.clock.0 ≤ clock.0 }
         requires change { IfSome outcome.now.change (λ change. refusal change self.old.table.limit (purged clock self.old.table.states) ≡ None) }
-        requires own { IfSome outcome.now.change (λ change. IsOwnChange (self.old.count + 1) clock (purged clock self.old.table.states) outcome.now change) }
+        requires named { IfSome outcome.now.change (IsOwnChange (self.old.count + 1) clock (purged clock self.old.table.states) outcome.now) }
         requires bytes { IfSome outcome.now.bytes (λ change. view_of packet.now.link packet.now.bytes.items ≡ Ipv4 change.packet) }
-        ensures world { OnOk result (world_with self.new out.new ≡ untold (spec.with_outcome (world_with self.old out.old) (frame_of packet.now) clock outcome.now)) }
-        ensures told { OnOk result (LeadsTo self.old self.new out.old out.new (λ world. spec.with_outcome world (frame_of packet.now) clock outcome.now)) }
-        ensures changes { OnOk result (held_changes out.new ≡ with_more (held_changes out.old) (spec.changes_of clock outcome.now.change self.old.table.states)) }
+        ensures world { OnOk result (AddsLines self.old self.new out.old out.new (after_outcome packet.now clock outcome.now)) }
+        ensures told { OnOk result (LeadsTo self.old self.new out.old out.new (after_outcome packet.now clock outcome.now)) }
+        ensures changes { OnOk result (AddsChanges self.old out.old out.new (after_outcome packet.now clock outcome.now)) }
         ensures counted { OnOk result (self.new.count ≡ self.old.count + 1) }
-        ensures kept { OnErr result ((self.new.count ≡ self.old.count) × (texts_of out.new ≡ texts_of out.old) × (held_changes out.new ≡ held_changes out.old)) }
+        ensures kept { OnErr result (Keeps self.old self.new out.old out.new) }
         ensures others { (self.new.job ≡ self.old.job) × (self.new.own ≡ self.old.own) × (self.new.is_over ≡ self.old.is_over) }
     {
         let number = self.count + 1;
@@ -260,35 +276,36 @@ impl Book {
         let closed = &mut self.telling.closed;
         out.put(number, clock, packet, outcome, purge, closed)?;
         self.counters.count(view, outcome);
+        self.visited = self.visited.saturating_add(visits_of(outcome));
         self.count = number;
         self.clock = clock;
         Ok(())
     }
 
-    /// Takes the next packet, with the speculation at a place, and puts what it adds behind what was emitted. Where memory is
-    /// refused that stays as it was. The state by which it goes may stand where the hint says.
-    pub(crate) fn take<R: Reruns>(
+    /// Takes the next packet, with the speculation at a place, and appends what it adds to what was emitted. If memory is refused,
+    /// what was emitted stays as it was. The state by which the packet goes may stand at the place of the hint.
+    pub(crate) fn take<G: Gate>(
         &mut self,
         packet: &Record,
         view: &View,
-        results: &Found<'_>,
+        results: &ResultsByPlace<'_>,
         place: usize,
         hint: Option<Place>,
-        reruns: &R,
+        gate: &G,
         out: &mut Emitted,
     ) -> Result<(), AllocError>
         requires view { view.now ≡ view_of packet.now.link packet.now.bytes.items }
         requires few { self.old.count < 2 ^ 43 }
         requires open { self.old.is_over ≡ false }
-        requires own { IsOwnAt (job_of self.old) place results.now }
-        ensures world { OnOk result (world_with self.new out.new ≡ untold (spec.after (job_of self.old) (world_with self.old out.old) (frame_of packet.now))) }
-        ensures told { OnOk result (LeadsTo self.old self.new out.old out.new (λ world. spec.after (job_of self.old) world (frame_of packet.now))) }
-        ensures changes { OnOk result (held_changes out.new ≡ with_more (held_changes out.old) (spec.after (job_of self.old) (world_in self.old) (frame_of packet.now)).changes) }
+        requires of_job { IsOfJobAt (job_of self.old) place results.now }
+        ensures world { OnOk result (AddsLines self.old self.new out.old out.new (after_packet self.old packet.now)) }
+        ensures told { OnOk result (LeadsTo self.old self.new out.old out.new (after_packet self.old packet.now)) }
+        ensures changes { OnOk result (AddsChanges self.old out.old out.new (after_packet self.old packet.now)) }
         ensures job { self.new.job ≡ self.old.job }
         ensures counted { OnOk result (self.new.count ≡ self.old.count + 1) }
-        ensures kept { OnErr result ((self.new.count ≡ self.old.count) × (texts_of out.new ≡ texts_of out.old) × (held_changes out.new ≡ held_changes out.old)) }
-        ensures used { OnOk result (MayUseNext (found_at place results.now) self.old packet.now view.now → self.new.own ≡ self.old.own) }
-        ensures evaluated { OnOk result ((MayUseNext (found_at place results.now) self.old packet.now view.now → ⊥) → self.new.own ≡ self.old.own + 1) }
+        ensures kept { OnErr result (Keeps self.old self.new out.old out.new) }
+        ensures used { OnOk result (MayUseNext (result_at place results.now) self.old packet.now view.now → self.new.own ≡ self.old.own) }
+        ensures rerun { OnOk result ((MayUseNext (result_at place results.now) self.old packet.now view.now → ⊥) → self.new.own ≡ self.old.own + 1) }
         ensures ok { OnOk result (self.new.is_over ≡ false) }
         ensures err { OnErr result (self.new.is_over ≡ true) }
     {
@@ -298,18 +315,20 @@ impl Book {
         // what is asked of the table at this clock is answered at once then
         self.table.settle(clock);
         let mut here = Outcome::new(self.alloc);
-        let Evaluated { held, own, found } = self.evaluate(
-            number, clock, view, results, place, hint, reruns, &mut here,
-        )?;
+        let Evaluated {
+            held,
+            evaluated_here,
+            found,
+        } = self.evaluate(number, clock, view, results, place, hint, gate, &mut here)?;
         let outcome = held.unwrap_or(&here);
-        // what `take_outcome` asks of an outcome is so of each that an evaluation has
+        // what `take_outcome` requires of an outcome holds of each that an evaluation has
         no_change_is_refused();
         every_change_is_of_the_named_state();
         what_is_written_is_of_the_packet();
         // whatever the table is asked, its states are those of a table
         let _ = self.table.len();
         self.take_outcome(clock, packet, view, outcome, found, out)?;
-        self.own += own;
+        self.own += evaluated_here;
         self.is_over = false;
         Ok(())
     }
@@ -325,13 +344,12 @@ impl Book {
     ) -> Result<Emitted, AllocError>
         requires view { view ≡ view_of packet.now.link packet.now.bytes.items }
         requires few { self.old.count < 2 ^ 43 }
-        ensures world { IfOk result (λ emitted. world_with self.new emitted ≡ untold (spec.after (job_of self.old) (world_in self.old) (frame_of packet.now))) }
-        // what is told hangs on what was told before
-        ensures told { IfOk result (λ emitted. (world : World) → StandsAt self.old world → StandsAt self.new (spec.after (job_of self.old) world (frame_of packet.now))
-            × (spec.online (job_of self.old) (spec.after (job_of self.old) world (frame_of packet.now)) ≡ spec.joined (spec.online (job_of self.old) world) (texts_of emitted))) }
-        ensures changes { IfOk result (λ emitted. held_changes emitted ≡ Some (true, (spec.after (job_of self.old) (world_in self.old) (frame_of packet.now)).changes)) }
+        ensures world { IfOk result (λ emitted. world_with self.new emitted ≡ untold (after_packet self.old packet.now (world_in self.old))) }
+        // what is told depends on what was told before
+        ensures told { IfOk result (λ emitted. LeadsOn self.old self.new emitted (after_packet self.old packet.now)) }
+        ensures changes { IfOk result (λ it. held_changes it ≡ Some (true, (after_packet self.old packet.now (world_in self.old)).changes)) }
         ensures job { self.new.job ≡ self.old.job }
-        ensures kept { OnErr result (self.new.count ≡ self.old.count) }
+        ensures kept { OnErr result ((self.new.count ≡ self.old.count) × (self.new.own ≡ self.old.own)) }
         ensures used { OnOk result (MayUseNext speculation self.old packet.now view → self.new.own ≡ self.old.own) }
         ensures evaluated { OnOk result ((MayUseNext speculation self.old packet.now view → ⊥) → self.new.own ≡ self.old.own + 1) }
         ensures ok { OnOk result ((self.old.is_over ≡ false) × (self.new.is_over ≡ false)) }
@@ -356,7 +374,7 @@ impl Book {
 
     /// What stands at the end of a run.
     fn end(&mut self) -> Result<Ending, AllocError>
-        ensures message { IfOk result (λ ending. (world : World) → StandsAt self.old world → option_to_list ending.message ≡ spec.last_message (job_of self.old) world) }
+        ensures message { IfOk result (λ ending. IsLastMessage self.old ending.message) }
         ensures counters { IfOk result (λ ending. ending.counters.items ≡ counters_text self.old.count self.old.counters) }
         ensures states { IfOk result (λ ending. ending.states.items ≡ states_text self.old.table.states) }
     {
@@ -364,9 +382,9 @@ impl Book {
         Ending::new(self.alloc, message, self.count, &self.counters, &self.table)
     }
 
-    /// The last message, the counters and the states at the end of a run. Once memory was refused there are none.
+    /// The last message, the counters and the states at the end of a run. There are none after memory was refused.
     pub fn finish(mut self) -> Result<Ending, AllocError>
-        ensures message { IfOk result (λ ending. (world : World) → StandsAt self world → option_to_list ending.message ≡ spec.last_message (job_of self) world) }
+        ensures message { IfOk result (λ ending. IsLastMessage self ending.message) }
         ensures counters { IfOk result (λ ending. ending.counters.items ≡ counters_text self.count self.counters) }
         ensures states { IfOk result (λ ending. ending.states.items ≡ states_text self.table.states) }
         ensures ok { OnOk result (self.is_over ≡ false) }

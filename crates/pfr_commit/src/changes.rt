@@ -1,19 +1,18 @@
 //! What packets did to the table of states.
 ghost use Rattle.std.specs.Prelude.{◌≡◌, ◌++◌, ◌∷◌, [], length, take, OnOk, OnErr};
 ghost use Rattle.pfr_states.specs.declared.change.Change.TheVariants.{Apply, Purge};
-ghost use Rattle.pfr_commit.specs.Emissions.{are_kept, listed, purges_at};
-ghost use Rattle.pfr_commit.specs.World as spec;
+ghost use Rattle.pfr_commit.specs.Emissions.{are_kept, changes_by, listed};
 
 use pfr_states::{Change, KnownChange, TableChange};
 use pfr_track::Clock;
 use std::alloc::AllocError;
 
-/// What packets did to the table of states, one change after the other. A purge stands here only where a state goes by it.
+/// What packets did to the table of states, one change after the other. A purge is here only if a state goes by it.
 #[derive(Drop)]
 pub enum Changes {
     /// Each change.
     Kept(Vec<Change>),
-    /// As the proofs alone know them.
+    /// As the proofs alone know them: a program can't read them.
     Known(Vec<KnownChange>),
 }
 
@@ -39,7 +38,7 @@ impl Changes {
         }
     }
 
-    /// Forgets those behind so many.
+    /// Keeps the first `count`.
     pub(crate) fn truncate(&mut self, count: usize)
         ensures first { listed self.new ≡ take count (listed self.old) }
         ensures kind { are_kept self.new ≡ are_kept self.old }
@@ -50,7 +49,7 @@ impl Changes {
         }
     }
 
-    /// Puts a purge behind all else. Where memory is refused nothing changes.
+    /// Appends a purge. If memory is refused nothing changes.
     fn put_purge(&mut self, clock: Clock) -> Result<(), AllocError>
         ensures done { OnOk result (listed self.new ≡ listed self.old ++ Purge clock ∷ []) }
         ensures kept { OnErr result (listed self.new ≡ listed self.old) }
@@ -63,8 +62,8 @@ impl Changes {
         Ok(())
     }
 
-    /// Puts what the table takes over behind all else. Where memory is refused nothing changes.
-    fn put_own(&mut self, change: &TableChange) -> Result<(), AllocError>
+    /// Appends what the table takes over. If memory is refused nothing changes.
+    fn put_apply(&mut self, change: &TableChange) -> Result<(), AllocError>
         ensures done { OnOk result (listed self.new ≡ listed self.old ++ Apply change.now ∷ []) }
         ensures kept { OnErr result (listed self.new ≡ listed self.old) }
         ensures kind { are_kept self.new ≡ are_kept self.old }
@@ -76,13 +75,13 @@ impl Changes {
         Ok(())
     }
 
-    /// Puts what a packet did to the table behind all else: a purge, and its own change. Where memory is refused nothing changes.
+    /// Appends what a packet did to the table: a purge, and the packet's change. If memory is refused nothing changes.
     pub(crate) fn put(
         &mut self,
         purge: Option<Clock>,
         change: &Option<TableChange>,
     ) -> Result<(), AllocError>
-        ensures done { OnOk result (listed self.new ≡ listed self.old ++ (purges_at purge ++ spec.own_change change.now)) }
+        ensures done { OnOk result (listed self.new ≡ listed self.old ++ changes_by purge change.now) }
         ensures kept { OnErr result (listed self.new ≡ listed self.old) }
         ensures kind { are_kept self.new ≡ are_kept self.old }
     {
@@ -91,7 +90,7 @@ impl Changes {
             self.put_purge(clock)?;
         }
         if let Some(change) = change {
-            if let Err(refused) = self.put_own(change) {
+            if let Err(refused) = self.put_apply(change) {
                 self.truncate(start);
                 return Err(refused);
             }

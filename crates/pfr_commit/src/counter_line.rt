@@ -26,7 +26,7 @@ struct TotalLine {
 }
 
 impl fmt::Display for RuleLine<'_> {
-    ghost output = { λ l. Some (spec.rule_line l.kind.now l.number l.evaluations l.packets l.bytes) };
+    ghost output = { λ l. Some (spec.rule_text l) };
 
     #[tactic(auto, unfolding(crate::specs::Endings::rule_line))]
     fn fmt<W: fmt::Write>(&self, f: &mut fmt::Formatter<W>) -> fmt::Result {
@@ -54,10 +54,10 @@ impl fmt::Display for TotalLine {
 }
 
 impl RuleCounters {
-    /// The line of a rule that was evaluated so often.
+    /// The line of a rule that was evaluated `evaluations` times.
     fn line_at<'a>(&self, kind: &'a str, number: usize, evaluations: u64) -> RuleLine<'a>
         requires { evaluations ≡ get_or self.now.evaluations number 0 }
-        ensures { spec.rule_line result.kind.now result.number result.evaluations result.packets result.bytes ≡ spec.line_at kind.now self.now number }
+        ensures { spec.rule_text result ≡ spec.line_at kind.now self.now number }
     {
         RuleLine {
             kind,
@@ -68,7 +68,7 @@ impl RuleCounters {
         }
     }
 
-    /// A line for each rule, behind a text.
+    /// Appends a line for each rule to a text.
     #[tactic(auto, unfolding(crate::specs::Endings::rule_lines))]
     fn put_lines(&self, alloc: Global, kind: &str, text: &mut String) -> Result<(), AllocError>
         ensures { OnOk result (string_bytes text.new ≡ string_bytes text.old ++ spec.rule_lines kind.now self.now) }
@@ -83,7 +83,7 @@ impl RuleCounters {
 }
 
 impl Counters {
-    /// The text of the counters after so many packets, behind another.
+    /// Appends the text of the counters after `records` packets to another.
     #[tactic(auto, unfolding(crate::specs::Endings::counters_text))]
     pub(crate) fn put(
         &self,

@@ -58,7 +58,7 @@ impl Counts {
         Ok(Counts { values })
     }
 
-    /// The count of a rule, 0 where there is none.
+    /// The count of a rule, 0 if there is no such rule.
     pub(crate) fn get(&self, rule: usize) -> u64
         ensures { result ≡ get_or self.now rule 0 }
     {
@@ -68,7 +68,7 @@ impl Counts {
         }
     }
 
-    /// Counts so much more for the rule that is named, if there is one.
+    /// Adds an amount to the count of the rule that is named, if there is one.
     fn add_to(&mut self, rule: Option<RuleNumber>, amount: u64)
         ensures { self.new ≡ spec.added_to rule amount self.old }
     {
@@ -79,7 +79,7 @@ impl Counts {
 }
 
 impl RuleCounters {
-    /// Nothing is counted yet of so many rules.
+    /// Nothing is counted yet of `rules` rules.
     fn new(alloc: Global, rules: u32) -> Result<RuleCounters, AllocError>
         ensures { IfOk result (λ counters. counters ≡ spec.uncounted rules) }
     {
@@ -134,7 +134,7 @@ fn length_of(view: &View) -> u64
 }
 
 impl Counters {
-    /// Nothing is counted yet of so many rules of the filter and of translation.
+    /// Nothing is counted yet of the rules of the filter and of translation, of which these are the numbers.
     pub(crate) fn new(alloc: Global, rules: (u32, u32)) -> Result<Counters, AllocError>
         ensures { IfOk result (λ counters. counters ≡ spec.nothing_counted rules.0 rules.1) }
     {
@@ -169,7 +169,7 @@ impl Counters {
         }
     }
 
-    /// Counts a packet by what it came to.
+    /// Counts a packet, with what it came to.
     #[tactic(auto, unfolding(crate::specs::Counters::counted))]
     pub(crate) fn count(&mut self, view: &View, outcome: &Outcome)
         ensures { self.new ≡ spec.counted view.now outcome.now self.old }

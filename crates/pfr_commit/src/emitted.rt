@@ -4,7 +4,7 @@ ghost use Rattle.std.specs.Option.{option_map, option_map_or};
 ghost use Rattle.pfr_headers.specs.declared.packet.View.TheVariants.{Ipv4};
 ghost use Rattle.pfr_headers.specs.View.{view_of};
 ghost use Rattle.pfr_states.specs.States.{due};
-ghost use Rattle.pfr_commit.specs.Emissions.{frame_of, held_changes, items_of, purges_at, texts_of, with_more};
+ghost use Rattle.pfr_commit.specs.Emissions.{changes_by, frame_of, held_changes, items_of, line_text, purges_at, record_text, texts_of, with_more};
 ghost use Rattle.pfr_commit.specs.Lines.{verdict_line};
 ghost use Rattle.pfr_commit.specs.World as spec;
 
@@ -19,17 +19,17 @@ use pfr_track::Clock;
 use std::alloc::{AllocError, Global};
 
 /// What packets add to the outputs: their verdict lines, the records of those that aren't blocked, and the messages to a standby
-/// that they close. Beside it, where it is asked for, what they did to the table of states.
+/// that they close. It may also hold what they did to the table of states.
 #[derive(Drop)]
 pub struct Emitted {
     pub verdicts: Vec<u8>,
     pub packets: Vec<u8>,
     pub messages: Vec<Message>,
-    /// What they did to the table, where that is asked for.
+    /// What they did to the table, if that is requested.
     pub changes: Option<Changes>,
 }
 
-/// The length of a record's header.
+/// The length of a record's header, in bytes.
 const HEADER: usize = 16;
 
 /// Writes into the packet of the record that begins at a place.
@@ -43,14 +43,14 @@ fn write_into(packets: &mut Vec<u8>, start: usize, link: u16, change: &Option<Ch
     }
 }
 
-/// Puts a record behind others, with what is written into its packet. Where memory is refused nothing changes.
+/// Appends a record, with what is written into its packet. If memory is refused nothing changes.
 fn put_record(
     packets: &mut Vec<u8>,
     packet: &Record,
     change: &Option<Change>,
 ) -> Result<(), AllocError>
     requires { IfSome change.now (λ change. view_of packet.now.link packet.now.bytes.items ≡ Ipv4 change.packet) }
-    ensures done { OnOk result (packets.new.items ≡ packets.old.items ++ (packet.now.header ++ spec.with_bytes packet.now.link change.now packet.now.bytes.items)) }
+    ensures done { OnOk result (packets.new.items ≡ packets.old.items ++ record_text packet.now change.now) }
     ensures kept { OnErr result (packets.new.items ≡ packets.old.items) }
 {
     let start = packets.len();
@@ -63,7 +63,7 @@ fn put_record(
     Ok(())
 }
 
-/// Puts the record of a packet behind others, unless the packet is blocked. Where memory is refused nothing changes.
+/// Appends the record of a packet, unless the packet is blocked. If memory is refused nothing changes.
 #[tactic(auto, unfolding(crate::specs::World::packet_text))]
 fn put_packet(packets: &mut Vec<u8>, packet: &Record, outcome: &Outcome) -> Result<(), AllocError>
     requires { IfSome outcome.now.bytes (λ change. view_of packet.now.link packet.now.bytes.items ≡ Ipv4 change.packet) }
@@ -77,14 +77,14 @@ fn put_packet(packets: &mut Vec<u8>, packet: &Record, outcome: &Outcome) -> Resu
     }
 }
 
-/// Puts what a packet did to the table behind others, where that is asked for: a purge, and its own change. Where memory is
-/// refused nothing changes.
+/// Appends what a packet did to the table, if that is requested: a purge, and the packet's change. If memory is refused nothing
+/// changes.
 fn put_changes(
     changes: &mut Option<Changes>,
     purge: Option<Clock>,
     change: &Option<TableChange>,
 ) -> Result<(), AllocError>
-    ensures done { OnOk result (items_of changes.new ≡ with_more (items_of changes.old) (purges_at purge ++ spec.own_change change.now)) }
+    ensures done { OnOk result (items_of changes.new ≡ with_more (items_of changes.old) (changes_by purge change.now)) }
     ensures kept { OnErr result (items_of changes.new ≡ items_of changes.old) }
 {
     match changes {
@@ -93,7 +93,7 @@ fn put_changes(
     }
 }
 
-/// How many changes there are: none where they aren't asked for.
+/// How many changes there are: none if they aren't requested.
 fn count_of(changes: &Option<Changes>) -> usize
     ensures { result ≡ option_map_or (λ it. length it.1) (items_of changes.now) 0 }
 {
@@ -103,7 +103,7 @@ fn count_of(changes: &Option<Changes>) -> usize
     }
 }
 
-/// Forgets the changes behind so many.
+/// Keeps the first `count` changes.
 fn cut_changes(changes: &mut Option<Changes>, count: usize)
     ensures { items_of changes.new ≡ option_map (λ it. (it.0, take count it.1)) (items_of changes.old) }
 {
@@ -112,8 +112,8 @@ fn cut_changes(changes: &mut Option<Changes>, count: usize)
     }
 }
 
-/// No bytes, with room for so many. Where that is refused, room is made as they come.
-fn room_for(alloc: Global, bytes: usize) -> Vec<u8>
+/// No bytes, with room for some. If that is refused, room is made as they come.
+pub(crate) fn room_for(alloc: Global, bytes: usize) -> Vec<u8>
     ensures { result.items ≡ [] }
 {
     match Vec::with_capacity(alloc, bytes) {
@@ -123,7 +123,7 @@ fn room_for(alloc: Global, bytes: usize) -> Vec<u8>
 }
 
 impl Emitted {
-    /// Nothing yet. What is done to the table isn't asked for.
+    /// Nothing yet. What is done to the table isn't requested.
     pub fn new(alloc: Global) -> Emitted
         ensures texts { texts_of result ≡ spec.no_texts }
         ensures changes { result.changes ≡ None }
@@ -136,8 +136,8 @@ impl Emitted {
         }
     }
 
-    /// Nothing yet, with room for so many bytes of verdict lines and of records. Where that is refused, room is made as they come.
-    /// What is done to the table isn't asked for.
+    /// Nothing yet, with room for `verdicts` bytes of verdict lines and `packets` bytes of records. If that is refused, room is made as
+    /// they come. What is done to the table isn't requested.
     pub fn with_room(alloc: Global, verdicts: usize, packets: usize) -> Emitted
         ensures texts { texts_of result ≡ spec.no_texts }
         ensures changes { result.changes ≡ None }
@@ -150,7 +150,7 @@ impl Emitted {
         }
     }
 
-    /// Forgets all, and keeps the room. Where changes of the table are asked for they still are.
+    /// Forgets all, and keeps the room. Changes of the table are still requested if they were.
     pub fn clear(&mut self)
         ensures texts { texts_of self.new ≡ spec.no_texts }
         ensures changes { held_changes self.new ≡ option_map (λ it. (it.0, [])) (held_changes self.old) }
@@ -161,7 +161,7 @@ impl Emitted {
         cut_changes(&mut self.changes, 0);
     }
 
-    /// The clock of the purge, where a state of the table goes at a clock. Where nobody asks for changes it isn't looked for.
+    /// The clock of the purge, if a state of the table goes at a clock. If no changes are requested it isn't looked for.
     pub(crate) fn purge_at(&self, table: &Table, clock: Clock) -> Option<Clock>
         ensures { OnSome self.now.changes (purges_at result ≡ spec.purge_by clock (due clock table.now.states)) }
     {
@@ -174,13 +174,13 @@ impl Emitted {
         }
     }
 
-    /// Puts a line and messages behind all else, and takes the messages. Where memory is refused nothing changes.
+    /// Appends a line and messages, and takes the messages. If memory is refused nothing changes.
     fn put_texts(
         &mut self,
         line: &VerdictLine<'_>,
         messages: &mut Vec<Message>,
     ) -> Result<(), AllocError>
-        ensures verdicts { OnOk result (self.new.verdicts.items ≡ self.old.verdicts.items ++ verdict_line line.now.number line.now.clock line.now.outcome.now) }
+        ensures verdicts { OnOk result (self.new.verdicts.items ≡ self.old.verdicts.items ++ line_text line.now) }
         ensures messages { OnOk result (self.new.messages.items ≡ self.old.messages.items ++ messages.old.items) }
         ensures kept { OnErr result (texts_of self.new ≡ texts_of self.old) }
         ensures packets { self.new.packets ≡ self.old.packets }
@@ -195,8 +195,8 @@ impl Emitted {
         Ok(())
     }
 
-    /// Puts what is written of a packet behind all else: its line, its record and the messages that it closed, which it takes.
-    /// Where memory is refused nothing changes.
+    /// Appends what is written of a packet: its line, its record and the messages that it closed, which it takes. If memory is refused
+    /// nothing changes.
     fn put_written(
         &mut self,
         number: u64,
@@ -226,8 +226,8 @@ impl Emitted {
         Ok(())
     }
 
-    /// Puts what a packet adds behind all else: what is written of it, with the messages that it closed, which it takes, and
-    /// where that is asked for what it did to the table, a purge and its own change. Where memory is refused nothing changes.
+    /// Appends what a packet adds: what is written of it, with the messages that it closed, which it takes, and if that is requested
+    /// what it did to the table, a purge and its own change. If memory is refused nothing changes.
     pub(crate) fn put(
         &mut self,
         number: u64,
@@ -241,7 +241,7 @@ impl Emitted {
         ensures verdicts { OnOk result (self.new.verdicts.items ≡ self.old.verdicts.items ++ verdict_line number clock outcome.now) }
         ensures packets { OnOk result (self.new.packets.items ≡ self.old.packets.items ++ spec.packet_text (frame_of packet.now) outcome.now) }
         ensures messages { OnOk result (self.new.messages.items ≡ self.old.messages.items ++ messages.old.items) }
-        ensures changes { OnOk result (held_changes self.new ≡ with_more (held_changes self.old) (purges_at purge ++ spec.own_change outcome.now.change)) }
+        ensures changes { OnOk result (held_changes self.new ≡ with_more (held_changes self.old) (changes_by purge outcome.now.change)) }
         ensures kept { OnErr result ((texts_of self.new ≡ texts_of self.old) × (held_changes self.new ≡ held_changes self.old)) }
     {
         let start = count_of(&self.changes);

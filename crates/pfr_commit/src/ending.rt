@@ -3,10 +3,15 @@ ghost use Rattle.std.specs.Prelude.{◌≡◌, IfOk};
 ghost use Rattle.pfr_commit.specs.Endings as spec;
 
 use crate::counters::Counters;
+use crate::emitted::room_for;
 use crate::state_line::StateLine;
 use pfr_states::Table;
 use pfr_sync::Message;
 use std::alloc::{AllocError, Global};
+
+/// The bytes of room for the line of a state: about the length of a TCP connection's, with sequence numbers of ten digits. The system
+/// gives no memory for room that isn't written.
+const USUAL_LINE: usize = 192;
 
 /// What is written at the end of a run.
 #[derive(Drop)]
@@ -19,7 +24,7 @@ pub struct Ending {
     pub states: Vec<u8>,
 }
 
-/// The text of the counters after so many packets.
+/// The text of the counters after `records` packets.
 fn counters_text(alloc: Global, records: u64, counters: &Counters) -> Result<Vec<u8>, AllocError>
     ensures { IfOk result (λ text. text.items ≡ spec.counters_text records counters.now) }
 {
@@ -33,7 +38,7 @@ fn counters_text(alloc: Global, records: u64, counters: &Counters) -> Result<Vec
 fn states_text(alloc: Global, table: &Table) -> Result<Vec<u8>, AllocError>
     ensures { IfOk result (λ text. text.items ≡ spec.states_text table.now.states) }
 {
-    let mut text = Vec::new(alloc);
+    let mut text = room_for(alloc, table.len().saturating_mul(USUAL_LINE));
     let mut next = table.first();
     for _turn in 0..table.len() {
         if let Some(state) = next {
@@ -46,7 +51,7 @@ fn states_text(alloc: Global, table: &Table) -> Result<Vec<u8>, AllocError>
 }
 
 impl Ending {
-    /// The last message, and the texts after so many packets, which left these counters and states.
+    /// The last message, and the texts after `records` packets, which left these counters and states.
     pub(crate) fn new(
         alloc: Global,
         message: Option<Message>,

@@ -1,9 +1,9 @@
 //! Laws of the definition of a run, each the contract of a function that does nothing.
 ghost use Rattle.std.specs.Prelude.{◌≡◌, ◌≤◌, List, length, map};
 ghost use Rattle.std.specs.List.{All, range_with_len};
-ghost use Rattle.pfr_states.specs.States.{IsTable, table_of};
+ghost use Rattle.pfr_states.specs.States.{IsTable};
 ghost use Rattle.pfr_packet.specs.Job.{RunJob};
-ghost use Rattle.pfr_commit.specs.Laws.{AStandbyHoldsTheStates, BytesOfARule, ClockIsOfARecord, EachHasItsLine, EachHasItsRecord, PacketsOfARule, StatesAreOfPackets, TotalsAreTheCount, TheLastMessageIsTheRest, TotalsCountVerdicts, TwoPartsAreTheWhole, WhatIsWrittenStays};
+ghost use Rattle.pfr_commit.specs.Laws.{AStandbyHoldsTheStates, BytesOfARule, ChangesMakeTheTable, ClockIsOfARecord, EachHasItsLine, EachHasItsRecord, PacketsOfARule, StatesAreOfPackets, TotalsAreTheCount, TheLastMessageIsTheRest, TotalsCountVerdicts, TwoPartsAreTheWhole, WhatIsWrittenStays};
 ghost use Rattle.pfr_commit.specs.Machine.{EveryRun};
 ghost use Rattle.pfr_commit.specs.Runs.{taken_in};
 ghost use Rattle.pfr_commit.specs.World.{Frame, world_of};
@@ -44,7 +44,7 @@ pub fn totals_are_the_count()
     ensures together { TotalsAreTheCount }
 {}
 
-/// The packets and bytes of a rule, of the filter or of translation, are those of the packets whose line names it for a reason
+/// The packets and bytes of a rule, of the filter or of translation, are those of the packets whose line names the rule for a reason
 /// that counts.
 pub fn rules_are_counted_by_their_lines()
     ensures packets { PacketsOfARule }
@@ -63,20 +63,20 @@ pub fn every_state_is_of_a_packet_that_passed()
 pub fn every_run_leaves_a_table()
     ensures { (job : RunJob) (frames : List Frame) → IsTable (world_of job frames).table }
 {
-    // so each change that a packet comes to leaves a table
+    // each change that a packet comes to leaves a table
     no_change_is_refused();
 }
 
 /// What the packets of a run did to the table makes it of the empty one, one thing after the other.
 pub fn changes_make_the_table()
-    ensures { (job : RunJob) (frames : List Frame) → table_of job.rules.options.state_limit (world_of job frames).changes ≡ (world_of job frames).table }
+    ensures { ChangesMakeTheTable }
 {
-    // where nothing is due a purge leaves the states
+    // if nothing is due a purge leaves the states
     a_purge_goes_state_by_state();
 }
 
-/// Whoever applies the messages of a run to a set of numbers, which is empty at first, holds at the end just the numbers of the
-/// states that are left, those of rules with `no-sync` aside.
+/// A standby that applies the messages of a run to a set of numbers, empty at first, holds at the end just the numbers of the states
+/// that are left, except those of rules with `no-sync`.
 pub fn a_standby_holds_the_states()
     ensures { AStandbyHoldsTheStates }
 {
@@ -86,9 +86,9 @@ pub fn a_standby_holds_the_states()
     every_change_is_of_the_named_state();
 }
 
-/// The run of the speculative machine: whatever packets are opened together, whoever claims and evaluates which of them and on
-/// which older states, and whatever speculations come, are lost or come twice, in whatever order, the world is that of the
-/// packets that are committed, taken one by one, and what was emitted is what is written of it.
+/// Every run of the speculative machine comes to the world of the packets that are committed, taken one by one, and what was emitted
+/// is what is written of it. It makes no difference which packets are opened together, who claims and evaluates which of them on
+/// which older states, and which speculations come, are lost or come twice, in whatever order.
 pub fn every_run()
     ensures { EveryRun }
 {}

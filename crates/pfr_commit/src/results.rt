@@ -1,8 +1,7 @@
 //! What was found out ahead about the packets of a batch, at the place of each packet.
-ghost use Rattle.std.specs.Prelude.{◌≡◌, ◌++◌, false, None, Some, IfNone, IfOk, IfSome, List, length, replicate};
+ghost use Rattle.std.specs.Prelude.{◌≡◌, false, None, Some, IfNone, IfOk, IfSome, length, replicate};
 ghost use Rattle.std.specs.Option.{option_map};
-ghost use Rattle.pfr_record.specs.declared.speculation.Speculation.{Speculation};
-ghost use Rattle.pfr_commit.specs.Found.{AreFound, found_at};
+ghost use Rattle.pfr_commit.specs.ResultsByPlace.{AreByPlace, result_at};
 ghost use Rattle.pfr_commit.specs.Results as spec;
 
 use pfr_record::Speculation;
@@ -11,14 +10,15 @@ use std::alloc::{AllocError, Global};
 /// For each packet of a batch its result, if there is one.
 pub(crate) type Places<'r> = Vec<Option<&'r Speculation>>;
 
-/// What was found out about packets, and whether it is known to be of the committer's own job. Results stay where they are.
+/// The results of packets, each at its packet's place, and whether all are known to be of the committer's job. Results stay where they
+/// are.
 #[derive(Drop)]
-pub(crate) struct Found<'r> {
+pub(crate) struct ResultsByPlace<'r> {
     pub(crate) places: Places<'r>,
-    pub(crate) are_own: bool,
+    pub(crate) are_of_job: bool,
 }
 
-/// So many places, with nothing in them.
+/// `count` places, with nothing in them.
 fn empty_places<'r>(alloc: Global, count: usize) -> Result<Places<'r>, AllocError>
     ensures { IfOk result (λ places. places.items ≡ replicate count None) }
 {
@@ -36,7 +36,7 @@ fn is_free(places: &Places<'_>, place: usize) -> bool
     place < places.len() && places[place].is_none()
 }
 
-/// Puts a result at its packet's place, unless there is one before it. One of no packet of these is left out.
+/// Puts a result at its packet's place, unless there is one already. A result of another packet is left out.
 fn put_result<'r>(places: &mut Places<'r>, first: u64, found: &'r Speculation)
     ensures length { length places.new.items ≡ length places.old.items }
     ensures placed { spec.Puts first found.now places.old.items places.new.items }
@@ -54,14 +54,14 @@ fn put_result<'r>(places: &mut Places<'r>, first: u64, found: &'r Speculation)
 /// Puts the results of a group at their places.
 fn put_group<'r>(places: &mut Places<'r>, first: u64, group: &'r [Speculation])
     ensures length { length places.new.items ≡ length places.old.items }
-    ensures placed { (before : List Speculation) → spec.ArePlaced before first places.old.items → spec.ArePlaced (before ++ group.now) first places.new.items }
+    ensures placed { spec.PutsGroup first group.now places.old.items places.new.items }
 {
     for index in 0..group.len() {
         put_result(places, first, &group[index]);
     }
 }
 
-/// The result of each of so many packets from a number on: of several of one packet the first.
+/// The result of each of `count` packets, the first of which has the number `first`: of several of one packet the first.
 fn placed<'r>(
     alloc: Global,
     groups: &'r [Vec<Speculation>],
@@ -78,50 +78,50 @@ fn placed<'r>(
     Ok(places)
 }
 
-/// The results for so many packets from a number on: of several of one packet the first. Where there are no groups they take no
-/// room. It may be known that they are of the committer's own job.
+/// The results for `count` packets, the first of which has the number `first`: of several of one packet the first. They take no room
+/// if there are no groups. They may be known to be of the committer's job.
 pub(crate) fn in_places<'r>(
     alloc: Global,
     groups: &'r [Vec<Speculation>],
     first: u64,
     count: usize,
-    are_own: bool,
-) -> Result<Found<'r>, AllocError>
-    ensures places { IfOk result (λ found. AreFound (spec.results_of groups.now) first count found) }
-    ensures own { IfOk result (λ found. found.are_own ≡ are_own) }
+    are_of_job: bool,
+) -> Result<ResultsByPlace<'r>, AllocError>
+    ensures places { IfOk result (λ placed. AreByPlace (spec.results_of groups.now) first count placed) }
+    ensures of_job { IfOk result (λ placed. placed.are_of_job ≡ are_of_job) }
 {
     let places = if groups.is_empty() {
         Vec::new(alloc)
     } else {
         placed(alloc, groups, first, count)?
     };
-    Ok(Found { places, are_own })
+    Ok(ResultsByPlace { places, are_of_job })
 }
 
-/// A place with a result, or none where there is no result. Of its job nothing is known.
+/// One place with a result, or no place if there is no result. Nothing is known of its job.
 pub(crate) fn of_one<'r>(
     alloc: Global,
     found: Option<&'r Speculation>,
-) -> Result<Found<'r>, AllocError>
-    ensures place { IfOk result (λ held. found_at 0 held ≡ option_map (λ it. it.now) found.entry) }
-    ensures own { IfOk result (λ held. held.are_own ≡ false) }
+) -> Result<ResultsByPlace<'r>, AllocError>
+    ensures place { IfOk result (λ held. result_at 0 held ≡ option_map (λ it. it.now) found.entry) }
+    ensures of_job { IfOk result (λ held. held.are_of_job ≡ false) }
 {
     let mut places = Vec::new(alloc);
     if found.is_some() {
         places.push(found)?;
     }
-    Ok(Found {
+    Ok(ResultsByPlace {
         places,
-        are_own: false,
+        are_of_job: false,
     })
 }
 
-impl<'r> Found<'r> {
+impl<'r> ResultsByPlace<'r> {
     /// What stands at a place.
     #[inline]
     pub(crate) fn at(&self, place: usize) -> Option<&'r Speculation>
-        ensures some { IfSome result (λ found. found_at place self.now ≡ Some found.now) }
-        ensures none { IfNone result (found_at place self.now ≡ None) }
+        ensures some { IfSome result (λ found. result_at place self.now ≡ Some found.now) }
+        ensures none { IfNone result (result_at place self.now ≡ None) }
     {
         match self.places.get(place) {
             Some(found) => *found,

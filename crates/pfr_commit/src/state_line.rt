@@ -1,8 +1,6 @@
 //! The lines of the states.
-ghost use Rattle.std.specs.Prelude.{◌≡◌, ◌+◌, ◌≤◌, ◌∷◌, ◌++◌, [], Some, codes, length, OnOk};
-ghost use Rattle.std.specs.Fmt.{decimal};
+ghost use Rattle.std.specs.Prelude.{◌≡◌, ◌+◌, ◌≤◌, ◌++◌, length, OnOk};
 ghost use Rattle.pfr_commit.specs.Lines as spec;
-ghost use Rattle.pfr_commit.specs.Texts.{direction_text, key_text, rule_text, traffic_text};
 
 use crate::texts::{put_byte, put_direction, put_key, put_rule, put_traffic};
 use pfr_digits::Tail;
@@ -15,7 +13,7 @@ pub struct StateLine<'a> {
     pub state: &'a State,
 }
 
-/// Puts the shift of an end's windows before the rest of a line: `-` where it offered none.
+/// Puts the shift of an end's windows before the rest of a line: `-` if it offered none.
 fn put_offer(line: &mut Tail, offer: Option<u8>)
     requires room { length line.old + 20 ≤ 128 }
     ensures text { line.new ≡ spec.offer_text offer ++ line.old }
@@ -79,7 +77,7 @@ fn put_ends(line: &mut Tail, peers: &Peers)
 
 /// How a line begins: `N PROTO DIR WIRE STACK`.
 fn keys_of(state: &State) -> Tail
-    ensures { result ≡ decimal state.now.number.0 ++ (codes " " ++ (decimal state.now.wire.protocol.0 ++ (codes " " ++ (direction_text (Some state.now.direction) ++ (codes " " ++ (key_text state.now.wire ++ (codes " " ++ key_text state.now.stack))))))) }
+    ensures { result ≡ spec.keys_part state.now }
 {
     let mut line = Tail::new();
     put_key(&mut line, &state.stack);
@@ -96,7 +94,7 @@ fn keys_of(state: &State) -> Tail
 
 /// How it goes on: ` r=R t=T PEER PEER`.
 fn ends_of(state: &State) -> Tail
-    ensures { result ≡ codes " r=" ++ (rule_text state.now.rules.filter ++ (codes " t=" ++ (rule_text state.now.rules.translation ++ (codes " " ++ spec.ends_text state.now.peers)))) }
+    ensures { result ≡ spec.ends_part state.now }
 {
     let mut line = Tail::new();
     put_ends(&mut line, &state.peers);
@@ -110,7 +108,7 @@ fn ends_of(state: &State) -> Tail
 
 /// How it ends: ` MADE DEADLINE P0 B0 P1 B1` and a newline.
 fn traffic_of(state: &State) -> Tail
-    ensures { result ≡ codes " " ++ (decimal state.now.made.0 ++ (codes " " ++ (decimal state.now.deadline.0 ++ (codes " " ++ (traffic_text state.now.forth ++ (codes " " ++ (traffic_text state.now.back ++ 10 ∷ []))))))) }
+    ensures { result ≡ spec.traffic_part state.now }
 {
     let mut line = Tail::new();
     line.put_word(b"\n");
@@ -126,8 +124,8 @@ fn traffic_of(state: &State) -> Tail
 }
 
 impl StateLine<'_> {
-    /// Puts the line behind a text. Nothing is formatted: each of its three parts is written from its end. Where memory is
-    /// refused, the parts before may stand behind the text.
+    /// Appends the line to a text. Nothing is formatted: each of its three parts is written from its end. If memory is refused, the
+    /// parts before may have been appended.
     #[tactic(auto, unfolding(crate::specs::Lines::state_line))]
     pub fn put(&self, text: &mut Vec<u8>) -> Result<(), AllocError>
         ensures { OnOk result (text.new.items ≡ text.old.items ++ spec.state_line self.now.state.now) }

@@ -7,7 +7,7 @@ use pfr_digits::Tail;
 use pfr_net::{Direction, Endpoint, Ipv4Address, RuleNumber};
 use pfr_track::{Key, StateNumber, Traffic};
 
-/// Puts a direction: `in`, `out`, or `-` where there is none.
+/// Puts a direction: `in`, `out`, or `-` if there is none.
 pub(crate) fn put_direction(line: &mut Tail, direction: Option<Direction>)
     requires room { length line.old + 3 ≤ 128 }
     ensures text { line.new ≡ spec.direction_text direction ++ line.old }
@@ -20,7 +20,7 @@ pub(crate) fn put_direction(line: &mut Tail, direction: Option<Direction>)
     }
 }
 
-/// Puts a rule's number: `-` where there is no rule.
+/// Puts a rule's number: `-` if there is no rule.
 pub(crate) fn put_rule(line: &mut Tail, rule: Option<RuleNumber>)
     requires room { length line.old + 20 ≤ 128 }
     ensures text { line.new ≡ spec.rule_text rule ++ line.old }
@@ -32,7 +32,7 @@ pub(crate) fn put_rule(line: &mut Tail, rule: Option<RuleNumber>)
     }
 }
 
-/// Puts a state's number: `-` where there is no state.
+/// Puts a state's number: `-` if there is no state.
 pub(crate) fn put_state(line: &mut Tail, state: Option<StateNumber>)
     requires room { length line.old + 20 ≤ 128 }
     ensures text { line.new ≡ spec.state_text state ++ line.old }

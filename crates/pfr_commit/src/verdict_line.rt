@@ -1,8 +1,7 @@
 //! The lines of the verdicts.
-ghost use Rattle.std.specs.Prelude.{◌≡◌, ◌+◌, ◌≤◌, ◌++◌, length, codes, OnOk, OnErr};
+ghost use Rattle.std.specs.Prelude.{◌≡◌, ◌+◌, ◌≤◌, ◌++◌, length, OnOk, OnErr};
 ghost use Rattle.pfr_packet.specs.Verdicts.{reason_text, verdict_text};
 ghost use Rattle.pfr_commit.specs.Lines as spec;
-ghost use Rattle.pfr_commit.specs.Texts.{direction_text, rule_text, state_text};
 
 use crate::texts::{put_direction, put_rule, put_state};
 use pfr_digits::Tail;
@@ -59,7 +58,7 @@ fn put_reason(line: &mut Tail, reason: Reason)
 /// Puts what a line names before the rest of it: ` r=R t=T s=S`.
 fn put_named(line: &mut Tail, outcome: &Outcome)
     requires room { length line.old + 69 ≤ 128 }
-    ensures text { line.new ≡ codes " r=" ++ (rule_text outcome.now.rule ++ (codes " t=" ++ (rule_text outcome.now.translation ++ (codes " s=" ++ (state_text outcome.now.state ++ line.old))))) }
+    ensures text { line.new ≡ spec.named_before outcome.now line.old }
     ensures long { length line.new ≤ length line.old + 69 }
 {
     put_state(line, outcome.state);
@@ -73,7 +72,7 @@ fn put_named(line: &mut Tail, outcome: &Outcome)
 /// Puts the words of a line before the rest of it: ` DIR VERDICT REASON`.
 fn put_words(line: &mut Tail, outcome: &Outcome)
     requires room { length line.old + 26 ≤ 128 }
-    ensures text { line.new ≡ codes " " ++ (direction_text outcome.now.direction ++ (codes " " ++ (verdict_text outcome.now.verdict ++ (codes " " ++ (reason_text outcome.now.reason ++ line.old))))) }
+    ensures text { line.new ≡ spec.words_before outcome.now line.old }
     ensures long { length line.new ≤ length line.old + 26 }
 {
     put_reason(line, outcome.reason);
@@ -85,7 +84,7 @@ fn put_words(line: &mut Tail, outcome: &Outcome)
 }
 
 impl VerdictLine<'_> {
-    /// Puts the line behind a text. Where memory is refused nothing changes.
+    /// Appends the line to a text. If memory is refused nothing changes.
     ///
     /// Nothing is formatted: the line is written from its end.
     #[tactic(auto, unfolding(crate::specs::Lines::verdict_line))]

@@ -54,5 +54,5 @@ returns-clause-told g c =
 pub returns-clause-used : goal.returns-clause-used
 returns-clause-used g c = search rules
 
-pub returns-clause-evaluated : goal.returns-clause-evaluated
-returns-clause-evaluated g c = search rules
+pub returns-clause-rerun : goal.returns-clause-rerun
+returns-clause-rerun g c = search rules

@@ -3,7 +3,7 @@ use Rattle.pfr_packet.specs.Plan.{purged_at}
 use Rattle.pfr_commit.specs.Books.{world_with}
 use Rattle.pfr_states.specs.States.{due}
 use Rattle.pfr_commit.specs.Emissions.{are_kept, frame_of, listed, purges_at}
-use Rattle.pfr_commit.specs.World.{own_change, purge_by}
+use Rattle.pfr_commit.specs.World.{apply_by, purge_by, with_outcome}
 use Rattle.pfr_commit.proofs.EmittedLemmas.{more_alike}
 use Rattle.pfr_commit.proofs.StandLemmas.{outcome_leads}
 use Rattle.pfr_commit.proofs.WorldLemmas.{outcome_taken}
@@ -17,14 +17,15 @@ returns-clause-world c =
     c.in_ok-put.ensures.verdicts c.in_ok-put.ensures.packets
 
 pub returns-clause-changes : goal.returns-clause-changes
+unfolding with_outcome
 returns-clause-changes c =
     c.in_ok-put.ensures.changes
-    ∙ more_alike c.args.out.now.changes (λ it. (are_kept it, listed it)) (purges_at c.purge_at-purge.result) (purge_by c.args.clock (due c.args.clock c.args.self.now.table.states)) (own_change c.args.outcome.now.change) c.purge_at-purge.ensures
+    ∙ more_alike c.args.out.now.changes (λ it. (are_kept it, listed it)) (purges_at c.purge_at-purge.result) (purge_by c.args.clock (due c.args.clock c.args.self.now.table.states)) (apply_by c.args.outcome.now.change) c.purge_at-purge.ensures
 
 pub returns-clause-told : goal.returns-clause-told
 unfolding purged_at
 returns-clause-told c =
     outcome_leads c.args.self.now _ c.args.out.now c.put.new.self (frame_of c.args.packet.now) c.args.clock c.args.outcome.now c.begin.new.self c.purge.new.self c.change.new.self c.purge.new.table
-    c.requires.later c.in_ok-purge.ensures.table c.requires.own
+    c.requires.later c.in_ok-purge.ensures.table c.requires.named
     (record { begin = c.in_ok-begin.ensures.told; purge = c.in_ok-purge.ensures.told; next = c.in_ok-change.ensures.told; origin_is = c.change.ensures.origin ∙ c.purge.ensures.origin ∙ c.begin.ensures.origin })
     refl refl c.in_ok-put.ensures.messages (returns-clause-world c)
