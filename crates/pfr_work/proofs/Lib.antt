@@ -1,6 +1,13 @@
+pub mod BackLemmas
 pub mod BatchLemmas
 pub mod CommitLemmas
+pub mod EndLemmas
+pub mod FitLemmas
 pub mod FoundLemmas
 pub mod LeadLemmas
+pub mod LearnLemmas
 pub mod ReachLemmas
+pub mod ReturnLemmas
 pub mod TieLemmas
+pub mod TraceLemmas
+pub mod TurnLemmas

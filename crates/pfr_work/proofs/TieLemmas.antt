@@ -1,22 +1,32 @@
 -- Each trace shows a state that is the end of a run.
-use Rattle.std.proofs.Common.{◌≡◌, ◌∙◌, ◌⊎◌, ◌+◌, ◌<◌, ◌≤◌, ◌==◌, Bool, ℕ, zero, suc, true, false, inl, inr, if◌then◌else◌, List, [], ◌∷◌, length, map, get_or, take, refl, sym, ap, subst, arith}
+use Rattle.std.proofs.Common.{◌≡◌, ◌∙◌, ◌⊎◌, ◌+◌, ◌<◌, ◌≤◌, ◌==◌, Bool, ℕ, zero, suc, true, false, inl, inr, if◌then◌else◌, List, [], ◌∷◌, length, map, get_or, take, Option, Some, None, refl, sym, ap, subst, arith}
 use Rattle.std.specs.Prelude.{nat_lt}
-use Rattle.std.specs.List.{All, AllZip, concat, filter, range_with_len, sum_by}
+use Rattle.std.specs.List.{All, AllZip, concat, filter, range_with_len}
 use Rattle.std.specs.List.Sorted.{IsStrictlyIncreasing}
 use Rattle.std.proofs.lemmas.Bool.{cases_Bool, cases_eq}
 use Rattle.std.proofs.lemmas.Bool.Decides.{nat_tests}
 use Rattle.std.proofs.lemmas.Grind.{common_steps}
+use Rattle.std.proofs.lemmas.List.{append-nil, length-append, length-map}
 use Rattle.std.proofs.lemmas.List.Elements.{All-cons, All-head, All-nil, All-tail}
-use Rattle.std.proofs.lemmas.List.Sums.{sum_by-cons}
 use Rattle.pfr_claims.specs.declared.gathered.Gathered.{Gathered}
+use Rattle.pfr_claims.specs.Batches as claims
 use Rattle.pfr_claims.specs.Batches.{lists_of}
 use Rattle.pfr_claims.specs.Counting.{times, once_below}
 use Rattle.pfr_claims.proofs.Sums.{all_below, times_append}
+use Rattle.pfr_capture.specs.declared.capture.Record.{Record}
 use Rattle.pfr_packet.specs.Job.{RunJob}
+use Rattle.pfr_commit.specs.declared.book.Book.{Book}
+use Rattle.pfr_commit.specs.Books.{StandsAt}
+use Rattle.pfr_commit.specs.Emissions.{frame_of}
 use Rattle.pfr_commit.specs.Machine.{Batch, IsSoundGuess, Machine}
-use Rattle.pfr_commit.specs.World.{Frame, online, world_of}
+use Rattle.pfr_commit.specs.World.{Frame, World, online, world_of}
+use Rattle.pfr_commit.proofs.WorldLemmas.{world_count}
+use Rattle.pfr_feed.specs.Runs.{Call, behind, given_in, taken_in}
+use Rattle.pfr_feed.specs.Transitions.{Transitions}
 use Rattle.pfr_work.specs.Ends.{Follow, IsDrawn, tables_of}
-use Rattle.pfr_work.specs.Ties.{IsEntry, Ties, numbers_of}
+use Rattle.pfr_work.specs.Ties.{AreShownBy, EndsIn, IsEntry, IsShownBy, RefusedEndsTie, WellEndsTie, numbers_of}
+use Rattle.pfr_work.specs.Traces.{AreReturns, CameBack, IsOpenedFor, Seen, Traces, packets_of}
+use Rattle.pfr_work.proofs.TraceLemmas.{few_counted}
 
 -- ---- who drew a number
 
@@ -152,67 +162,179 @@ list_is lists word worker rising once =
 
 -- ---- batches
 
--- the batch of an entry, behind so many packets
-abbrev batch_of : ℕ → Gathered → Batch
-batch_of first gathered = record { first = first; count = gathered.sizes.count; word = gathered.word; claims = claims_of (lists_of gathered.passes.value.items) gathered.word }
+-- the batch of these records, with what came back of it, behind so many packets; one of which nothing came back is open
+abbrev batch_of : ℕ → Option Gathered → List Record → Batch
+batch_of first None records = record { first = first; count = length records; word = 0; claims = [] }
+batch_of first (Some entry) records = record { first = first; count = length records; word = entry.word; claims = claims_of (lists_of entry.passes.value.items) entry.word }
 
-abbrev batches_of : ℕ → List Gathered → List Batch
-batches_of first [] = []
-batches_of first (gathered ∷ entries) = batch_of first gathered ∷ batches_of (first + gathered.sizes.count) entries
+-- what came back of the first batch, if it was opened, and of the others
+abbrev first_of : List (Option Gathered) → Option Gathered
+first_of [] = None
+first_of (it ∷ returns) = it
 
-batches_follow : (first : ℕ) (entries : List Gathered) (last : ℕ) → first + sum_by (λ gathered. gathered.sizes.count) entries ≡ last → Follow first (batches_of first entries) last
-batches_follow first [] last is = omega (arith, is)
-batches_follow first (gathered ∷ entries) last is = (refl, batches_follow (first + gathered.sizes.count) entries last (omega (arith, is, sum_by-cons (λ gathered. gathered.sizes.count) gathered entries)))
+abbrev rest_of : List (Option Gathered) → List (Option Gathered)
+rest_of [] = []
+rest_of (it ∷ returns) = returns
 
-are_drawn : (first : ℕ) (entries : List Gathered) → All IsDrawn (batches_of first entries)
-are_drawn first [] = All-nil IsDrawn
-are_drawn first (gathered ∷ entries) =
-    All-cons IsDrawn (batch_of first gathered) (batches_of (first + gathered.sizes.count) entries)
-    (all_numbers (lists_of gathered.passes.value.items) (range_with_len 0 gathered.word))
-    (are_drawn (first + gathered.sizes.count) entries)
+abbrev batches_from : ℕ → List (Option Gathered) → List (List Record) → List Batch
+batches_from first returns [] = []
+batches_from first returns (records ∷ given) = batch_of first (first_of returns) records ∷ batches_from (first + length records) (rest_of returns) given
 
-are_entries : (first : ℕ) (entries : List Gathered) → AllZip IsEntry entries (batches_of first entries)
-are_entries first [] = tt
-are_entries first (gathered ∷ entries) = (
-  record { count_is = refl; word_is = refl; drawn_is = λ worker. list_is (lists_of gathered.passes.value.items) gathered.word worker gathered.rising gathered.once },
-  are_entries (first + gathered.sizes.count) entries,
+count_is : (first : ℕ) (it : Option Gathered) (records : List Record) → (batch_of first it records).count ≡ length records
+count_is first None records = refl
+count_is first (Some entry) records = refl
+
+begins_at : (first : ℕ) (it : Option Gathered) (records : List Record) → (batch_of first it records).first ≡ first
+begins_at first None records = refl
+begins_at first (Some entry) records = refl
+
+one_drawn : (first : ℕ) (it : Option Gathered) (records : List Record) → IsDrawn (batch_of first it records)
+one_drawn first None records = refl
+one_drawn first (Some entry) records = all_numbers (lists_of entry.passes.value.items) (range_with_len 0 entry.word)
+
+long : (records : List Record) (given : List (List Record)) → length (packets_of (records ∷ given)) ≡ length records + length (packets_of given)
+long records given =
+    let all = length-append (map frame_of records) (packets_of given) in
+    let same = length-map records frame_of in
+    omega (arith, all, same)
+
+batches_follow : (first : ℕ) (returns : List (Option Gathered)) (given : List (List Record)) (last : ℕ) → first + length (packets_of given) ≡ last → Follow first (batches_from first returns given) last
+batches_follow first returns [] last is = omega (arith, is)
+batches_follow first returns (records ∷ given) last is = (
+  begins_at first (first_of returns) records,
+  rw (count_is first (first_of returns) records)
+      (batches_follow (first + length records) (rest_of returns) given last (let l = long records given in omega (arith, is, l))),
 )
+
+are_drawn : (first : ℕ) (returns : List (Option Gathered)) (given : List (List Record)) → All IsDrawn (batches_from first returns given)
+are_drawn first returns [] = All-nil IsDrawn
+are_drawn first returns (records ∷ given) =
+    All-cons IsDrawn (batch_of first (first_of returns) records) (batches_from (first + length records) (rest_of returns) given)
+    (one_drawn first (first_of returns) records)
+    (are_drawn (first + length records) (rest_of returns) given)
+
+-- a batch of which nothing came back
+none_shows : (first : ℕ) (records : List Record) → IsShownBy None records (batch_of first None records)
+none_shows first records = record { count_is = refl; entry = λ entry is. absurd (cc is) }
+
+-- and one with its entry
+entry_is : (first : ℕ) (entry : Gathered) (records : List Record) → entry.sizes.count ≡ length records → IsEntry entry (batch_of first (Some entry) records)
+entry_is first entry records sizes = record {
+  count_is = sym sizes;
+  word_is = refl;
+  passes = sym entry.passes.value.ok.0 ∙ entry.whole;
+  drawn_is = λ worker. list_is (lists_of entry.passes.value.items) entry.word worker entry.rising entry.once;
+}
+
+same_entry : (a b : Gathered) → Some a ≡ Some b → a ≡ b
+same_entry a b is = ap (λ (o : Option Gathered). elim o [ Some entry ↦ entry | None ↦ a ]) is
+
+some_shows : (workers first : ℕ) (batch : claims.Batch) (entry : Gathered) (records : List Record) → entry.claims.value ≡ batch → IsOpenedFor workers batch records → IsShownBy (Some entry) records (batch_of first (Some entry) records)
+some_shows workers first batch entry records is opened = record {
+  count_is = refl;
+  entry = λ other same. subst (λ (it : Gathered). IsEntry it (batch_of first (Some entry) records)) (same_entry entry other same)
+      (entry_is first entry records (ap (λ sizes. sizes.count) entry.sized ∙ ap (λ (b : claims.Batch). b.sizes.count) is ∙ opened.0));
+}
+
+-- those that weren't opened
+open_shown : (first : ℕ) (given : List (List Record)) → AreShownBy [] given (batches_from first [] given)
+open_shown first [] = tt
+open_shown first (records ∷ given) = (none_shows first records, open_shown (first + length records) given)
+
+are_shown : (workers first : ℕ) (opened : List claims.Batch) (returns : List (Option Gathered)) (given : List (List Record)) → AreReturns opened returns → AllZip (IsOpenedFor workers) opened (take (length opened) given) → AreShownBy returns given (batches_from first returns given)
+are_shown workers first [] [] given came opens = open_shown first given
+are_shown workers first [] (it ∷ returns) given came opens = absurd came
+are_shown workers first (batch ∷ opened) [] given came opens = absurd came
+are_shown workers first (batch ∷ opened) (it ∷ returns) [] came opens = tt
+are_shown workers first (batch ∷ opened) (None ∷ returns) (records ∷ given) came opens = (none_shows first records, are_shown workers (first + length records) opened returns given came.1 opens.1)
+are_shown workers first (batch ∷ opened) (Some entry ∷ returns) (records ∷ given) came opens =
+    (some_shows workers first batch entry records came.0 opens.0, are_shown workers (first + length records) opened returns given came.1 opens.1)
 
 -- ---- the end
 
 -- the state with these batches, of which no worker sees a commit and no speculation is on the way
-abbrev end_of : RunJob → List Frame → List Gathered → (committed opened : ℕ) → Machine
-end_of job packets entries committed opened =
+abbrev end_of : RunJob → List Frame → List Batch → (committed published : ℕ) → Machine
+end_of job packets batches committed published =
     let world = world_of job (take committed packets) in
     record {
-      batches = batches_of 0 entries;
-      opened = opened;
+      batches = batches;
+      opened = length packets;
       sees = λ worker. 0;
       way = [];
       committed = committed;
       tables = tables_of job packets committed;
       world = world;
       emitted = online job world;
-      published = committed;
+      published = published;
     }
 
-pub ties : Ties
-ties job packets workers entries committed opened opened_is few within = (
-  end_of job packets entries committed opened,
-  record {
-    follow = batches_follow 0 entries opened (omega (arith, opened_is));
-    within = within;
-    drawn = are_drawn 0 entries;
-    published_few = omega arith;
-    committed_few = few;
-    world_is = refl;
-    tables_are = refl;
-    emitted_is = refl;
-    seen = λ worker. omega arith;
-    few = λ worker above. refl;
-    sound = All-nil IsSoundGuess;
-  },
-  are_entries 0 entries,
-  refl,
-  refl,
-)
+ends_in : (job : RunJob) (workers : ℕ) (book : Book) (seen : Seen) (calls : List Call) (handed published : ℕ) → Traces job workers calls seen handed published → published ≤ book.count → book.count ≤ length (packets_of (given_in calls)) → EndsIn job workers book seen calls
+ends_in job workers book seen calls handed published trace few within =
+    let packets = packets_of (given_in calls) in
+    let came : CameBack seen.opened seen.entries seen.lost = subst (λ (bs : List claims.Batch). CameBack bs seen.entries seen.lost) (sym (trace.opened_are ∙ append-nil trace.back)) trace.came in
+    let batches = batches_from 0 came.returns (given_in calls) in
+    record {
+      published = published;
+      machine = end_of job packets batches book.count published;
+      is = record {
+        is_end = record {
+          follow = batches_follow 0 came.returns (given_in calls) (length packets) (omega arith);
+          within = omega arith;
+          drawn = are_drawn 0 came.returns (given_in calls);
+          published_few = few;
+          committed_few = within;
+          world_is = refl;
+          tables_are = refl;
+          emitted_is = refl;
+          seen = λ worker. omega arith;
+          few = λ worker above. refl;
+          sound = All-nil IsSoundGuess;
+        };
+        committed_is = refl;
+        published_is = refl;
+        shows = trace.shows;
+        came = came;
+        shown = are_shown workers 0 seen.opened came.returns (given_in calls) came.of_batches trace.opens;
+      };
+    }
+
+-- how many packets a book has counted
+count_of : (book : Book) (world : World) → StandsAt book world → book.count ≡ world.count
+count_of book world stands = ap (λ (w : World). w.count) stands.left
+
+next_long : (at : List (List Record)) (records : List Record) (later : List (List Record)) → at ≡ records ∷ later → length records ≤ length (packets_of at)
+next_long at records later is =
+    let all = ap (λ (bs : List (List Record)). length (packets_of bs)) is in
+    let l = long records later in
+    omega (arith, all, l)
+
+module _ {F : Type 0} (feeds : Transitions F) where
+  pub well_ends : WellEndsTie feeds
+  well_ends job workers start book feed seen run =
+      let counted = few_counted feeds job start run.calls run.at run.went in
+      elim run.then [
+        | inl over ↦
+            let same = count_of book run.at.world over.over.stands in
+            ends_in job workers book seen run.calls (length (taken_in run.calls)) book.count over.trace (omega arith) (omega (arith, counted, same))
+        | inr cut ↦
+            let same = count_of book (behind job run.at.world cut.cut.records) cut.cut.stands in
+            let more = world_count job run.at.world (map frame_of cut.cut.records) in
+            let l = length-map cut.cut.records frame_of in
+            let next = next_long run.at.waiting cut.cut.records cut.cut.later cut.cut.waits in
+            ends_in job workers book seen run.calls (length (taken_in run.calls) + 1) run.at.world.count cut.trace (omega (arith, same, more)) (omega (arith, counted, same, more, l, next))
+      ]
+
+  pub refused_ends : RefusedEndsTie feeds
+  refused_ends job workers start book feed seen run =
+      let counted = few_counted feeds job start run.calls run.at run.went in
+      let few = run.then.few in
+      elim run.then.refused.stands [
+        | inl stands ↦
+            let same = count_of book run.at.world stands in
+            ends_in job workers book seen run.calls (length (taken_in run.calls)) run.then.published run.then.trace (omega (arith, few, same)) (omega (arith, counted, same))
+        | inr stopped ↦
+            let from = stopped.from in
+            let to = stopped.to in
+            let next = next_long run.at.waiting stopped.records stopped.later stopped.waits in
+            ends_in job workers book seen run.calls (length (taken_in run.calls)) run.then.published run.then.trace (omega (arith, few, from)) (omega (arith, counted, to, next))
+      ]

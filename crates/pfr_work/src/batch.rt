@@ -2,16 +2,16 @@
 ghost use Rattle.std.specs.Prelude.{◌≡◌, IfOk};
 ghost use Rattle.std.specs.List.{All, AllZip};
 ghost use Rattle.pfr_headers.specs.View.{view_of};
-ghost use Rattle.pfr_turns.specs.Batches.{IsViewOf};
-ghost use Rattle.pfr_turns.specs.Runs.{AreViewed};
+ghost use Rattle.pfr_feed.specs.Batches.{IsViewOf};
+ghost use Rattle.pfr_feed.specs.Runs.{AreViewed};
 
 use crate::found::OfRun;
 use crate::views::views;
 use pfr_capture::Record;
+use pfr_feed::{Packets, viewed};
 use pfr_headers::View;
 use pfr_published::Told;
 use pfr_track::Clock;
-use pfr_turns::{Packets, viewed};
 use std::alloc::{AllocError, Global};
 use std::thread::Threads;
 
@@ -21,7 +21,7 @@ pub(crate) struct Batch<J: OfRun> {
     pub(crate) packets: Packets,
     /// The clock at each record.
     pub(crate) clocks: Vec<Clock>,
-    /// The number of the first packet, and how many are evaluated ahead, the first ones.
+    /// The number of the first packet, and how many packets are evaluated ahead, the first ones.
     pub(crate) first: u64,
     pub(crate) most: u64,
     /// How far the published table had come when the batch was opened.
@@ -60,7 +60,7 @@ fn viewed_beside<R: Threads + Sync>(
     with_views(alloc, records, views.as_slice())
 }
 
-/// Records, each with its view. Where no worker evaluates one of them, the calling thread makes all views.
+/// Records, each with its view. The calling thread makes all views if no worker evaluates any of them.
 pub(crate) fn viewed_for<R: Threads + Sync>(
     rt: &R,
     alloc: Global,
@@ -76,7 +76,7 @@ pub(crate) fn viewed_for<R: Threads + Sync>(
     }
 }
 
-/// The clock at each record behind one: the greatest second so far.
+/// The clock at each record after one: the greatest second so far.
 pub(crate) fn clocks(
     alloc: Global,
     clock: Clock,

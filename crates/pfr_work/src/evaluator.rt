@@ -2,10 +2,11 @@
 ghost use Rattle.std.specs.Prelude.{◌≡◌, IfOk, IfSome, Some, vec_len};
 ghost use Rattle.std.specs.Arc.{arc_value};
 ghost use Rattle.std.specs.List.{All};
+ghost use Rattle.pfr_work.specs.Learning.{HasLearned};
 
 use crate::batch::Batch;
 use crate::found::{FoundOut, OfRun};
-use crate::gate::Gate;
+use pfr_commit::Gate;
 use pfr_history::History;
 use pfr_packet::Job;
 use pfr_published::{Published, StoreWriter, Viewer};
@@ -17,8 +18,8 @@ use std::marker::PhantomData;
 use std::sync::Arc;
 use std::sync::atomic::{AtomicBool, Ordering};
 
-/// The most questions of a result that is kept. A pick among taken ports asks one for each of them, and such a record is large: its
-/// packet is evaluated by the committer.
+/// The most questions of a result that is kept. A pick among taken ports asks one for each of them, and such a record is large: the
+/// committer evaluates its packet.
 const MOST_QUESTIONS: usize = 1024;
 
 /// What a worker evaluates packets with: the job, the published table that it looks at, and the gate.
@@ -35,7 +36,7 @@ pub(crate) struct Evaluator<'a, J: OfRun, G> {
 }
 
 impl<'a, J: OfRun, G> Evaluator<'a, J, G> {
-    /// What one worker evaluates packets with. There is none where memory is refused for it.
+    /// What one worker evaluates packets with. There is none if memory is refused for it.
     fn new(
         alloc: Global,
         published: &Published<StoreWriter<J>>,
@@ -57,9 +58,12 @@ impl<'a, J: OfRun, G> Evaluator<'a, J, G> {
         })
     }
 
-    /// What is found out about the packet at a place, on the table that is published. Where there is none, nothing is.
+    /// What is found out about the packet at a place, on the table that is published: nothing if the worker is shown none. It
+    /// knows at least what it was told with the batch.
     fn speculation_at(&mut self, batch: &Batch<J>, place: u64) -> Option<Speculation>
-        ensures { IfSome result (λ speculation. J.job ≡ Some (arc_value speculation.job)) }
+        requires { HasLearned self.old.viewer batch.now.told }
+        ensures own { IfSome result (λ speculation. J.job ≡ Some (arc_value speculation.job)) }
+        ensures learned { HasLearned self.new.viewer batch.now.told }
     {
         let (_record, view) = batch.packets.get(place as usize)?;
         let clock = batch.clocks.get(place as usize)?;
@@ -96,6 +100,11 @@ impl<'a, J: OfRun + Send + Sync, G: Gate> Hand for Evaluator<'a, J, G> {
 
     type Group = FoundOut<J>;
 
+    ghost use Rattle.pfr_work.specs.Learning.{HasLearned};
+
+    // its viewer has learned how far the table had come when the batch was opened
+    ghost begun = { λ evaluator batch. HasLearned evaluator.viewer batch.told };
+
     fn begin(&mut self, batch: &Batch<J>) {
         if let Some(viewer) = &mut self.viewer {
             viewer.learn(batch.told.again());
@@ -131,7 +140,7 @@ impl<'a, J: OfRun + Send + Sync, G: Gate> Hand for Evaluator<'a, J, G> {
     }
 }
 
-/// What each of so many workers evaluates packets with, where there was memory for it.
+/// What each of `workers` threads evaluates packets with, if there was memory for it.
 pub(crate) fn evaluators<'a, J: OfRun, G>(
     alloc: Global,
     published: &Published<StoreWriter<J>>,

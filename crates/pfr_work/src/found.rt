@@ -31,7 +31,7 @@ pub(crate) struct FoundOut<J: OfRun> {
 }
 
 impl<J: OfRun> FoundOut<J> {
-    /// Puts what was found out about one packet more behind the others, and says whether there was memory for it.
+    /// Puts what was found out about one more packet after the others, and says whether there was memory for it.
     pub(crate) fn put(&mut self, speculation: Speculation) -> bool
         requires { J.job ≡ Some (arc_value speculation.job) }
     {

@@ -1,6 +1,8 @@
 //! Laws of the ends of runs, each the contract of a function that does nothing.
 ghost use Rattle.pfr_work.specs.Ends.{Reached};
-ghost use Rattle.pfr_work.specs.Ties.{Ties};
+ghost use Rattle.pfr_work.specs.Ties.{RefusedEndsTie, WellEndsTie};
+
+use pfr_feed::Feed;
 
 /// Which states of the speculative machine are the end of a run. The batches follow one another up to the packets opened, and of
 /// each the numbers below its word are drawn, once and in their order. World, tables and outputs are those of the packets
@@ -10,10 +12,11 @@ pub fn reached()
     ensures { Reached }
 {}
 
-/// What the trace of a run of workers shows. Whatever entries it has, some state of the speculative machine is the end of a run,
-/// and its batches are those of the entries: each has that count of packets and that word, and each worker drew of it the
-/// numbers that its pass has, in that order. In this state all packets of the batches are opened, and any number of them may be
-/// committed. By `reached` a list of events leads to it.
-pub fn traces_are_of_ends()
-    ensures { Ties }
+/// How each run of workers ends: in a state of the speculative machine. Its batches are those that the feed gave, in order. The
+/// entries of the trace show its claim words and who drew which numbers; of a batch whose passes didn't all come back they show how
+/// many packets it has. As many packets are committed as the book has counted, and the published list is the changes of the packets
+/// published. By [`reached`] a list of events leads to that state.
+pub fn runs_end_in_the_machine<F: Feed>()
+    ensures well { WellEndsTie F.transitions }
+    ensures refused { RefusedEndsTie F.transitions }
 {}

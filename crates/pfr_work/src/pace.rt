@@ -1,108 +1,129 @@
-//! How many packets it pays to have evaluated ahead.
+//! When workers rest or are given up, how many of them are given a batch, and how many of its packets they evaluate ahead.
+//!
+//! The answers depend on what batches came to, and on no clock. So what things cost is reckoned in rules: as long as asking a packet
+//! one rule takes, about 8 ns (`bench/README.md`, `stateless` with 100 and with 1000 rules).
 
-use crate::sample::Sample;
-use pfr_packet::Job;
+// What things cost, in rules.
 
-/// To hand a result over takes about as long as to ask a packet so many rules, and so does to have a worker begin a batch.
+/// Handing a result over: 45 rules were measured, and the rest is a margin.
 const HANDING: u64 = 60;
 
+/// Having a worker begin a batch, which is reckoned as 12 us: it is woken, and may take the processor of the calling thread.
 const STARTING: u64 = 1500;
 
-/// To show workers a change of the table takes about as long as to ask a packet so many rules: two more copies take it over.
+/// Showing workers a change of the table: two more copies take it over. If many packets change it, that is a third of a run's time.
 const SHOWING: u64 = 100;
 
-/// To evaluate a packet ahead takes about as long as to ask so many rules beside its own. To take one over whose result holds is reckoned
-/// as long for the committer as to ask so many rules, and where the packet changes the table so many more. That is somewhat more than it
-/// takes: one worker too many slows all threads down, as they share caches and processors.
+/// Evaluating a packet ahead, beside its own rules.
 const EVALUATING: u64 = 100;
 
+/// Taking over a packet whose result holds. It takes somewhat less, but one worker too many slows all threads down.
 const TAKING: u64 = 100;
 
+/// What a packet that changes the table takes beside. If each packet makes a state after 1000 rules, three workers keep up: on four
+/// processors the run is 2.6 times as quick as without workers, and 2.4 times with a fourth one.
 const CHANGING: u64 = 300;
 
-/// So many packets are evaluated ahead before it is judged whether that pays: the first of a run, and of a batch behind a rest.
+// Numbers of packets.
+
+/// The packets that are evaluated ahead before it is judged whether that pays. A trial that doesn't pay is lost, so they are few.
 const TRIAL: u64 = 256;
 
-/// For how many packets workers rest at first, and at most. Each rest takes four times as many as the one before.
+/// The packets of the first rest. The table is shown meanwhile, in vain if workers are given up after it, so they are few.
 const FIRST_REST: u64 = 1024;
 
+/// How many times as long as the one before a rest is.
+const GROWTH: u64 = 4;
+
+/// The packets of the longest rest. A long run that workers don't serve tries them with one packet in a thousand.
 const LONGEST_REST: u64 = 262_144;
 
-/// Of how many packets that are evaluated ahead it is looked at one, how many rules it is asked about: until it is known whether that
-/// pays, and then. At least so many have to be looked at before it is told how many rules a packet is asked about.
-const ONE_OF_FEW: u64 = 16;
-
-const ONE_OF_MANY: u64 = 4096;
-
+/// The packets that have to come before the number of rules that a packet is asked about is estimated anew.
 const LOOKS: u64 = 8;
 
-/// Says of each batch how many of its packets workers evaluate ahead.
-///
-/// A result that holds saves asking the rules, but each result has to be handed over, and each worker to begin each batch. So
-/// workers pay where there are many rules and results hold, and not where packets go by the states that packets of the same
-/// batch change. Where a batch didn't pay they rest, and are tried again from time to time. Where few workers keep up with the
-/// committer no more of them are given a batch, since each one that begins it takes a processor from the others for a while. It
-/// hangs on the ruleset and the capture alone, and not on time.
-///
-/// Where there are too few rules workers are given up for good as soon as they were judged. While they rest the table at which they
-/// look takes each change all the same. So where many packets change it, they are given up once enough packets have come to tell:
-/// at once where they never paid, else once they didn't pay twice.
+/// Many packets change the table if one in eight does.
+const FEW: u64 = 8;
+
+/// The packets that tell whether many change the table: those of a trial and of the first rest.
+const ENOUGH: u64 = TRIAL + FIRST_REST;
+
+/// What a batch came to, once it is taken.
 #[derive(Clone, Copy)]
-pub(crate) struct Pace {
+pub struct BatchReport {
+    /// The number of its packets.
+    pub packets: u64,
+    /// How many of them were given to workers, its first ones: 0 while workers rest.
+    pub evaluated_ahead: u64,
+    /// How many the committer evaluated itself: those without a result, and those whose result didn't hold.
+    pub rerun: u64,
+    /// How many changes of the table they made.
+    pub changes: u64,
+    /// How many rules they were asked about, in all.
+    pub visited_rules: u64,
+}
+
+/// Says of each batch how many of its packets workers evaluate ahead, and how many workers do.
+///
+/// A result that holds saves asking the rules. But each result has to be handed over, each worker has to begin each batch, and each
+/// change of the table has to be shown. So workers pay if packets are asked about many rules and results hold. They don't if packets
+/// match states that packets of the same batch change. After a batch that didn't pay workers rest, and are tried again after that.
+/// Once a batch has paid, the next one is given to the fewest workers that keep up with the committer.
+///
+/// If the ruleset has too few rules for workers, they are given up as soon as they are judged. The table that they look at takes each
+/// change while they rest, too. So if many packets change it, they are given up once enough packets have come to tell: at once if
+/// they never paid, else after they didn't pay twice.
+#[derive(Clone, Copy)]
+pub struct Pace {
     workers: u64,
+    /// The number of rules of the ruleset.
     rules: u64,
-    /// How many rules a packet is asked about: all, as long as none has told; and what was seen of packets since it was told last.
-    asks: u64,
-    seen: Sample,
-    /// How many packets were evaluated ahead so far, and whether it paid the last time.
+    /// How many rules a packet is asked about: all of them until batches have told.
+    asked: u64,
+    /// The packets that came since `asked` was estimated last, and how many rules they were asked about in all.
+    seen_packets: u64,
+    seen_rules: u64,
+    /// How many packets were evaluated ahead so far.
     evaluated: u64,
+    /// Whether the batch that was judged last paid, and whether any did.
     pays: bool,
-    /// So many workers are needed to keep up with the committer: all, as long as no batch has told how many are.
-    needed: u64,
-    /// Whether it paid at any time.
     has_paid: bool,
+    /// How many workers keep up with the committer: all of them until a batch has paid.
+    needed: u64,
     /// For how many packets workers rest from here on, and for how many they do the next time.
-    rests: u64,
+    resting: u64,
     next_rest: u64,
-    /// How many packets were taken since the last time that it was judged, and how many changes they made.
+    /// The packets that came since a batch was judged last, and how many changes of the table they made.
     taken: u64,
     changed: u64,
     given_up: bool,
 }
 
-/// The least number of workers that evaluate packets more quickly than the committer takes them over, where each is asked about so many
-/// rules, in a batch of so many packets that made so many changes of the table.
-fn needed_for(rules: u64, count: u64, changed: u64) -> u64 {
-    let evaluating = rules.saturating_add(EVALUATING).saturating_mul(count);
-    let taking = count.saturating_mul(TAKING);
-    let changing = changed.saturating_mul(CHANGING);
+/// The fewest workers that evaluate the packets of a batch more quickly than the committer takes them over, if each packet is asked
+/// about `asked` rules.
+fn fewest_for(asked: u64, batch: BatchReport) -> u64 {
+    let evaluating = asked
+        .saturating_add(EVALUATING)
+        .saturating_mul(batch.packets);
+    let taking = batch.packets.saturating_mul(TAKING);
+    let changing = batch.changes.saturating_mul(CHANGING);
     let slower = evaluating / taking.saturating_add(changing).max(1);
     slower.saturating_add(1)
 }
 
-/// Many packets change the table where one of so many does. So many have to come before that is known.
-const FEW: u64 = 8;
-
-const ENOUGH: u64 = TRIAL + FIRST_REST;
-
 impl Pace {
-    /// That of a run of a job by so many workers. No batch has come yet.
-    pub(crate) fn new(job: &Job, workers: u64) -> Pace {
-        let (filter, translation) = job.rules().counts();
-        let rules = u64::from(filter).saturating_add(u64::from(translation));
+    /// The pace of a run with `workers` workers by a ruleset with `rules` rules, before its first batch.
+    pub fn new(rules: u64, workers: u64) -> Pace {
         Pace {
             workers,
             rules,
-            asks: rules,
-            seen: Sample {
-                packets: 0,
-                rules: 0,
-            },
+            asked: rules,
+            seen_packets: 0,
+            seen_rules: 0,
             evaluated: 0,
             pays: false,
-            needed: workers,
             has_paid: false,
-            rests: 0,
+            needed: workers,
+            resting: 0,
             next_rest: FIRST_REST,
             taken: 0,
             changed: 0,
@@ -111,18 +132,18 @@ impl Pace {
     }
 
     /// Whether workers are given up for good.
-    pub(crate) fn has_given_up(&self) -> bool {
+    pub fn has_given_up(&self) -> bool {
         self.given_up
     }
 
     /// Whether no packet of the next batch is evaluated ahead.
-    pub(crate) fn rests(&self) -> bool {
-        self.given_up || self.rests > 0
+    pub fn rests(&self) -> bool {
+        self.given_up || self.resting > 0
     }
 
-    /// How many packets of the next batch are evaluated ahead, its first ones: none while workers rest, and few as long as it isn't
-    /// known that it pays.
-    pub(crate) fn ahead(&self) -> u64 {
+    /// How many packets of the next batch are evaluated ahead at most, its first ones: none while workers rest, 256 until it is
+    /// known that workers pay, and then all.
+    pub fn ahead(&self) -> u64 {
         if self.rests() {
             0
         } else if self.pays {
@@ -132,75 +153,48 @@ impl Pace {
         }
     }
 
-    /// To how many workers the next batch is given: to none while they rest.
-    pub(crate) fn workers(&self) -> u64 {
+    /// How many workers are given the next batch: none while they rest.
+    pub fn workers(&self) -> u64 {
         if self.rests() { 0 } else { self.needed }
     }
 
-    /// Whether no batch is opened behind those that are open, which have so many packets: they tell whether it pays, which isn't known.
-    pub(crate) fn waits(&self, open: u64) -> bool {
-        !self.pays && open >= TRIAL
+    /// Whether no batch is opened after those that are open, which have `open_packets` packets in all. If it isn't known whether
+    /// workers pay, 256 packets tell.
+    pub fn waits(&self, open_packets: u64) -> bool {
+        !self.pays && open_packets >= TRIAL
     }
 
-    /// The packets whose numbers have none of these bits are looked at, how many rules they are asked about.
-    pub(crate) fn others(&self) -> u64 {
-        if self.pays {
-            ONE_OF_MANY - 1
-        } else {
-            ONE_OF_FEW - 1
-        }
-    }
-
-    /// Takes note of how many rules some packets were asked about.
-    pub(crate) fn saw(&mut self, some: Sample) {
-        self.seen.packets = self.seen.packets.saturating_add(some.packets);
-        self.seen.rules = self.seen.rules.saturating_add(some.rules);
-        if self.seen.packets >= LOOKS {
-            self.asks = self.seen.rules / self.seen.packets.max(1);
-            self.seen = Sample {
-                packets: 0,
-                rules: 0,
-            };
-        }
-    }
-
-    /// What evaluating packets ahead saves for each whose result holds, where so many rules are asked: in rules. One worker alone saves
-    /// what the committer does beside it, and that is what handing over costs again.
-    fn saves(&self, rules: u64) -> u64 {
-        rules.saturating_sub(rules / self.workers.max(1))
-    }
-
-    /// Whether it pays to evaluate a batch of so many packets ahead that made so many changes, where so many packets were and so many of
-    /// their results held.
-    fn pays_for(&self, count: u64, changed: u64, evaluated: u64, held: u64) -> bool {
-        let handing = count.saturating_mul(HANDING);
-        let starting = self.needed.saturating_mul(STARTING);
-        let showing = changed.saturating_mul(SHOWING);
-        let costs = handing.saturating_add(starting).saturating_add(showing);
-        let saved = held
-            .saturating_mul(self.saves(self.asks))
-            .saturating_mul(count);
-        saved >= evaluated.saturating_mul(costs)
-    }
-
-    /// Takes note of a batch that was taken, of so many packets. Its first ones, at most so many, were evaluated ahead, and so many were
-    /// evaluated by the committer. They made so many changes of the table.
-    pub(crate) fn note(&mut self, count: u64, most: u64, own: u64, changed: u64) {
-        self.taken = self.taken.saturating_add(count);
-        self.changed = self.changed.saturating_add(changed);
-        if self.rests() || most == 0 {
-            self.rests = self.rests.saturating_sub(count);
+    /// Takes note of a batch that was taken. Batches come in their order.
+    pub fn note(&mut self, batch: BatchReport) {
+        self.estimate(batch);
+        self.taken = self.taken.saturating_add(batch.packets);
+        self.changed = self.changed.saturating_add(batch.changes);
+        if self.rests() || batch.evaluated_ahead == 0 {
+            self.resting = self.resting.saturating_sub(batch.packets);
             return;
         }
-        let evaluated = most.min(count);
-        self.evaluated = self.evaluated.saturating_add(evaluated);
-        if self.evaluated < TRIAL {
-            return;
+        self.evaluated = self.evaluated.saturating_add(batch.evaluated_ahead);
+        if self.evaluated >= TRIAL {
+            self.judge(batch);
         }
-        let held = count.saturating_sub(own);
-        self.pays = self.pays_for(count, changed, evaluated, held);
+    }
+
+    /// Estimates how many rules a packet is asked about, if enough packets have come since that was done last.
+    fn estimate(&mut self, batch: BatchReport) {
+        self.seen_packets = self.seen_packets.saturating_add(batch.packets);
+        self.seen_rules = self.seen_rules.saturating_add(batch.visited_rules);
+        if self.seen_packets >= LOOKS {
+            self.asked = self.seen_rules / self.seen_packets;
+            self.seen_packets = 0;
+            self.seen_rules = 0;
+        }
+    }
+
+    /// Judges by a batch whether workers pay.
+    fn judge(&mut self, batch: BatchReport) {
+        self.pays = self.pays_for(batch);
         if self.pays {
-            self.needed = needed_for(self.asks, count, changed).min(self.workers);
+            self.needed = fewest_for(self.asked, batch).min(self.workers);
             self.has_paid = true;
             self.next_rest = FIRST_REST;
         } else {
@@ -210,12 +204,31 @@ impl Pace {
         self.changed = 0;
     }
 
-    /// Whether there are rules enough that workers may pay.
+    /// What a result that holds saves, in rules, if a packet is asked about `asked` rules. The committer could ask as many as one
+    /// worker meanwhile, so one worker alone saves nothing.
+    fn saves(&self, asked: u64) -> u64 {
+        asked.saturating_sub(asked / self.workers.max(1))
+    }
+
+    /// Whether it pays to evaluate a whole batch ahead, if as large a share of its results holds as of those that were.
+    fn pays_for(&self, batch: BatchReport) -> bool {
+        let handing = batch.packets.saturating_mul(HANDING);
+        let starting = self.needed.saturating_mul(STARTING);
+        let showing = batch.changes.saturating_mul(SHOWING);
+        let costs = handing.saturating_add(starting).saturating_add(showing);
+        let held = batch.packets.saturating_sub(batch.rerun);
+        let saved = held
+            .saturating_mul(self.saves(self.asked))
+            .saturating_mul(batch.packets);
+        saved >= batch.evaluated_ahead.saturating_mul(costs)
+    }
+
+    /// Whether the ruleset has so many rules that workers may pay.
     fn may_pay(&self) -> bool {
         self.saves(self.rules) >= HANDING
     }
 
-    /// Whether many of the packets change the table, as far as enough have come.
+    /// Whether many packets change the table, as far as enough have come to tell.
     fn many_change(&self) -> bool {
         self.taken >= ENOUGH && self.changed.saturating_mul(FEW) >= self.taken
     }
@@ -225,7 +238,7 @@ impl Pace {
         let is_again = self.next_rest > FIRST_REST;
         let has_failed = is_again || !self.has_paid;
         self.given_up = !self.may_pay() || (has_failed && self.many_change());
-        self.rests = self.next_rest;
-        self.next_rest = self.next_rest.saturating_mul(4).min(LONGEST_REST);
+        self.resting = self.next_rest;
+        self.next_rest = self.next_rest.saturating_mul(GROWTH).min(LONGEST_REST);
     }
 }

@@ -1,239 +1,52 @@
-//! Batches that are taken while workers evaluate the next ones.
-ghost use Rattle.std.specs.Prelude.{◌≡◌, ℕ, Bool, ◌⊎◌, ◌≤◌, ◌<◌, ◌+◌, ◌-◌, ◌*◌, ◌++◌, ◌∷◌, ◌^◌, [], true, cond, length, vec_len, List, IfOk, IfSome, IfNone, MatchResult, OnOk, OnErr, Some};
-ghost use Rattle.std.specs.Arc.{arc_value};
-ghost use Rattle.std.specs.List.{All};
-ghost use Rattle.std.specs.Option.{option_map};
-ghost use Rattle.pfr_headers.specs.View.{view_of};
-ghost use Rattle.pfr_capture.specs.declared.capture.Record.{Record};
+//! The turns of a run with workers.
+ghost use Rattle.std.specs.Prelude.{◌≡◌, ◌≤◌, ◌<◌, ◌+◌, ◌-◌, ◌*◌, ◌++◌, ◌^◌, ℕ, [], true, false, cond, length, map, vec_len, List, OnOk, OnErr, Some};
+ghost use Rattle.pfr_claims.specs.Batches.{Batch as ClaimsOf};
 ghost use Rattle.pfr_packet.specs.Job.{RunJob};
 ghost use Rattle.pfr_commit.specs.Books.{StandsAt, job_of};
-ghost use Rattle.pfr_commit.specs.Emissions.{listed, texts_of};
-ghost use Rattle.pfr_commit.specs.Found.{IsOfJob};
 ghost use Rattle.pfr_commit.specs.World.{opening};
-ghost use Rattle.pfr_published.specs.Ends.{list_of};
-ghost use Rattle.pfr_turns.specs.Batches.{records_of};
-ghost use Rattle.pfr_turns.specs.Runs.{Cut, Over, Refused, Went};
-ghost use Rattle.pfr_turns.specs.Turns.{AddsEntry, Comes, CutsShort, Fits, SoFar, TakesBatch, TakesWhole, mapped};
-ghost use Rattle.pfr_turns.specs.declared.turn.Turn.TheVariants.{GoesOn};
+ghost use Rattle.pfr_published.specs.Ends.{is_shown, list_of};
+ghost use Rattle.pfr_feed.specs.declared.turn.Turn.TheVariants.{GoesOn};
+ghost use Rattle.pfr_work.specs.Seen.{seen_of};
+ghost use Rattle.pfr_work.specs.Traces.{CameBack, RunsRefused, RunsWell};
+ghost use Rattle.pfr_work.specs.Turns.{Comes, Extends, Fits, SoFar};
+ghost use Rattle.pfr_work.specs.Waiting.{AllRoom, claims_in, count_in, records_in, workers_in};
 
 use crate::batch::Batch;
 use crate::course::Course;
-use crate::evaluator::speculations;
 use crate::found::{FoundOut, OfRun};
-use crate::gate::Gate;
-use crate::reading::{Open, read_turn};
-use crate::run::Trace;
-use crate::sample::sample_of;
-use pfr_capture::Record;
-use pfr_commit::{Book, Changes, Emitted, Reruns};
-use pfr_headers::View;
+use crate::oldest::take_oldest;
+use crate::reading::{Open, read_ahead};
+use crate::trace::Trace;
+use pfr_commit::{Book, Gate};
+use pfr_feed::{Feed, Turn};
 use pfr_history::{History, Naming};
 use pfr_published::{Published, StoreWriter};
-use pfr_record::Speculation;
 use pfr_states::Change;
-use pfr_turns::{Feed, Room, Turn, add_entry, oldest_of, reads_ahead, show};
-use pfr_workers::{Crew, Finished, Openings};
+use pfr_workers::{Crew, Finished};
 use std::alloc::{AllocError, Global};
 use std::collections::VecDeque;
-use std::sync::{Arc, Wait};
+use std::sync::Wait;
+use std::sync::atomic::{AtomicBool, Ordering};
 use std::thread::Threads;
 
-/// A gate that is told of packets that the committer evaluates.
-#[derive(Drop)]
-struct Watched<'a, G> {
-    gate: &'a G,
-}
+/// The most batches that are held at once: one that is taken, and two that were read ahead.
+const HELD: usize = 3;
 
-impl<G: Gate> Reruns for Watched<'_, G> {
-    fn runs_again(&self, number: u64) {
-        self.gate.ran_again(number);
-    }
-}
-
-/// What a batch adds, and what it does to the table.
-#[derive(Drop)]
-struct Committed {
-    piece: Emitted,
-    changes: Changes,
-}
-
-/// Has a book take the packets of a batch, with what was found out about them. An empty list is lent for what they do to the table.
-fn commit<W: Reruns>(
-    alloc: Global,
-    book: &mut Book,
-    room: Room,
-    changes: Changes,
-    packets: &[(Record, View)],
-    groups: Vec<Vec<Speculation>>,
-    reruns: &W,
-) -> Result<Committed, AllocError>
-    requires viewed { All (λ packet. packet.1 ≡ view_of packet.0.link packet.0.bytes.items) packets.now }
-    requires few { book.old.count + length packets.now ≤ 2 ^ 43 }
-    requires own { All (λ group. All (IsOfJob (job_of book.old)) group.items) groups.items }
-    requires none { listed changes ≡ [] }
-    ensures job { book.new.job ≡ book.old.job }
-    ensures taken { IfOk result (λ it. TakesBatch book.old book.new (records_of packets.now) (texts_of it.piece) (listed it.changes)) }
-    ensures counted { OnOk result (book.new.count ≡ book.old.count + length packets.now) }
-    ensures refused { OnErr result (book.new.is_over ≡ true) }
+/// Whether a batch is read ahead next: as long as the reading goes on and fewer than three wait, or none if they are taken one at a
+/// time.
+fn reads_ahead<T: Drop>(is_over: bool, waiting: &VecDeque<T>, one_at_a_time: bool) -> bool
+    ensures yes { result ≡ true → (is_over ≡ false) × (length waiting.now.items < 3) }
+    ensures no { result ≡ false → waiting.now.items ≡ [] → is_over ≡ true }
 {
-    let mut piece = room.piece(alloc);
-    piece.changes = Some(changes);
-    book.commit_own_batch(packets, groups, reruns, &mut piece)?;
-    match piece.changes.take() {
-        Some(changes) => Ok(Committed { piece, changes }),
-        None => unreachable!(),
+    if one_at_a_time {
+        !is_over && waiting.is_empty()
+    } else {
+        !is_over && waiting.len() < HELD
     }
 }
 
-/// A batch that a book took, what it adds, and what it did to the table.
-#[derive(Drop)]
-struct Taken<J: OfRun> {
-    batch: Arc<Batch<J>>,
-    piece: Emitted,
-    changes: Changes,
-}
-
-/// Waits for the workers of a batch, and has a book take it.
-fn take_batch<J: OfRun + Send + Sync, K: Naming + Send + Sync, R: Wait, G: Gate>(
-    rt: &R,
-    alloc: Global,
-    book: &mut Book,
-    course: &mut Course,
-    oldest: Open<J, K>,
-    gate: &G,
-) -> Result<Taken<J>, AllocError>
-    requires job { J.job ≡ Some (job_of book.old) }
-    requires few { book.old.count + length (records_of (arc_value oldest.batch).packets.items) ≤ 2 ^ 43 }
-    ensures job { book.new.job ≡ book.old.job }
-    ensures batch { IfOk result (λ taken. taken.batch ≡ oldest.batch) }
-    ensures taken { IfOk result (λ taken. TakesBatch book.old book.new (records_of (arc_value oldest.batch).packets.items) (texts_of taken.piece) (listed taken.changes)) }
-    ensures counted { OnOk result (book.new.count ≡ book.old.count + length (records_of (arc_value oldest.batch).packets.items)) }
-    ensures claims { OnOk result (AddsEntry oldest.workers oldest.count course.old.batches.items course.new.batches.items) }
-    ensures refused { OnErr result ((book.new ≡ book.old) ⊎ (book.new.is_over ≡ true)) }
-    ensures claims_refused { OnErr result ((course.new.batches.items ≡ course.old.batches.items) ⊎ AddsEntry oldest.workers oldest.count course.old.batches.items course.new.batches.items) }
-{
-    let sample = sample_of(alloc, book, &oldest.batch, course.pace.others());
-    course.pace.saw(sample);
-    let Finished {
-        groups,
-        batch,
-        gathered,
-    } = oldest.finish(rt, alloc);
-    let Some(gathered) = gathered else {
-        return Err(AllocError);
-    };
-    add_entry(&mut course.batches, gathered)?;
-    let groups = speculations(alloc, groups)?;
-    let own = book.own();
-    let packets = batch.packets.as_slice();
-    let reruns = Watched { gate };
-    let changes = course.no_changes(alloc)?;
-    let Committed { piece, changes } = commit(
-        alloc,
-        book,
-        course.room,
-        changes,
-        packets,
-        groups,
-        &reruns,
-    )?;
-    let own = book.own().saturating_sub(own);
-    course.changed = changes.len();
-    course.pace.note(packets.len() as u64, batch.most, own, course.changed as u64);
-    course.room = Room::of(&piece);
-    Ok(Taken {
-        batch,
-        piece,
-        changes,
-    })
-}
-
-/// Waits for the workers of a batch, has a book take it, and hands a feed what it adds. It answers what the batch did to the table,
-/// unless its piece wasn't taken whole.
-fn take_oldest<J: OfRun + Send + Sync, K: Naming + Send + Sync, R: Wait, F: Feed, G: Gate>(
-    rt: &R,
-    alloc: Global,
-    book: &mut Book,
-    feed: &mut F,
-    course: &mut Course,
-    oldest: Open<J, K>,
-    gate: &G,
-) -> Result<Option<Changes>, AllocError>
-    requires job { J.job ≡ Some (job_of book.old) }
-    requires few { book.old.count + length (records_of (arc_value oldest.batch).packets.items) ≤ 2 ^ 43 }
-    ensures told { F.told feed.new ≡ F.told feed.old }
-    ensures names { F.names feed.new ≡ F.names feed.old }
-    ensures given { F.given feed.new ≡ F.given feed.old }
-    ensures job { book.new.job ≡ book.old.job }
-    ensures took { IfOk result (λ taken. IfSome taken (λ changes. TakesWhole F.takes F.rests book.old book.new feed.old feed.new (records_of (arc_value oldest.batch).packets.items) (listed changes))) }
-    ensures cut { IfOk result (λ taken. IfNone taken (CutsShort F.cuts book.old book.new feed.old feed.new (records_of (arc_value oldest.batch).packets.items))) }
-    ensures counted { OnOk result (book.new.count ≡ book.old.count + length (records_of (arc_value oldest.batch).packets.items)) }
-    ensures claims { OnOk result (AddsEntry oldest.workers oldest.count course.old.batches.items course.new.batches.items) }
-    ensures refused { OnErr result (((book.new ≡ book.old) ⊎ (book.new.is_over ≡ true)) × (feed.new ≡ feed.old)) }
-    ensures claims_refused { OnErr result ((course.new.batches.items ≡ course.old.batches.items) ⊎ AddsEntry oldest.workers oldest.count course.old.batches.items course.new.batches.items) }
-{
-    let Taken {
-        batch,
-        piece,
-        changes,
-    } = take_batch(rt, alloc, book, course, oldest, gate)?;
-    if !feed.take(piece) {
-        return Ok(None);
-    }
-    if let Some(
-        Batch {
-            packets,
-            clocks: _,
-            first: _,
-            most: _,
-            told: _,
-        },
-    ) = Arc::into_inner(batch)
-    {
-        feed.give_back(packets);
-    }
-    Ok(Some(changes))
-}
-
-/// Has a book take a batch, hands a feed what that adds, and shows what it did to the table.
-fn take_turn<J: OfRun + Send + Sync, K: Naming + Send + Sync, R: Wait, F: Feed, G: Gate>(
-    rt: &R,
-    alloc: Global,
-    book: &mut Book,
-    feed: &mut F,
-    course: &mut Course,
-    oldest: Open<J, K>,
-    history: &History<J, Change>,
-    published: Published<StoreWriter<J>>,
-    gate: &G,
-) -> (Published<StoreWriter<J>>, Turn)
-    requires job { J.job ≡ Some (job_of book.old) }
-    requires few { book.old.count + length (records_of (arc_value oldest.batch).packets.items) ≤ 2 ^ 43 }
-    requires count { oldest.count ≡ length (records_of (arc_value oldest.batch).packets.items) }
-    ensures told { F.told feed.new ≡ F.told feed.old }
-    ensures names { F.names feed.new ≡ F.names feed.old }
-    ensures given { F.given feed.new ≡ F.given feed.old }
-    ensures job { book.new.job ≡ book.old.job }
-    ensures counted { result.1 ≡ GoesOn → book.new.count ≡ book.old.count + length (records_of (arc_value oldest.batch).packets.items) }
-    ensures comes { (job : RunJob) (start : F) (later : List (List Record)) (is_over : Bool) → job_of book.old ≡ job → SoFar F.gives F.ends F.takes F.rests job start book.old feed.old (records_of (arc_value oldest.batch).packets.items ∷ later) is_over course.old.batches.items (Some (list_of published)) oldest.workers
-        → Comes F.gives F.ends F.takes F.rests F.cuts job start result.1 book.new feed.new later is_over course.new.batches.items (Some (list_of result.0)) oldest.workers }
-{
-    match take_oldest(rt, alloc, book, feed, course, oldest, gate) {
-        Ok(Some(changes)) => {
-            let are_given_up = course.pace.has_given_up();
-            let (shown, outcome) = show(rt, alloc, history, published, changes, are_given_up);
-            match outcome {
-                Ok(()) => (shown, Turn::GoesOn),
-                Err(_) => (shown, Turn::IsRefused),
-            }
-        }
-        Ok(None) => (published, Turn::IsOver),
-        Err(_) => (published, Turn::IsRefused),
-    }
-}
-
-/// One turn of a run: reads a batch ahead where there is room for it, or takes the oldest one that waits.
-fn take_one_turn<
+/// One turn of a run: reads a batch ahead, or takes the oldest one that waits.
+fn take_turn<
     J: OfRun + Send + Sync,
     K: Naming + Send + Sync,
     R: Threads + Wait + Sync,
@@ -244,24 +57,28 @@ fn take_one_turn<
     alloc: Global,
     book: &mut Book,
     feed: &mut F,
-    course: &mut Course,
+    course: &mut Course<K>,
     waiting: &mut VecDeque<Open<J, K>>,
     is_over: &mut bool,
     crew: &Crew<K, Batch<J>, FoundOut<J>>,
-    openings: &mut Openings<K>,
     history: &History<J, Change>,
     published: Published<StoreWriter<J>>,
     gate: &G,
 ) -> (Published<StoreWriter<J>>, Turn)
     requires job { J.job ≡ Some (job_of book.old) }
     requires workers { (0 < vec_len crew.now.desks) × (vec_len crew.now.desks ≤ 64) }
-    requires fits { Fits waiting.old.items (λ open_batch. records_of (arc_value open_batch.batch).packets.items) (λ open_batch. open_batch.count) (λ open_batch. open_batch.workers) book.old.count (F.given feed.old) (vec_len crew.now.desks) }
+    requires fits { Fits waiting.old.items records_in count_in workers_in book.old.count (F.given feed.old) (vec_len crew.now.desks) }
+    requires room { AllRoom (length waiting.old.items) course.old.entries course.old.lost }
     ensures told { F.told feed.new ≡ F.told feed.old }
     ensures names { F.names feed.new ≡ F.names feed.old }
     ensures job { book.new.job ≡ book.old.job }
-    ensures fits { result.1 ≡ GoesOn → Fits waiting.new.items (λ open_batch. records_of (arc_value open_batch.batch).packets.items) (λ open_batch. open_batch.count) (λ open_batch. open_batch.workers) book.new.count (F.given feed.new) (vec_len crew.now.desks) }
-    ensures comes { (job : RunJob) (start : F) → job_of book.old ≡ job → SoFar F.gives F.ends F.takes F.rests job start book.old feed.old (mapped waiting.old.items (λ open_batch. records_of (arc_value open_batch.batch).packets.items)) is_over.old course.old.batches.items (Some (list_of published)) (vec_len crew.now.desks)
-        → Comes F.gives F.ends F.takes F.rests F.cuts job start result.1 book.new feed.new (mapped waiting.new.items (λ open_batch. records_of (arc_value open_batch.batch).packets.items)) is_over.new course.new.batches.items (Some (list_of result.0)) (vec_len crew.now.desks) }
+    ensures fits { result.1 ≡ GoesOn → Fits waiting.new.items records_in count_in workers_in book.new.count (F.given feed.new) (vec_len crew.now.desks) }
+    ensures room { AllRoom (length waiting.new.items) course.new.entries course.new.lost }
+    ensures gave_up { course.new.gave_up ≡ false → course.old.gave_up ≡ false }
+    ensures shown { course.new.gave_up ≡ false → is_shown result.0 ≡ is_shown published }
+    ensures comes { (job : RunJob) (start : F) → job_of book.old ≡ job
+        → SoFar F.transitions job (vec_len crew.now.desks) start book.old feed.old (map records_in waiting.old.items) is_over.old course.old.openings course.old.entries.items course.old.lost.items (map claims_in waiting.old.items) (list_of published)
+        → Comes F.transitions job (vec_len crew.now.desks) start result.1 book.new feed.new (map records_in waiting.new.items) is_over.new course.new.openings course.new.entries.items course.new.lost.items (map claims_in waiting.new.items) (list_of result.0) }
     ensures nearer { result.1 ≡ GoesOn → 3 * (2 ^ 43 - F.given feed.new) + length waiting.new.items + cond is_over.new 0 1 < 3 * (2 ^ 43 - F.given feed.old) + length waiting.old.items + cond is_over.old 0 1 }
 {
     let open = course.opened.saturating_sub(book.committed());
@@ -269,21 +86,82 @@ fn take_one_turn<
     let one_at_a_time = course.pace.rests() || course.pace.waits(open) || feed.may_wait();
     if reads_ahead(*is_over, waiting, one_at_a_time) {
         let told = published.tell();
-        let turn = read_turn(
-            rt, alloc, feed, crew, openings, course, told, waiting, is_over,
-        );
+        let turn = read_ahead(rt, alloc, feed, crew, course, told, waiting, is_over);
         return (published, turn);
     }
-    let Some(oldest) = oldest_of(waiting) else {
+    let Some(oldest) = waiting.pop_front() else {
         return (published, Turn::IsOver);
     };
-    take_turn(
+    take_oldest(
         rt, alloc, book, feed, course, oldest, history, published, gate,
     )
 }
 
+/// Waits for the workers of batches that are not taken any more, and keeps what comes back of each.
+fn finish_all<J: OfRun + Send + Sync, K: Naming + Send + Sync, R: Wait>(
+    rt: &R,
+    alloc: Global,
+    course: &mut Course<K>,
+    mut waiting: VecDeque<Open<J, K>>,
+)
+    requires room { AllRoom (length waiting.items) course.old.entries course.old.lost }
+    ensures came { (back : List ClaimsOf) → CameBack back course.old.entries.items course.old.lost.items
+        → CameBack (back ++ map claims_in waiting.items) course.new.entries.items course.new.lost.items }
+    ensures more { Extends course.old.entries.items course.new.entries.items }
+    ensures none { map claims_in waiting.items ≡ [] → course.new.lost.items ≡ course.old.lost.items }
+    ensures others { (course.new.openings ≡ course.old.openings) × (course.new.gave_up ≡ course.old.gave_up) }
+{
+    while let Some(open_batch) = waiting.pop_front() {
+        let Finished {
+            groups: _,
+            batch: _,
+            gathered,
+        } = open_batch.finish(rt, alloc);
+        let _is_whole = course.put(gathered);
+    }
+}
+
+/// Ends a run: nothing more is evaluated, and the passes of the batches that are still open are drawn to their ends.
+fn end_run<J: OfRun + Send + Sync, K: Naming + Send + Sync, R: Wait>(
+    rt: &R,
+    alloc: Global,
+    mut course: Course<K>,
+    waiting: VecDeque<Open<J, K>>,
+    published: Published<StoreWriter<J>>,
+    stop: &AtomicBool,
+) -> Trace<StoreWriter<J>, K>
+    requires room { AllRoom (length waiting.items) course.entries course.lost }
+    ensures came { (back : List ClaimsOf) → CameBack back course.entries.items course.lost.items
+        → CameBack (back ++ map claims_in waiting.items) result.batches.items result.lost.items }
+    ensures more { Extends course.entries.items result.batches.items }
+    ensures none { map claims_in waiting.items ≡ [] → result.lost.items ≡ course.lost.items }
+    ensures published { result.published ≡ Some published }
+    ensures others { (result.openings ≡ course.openings) × (result.gave_up ≡ course.gave_up) }
+{
+    stop.store(true, Ordering::Relaxed);
+    finish_all(rt, alloc, &mut course, waiting);
+    let Course {
+        openings,
+        entries,
+        lost,
+        pace: _,
+        gave_up,
+        room: _,
+        changed: _,
+        opened: _,
+        clock: _,
+    } = course;
+    Trace {
+        batches: entries,
+        published: Some(published),
+        lost,
+        openings,
+        gave_up,
+    }
+}
+
 /// Takes the batches of a feed one after the other, while workers evaluate the packets of the next two.
-pub(crate) fn take_all<
+pub(crate) fn run_turns<
     J: OfRun + Send + Sync,
     K: Naming + Send + Sync,
     R: Threads + Wait + Sync,
@@ -294,28 +172,30 @@ pub(crate) fn take_all<
     alloc: Global,
     mut book: Book,
     mut feed: F,
-    mut course: Course,
+    mut course: Course<K>,
     crew: &Crew<K, Batch<J>, FoundOut<J>>,
-    openings: &mut Openings<K>,
     history: &History<J, Change>,
     mut published: Published<StoreWriter<J>>,
     gate: &G,
-) -> (Book, F, Trace<StoreWriter<J>>, Result<(), AllocError>)
+    stop: &AtomicBool,
+) -> (Book, F, Trace<StoreWriter<J>, K>, Result<(), AllocError>)
     requires start { StandsAt book (opening (job_of book)) }
     requires job { J.job ≡ Some (job_of book) }
     requires workers { (0 < vec_len crew.now.desks) × (vec_len crew.now.desks ≤ 64) }
-    requires batches { course.batches.items ≡ [] }
-    requires published { list_of published ≡ [] }
+    requires openings { course.openings ≡ [] }
+    requires entries { (course.entries.items ≡ []) × (course.lost.items ≡ []) }
+    requires room { AllRoom 0 course.entries course.lost }
+    requires published { (list_of published ≡ []) × (is_shown published ≡ true) }
     ensures job { result.0.job ≡ book.job }
     ensures told { F.told result.1 ≡ F.told feed }
     ensures names { F.names result.1 ≡ F.names feed }
-    ensures ok { OnOk result.3 (Went F.gives F.ends F.takes F.rests (job_of book) feed (λ calls at. Over result.0 result.1 result.2.batches.items (option_map list_of result.2.published) (vec_len crew.now.desks) calls at ⊎ Cut F.cuts (job_of book) result.0 result.1 result.2.batches.items (option_map list_of result.2.published) (vec_len crew.now.desks) calls at)) }
-    ensures err { OnErr result.3 (Went F.gives F.ends F.takes F.rests (job_of book) feed (λ calls at. Refused result.0 result.1 result.2.batches.items (option_map list_of result.2.published) (vec_len crew.now.desks) calls at)) }
+    ensures ok { OnOk result.3 (RunsWell F.transitions (job_of book) (vec_len crew.now.desks) feed result.0 result.1 (seen_of list_of is_shown result.2)) }
+    ensures err { OnErr result.3 (RunsRefused F.transitions (job_of book) (vec_len crew.now.desks) feed result.0 result.1 (seen_of list_of is_shown result.2)) }
 {
     let mut waiting = VecDeque::new(alloc);
     let mut is_over = false;
     'turns: loop {
-        let (shown, turn) = take_one_turn(
+        let (shown, turn) = take_turn(
             rt,
             alloc,
             &mut book,
@@ -324,7 +204,6 @@ pub(crate) fn take_all<
             &mut waiting,
             &mut is_over,
             crew,
-            openings,
             history,
             published,
             gate,
@@ -333,12 +212,12 @@ pub(crate) fn take_all<
         match turn {
             Turn::GoesOn => {}
             Turn::IsOver => {
-                drop(waiting);
-                return (book, feed, Trace::of(course, published), Ok(()));
+                let trace = end_run(rt, alloc, course, waiting, published, stop);
+                return (book, feed, trace, Ok(()));
             }
             Turn::IsRefused => {
-                drop(waiting);
-                return (book, feed, Trace::of(course, published), Err(AllocError));
+                let trace = end_run(rt, alloc, course, waiting, published, stop);
+                return (book, feed, trace, Err(AllocError));
             }
         }
     }

@@ -1,7 +1,7 @@
 //! The views of the records of a batch.
 ghost use Rattle.std.specs.Prelude.{◌≡◌, IfOk};
 ghost use Rattle.std.specs.List.{AllZip};
-ghost use Rattle.pfr_turns.specs.Batches.{IsViewOf};
+ghost use Rattle.pfr_feed.specs.Batches.{IsViewOf};
 
 use pfr_capture::Record;
 use pfr_headers::{View, view};
@@ -20,7 +20,7 @@ fn views_in_turn(alloc: Global, records: &[Record]) -> Result<Vec<View>, AllocEr
     Ok(views)
 }
 
-/// The view of each record, from as many threads as there are processors. Where that is refused they are made one after the other.
+/// The view of each record, from as many threads as there are processors. If that is refused they are made one after the other.
 pub(crate) fn views<R: Threads + Sync>(
     rt: &R,
     alloc: Global,

@@ -3,8 +3,8 @@ use Rattle.std.specs.List.{AllZip}
 use Rattle.std.specs.Vec.Iter.{into_iter_items}
 use Rattle.std.proofs.lemmas.Bool.{false≢true, lt-ltb}
 use Rattle.pfr_capture.specs.declared.capture.Record.{Record}
-use Rattle.pfr_turns.specs.Batches.{IsViewOf}
-use Rattle.pfr_turns.proofs.ViewLemmas.{as_many, one_viewed, view_at, view_there}
+use Rattle.pfr_feed.specs.Batches.{IsViewOf}
+use Rattle.pfr_feed.proofs.ViewLemmas.{as_many, one_viewed, view_at, view_there}
 use Rattle.pfr_work.proofs.batch.with_views.Goals as goal
 
 pub loop-packet-preserved : goal.loop-packet-preserved

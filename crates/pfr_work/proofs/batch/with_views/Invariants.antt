@@ -1,6 +1,6 @@
 use Rattle.std.proofs.Common.{◌≡◌, ◌++◌}
 use Rattle.std.specs.Vec.Iter.{into_iter_items}
-use Rattle.pfr_turns.specs.Runs.{AreViewed}
+use Rattle.pfr_feed.specs.Runs.{AreViewed}
 use Rattle.pfr_work.proofs.batch.with_views.Given as goal
 
 abbrev pub invariant-loop-packet : goal.invariant-loop-packet

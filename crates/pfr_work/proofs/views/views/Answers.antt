@@ -1,6 +1,6 @@
 use Rattle.std.proofs.Common.{◌∙◌, ap}
 use Rattle.rayon.proofs.ToStd.{slice-AllZip}
-use Rattle.pfr_turns.specs.Batches.{IsViewOf}
+use Rattle.pfr_feed.specs.Batches.{IsViewOf}
 use Rattle.pfr_work.proofs.views.views.Goals as goal
 
 pub returns-in-Ok : goal.returns-in-Ok

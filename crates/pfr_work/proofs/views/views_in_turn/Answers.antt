@@ -3,8 +3,8 @@ use Rattle.std.specs.List.{AllZip}
 use Rattle.pfr_capture.specs.declared.capture.Record.{Record}
 use Rattle.pfr_headers.specs.declared.packet.View.{View}
 use Rattle.pfr_headers.specs.View.{view_of}
-use Rattle.pfr_turns.specs.Batches.{IsViewOf}
-use Rattle.pfr_turns.proofs.ViewLemmas.{taken}
+use Rattle.pfr_feed.specs.Batches.{IsViewOf}
+use Rattle.pfr_feed.proofs.ViewLemmas.{taken}
 use Rattle.pfr_work.proofs.views.views_in_turn.Goals as goal
 
 pub loop-record-preserved : goal.loop-record-preserved

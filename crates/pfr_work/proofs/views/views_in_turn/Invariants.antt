@@ -1,6 +1,6 @@
 use Rattle.std.proofs.Common.{take}
 use Rattle.std.specs.List.{AllZip}
-use Rattle.pfr_turns.specs.Batches.{IsViewOf}
+use Rattle.pfr_feed.specs.Batches.{IsViewOf}
 use Rattle.pfr_work.proofs.views.views_in_turn.Given as goal
 
 abbrev pub invariant-loop-record : goal.invariant-loop-record

@@ -1,0 +1,3 @@
+pub mod CallLemmas
+pub mod TakeLemmas
+pub mod ViewLemmas

@@ -1,0 +1,4 @@
+pub mod Batches
+pub mod Runs
+pub mod Transitions
+pub mod Turns

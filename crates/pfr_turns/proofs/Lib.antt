@@ -1,4 +1,0 @@
-pub mod CallLemmas
-pub mod TakeLemmas
-pub mod TurnLemmas
-pub mod ViewLemmas

@@ -1,5 +1,0 @@
-use Rattle.pfr_turns.specs.Runs.{AreViewed}
-use Rattle.pfr_turns.proofs.packets.viewed.Given as goal
-
-abbrev pub invariant-loop-packet : goal.invariant-loop-packet
-invariant-loop-packet l = AreViewed l.yielded l.packets.items
