@@ -5,7 +5,7 @@ use crate::files::{created, opened, ruleset_text};
 use crate::peer::{Connection, connected};
 use crate::words::{Messages, OutputNames, RunWords};
 use pfr_capture::{ReaderSource, Tail, WriterSink};
-use pfr_out::{Form, Gate, Report, Sinks, replay_job};
+use pfr_out::{Form, Gate, Report, RunSettings, Sinks, replay_job};
 use pfr_packet::Job;
 use std::io::Write;
 use std::net::Net;
@@ -37,17 +37,12 @@ pub fn replay<'a, R: Files + Net + AllocGlobal + Threads + Wait + Sync, O: Write
     let job = job_of(rt, asked)?;
     let mut source = ReaderSource::new(opened(rt, asked.capture)?);
     let mut sinks = sinks(rt, &asked.outputs)?;
-    let form = form_of(&asked.outputs.messages);
-    let report = replay_job(
-        rt,
-        &mut source,
-        job,
-        asked.batch,
-        asked.workers,
-        form,
-        &mut sinks,
-        &Unwatched,
-    )?;
+    let settings = RunSettings {
+        batch: asked.batch,
+        workers: asked.workers,
+        form: form_of(&asked.outputs.messages),
+    };
+    let report = replay_job(rt, &mut source, job, settings, &mut sinks, &Unwatched)?;
     finish(&report, out)
 }
 

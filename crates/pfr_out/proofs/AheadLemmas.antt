@@ -16,7 +16,7 @@ use Rattle.pfr_commit.specs.World.{World, opening, world_after}
 use Rattle.pfr_out.specs.declared.report.Output.{Output}
 use Rattle.pfr_out.specs.declared.report.Stop.TheVariants as stop
 use Rattle.pfr_out.specs.declared.sinks.Sinks.{Sinks}
-use Rattle.pfr_out.specs.Outputs.{AllTold, Grew, Outputs, PartWritten, header_alone, texts_alone}
+use Rattle.pfr_out.specs.Outputs.{Grew, Outputs, PartWritten, header_alone, texts_alone}
 use Rattle.pfr_out.specs.Reading.{BatchSays, End, EndsBehind, records_of, wants_memory}
 use Rattle.pfr_out.specs.Replay.{Holds, HoldsAll, HoldsAllRead, IsBoundary, OfEvery, Stopped, run_of}
 use Rattle.pfr_out.specs.Spelling.{Run}
@@ -61,7 +61,7 @@ pub full_over : (most : ℕ) (end : Option End) (waiting : List (List Record)) �
 full_over most end [] full = tt
 full_over most end (first ∷ waiting) full = (elim full.0 [ inl is ↦ inl is | inr short ↦ absurd (short.2.over refl) ], full_over most end waiting full.1)
 
--- the first one has at most so many records
+-- the first one has at most `most` records
 pub full_few : (most : ℕ) (end : Option End) (first : List Record) (later : List (List Record)) → AreFull most end (first ∷ later) → length first ≤ most
 full_few most end first later full = elim full.0 [ inl is ↦ omega (arith, is) | inr short ↦ short.1 ]
 
@@ -77,7 +77,7 @@ head_took most count after first later end full head is = elim full.0 [
   | inr short ↦ inr (short.0, short.2)
 ]
 
--- the reading goes on, or a batch waits: another one may wait behind
+-- the reading goes on, or a batch waits: another one may wait after it
 pub head_gave : (most count : ℕ) (waiting waiting' : List (List Record)) (end : Option End) → IsHead most count waiting None → IsHead most count waiting' end
 head_gave most count waiting waiting' end (inl boundary) = inl boundary
 head_gave most count waiting waiting' end (inr over) = absurd (over.1.over refl)
@@ -104,7 +104,7 @@ waits_first batch later = sum_by-cons (λ (batch : List Record). length batch) b
 
 -- ---- the reader
 
--- what is known of the text behind all records that a reader gave, by how the reading has ended
+-- what is known of the text after all records that a reader gave, by how the reading has ended
 abbrev pub Knows : (known capture : Reading) → (text later left : List ℕ) → List RecordBytes → Option End → Type 0
 Knows known capture text later left all None = (known ≡ capture) × (later ≡ left)
 Knows known capture text later left all (Some (Ok tail)) = (later ≡ left) × IsCapture text known.form all (Ok tail)
@@ -113,7 +113,7 @@ Knows known capture text later left all (Some (Err refusal.Memory)) = ⊤
 Knows known capture text later left all (Some (Err (refusal.RecordTooLong asked))) = (later ≡ left) × IsCapture text known.form all (Err (refusal.RecordTooLong asked))
 Knows known capture text later left all (Some (Err e)) = ⊥
 
--- The batches that were taken are written, and others wait behind them. Where memory was refused to the reader, it may since have read on.
+-- The batches that were taken are written, and others wait after them. If memory was refused to the reader, it may since have read on.
 pub record Ahead (run : Run) (capture : Reading) (text left : List ℕ) (told : Sinks Bool) (old new : Outputs) (world : World) (waiting : List (List Record)) (end : Option End) : Type 0 where
   pub taken : List RecordBytes
   pub known : Reading
@@ -124,7 +124,7 @@ pub record Ahead (run : Run) (capture : Reading) (text left : List ℕ) (told : 
   pub knows : Knows known capture text later left (taken ++ all_of waiting) end
 
 -- nothing was given yet, and the header was written
-pub ahead_first : (run : Run) (capture : Reading) (read left : List ℕ) (told : Sinks Bool) (old new : Outputs) → HasGiven capture read [] → (AllTold told → Grew old new (header_alone capture.header))
+pub ahead_first : (run : Run) (capture : Reading) (read left : List ℕ) (told : Sinks Bool) (old new : Outputs) → HasGiven capture read [] → Grew told old new (header_alone capture.header)
     → Ahead run capture (read ++ left) left told old new (opening run.job) [] None
 ahead_first run capture read left told old new given grew = record {
   taken = [];
@@ -276,7 +276,7 @@ ahead_over run most capture text left told old new world (Err refusal.BadMagic) 
 ahead_over run most capture text left told old new world (Err refusal.BadVersion) a head = absurd a.knows
 ahead_over run most capture text left told old new world (Err (refusal.LinkType link)) a head = absurd a.knows
 
--- memory was refused behind the last batch
+-- memory was refused after the last batch
 memory_at_end : (run : Run) (most : ℕ) (capture : Reading) (text left : List ℕ) (told : Sinks Bool) (old new : Outputs) (world : World) (end : Option End) → Ahead run capture text left told old new world [] end → MayBeShort end
     → Stopped run most text left told old new (stop.Memory world.count)
 memory_at_end run most capture text left told old new world None a short = absurd (short.over refl)
@@ -300,7 +300,7 @@ memory_stopped run most capture text left told old new world waiting end a (inr 
 -- the first batch that waits was written in part
 pub batch_cut : (run : Run) (most : ℕ) (capture : Reading) (text left : List ℕ) (told : Sinks Bool) (old mid new : Outputs) (world : World) (packets : List Record) (waiting : List (List Record)) (end : Option End) (output : Output)
     → Ahead run capture text left told old mid world (packets ∷ waiting) end → IsHead most world.count (packets ∷ waiting) end → AreFull most end (packets ∷ waiting)
-    → Add run.job world (map frame_of packets) (λ added. AllTold told → PartWritten mid new (texts_alone run added) output) → Stopped run most text left told old new (stop.Write output world.count)
+    → Add run.job world (map frame_of packets) (λ added. PartWritten told mid new (texts_alone run added) output) → Stopped run most text left told old new (stop.Write output world.count)
 batch_cut run most capture text left told old mid new world packets waiting end output a head full part =
     let count = counted_by run a.known text a.later told old mid world a.taken (all_of (packets ∷ waiting)) a.so_far in
     holds_part_of_batch run most a.known text a.later left told old mid new world a.taken (all_of waiting) packets output world.count

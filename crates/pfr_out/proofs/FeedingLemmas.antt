@@ -13,26 +13,26 @@ use Rattle.pfr_commit.specs.Books.{StandsAt}
 use Rattle.pfr_commit.specs.Emissions.{frame_of}
 use Rattle.pfr_commit.specs.World.{Texts, World, opening}
 use Rattle.pfr_commit.proofs.WorldLemmas.{world_count}
-use Rattle.pfr_turns.specs.Runs.{Call, Calls, Cut, IsPiece, Over, Point, Refused, Went, behind, first_point}
-use Rattle.pfr_turns.specs.Runs.Call.{ended, gave, rested, took}
+use Rattle.pfr_feed.specs.Runs.{Call, Calls, Cut, IsPiece, Over, Point, Refused, Went, behind, first_point}
+use Rattle.pfr_feed.specs.Runs.Call.{ended, gave, rested, took}
 use Rattle.pfr_out.specs.declared.feeding.Cut.{Cut as Why}
 use Rattle.pfr_out.specs.declared.feeding.Feeding.{Feeding}
 use Rattle.pfr_out.specs.declared.report.Stop.{Stop}
 use Rattle.pfr_out.specs.declared.report.Stop.TheVariants as stop
 use Rattle.pfr_out.specs.declared.settings.Form.{Form}
 use Rattle.pfr_out.specs.declared.sinks.Sinks.{Sinks}
-use Rattle.pfr_out.specs.Feedings.{Behind, Cuts, CutsOff, Ends, Fresh, Gives, Reads, Rests, Same, Takes, Writes, piece_alone, stop_by, stop_of}
-use Rattle.pfr_out.specs.Outputs.{AllTold, Grew, Outputs, PartWritten, RoseAt, Stay, each_of, texts_alone}
+use Rattle.pfr_out.specs.Feedings.{Behind, CutsOff, Ends, Fresh, Gives, Reads, Rests, Same, Takes, Writes, piece_alone, stop_by, stop_of, transitions_of}
+use Rattle.pfr_out.specs.Outputs.{Grew, KeepsMessages, Outputs, PartWritten, RoseAt, Stay, each_of, texts_alone}
 use Rattle.pfr_out.specs.Reading.{BatchFails, BatchSays, End, wants_memory}
 use Rattle.pfr_out.specs.Replay.{StopFails, Stopped}
 use Rattle.pfr_out.specs.Spelling.{Run}
-use Rattle.pfr_out.specs.Taking.{Add, IsLate, Reaches, SinksFail}
+use Rattle.pfr_out.specs.Taking.{Add, IsPastHeader, Reaches, SinksFail}
 use Rattle.pfr_out.proofs.AheadLemmas.{Ahead, AreFull, IsHead, ahead_ended, ahead_first, ahead_gave, ahead_over, ahead_took, batch_cut, first_head, full_more, full_over, head_gave, head_took, memory_stopped, waits, waits_first, waits_more}
 use Rattle.pfr_out.proofs.RunLemmas.{reaches}
 
 -- ---- a feed
 
--- A feed has come so far, behind its start: the world that the batches leave that were taken, those that wait, and whether the reading
+-- How far a feed has come since its start: the world after the batches that were taken, the batches that wait, and whether the reading
 -- has ended.
 pub record Progress {R S : Type 0} (tells : R → Bool) (unread : R → List ℕ) (failures : R → ℕ) (told : S → Bool) (written : S → List ℕ) (sink_failures : S → ℕ) (run : Run) (start feed : Feeding R S) (world : World) (waiting : List (List Record)) (is_over : Bool) : Type 0 where
   pub same : Same start feed
@@ -46,6 +46,7 @@ pub record Progress {R S : Type 0} (tells : R → Bool) (unread : R → List ℕ
   pub over : is_over ≡ true → feed.end ≡ None → ⊥
   pub failed : BatchFails feed.end (failures start.source.now) (failures feed.source.now)
   pub sinks_failed : Stay sink_failures start.sinks.now feed.sinks.now
+  pub messages : KeepsMessages start.channel.now.form start.sinks.now feed.sinks.now
   pub far : Behind tells unread told written start feed (λ text left told before behind. Ahead run feed.capture.now text left told before behind world waiting feed.end)
 
 same_twice : {R S : Type 0} (old mid new : Feeding R S) → Same old mid → Same mid new → Same old new
@@ -118,6 +119,7 @@ module _ {R S : Type 0} (tells : R → Bool) (unread : R → List ℕ) (failures
     over = λ is. absurd (cc is);
     failed = rw fresh.end refl;
     sinks_failed = refl;
+    messages = λ none. refl;
     far = λ t read before h grew.
         rw fresh.end (ahead_first run start.capture.now read (unread start.source.now) (each_of told start.sinks.now) before (each_of written start.sinks.now) h grew);
   }
@@ -144,6 +146,7 @@ module _ {R S : Type 0} (tells : R → Bool) (unread : R → List ℕ) (failures
         over = λ is. absurd (cc is);
         failed = subst (λ (n : ℕ). BatchFails given.end n (failures given.source.now)) (none_failed feed.end _ _ r.going p.failed) r.failed;
         sinks_failed = ap (each_of sink_failures) r.sinks ∙ p.sinks_failed;
+        messages = λ none. ap (λ (s : Sinks S). s.messages) r.sinks ∙ p.messages none;
         far = λ tells_is read old h grew.
             rw r.sinks
             (ahead_gave run feed.capture.now given.capture.now (read ++ unread start.source.now) (unread feed.source.now) (unread given.source.now) (each_of told start.sinks.now) old (each_of written feed.sinks.now)
@@ -164,6 +167,7 @@ module _ {R S : Type 0} (tells : R → Bool) (unread : R → List ℕ) (failures
     over = λ is none. cc (was.1, none);
     failed = p.failed;
     sinks_failed = p.sinks_failed;
+    messages = p.messages;
     far = p.far;
   })
   at_ended feed new world waiting is_over p (inr ending) =
@@ -181,25 +185,26 @@ module _ {R S : Type 0} (tells : R → Bool) (unread : R → List ℕ) (failures
         over = λ is none. cc (ending.1, none);
         failed = subst (λ (n : ℕ). BatchFails new.end n (failures new.source.now)) (none_failed feed.end _ _ r.going p.failed) r.failed;
         sinks_failed = ap (each_of sink_failures) r.sinks ∙ p.sinks_failed;
+        messages = λ none. ap (λ (s : Sinks S). s.messages) r.sinks ∙ p.messages none;
         far = λ tells_is read old h grew.
             rw (ending.1, r.sinks)
             (ahead_ended run feed.capture.now new.capture.now (read ++ unread start.source.now) (unread feed.source.now) (unread new.source.now) (each_of told start.sinks.now) old (each_of written feed.sinks.now) world waiting end
             (going_far feed world waiting is_over p r.going tells_is read old h grew) (rw ending.1 at (r.says (rw p.source_told tells_is))) (r.form, r.header));
       }
 
-  -- what a batch adds, where the outputs grew by its piece
+  -- what a batch adds, of outputs that took its piece
   hold : (feed : Feeding R S) (world : World) (waiting : List (List Record)) (is_over : Bool) (records : List Record) (piece : Texts) → At feed world waiting is_over → IsPiece run.job world records piece
-      → (P : (mid : Outputs) → (piece : Outputs) → Type 0) → (AllTold (each_of told feed.sinks.now) → P (each_of written feed.sinks.now) (piece_alone feed.channel.now.form feed.address piece))
-      → Add run.job world (map frame_of records) (λ added. AllTold (each_of told start.sinks.now) → P (each_of written feed.sinks.now) (texts_alone run added))
+      → (P : (told : Sinks Bool) → (piece : Outputs) → Type 0) → P (each_of told feed.sinks.now) (piece_alone feed.channel.now.form feed.address piece)
+      → Add run.job world (map frame_of records) (λ added. P (each_of told start.sinks.now) (texts_alone run added))
   hold feed world waiting is_over records piece p is P grew = record {
     added = piece;
     is = is;
-    hold = λ u.
-        let all : AllTold (each_of told feed.sinks.now) = rw p.sinks_told u in
-        rw (piece_is run feed.channel.now.form feed.address piece (form_is ∙ sym p.same.form) (address_is ∙ sym p.same.address)) (grew all);
+    hold = subst (λ (tl : Sinks Bool). P tl (texts_alone run piece)) p.sinks_told
+        (subst (λ (added : Outputs). P (each_of told feed.sinks.now) added)
+        (sym (piece_is run feed.channel.now.form feed.address piece (form_is ∙ sym p.same.form) (address_is ∙ sym p.same.address))) grew);
   }
 
-  -- so many records are committed then
+  -- how many records are committed then
   committed_next : (feed : Feeding R S) (world : World) (records : List Record) (later : List (List Record)) (is_over : Bool) → At feed world (records ∷ later) is_over → min (feed.committed + feed.most) feed.given ≡ world.count + length records
   committed_next feed world records later is_over p =
       let most = p.same.most in
@@ -232,10 +237,11 @@ module _ {R S : Type 0} (tells : R → Bool) (unread : R → List ℕ) (failures
         over = λ is none. p.over is (sym t.writes.end ∙ none);
         failed = rw (t.writes.end, t.writes.source) p.failed;
         sinks_failed = t.failed ∙ p.sinks_failed;
+        messages = λ none. t.writes.messages (p.same.form ∙ none) ∙ p.messages none;
         far = λ tells_is read old h grew.
             rw (t.writes.capture, t.writes.source, t.writes.end)
             (ahead_took run feed.capture.now (read ++ unread start.source.now) (unread feed.source.now) (each_of told start.sinks.now) old (each_of written feed.sinks.now) (each_of written taken.sinks.now)
-            world records later feed.end (p.far tells_is read old h grew) (hold feed world (records ∷ later) is_over records piece p is (λ mid added. Grew mid (each_of written taken.sinks.now) added) t.grew));
+            world records later feed.end (p.far tells_is read old h grew) (hold feed world (records ∷ later) is_over records piece p is (λ tl added. Grew tl (each_of written feed.sinks.now) (each_of written taken.sinks.now) added) t.grew));
       }
 
   -- the packets were taken back
@@ -252,10 +258,11 @@ module _ {R S : Type 0} (tells : R → Bool) (unread : R → List ℕ) (failures
     over = λ is none. p.over is (sym r.end ∙ none);
     failed = rw (r.end, r.source) p.failed;
     sinks_failed = ap (each_of sink_failures) r.sinks ∙ p.sinks_failed;
+    messages = λ none. ap (λ (s : Sinks S). s.messages) r.sinks ∙ p.messages none;
     far = λ tells_is read old h grew. rw (r.capture, r.source, r.sinks, r.end) (p.far tells_is read old h grew);
   }
 
-  calls_on : (calls : List Call) (old new : Point (Feeding R S)) → Calls (Gives tells unread failures) (Ends tells unread failures) (Takes told written sink_failures) Rests run.job old calls new
+  calls_on : (calls : List Call) (old new : Point (Feeding R S)) → Calls (transitions_of tells unread failures told written sink_failures) run.job old calls new
       → At old.feed old.world old.waiting old.is_over → At new.feed new.world new.waiting new.is_over
   calls_on [] old new went p = rw went p
   calls_on (gave records ∷ calls) old new went p =
@@ -271,7 +278,7 @@ module _ {R S : Type 0} (tells : R → Bool) (unread : R → List ℕ) (failures
   -- a stop, and what it says of the outputs and the devices
   pub record StopsAt (new : Feeding R S) (why : Stop) : Type 0 where
     pub stopped : Behind tells unread told written start new (λ text left told before behind. Stopped run start.most text left told before behind why)
-    pub late : IsLate why
+    pub late : IsPastHeader why
     pub failed : StopFails why (failures start.source.now) (failures new.source.now) (each_of sink_failures start.sinks.now) (each_of sink_failures new.sinks.now)
 
   -- memory was refused
@@ -293,7 +300,7 @@ module _ {R S : Type 0} (tells : R → Bool) (unread : R → List ℕ) (failures
         rw (off.0, writes.source, p.committed)
         (batch_cut run start.most feed.capture.now (read ++ unread start.source.now) (unread feed.source.now) (each_of told start.sinks.now) old (each_of written feed.sinks.now) (each_of written new.sinks.now)
         world records later feed.end output (p.far tells_is read old h grew) p.head p.full
-        (hold feed world (records ∷ later) is_over records piece p is (λ mid added. PartWritten mid (each_of written new.sinks.now) added output) off.1));
+        (hold feed world (records ∷ later) is_over records piece p is (λ tl added. PartWritten tl (each_of written feed.sinks.now) (each_of written new.sinks.now) added output) off.1));
     late = tt;
     failed = subst (λ (n : Sinks ℕ). RoseAt output n (each_of sink_failures new.sinks.now)) p.sinks_failed fails;
   }
@@ -304,15 +311,15 @@ module _ {R S : Type 0} (tells : R → Bool) (unread : R → List ℕ) (failures
   -- ---- a run that began fresh
 
   abbrev pub WentOn : (List Call → Point (Feeding R S) → Type 0) → Type 0
-  WentOn P = Went (Gives tells unread failures) (Ends tells unread failures) (Takes told written sink_failures) Rests run.job start P
+  WentOn P = Went (transitions_of tells unread failures told written sink_failures) run.job start P
 
   went_on : (P : List Call → Point (Feeding R S) → Type 0) → Fresh start → (w : WentOn P) → At w.at.feed w.at.world w.at.waiting w.at.is_over
   went_on P fresh w = calls_on w.calls (first_point run.job start) w.at w.went (at_first fresh)
 
   -- the piece that was taken in part
-  cut_at : (last : Book) (new : Feeding R S) (batches : _) (shown : _) (workers : ℕ) (calls : List Call) (at : Point (Feeding R S)) → At at.feed at.world at.waiting at.is_over
-      → (k : Cut (Cuts told written sink_failures) run.job last new batches shown workers calls at) → StopsAt new k.cut.why
-  cut_at last new batches shown workers calls at p k =
+  cut_at : (last : Book) (new : Feeding R S) (at : Point (Feeding R S)) → At at.feed at.world at.waiting at.is_over
+      → (k : Cut (transitions_of tells unread failures told written sink_failures) run.job last new at) → StopsAt new k.cut.why
+  cut_at last new at p k =
       cut_by at.feed new at.world k.records k.later at.is_over k.piece k.cut.why (subst (λ (w : List (List Record)). At at.feed at.world w at.is_over) k.waits p) k.piece_is k.cut.writes k.cut.off k.cut.failed
 
   -- the reading has ended, and all is taken
@@ -341,30 +348,30 @@ module _ {R S : Type 0} (tells : R → Bool) (unread : R → List ℕ) (failures
         sinks_failed = p.sinks_failed;
       }
 
-  over_at : (last : Book) (new : Feeding R S) (batches : _) (shown : _) (workers : ℕ) (calls : List Call) (at : Point (Feeding R S)) → At at.feed at.world at.waiting at.is_over → Over last new batches shown workers calls at → At new at.world [] true
-  over_at last new batches shown workers calls at p o =
+  over_at : (last : Book) (new : Feeding R S) (at : Point (Feeding R S)) → At at.feed at.world at.waiting at.is_over → Over last new at → At new at.world [] true
+  over_at last new at p o =
       rw o.feed_is (subst (λ (b : Bool). At at.feed at.world [] b) o.is_over (subst (λ (w : List (List Record)). At at.feed at.world w at.is_over) o.none_waits p))
 
-  pub ends_well : (last : Book) (new : Feeding R S) (batches : _) (shown : _) (workers : ℕ) → Fresh start → WentOn (λ calls at. Over last new batches shown workers calls at ⊎ Cut (Cuts told written sink_failures) run.job last new batches shown workers calls at) → new.cut ≡ None → AtEnd last new
-  ends_well last new batches shown workers fresh w none =
+  pub ends_well : (last : Book) (new : Feeding R S) → Fresh start → WentOn (λ calls at. Over last new at ⊎ Cut (transitions_of tells unread failures told written sink_failures) run.job last new at) → new.cut ≡ None → AtEnd last new
+  ends_well last new fresh w none =
       let p = went_on _ fresh w in
       elim w.then [
-        | inl o ↦ at_end last new w.at.world o.stands (over_at last new batches shown workers w.calls w.at p o)
+        | inl o ↦ at_end last new w.at.world o.stands (over_at last new w.at p o)
         | inr k ↦ absurd (cc (sym (ap (λ (o : Option Why). option_map (stop_by new.committed) o) none) ∙ k.cut.stop))
       ]
 
   -- a piece was cut
-  pub stops : (last : Book) (new : Feeding R S) (batches : _) (shown : _) (workers : ℕ) → Fresh start → WentOn (λ calls at. Over last new batches shown workers calls at ⊎ Cut (Cuts told written sink_failures) run.job last new batches shown workers calls at) → IfSome (stop_of new) (λ why. StopsAt new why)
-  stops last new batches shown workers fresh w =
+  pub stops : (last : Book) (new : Feeding R S) → Fresh start → WentOn (λ calls at. Over last new at ⊎ Cut (transitions_of tells unread failures told written sink_failures) run.job last new at) → IfSome (stop_of new) (λ why. StopsAt new why)
+  stops last new fresh w =
       let p = went_on _ fresh w in
       elim w.then [
-        | inl o ↦ subst (λ (c : Option Why). IfSome (option_map (stop_by new.committed) c) (λ why. StopsAt new why)) (sym ((over_at last new batches shown workers w.calls w.at p o).stop ∙ fresh.cut)) tt
-        | inr k ↦ subst (λ (o : Option Stop). IfSome o (λ why. StopsAt new why)) (sym k.cut.stop) (cut_at last new batches shown workers w.calls w.at p k)
+        | inl o ↦ subst (λ (c : Option Why). IfSome (option_map (stop_by new.committed) c) (λ why. StopsAt new why)) (sym ((over_at last new w.at p o).stop ∙ fresh.cut)) tt
+        | inr k ↦ subst (λ (o : Option Stop). IfSome o (λ why. StopsAt new why)) (sym k.cut.stop) (cut_at last new w.at p k)
       ]
 
   -- memory was refused
-  pub stops_refused : (last : Book) (new : Feeding R S) (batches : _) (shown : _) (workers : ℕ) → Fresh start → WentOn (Refused last new batches shown workers) → StopsAt new (stop.Memory new.committed)
-  stops_refused last new batches shown workers fresh w =
+  pub stops_refused : (last : Book) (new : Feeding R S) → Fresh start → WentOn (λ calls at. Refused last new at) → StopsAt new (stop.Memory new.committed)
+  stops_refused last new fresh w =
       let p = went_on _ fresh w in
       wanted w.at.feed new w.at.world w.at.waiting w.at.is_over new.committed p (ap (λ (f : Feeding R S). f.committed) w.then.feed_is) (ap (λ (f : Feeding R S). f.source.now) w.then.feed_is) (ap (λ (f : Feeding R S). f.sinks.now) w.then.feed_is)
 
@@ -381,26 +388,28 @@ module _ {R S : Type 0} (tells : R → Bool) (unread : R → List ℕ) (failures
     pub form : new.channel.now.form ≡ start.channel.now.form
     pub source_told : tells new.source.now ≡ tells start.source.now
     pub sinks_told : each_of told new.sinks.now ≡ each_of told start.sinks.now
+    pub messages : KeepsMessages start.channel.now.form start.sinks.now new.sinks.now
 
   kept_at : (new : Feeding R S) (world : World) (waiting : List (List Record)) (is_over : Bool) → At new world waiting is_over → Kept new
-  kept_at new world waiting is_over p = record { form = p.same.form; source_told = p.source_told; sinks_told = p.sinks_told }
+  kept_at new world waiting is_over p = record { form = p.same.form; source_told = p.source_told; sinks_told = p.sinks_told; messages = p.messages }
 
   kept_written : (feed new : Feeding R S) → Writes told feed new → Kept feed → Kept new
   kept_written feed new writes k = record {
     form = writes.same.form ∙ k.form;
     source_told = ap tells writes.source ∙ k.source_told;
     sinks_told = writes.told ∙ k.sinks_told;
+    messages = λ none. writes.messages (k.form ∙ none) ∙ k.messages none;
   }
 
-  pub kept_ok : (last : Book) (new : Feeding R S) (batches : _) (shown : _) (workers : ℕ) → Fresh start → WentOn (λ calls at. Over last new batches shown workers calls at ⊎ Cut (Cuts told written sink_failures) run.job last new batches shown workers calls at) → Kept new
-  kept_ok last new batches shown workers fresh w =
+  pub kept_ok : (last : Book) (new : Feeding R S) → Fresh start → WentOn (λ calls at. Over last new at ⊎ Cut (transitions_of tells unread failures told written sink_failures) run.job last new at) → Kept new
+  kept_ok last new fresh w =
       let p = went_on _ fresh w in
       elim w.then [
-        | inl o ↦ kept_at new w.at.world [] true (over_at last new batches shown workers w.calls w.at p o)
+        | inl o ↦ kept_at new w.at.world [] true (over_at last new w.at p o)
         | inr k ↦ kept_written w.at.feed new k.cut.writes (kept_at w.at.feed w.at.world w.at.waiting w.at.is_over p)
       ]
 
-  pub kept_err : (last : Book) (new : Feeding R S) (batches : _) (shown : _) (workers : ℕ) → Fresh start → WentOn (Refused last new batches shown workers) → Kept new
-  kept_err last new batches shown workers fresh w =
+  pub kept_err : (last : Book) (new : Feeding R S) → Fresh start → WentOn (λ calls at. Refused last new at) → Kept new
+  kept_err last new fresh w =
       let p = went_on _ fresh w in
       subst (λ (f : Feeding R S). Kept f) (sym w.then.feed_is) (kept_at w.at.feed w.at.world w.at.waiting w.at.is_over p)

@@ -49,7 +49,7 @@ pub reads_and_nothing : (old mid new : Reading) (before between left : List ℕ)
 reads_and_nothing old mid new before between left given first second =
     rw (← append-nil given) (reads_twice old mid new before between left given [] first second)
 
--- the capture ends behind what was given
+-- the capture ends after what was given
 pub ends_twice : (old mid : Reading) (before between : List ℕ) (given : List RecordBytes) (end : End) → ReadsOn old mid before between given → mid.form ≡ old.form → EndsCapture mid between end → EndsBehind old before given end
 ends_twice old mid before between given end on form ends read records h =
     rw (on.gave, ← append_assoc read on.came between, ← form) (ends (read ++ on.came) (records ++ given) (on.on read records h))
@@ -97,7 +97,7 @@ capture_opens text more form records end c =
     ap (λ (t : List ℕ). t ++ more) c.whole ∙ append_assoc c.header (flat_map text_of records ++ c.rest) more in
     rw whole (opens_as c.header ((flat_map text_of records ++ c.rest) ++ more) form c.header_length c.says)
 
--- what holds of the reader's header and form, and of all records that begin with those given, where more of the source was read since
+-- what holds of the reader's header and form, and of all records that begin with those given, if more of the source was read since
 pub of_every : (capture : Reading) (text left read later : List ℕ) (given : List RecordBytes) (P : List ℕ → Form → List RecordBytes → Type 0) → text ≡ read ++ later → Gave later left → HasGiven capture read given
     → ((records : List RecordBytes) → IsFront given records → P capture.header capture.form records) → OfEvery text left P
 of_every capture text left read later given P is gave h p = record {

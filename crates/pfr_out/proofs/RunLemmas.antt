@@ -27,11 +27,11 @@ use Rattle.pfr_out.specs.declared.report.Stop.TheVariants as stop
 use Rattle.pfr_out.specs.declared.settings.Form.{Form as MessageForm}
 use Rattle.pfr_out.specs.declared.settings.Settings.{Settings}
 use Rattle.pfr_out.specs.declared.sinks.Sinks.{Sinks}
-use Rattle.pfr_out.specs.Outputs.{AllTold, Grew, Outputs, PartWritten, header_alone, texts_alone}
+use Rattle.pfr_out.specs.Outputs.{Extends, Grew, Outputs, PartWritten, header_alone, texts_alone}
 use Rattle.pfr_out.specs.Reading.{BatchFails, BatchSays, End, EndsBehind, records_of, wants_memory}
-use Rattle.pfr_out.specs.Replay.{Failing, Holds, HoldsAllRead, HoldsAll, IsBoundary, IsJob, OfEvery, Replayed, StopOf, Stopped, closing, frame_in, online, run_of, run_with, StopFails, stop_for, whole}
+use Rattle.pfr_out.specs.Replay.{Failing, Holds, HoldsAllRead, HoldsAll, IsBoundary, IsJob, OfEvery, Replayed, StopFails, StopOf, Stopped, StopsUntold, closing, frame_in, online, run_of, run_settings, run_with, stop_for, whole}
 use Rattle.pfr_out.specs.Spelling.{Run}
-use Rattle.pfr_out.specs.Taking.{Add, ConcludeFails, Concludes, EndStops, IsLate, Reaches, SinksFail, Standing, TakenAll, run_in}
+use Rattle.pfr_out.specs.Taking.{Add, ConcludeFails, Concludes, EndStops, IsLate, IsPastHeader, Reaches, SinksFail, Standing, TakenAll, run_in}
 use Rattle.pfr_out.proofs.ReadingLemmas.{header_is, of_every, same_frames}
 use Rattle.pfr_out.proofs.WritingLemmas.{grew_twice, header_is_online, online_behind, whole_is}
 
@@ -43,7 +43,7 @@ run_append job form xs ys =
     ap (λ fs. world_after job (opening job) fs) (map-append (frame_in form) xs ys)
     ∙ world_append job (opening job) (map (frame_in form) xs) (map (frame_in form) ys)
 
--- records more, behind those that were taken: what is written stays
+-- further records, after those that were taken: what is written stays
 pub run_grows : (job : RunJob) (form : Form) (xs ys : List RecordBytes) → (added : Texts) × (written job (run_of job form (xs ++ ys)) ≡ joined (written job (run_of job form xs)) added)
 unfolding run_of
 run_grows job form xs ys =
@@ -71,22 +71,22 @@ same_run book other form other_form job_is form_is =
 
 -- ---- how far a run has come
 
--- The reader has given these records, and others that wait behind them. The first ones leave this world, and all that they write is written.
+-- The reader has given these records, and others that wait after them. The first ones leave this world, and all that they write is written.
 pub record SoFar (run : Run) (capture : Reading) (text left : List ℕ) (told : Sinks Bool) (old new : Outputs) (world : World) (records ahead : List RecordBytes) : Type 0 where
   pub read : List ℕ
   pub text_is : text ≡ read ++ left
   pub given : HasGiven capture read (records ++ ahead)
-  pub grew : AllTold told → Grew old new (online capture.header run (run_of run.job capture.form records))
+  pub grew : Grew told old new (online capture.header run (run_of run.job capture.form records))
   pub world_is : world ≡ run_of run.job capture.form records
 
 -- nothing was given yet, and the header was written
-pub at_start : (run : Run) (capture : Reading) (read left : List ℕ) (told : Sinks Bool) (old new : Outputs) → HasGiven capture read [] → (AllTold told → Grew old new (header_alone capture.header))
+pub at_start : (run : Run) (capture : Reading) (read left : List ℕ) (told : Sinks Bool) (old new : Outputs) → HasGiven capture read [] → Grew told old new (header_alone capture.header)
     → SoFar run capture (read ++ left) left told old new (opening run.job) [] []
 at_start run capture read left told old new given grew = record {
   read = read;
   text_is = refl;
   given = given;
-  grew = λ t. header_is_online old new capture.header run (run_of run.job capture.form []) (ap (λ (w : World). written run.job w) (run_none run.job capture.form) ∙ opening_written run.job) (grew t);
+  grew = header_is_online told old new capture.header run (run_of run.job capture.form []) (ap (λ (w : World). written run.job w) (run_none run.job capture.form) ∙ opening_written run.job) grew;
   world_is = sym (run_none run.job capture.form);
 }
 
@@ -100,13 +100,13 @@ batch_given run capture capture' text left left' told old new world records ahea
   read = s.read ++ on.came;
   text_is = s.text_is ∙ (rw on.gave (sym (append_assoc s.read on.came left')));
   given = rw (← append_assoc records ahead more) (on.on s.read (records ++ ahead) s.given);
-  grew = λ t. rw (same.0, same.1) (s.grew t);
+  grew = rw (same.0, same.1) s.grew;
   world_is = rw same.0 s.world_is;
 }
 
 -- what the next ones add is written
 abbrev pub Took : Run → (told : Sinks Bool) → (mid new : Outputs) → World → List Record → Type 0
-Took run told mid new world packets = Add run.job world (map frame_of packets) (λ added. AllTold told → Grew mid new (texts_alone run added))
+Took run told mid new world packets = Add run.job world (map frame_of packets) (λ added. Grew told mid new (texts_alone run added))
 
 -- what the batch leaves
 taken_run : (job : RunJob) (form : Form) (records : List RecordBytes) (packets : List Record) → All (FieldsOf form) packets
@@ -117,7 +117,7 @@ taken_run job form records packets all =
 -- what it writes
 piece_is : (run : Run) (header : List ℕ) (form : Form) (records : List RecordBytes) (packets : List Record) (added : Texts) → All (FieldsOf form) packets
     → written run.job (world_after run.job (run_of run.job form records) (map frame_of packets)) ≡ joined (written run.job (run_of run.job form records)) added
-    → Grew (online header run (run_of run.job form records)) (online header run (run_of run.job form (records ++ records_of packets))) (texts_alone run added)
+    → Extends (online header run (run_of run.job form records)) (online header run (run_of run.job form (records ++ records_of packets))) (texts_alone run added)
 piece_is run header form records packets added all is =
     online_behind header run (run_of run.job form records) (run_of run.job form (records ++ records_of packets)) added
     (ap (λ (w : World). written run.job w) (taken_run run.job form records packets all) ∙ is)
@@ -132,8 +132,8 @@ batch_taken run capture text left told old mid new world records ahead packets s
       read = s.read;
       text_is = s.text_is;
       given = rw (append_assoc records (records_of packets) ahead) s.given;
-      grew = λ t. grew_twice old mid new (online capture.header run (run_of run.job capture.form records)) (texts_alone run add.added)
-          (online capture.header run (run_of run.job capture.form (records ++ records_of packets))) (s.grew t) (add.hold t) (piece_is run capture.header capture.form records packets add.added fields add.is);
+      grew = grew_twice told old mid new (online capture.header run (run_of run.job capture.form records)) (texts_alone run add.added)
+          (online capture.header run (run_of run.job capture.form (records ++ records_of packets))) s.grew add.hold (piece_is run capture.header capture.form records packets add.added fields add.is);
       world_is = ap (λ (w : World). world_after run.job w (map frame_of packets)) s.world_is ∙ sym (taken_run run.job capture.form records packets fields);
     }
 
@@ -162,16 +162,16 @@ holds_so_far run batch capture text left left' told old new world records ahead 
     record {
       within = omega (arith, counted);
       boundary = rw (← counted) boundary;
-      grew = λ t. rw (front_is records all committed first counted) (s.grew t);
+      grew = rw (front_is records all committed first counted) s.grew;
     })
 
 -- the next batch was written in part
 pub holds_part_of_batch : (run : Run) (batch : ℕ) (capture : Reading) (text left left' : List ℕ) (told : Sinks Bool) (old mid new : Outputs) (world : World) (records ahead : List RecordBytes) (packets : List Record) (output : Output) (committed : ℕ)
     → SoFar run capture text left told old mid world records (records_of packets ++ ahead) → Gave left left' → All (FieldsOf capture.form) packets → length (records_of packets) ≤ batch → IsBoundary batch (length records) → length records ≡ committed
-    → Add run.job world (map frame_of packets) (λ added. AllTold told → PartWritten mid new (texts_alone run added) output) → Failing run batch text left' told old new output committed
+    → Add run.job world (map frame_of packets) (λ added. PartWritten told mid new (texts_alone run added) output) → Failing run batch text left' told old new output committed
 holds_part_of_batch run batch capture text left left' told old mid new world records ahead packets output committed s gave fields few boundary counted part =
     let all_long = length-append records (records_of packets) in
-    let add = subst (λ (w : World). Add run.job w (map frame_of packets) (λ added. AllTold told → PartWritten mid new (texts_alone run added) output)) s.world_is part in
+    let add = subst (λ (w : World). Add run.job w (map frame_of packets) (λ added. PartWritten told mid new (texts_alone run added) output)) s.world_is part in
     inl (of_every capture text left' s.read left (records ++ (records_of packets ++ ahead)) _ s.text_is gave s.given (λ all whole_front.
     let front : IsFront (records ++ records_of packets) all = front_of_part (records ++ records_of packets) ahead all (rw (append_assoc records (records_of packets) ahead) whole_front) in
     let within = front.within in
@@ -181,7 +181,7 @@ holds_part_of_batch run batch capture text left left' told old mid new world rec
       within = within;
       boundary = rw (← counted) boundary;
       mid = mid;
-      before = λ t. rw (front_is records all committed (front_of_part records (records_of packets) all front) counted) (s.grew t);
+      before = rw (front_is records all committed (front_of_part records (records_of packets) all front) counted) s.grew;
       piece = add.added;
       piece_is = rw (front_is records all committed (front_of_part records (records_of packets) all front) counted, front_is (records ++ records_of packets) all (length (records ++ records_of packets)) front refl)
           (piece_is run capture.header capture.form records packets add.added fields add.is);
@@ -197,7 +197,7 @@ counted_by run capture text left told old new world records ahead s =
     let ours : world.count ≡ (run_of run.job capture.form records).count = ap (λ (w : World). w.count) s.world_is in
     omega arith
 
--- the source's bytes, where the capture ends behind these records
+-- the source's bytes, if the capture ends after these records
 pub capture_is : (run : Run) (capture : Reading) (text left : List ℕ) (told : Sinks Bool) (old new : Outputs) (world : World) (records ahead given : List RecordBytes) (end : End) → SoFar run capture text left told old new world records ahead → EndsBehind capture left given end
     → IsCapture text capture.form (records ++ (ahead ++ given)) end
 capture_is run capture text left told old new world records ahead given end s ends = rw (s.text_is, ← append_assoc records ahead given) (ends s.read (records ++ ahead) s.given)
@@ -212,7 +212,7 @@ holds_all run capture text left told old new world records end s is = record {
   records = records;
   capture = is;
   counted = counted_by run capture text left told old new world records [] s;
-  grew = λ t. rw (text_header run capture text left told old new world records [] s) (s.grew t);
+  grew = rw (text_header run capture text left told old new world records [] s) s.grew;
 }
 
 -- and they leave the world
@@ -233,7 +233,7 @@ holds_all_read run capture text left told old new world records s lacks =
       tail = is.0;
       capture = is.1;
       counted = counted_by run capture text left told old new world records [] s;
-      grew = λ t. rw (text_header run capture text left told old new world records [] s) (s.grew t);
+      grew = rw (text_header run capture text left told old new world records [] s) s.grew;
     }
 
 -- ---- the end of a capture
@@ -257,7 +257,7 @@ reaches run batch text left told old new world book (Err e) ended stands =
     rw count ended
 
 replayed : (run : Run) (text : List ℕ) (told : Sinks Bool) (old mid new : Outputs) (book : Book) (form : MessageForm) (tail : Tail) (report : Report) → run_in book form ≡ run → TakenAll run text told old mid book tail
-    → Standing book (λ world. AllTold told → Grew mid new (closing (run_in book form) world)) → report.committed ≡ book.count → report.tail ≡ tail → Replayed run text told old new report
+    → Standing book (λ world. Grew told mid new (closing (run_in book form) world)) → report.committed ≡ book.count → report.tail ≡ tail → Replayed run text told old new report
 replayed run text told old mid new book form tail report run_is t grew committed ends =
     let all = t.all in
     let world = run_of run.job all.form all.records in
@@ -266,8 +266,8 @@ replayed run text told old mid new book form tail report run_is t grew committed
       records = all.records;
       capture = rw ends all.capture;
       counted = all.counted ∙ sym committed;
-      grew = λ u. grew_twice old mid new (online (take 24 text) run world) (closing run world) (whole (take 24 text) run world) (all.grew u)
-          (subst (λ (r : Run). Grew mid new (closing r world)) run_is (grew world t.stands u)) (whole_is (take 24 text) run world);
+      grew = grew_twice told old mid new (online (take 24 text) run world) (closing run world) (whole (take 24 text) run world) all.grew
+          (subst (λ (r : Run). Grew told mid new (closing r world)) run_is (grew world t.stands)) (whole_is (take 24 text) run world);
     }
 
 end_stopped : (run : Run) (batch : ℕ) (text left : List ℕ) (told : Sinks Bool) (old mid new : Outputs) (book : Book) (form : MessageForm) (tail : Tail) (s : Stop) → run_in book form ≡ run → TakenAll run text told old mid book tail → EndStops book form told mid new s
@@ -282,7 +282,7 @@ end_stopped run batch text left told old mid new book form tail (stop.Write outp
       counted = t.all.counted;
       mid = mid;
       before = t.all.grew;
-      part = λ u. subst (λ (r : Run). PartWritten mid new (closing r (run_of run.job t.all.form t.all.records)) output) run_is (stops.1 (run_of run.job t.all.form t.all.records) t.stands u);
+      part = subst (λ (r : Run). PartWritten told mid new (closing r (run_of run.job t.all.form t.all.records)) output) run_is (stops.1 (run_of run.job t.all.form t.all.records) t.stands);
     }))
 end_stopped run batch text left told old mid new book form tail (stop.Ruleset fault) run_is t stops = absurd stops
 end_stopped run batch text left told old mid new book form tail (stop.Capture e committed) run_is t stops = absurd stops
@@ -297,16 +297,16 @@ concludes_for end book form told told' old new s is concludes = subst (λ (t : S
 
 -- the capture was not opened
 pub refused_opening : (run : Run) (batch : ℕ) (text left : List ℕ) (told : Sinks Bool) (old : Outputs) (e : CaptureError) (before after : ℕ) → RefusesHeader text e → StopsEarly text left e → OpenFails e before after → Stopped run batch text left told old old (stop_for e 0)
-refused_opening run batch text left told old refusal.Read before after refuses early fails = inl (record { none = refl; early = early; same = λ t. refl })
-refused_opening run batch text left told old refusal.Memory before after refuses early fails = inl (record { none = refl; same = λ t. refl })
+refused_opening run batch text left told old refusal.Read before after refuses early fails = inl (record { none = refl; early = early; same = λ o t. refl })
+refused_opening run batch text left told old refusal.Memory before after refuses early fails = inl (record { none = refl; same = λ o t. refl })
 refused_opening run batch text left told old (refusal.RecordTooLong asked) before after refuses early fails = absurd fails
-refused_opening run batch text left told old refusal.HeaderCut before after refuses early fails = (refuses, refl, λ t. refl)
-refused_opening run batch text left told old refusal.BadMagic before after refuses early fails = (refuses, refl, λ t. refl)
-refused_opening run batch text left told old refusal.BadVersion before after refuses early fails = (refuses, refl, λ t. refl)
-refused_opening run batch text left told old (refusal.LinkType link) before after refuses early fails = (refuses, refl, λ t. refl)
+refused_opening run batch text left told old refusal.HeaderCut before after refuses early fails = (refuses, refl, λ o t. refl)
+refused_opening run batch text left told old refusal.BadMagic before after refuses early fails = (refuses, refl, λ o t. refl)
+refused_opening run batch text left told old refusal.BadVersion before after refuses early fails = (refuses, refl, λ o t. refl)
+refused_opening run batch text left told old (refusal.LinkType link) before after refuses early fails = (refuses, refl, λ o t. refl)
 
 -- the header was not written whole
-pub header_stopped : (run : Run) (batch : ℕ) (capture : Reading) (read left : List ℕ) (told : Sinks Bool) (old new : Outputs) (output : Output) → HasGiven capture read [] → (AllTold told → PartWritten old new (header_alone capture.header) output)
+pub header_stopped : (run : Run) (batch : ℕ) (capture : Reading) (read left : List ℕ) (told : Sinks Bool) (old new : Outputs) (output : Output) → HasGiven capture read [] → PartWritten told old new (header_alone capture.header) output
     → Stopped run batch (read ++ left) left told old new (stop.Write output 0)
 header_stopped run batch capture read left told old new output h part =
     inl (of_every capture (read ++ left) left read left [] _ refl (record { came = []; gave = refl }) h (λ all front. inl (record { none = refl; part = part })))
@@ -341,10 +341,10 @@ pub refusal_fails : (e : CaptureError) (committed source source' : ℕ) (sinks s
 refusal_fails refusal.Read committed source source' sinks sinks' fails same = (fails, same)
 refusal_fails refusal.Memory committed source source' sinks sinks' fails same = same
 refusal_fails (refusal.RecordTooLong asked) committed source source' sinks sinks' fails same = (fails, same)
-refusal_fails refusal.HeaderCut committed source source' sinks sinks' fails same = (fails, same)
-refusal_fails refusal.BadMagic committed source source' sinks sinks' fails same = (fails, same)
-refusal_fails refusal.BadVersion committed source source' sinks sinks' fails same = (fails, same)
-refusal_fails (refusal.LinkType link) committed source source' sinks sinks' fails same = (fails, same)
+refusal_fails refusal.HeaderCut committed source source' sinks sinks' fails same = absurd fails
+refusal_fails refusal.BadMagic committed source source' sinks sinks' fails same = absurd fails
+refusal_fails refusal.BadVersion committed source source' sinks sinks' fails same = absurd fails
+refusal_fails (refusal.LinkType link) committed source source' sinks sinks' fails same = absurd fails
 
 pub sinks_fail : (s : Stop) (source source' : ℕ) (sinks sinks' : Sinks ℕ) → SinksFail s sinks sinks' → StopFails s source source' sinks sinks'
 sinks_fail (stop.Write output committed) source source' sinks sinks' fails = fails
@@ -374,7 +374,7 @@ both_err (Ok x) P Q R f p q = tt
 both_err (Err e) P Q R f p q = f e p q
 
 pub under_job : (text seed : List ℕ) (settings : Settings) (job : RunJob) (tells : Bool) (before left : List ℕ) (told : Sinks Bool) (old new : Outputs) (s : Stop) → IsJob text seed settings job → IsLate s
-    → (IsTrue tells → Stopped (run_with job settings) settings.batch before left told old new s) → StopOf text seed settings tells before left told old new s
+    → (IsTrue tells → Stopped (run_with job (run_settings settings)) settings.batch before left told old new s) → StopOf text seed settings tells before left told old new s
 under_job text seed settings job tells before left told old new (stop.Ruleset fault) is late stopped = absurd late
 under_job text seed settings job tells before left told old new (stop.Capture e committed) is late stopped = record { job = job; is = is; hold = stopped }
 under_job text seed settings job tells before left told old new (stop.Read committed) is late stopped = record { job = job; is = is; hold = stopped }
@@ -390,17 +390,58 @@ stop_is_late refusal.BadMagic committed = tt
 stop_is_late refusal.BadVersion committed = tt
 stop_is_late (refusal.LinkType link) committed = tt
 
-pub sinks_stop_late : (s : Stop) (sinks sinks' : Sinks ℕ) → SinksFail s sinks sinks' → IsLate s
-sinks_stop_late (stop.Write output committed) sinks sinks' fails = tt
-sinks_stop_late (stop.Memory committed) sinks sinks' fails = tt
-sinks_stop_late (stop.Ruleset fault) sinks sinks' fails = absurd fails
-sinks_stop_late (stop.Capture e committed) sinks sinks' fails = tt
-sinks_stop_late (stop.Read committed) sinks sinks' fails = tt
+pub sinks_stop_past : (s : Stop) (sinks sinks' : Sinks ℕ) → SinksFail s sinks sinks' → IsPastHeader s
+sinks_stop_past (stop.Write output committed) sinks sinks' fails = tt
+sinks_stop_past (stop.Memory committed) sinks sinks' fails = tt
+sinks_stop_past (stop.Ruleset fault) sinks sinks' fails = absurd fails
+sinks_stop_past (stop.Capture e committed) sinks sinks' fails = absurd fails
+sinks_stop_past (stop.Read committed) sinks sinks' fails = tt
+
+-- a refusal that comes with a batch isn't one of the header
+refusal_is_past : (e : CaptureError) (committed source source' : ℕ) → BatchFails (Some (Err e)) source source' → IsPastHeader (stop_for e committed)
+refusal_is_past refusal.Read committed source source' fails = tt
+refusal_is_past refusal.Memory committed source source' fails = tt
+refusal_is_past (refusal.RecordTooLong asked) committed source source' fails = tt
+refusal_is_past refusal.HeaderCut committed source source' fails = absurd fails
+refusal_is_past refusal.BadMagic committed source source' fails = absurd fails
+refusal_is_past refusal.BadVersion committed source source' fails = absurd fails
+refusal_is_past (refusal.LinkType link) committed source source' fails = absurd fails
+
+-- a stop after the header comes after the ruleset, and refuses no header
+pub past_is_late : (s : Stop) → IsPastHeader s → IsLate s
+past_is_late (stop.Ruleset fault) past = absurd past
+past_is_late (stop.Capture e committed) past = tt
+past_is_late (stop.Read committed) past = tt
+past_is_late (stop.Write output committed) past = tt
+past_is_late (stop.Memory committed) past = tt
+
+pub past_untold : (s : Stop) (told : Sinks Bool) (old new : Outputs) → IsPastHeader s → StopsUntold s told old new
+past_untold (stop.Ruleset fault) told old new past = tt
+past_untold (stop.Capture refusal.Read committed) told old new past = absurd past
+past_untold (stop.Capture refusal.Memory committed) told old new past = absurd past
+past_untold (stop.Capture (refusal.RecordTooLong asked) committed) told old new past = tt
+past_untold (stop.Capture refusal.HeaderCut committed) told old new past = absurd past
+past_untold (stop.Capture refusal.BadMagic committed) told old new past = absurd past
+past_untold (stop.Capture refusal.BadVersion committed) told old new past = absurd past
+past_untold (stop.Capture (refusal.LinkType link) committed) told old new past = absurd past
+past_untold (stop.Read committed) told old new past = tt
+past_untold (stop.Write output committed) told old new past = tt
+past_untold (stop.Memory committed) told old new past = tt
+
+-- a refusal of the header comes before anything is written
+pub opening_untold : (e : CaptureError) (told : Sinks Bool) (old : Outputs) → StopsUntold (stop_for e 0) told old old
+opening_untold refusal.Read told old = tt
+opening_untold refusal.Memory told old = tt
+opening_untold (refusal.RecordTooLong asked) told old = tt
+opening_untold refusal.HeaderCut told old = (refl, λ o t. refl)
+opening_untold refusal.BadMagic told old = (refl, λ o t. refl)
+opening_untold refusal.BadVersion told old = (refl, λ o t. refl)
+opening_untold (refusal.LinkType link) told old = (refl, λ o t. refl)
 
 -- ---- the end of the reading
 
 pub concluded : (run : Run) (batch : ℕ) (text left : List ℕ) (told : Sinks Bool) (old mid new : Outputs) (book : Book) (form : MessageForm) (end : End) (report : Report) → run_in book form ≡ run → Reaches run batch text left told old mid book end
-    → report.committed ≡ book.count → end ≡ Ok report.tail → Standing book (λ world. AllTold told → Grew mid new (closing (run_in book form) world)) → Replayed run text told old new report
+    → report.committed ≡ book.count → end ≡ Ok report.tail → Standing book (λ world. Grew told mid new (closing (run_in book form) world)) → Replayed run text told old new report
 concluded run batch text left told old mid new book form (Ok tail) report run_is reaches committed ends closes =
     let is : tail ≡ report.tail = cc ends in
     replayed run text told old mid new book form tail report run_is reaches closes committed (sym is)
@@ -411,9 +452,9 @@ pub concluded_stop : (run : Run) (batch : ℕ) (text left : List ℕ) (told : Si
 concluded_stop run batch text left told old mid new book form (Ok tail) s run_is reaches concludes = end_stopped run batch text left told old mid new book form tail s run_is reaches concludes
 concluded_stop run batch text left told old mid new book form (Err e) s run_is reaches concludes = rw (concludes.0, concludes.1) reaches
 
-pub conclude_is_late : (end : End) (count : ℕ) (sinks sinks' : Sinks ℕ) (s : Stop) → ConcludeFails end count sinks sinks' s → IsLate s
-conclude_is_late (Ok tail) count sinks sinks' s fails = sinks_stop_late s sinks sinks' fails
-conclude_is_late (Err e) count sinks sinks' s fails = rw fails.0 (stop_is_late e count)
+pub conclude_is_past : (end : End) (count source source' : ℕ) (sinks sinks' : Sinks ℕ) (s : Stop) → BatchFails (Some end) source source' → ConcludeFails end count sinks sinks' s → IsPastHeader s
+conclude_is_past (Ok tail) count source source' sinks sinks' s batch fails = sinks_stop_past s sinks sinks' fails
+conclude_is_past (Err e) count source source' sinks sinks' s batch fails = rw fails.0 (refusal_is_past e count source source' batch)
 
 pub conclude_fails : (end : End) (count source source' : ℕ) (sinks mid sinks' : Sinks ℕ) (s : Stop) → BatchFails (Some end) source source' → mid ≡ sinks → ConcludeFails end count mid sinks' s → StopFails s source source' sinks sinks'
 conclude_fails (Ok tail) count source source' sinks mid sinks' s batch same fails = sinks_fail s source source' sinks sinks' (rw same at fails)

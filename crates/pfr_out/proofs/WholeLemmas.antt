@@ -9,23 +9,23 @@ use Rattle.pfr_out.specs.declared.feeding.Feeding.{Feeding}
 use Rattle.pfr_out.specs.declared.report.Report.{Report}
 use Rattle.pfr_out.specs.declared.report.Stop.{Stop}
 use Rattle.pfr_out.specs.declared.sinks.Sinks.{Sinks}
-use Rattle.pfr_out.specs.Feedings.{Behind, Concluded, RunEnds, RunStops, stop_by, stop_of}
-use Rattle.pfr_out.specs.Outputs.{AllTold, Grew, GrewBy, Outputs, each_of, header_alone}
+use Rattle.pfr_out.specs.Feedings.{Behind, Breaks, Concluded, Finishes, RunEnds, RunStops, stop_by, stop_of}
+use Rattle.pfr_out.specs.Outputs.{Grew, GrewBy, Outputs, each_of, header_alone}
 use Rattle.pfr_out.specs.Reading.{End}
-use Rattle.pfr_out.specs.Replay.{Replayed, Stopped}
+use Rattle.pfr_out.specs.Replay.{Replayed, Stopped, closing}
 use Rattle.pfr_out.specs.Spelling.{Run}
-use Rattle.pfr_out.specs.Taking.{Reaches, ReplaysOn, StopsOn, run_in}
-use Rattle.pfr_out.proofs.RunLemmas.{concluded, concluded_stop, concludes_for, ok_and, same_run}
+use Rattle.pfr_out.specs.Taking.{IsPastHeader, Reaches, run_in}
+use Rattle.pfr_out.proofs.RunLemmas.{conclude_is_past, concluded, concluded_stop, concludes_for, ok_and, same_run}
 
 module _ {R S : Type 0} (tells : R → Bool) (unread : R → List ℕ) (failures : R → ℕ) (told : S → Bool) (written : S → List ℕ) (sink_failures : S → ℕ) (run : Run) (start : Feeding R S) where
   abbrev ReplaysFrom : Sinks S → Report → Type 0
   ReplaysFrom sinks' report = IsTrue (tells start.source.now) → (read : List ℕ) (before : Outputs) → HasGiven start.capture.now read []
-      → (AllTold (each_of told start.sinks.now) → Grew before (each_of written start.sinks.now) (header_alone start.capture.now.header))
+      → Grew (each_of told start.sinks.now) before (each_of written start.sinks.now) (header_alone start.capture.now.header)
       → Replayed run (read ++ unread start.source.now) (each_of told start.sinks.now) before (each_of written sinks') report
 
   abbrev StopsFrom : R → Sinks S → Stop → Type 0
   StopsFrom source' sinks' s = IsTrue (tells start.source.now) → (read : List ℕ) (before : Outputs) → HasGiven start.capture.now read []
-      → (AllTold (each_of told start.sinks.now) → Grew before (each_of written start.sinks.now) (header_alone start.capture.now.header))
+      → Grew (each_of told start.sinks.now) before (each_of written start.sinks.now) (header_alone start.capture.now.header)
       → Stopped run start.most (read ++ unread start.source.now) (unread source') (each_of told start.sinks.now) before (each_of written sinks') s
 
   finished_ok : (book : Book) (ran : Feeding R S) (sinks' : Sinks S) (result : Result Report Stop) (last : Book) (end : End) → run ≡ run_in book start.channel.now.form → ran.channel.now.form ≡ start.channel.now.form
@@ -38,22 +38,29 @@ module _ {R S : Type 0} (tells : R → Bool) (unread : R → List ℕ) (failures
       concluded run start.most (read ++ unread start.source.now) (unread ran.source.now) (each_of told start.sinks.now) before (each_of written ran.sinks.now) (each_of written sinks') last ran.channel.now.form end report
       (same_run last book ran.channel.now.form start.channel.now.form job_is form_same ∙ sym run_is)
       (subst (λ (r : Run). Reaches r start.most (read ++ unread start.source.now) (unread ran.source.now) (each_of told start.sinks.now) before (each_of written ran.sinks.now) last end) (sym run_is) (reaches_it t read before h grew))
-      closed.0 closed.1 (λ world stands u. writes world stands (subst (λ (tl : Sinks Bool). AllTold tl) (sym told_same) u)))
+      closed.0 closed.1
+      (λ world stands. subst (λ (tl : Sinks Bool). Grew tl (each_of written ran.sinks.now) (each_of written sinks') (closing (run_in last ran.channel.now.form) world)) told_same (writes world stands)))
       c.closed c.grew
+
+  -- how a run is closed that wasn't cut
+  concluded_of : (book : Book) (ran : Feeding R S) (last : Option Book) (sinks' : Sinks S) (result : Result Report Stop) (e : RunEnds tells unread failures told written sink_failures book start ran last)
+      → ran.cut ≡ None → Finishes told written sink_failures ran last sinks' result → Concluded told written sink_failures e.last ran.channel.now.form e.end ran.sinks.now sinks' result
+  concluded_of book ran last sinks' result e is concludes_it =
+      subst (λ (x : Option End). IfSome x (λ end. Concluded told written sink_failures e.last ran.channel.now.form end ran.sinks.now sinks' result)) e.end_is
+      (subst (λ (x : Option Book). IfSome x (λ b. IfSome ran.end (λ end. Concluded told written sink_failures b ran.channel.now.form end ran.sinks.now sinks' result))) e.last_is (concludes_it is))
 
   finishes_ok : (book : Book) (ran : Feeding R S) (last : Option Book) (sinks' : Sinks S) (result : Result Report Stop) → run ≡ run_in book start.channel.now.form → ran.channel.now.form ≡ start.channel.now.form
       → each_of told ran.sinks.now ≡ each_of told start.sinks.now
       → (ran.cut ≡ None → RunEnds tells unread failures told written sink_failures book start ran last)
-      → IfSome (stop_of ran) (λ stop. (result ≡ Err stop) × (sinks' ≡ ran.sinks.now))
-      → (ran.cut ≡ None → IfSome last (λ b. IfSome ran.end (λ end. Concluded told written sink_failures b ran.channel.now.form end ran.sinks.now sinks' result)))
+      → Breaks ran sinks' result
+      → Finishes told written sink_failures ran last sinks' result
       → IfOk result (ReplaysFrom sinks')
   finishes_ok book ran last sinks' result run_is form_same told_same ends_it stopped concludes_it = by_cut ran.cut refl
     where
       by_cut : (o : Option Why) → ran.cut ≡ o → IfOk result (ReplaysFrom sinks')
       by_cut None is =
           let e = ends_it is in
-          let c = subst (λ (x : Option End). IfSome x (λ end. Concluded told written sink_failures e.last ran.channel.now.form end ran.sinks.now sinks' result)) e.end_is
-          (subst (λ (x : Option Book). IfSome x (λ b. IfSome ran.end (λ end. Concluded told written sink_failures b ran.channel.now.form end ran.sinks.now sinks' result))) e.last_is (concludes_it is)) in
+          let c = concluded_of book ran last sinks' result e is concludes_it in
           finished_ok book ran sinks' result e.last e.end run_is form_same told_same e.job e.reaches c
       by_cut (Some why) is =
           let s = subst (λ (o : Option Why). IfSome (option_map (stop_by ran.committed) o) (λ stop. (result ≡ Err stop) × (sinks' ≡ ran.sinks.now))) is stopped in
@@ -76,16 +83,15 @@ module _ {R S : Type 0} (tells : R → Bool) (unread : R → List ℕ) (failures
       → each_of told ran.sinks.now ≡ each_of told start.sinks.now
       → (ran.cut ≡ None → RunEnds tells unread failures told written sink_failures book start ran last)
       → IfSome (stop_of ran) (λ why. RunStops tells unread failures told written sink_failures book start ran why)
-      → IfSome (stop_of ran) (λ stop. (result ≡ Err stop) × (sinks' ≡ ran.sinks.now))
-      → (ran.cut ≡ None → IfSome last (λ b. IfSome ran.end (λ end. Concluded told written sink_failures b ran.channel.now.form end ran.sinks.now sinks' result)))
+      → Breaks ran sinks' result
+      → Finishes told written sink_failures ran last sinks' result
       → IfErr result (StopsFrom ran.source.now sinks')
   finishes_stopped book ran last sinks' result run_is form_same told_same ends_it stops_it stopped concludes_it = by_cut ran.cut refl
     where
       by_cut : (o : Option Why) → ran.cut ≡ o → IfErr result (StopsFrom ran.source.now sinks')
       by_cut None is =
           let e = ends_it is in
-          let c = subst (λ (x : Option End). IfSome x (λ end. Concluded told written sink_failures e.last ran.channel.now.form end ran.sinks.now sinks' result)) e.end_is
-          (subst (λ (x : Option Book). IfSome x (λ b. IfSome ran.end (λ end. Concluded told written sink_failures b ran.channel.now.form end ran.sinks.now sinks' result))) e.last_is (concludes_it is)) in
+          let c = concluded_of book ran last sinks' result e is concludes_it in
           finished_stopped book ran sinks' result e.last e.end run_is form_same told_same e.job e.reaches c
       by_cut (Some why) is =
           let s = subst (λ (o : Option Why). IfSome (option_map (stop_by ran.committed) o) (λ stop. (result ≡ Err stop) × (sinks' ≡ ran.sinks.now))) is stopped in
@@ -93,32 +99,59 @@ module _ {R S : Type 0} (tells : R → Bool) (unread : R → List ℕ) (failures
           subst (λ (x : Result Report Stop). IfErr x (StopsFrom ran.source.now sinks')) (sym s.0)
           (λ t read before h grew. rw s.1 (subst (λ (u : Run). Stopped u start.most (read ++ unread start.source.now) (unread ran.source.now) (each_of told start.sinks.now) before (each_of written ran.sinks.now) (stop_by ran.committed why)) (sym run_is) (r.stopped t read before h grew)))
 
-  -- the same behind the header
+  -- a stop refuses no header
+  pub stops_past : (book : Book) (ran : Feeding R S) (last : Option Book) (sinks' : Sinks S) (result : Result Report Stop)
+      → (ran.cut ≡ None → RunEnds tells unread failures told written sink_failures book start ran last)
+      → IfSome (stop_of ran) (λ why. RunStops tells unread failures told written sink_failures book start ran why)
+      → Breaks ran sinks' result
+      → Finishes told written sink_failures ran last sinks' result
+      → IfErr result (λ s. IsPastHeader s)
+  stops_past book ran last sinks' result ends_it stops_it stopped concludes_it = by_cut ran.cut refl
+    where
+      by_cut : (o : Option Why) → ran.cut ≡ o → IfErr result (λ s. IsPastHeader s)
+      by_cut None is =
+          let e = ends_it is in
+          let c = concluded_of book ran last sinks' result e is concludes_it in
+          IfErr-weaker result _ (λ s. IsPastHeader s) (λ (s : Stop) fails. conclude_is_past e.end e.last.count (failures start.source.now) (failures ran.source.now) _ _ s e.failed fails) c.failure
+      by_cut (Some why) is =
+          let s = subst (λ (o : Option Why). IfSome (option_map (stop_by ran.committed) o) (λ stop. (result ≡ Err stop) × (sinks' ≡ ran.sinks.now))) is stopped in
+          let r = subst (λ (o : Option Why). IfSome (option_map (stop_by ran.committed) o) (λ stop. RunStops tells unread failures told written sink_failures book start ran stop)) is stops_it in
+          subst (λ (x : Result Report Stop). IfErr x (λ s. IsPastHeader s)) (sym s.0) r.late
+
+  -- the same from before the header was written
+  abbrev ReplaysHence : (sinks sinks' : Sinks S) → Report → Type 0
+  ReplaysHence sinks sinks' report = IsTrue (tells start.source.now) → (read : List ℕ) → HasGiven start.capture.now read []
+      → Replayed run (read ++ unread start.source.now) (each_of told sinks) (each_of written sinks) (each_of written sinks') report
+
+  abbrev StopsHence : R → (sinks sinks' : Sinks S) → Stop → Type 0
+  StopsHence source' sinks sinks' s = IsTrue (tells start.source.now) → (read : List ℕ) → HasGiven start.capture.now read []
+      → Stopped run start.most (read ++ unread start.source.now) (unread source') (each_of told sinks) (each_of written sinks) (each_of written sinks') s
+
   pub replays_on : (book : Book) (ran : Feeding R S) (last : Option Book) (sinks sinks' : Sinks S) (result : Result Report Stop)
       → (ran.cut ≡ None → RunEnds tells unread failures told written sink_failures book start ran last)
-      → IfSome (stop_of ran) (λ stop. (result ≡ Err stop) × (sinks' ≡ ran.sinks.now))
-      → (ran.cut ≡ None → IfSome last (λ b. IfSome ran.end (λ end. Concluded told written sink_failures b ran.channel.now.form end ran.sinks.now sinks' result)))
+      → Breaks ran sinks' result
+      → Finishes told written sink_failures ran last sinks' result
       → ran.channel.now.form ≡ start.channel.now.form → each_of told ran.sinks.now ≡ each_of told start.sinks.now → run ≡ run_in book start.channel.now.form
       → each_of told start.sinks.now ≡ each_of told sinks → GrewBy told written sinks start.sinks.now (header_alone start.capture.now.header)
-      → IfOk result (λ report. ReplaysOn tells unread told written run start.capture.now start.source.now sinks sinks' report)
+      → IfOk result (ReplaysHence sinks sinks')
   replays_on book ran last sinks sinks' result ends_it stopped concludes_it form_same told_same run_is told_is header =
-      IfOk-weaker result (ReplaysFrom sinks') (λ report. ReplaysOn tells unread told written run start.capture.now start.source.now sinks sinks' report) (λ (report : Report) p t read h.
+      IfOk-weaker result (ReplaysFrom sinks') (ReplaysHence sinks sinks') (λ (report : Report) p t read h.
       subst (λ (tl : Sinks Bool). Replayed run (read ++ unread start.source.now) tl (each_of written sinks) (each_of written sinks') report) told_is
-      (p t read (each_of written sinks) h (λ u. header (subst (λ (tl : Sinks Bool). AllTold tl) told_is u))))
+      (p t read (each_of written sinks) h (subst (λ (tl : Sinks Bool). Grew tl (each_of written sinks) (each_of written start.sinks.now) (header_alone start.capture.now.header)) (sym told_is) header)))
       (finishes_ok book ran last sinks' result run_is form_same told_same ends_it stopped concludes_it)
 
   pub stops_on : (book : Book) (ran : Feeding R S) (last : Option Book) (source' : R) (sinks sinks' : Sinks S) (result : Result Report Stop)
       → (ran.cut ≡ None → RunEnds tells unread failures told written sink_failures book start ran last)
       → IfSome (stop_of ran) (λ why. RunStops tells unread failures told written sink_failures book start ran why)
-      → IfSome (stop_of ran) (λ stop. (result ≡ Err stop) × (sinks' ≡ ran.sinks.now))
-      → (ran.cut ≡ None → IfSome last (λ b. IfSome ran.end (λ end. Concluded told written sink_failures b ran.channel.now.form end ran.sinks.now sinks' result)))
+      → Breaks ran sinks' result
+      → Finishes told written sink_failures ran last sinks' result
       → source' ≡ ran.source.now
       → ran.channel.now.form ≡ start.channel.now.form → each_of told ran.sinks.now ≡ each_of told start.sinks.now → run ≡ run_in book start.channel.now.form
       → each_of told start.sinks.now ≡ each_of told sinks → GrewBy told written sinks start.sinks.now (header_alone start.capture.now.header)
-      → IfErr result (λ s. StopsOn tells unread told written run start.most start.capture.now start.source.now source' sinks sinks' s)
+      → IfErr result (StopsHence source' sinks sinks')
   stops_on book ran last source' sinks sinks' result ends_it stops_it stopped concludes_it source_is form_same told_same run_is told_is header =
-      IfErr-weaker result (StopsFrom ran.source.now sinks') (λ s. StopsOn tells unread told written run start.most start.capture.now start.source.now source' sinks sinks' s) (λ (s : Stop) p t read h.
+      IfErr-weaker result (StopsFrom ran.source.now sinks') (StopsHence source' sinks sinks') (λ (s : Stop) p t read h.
       rw source_is
       (subst (λ (tl : Sinks Bool). Stopped run start.most (read ++ unread start.source.now) (unread ran.source.now) tl (each_of written sinks) (each_of written sinks') s) told_is
-      (p t read (each_of written sinks) h (λ u. header (subst (λ (tl : Sinks Bool). AllTold tl) told_is u)))))
+      (p t read (each_of written sinks) h (subst (λ (tl : Sinks Bool). Grew tl (each_of written sinks) (each_of written start.sinks.now) (header_alone start.capture.now.header)) (sym told_is) header))))
       (finishes_stopped book ran last sinks' result run_is form_same told_same ends_it stops_it stopped concludes_it)

@@ -12,16 +12,13 @@ use Rattle.pfr_commit.proofs.OnlineLemmas.{all_messages}
 use Rattle.pfr_out.specs.declared.report.Output.{Output}
 use Rattle.pfr_out.specs.declared.report.Output.TheVariants as output
 use Rattle.pfr_out.specs.declared.settings.Form.{Form}
+use Rattle.pfr_out.specs.declared.settings.Form.TheVariants as shape
 use Rattle.pfr_out.specs.declared.sinks.Sinks.{Sinks}
-use Rattle.pfr_out.specs.Outputs.{AllTold, Grew, Outputs, header_alone, of_output, texts_alone}
+use Rattle.pfr_out.specs.Outputs.{Extends, Grew, Outputs, header_alone, of_output, texts_alone}
 use Rattle.pfr_out.specs.Replay.{closing, online, whole}
 use Rattle.pfr_out.specs.Spelling.{Run, in_form, messages_text, spelled}
 
--- contracts speak of the bytes of the same sinks as before
-pub still_told : (now before : Sinks Bool) → now ≡ before → AllTold before → AllTold now
-still_told now before is told = subst (λ (t : Sinks Bool). AllTold t) (sym is) told
-
--- one text behind another
+-- one text after another
 grew_by : (old mid new a b whole : List ℕ) → mid ≡ old ++ a → new ≡ mid ++ b → whole ≡ a ++ b → new ≡ old ++ whole
 grew_by old mid new a b whole first second is = second ∙ (rw (first, is) (append_assoc old a b))
 
@@ -38,9 +35,9 @@ pub grew_by_nothing : (old : List ℕ) → old ≡ old ++ []
 grew_by_nothing old = sym (append-nil old)
 
 -- two pieces are one
-pub grew_twice : (old mid new a b both : Outputs) → Grew old mid a → Grew mid new b → Grew a both b → Grew old new both
-grew_twice old mid new a b both first second is o =
-    grew_by (of_output o old) (of_output o mid) (of_output o new) (of_output o a) (of_output o b) (of_output o both) (first o) (second o) (is o)
+pub grew_twice : (told : Sinks Bool) (old mid new a b both : Outputs) → Grew told old mid a → Grew told mid new b → Extends a both b → Grew told old new both
+grew_twice told old mid new a b both first second is o t =
+    grew_by (of_output o old) (of_output o mid) (of_output o new) (of_output o a) (of_output o b) (of_output o both) (first o t) (second o t) (is o)
 
 -- ---- messages
 
@@ -55,6 +52,15 @@ spelled_append form source xs ys = flat_map-append (in_form form source) xs ys
 spelled_one : (form : Form) (source : Ipv4Address) (message : Content) → spelled form source (message ∷ []) ≡ in_form form source message
 unfolding spelled
 spelled_one form source message = append-nil (in_form form source message)
+
+-- in form None nothing is written of messages
+pub spelled_in_none : (form : Form) (source : Ipv4Address) (messages : List Content) → form ≡ shape.None → spelled form source messages ≡ []
+unfolding spelled
+spelled_in_none form source messages is = subst (λ (f : Form). spelled f source messages ≡ []) (sym is) (nothing_of messages)
+  where
+    nothing_of : (messages : List Content) → spelled shape.None source messages ≡ []
+    nothing_of [] = refl
+    nothing_of (message ∷ messages) = nothing_of messages
 
 -- one message more
 pub spelled_more : (form own : Form) (source : Ipv4Address) (messages : List Content) (i : ℕ) (message : Content) (old new : List ℕ) → own ≡ form → message ≡ get_or messages i message → i < length messages
@@ -75,7 +81,7 @@ both_spelled run messages first second is = ap (λ (ms : List Content). messages
 -- ---- what is written of worlds
 
 -- a world of which more is written than of another one
-pub online_behind : (header : List ℕ) (run : Run) (world later : World) (added : Texts) → written run.job later ≡ joined (written run.job world) added → Grew (online header run world) (online header run later) (texts_alone run added)
+pub online_behind : (header : List ℕ) (run : Run) (world later : World) (added : Texts) → written run.job later ≡ joined (written run.job world) added → Extends (online header run world) (online header run later) (texts_alone run added)
 online_behind header run world later added is =
     each_output _
     (ap (λ (t : Texts). t.verdicts) is)
@@ -83,17 +89,17 @@ online_behind header run world later added is =
     refl refl
     (both_spelled run (written run.job later).messages (written run.job world).messages added.messages (ap (λ (t : Texts). t.messages) is))
 
--- the end of a run behind its packets
-pub whole_is : (header : List ℕ) (run : Run) (world : World) → Grew (online header run world) (whole header run world) (closing run world)
+-- the end of a run after its packets
+pub whole_is : (header : List ℕ) (run : Run) (world : World) → Extends (online header run world) (whole header run world) (closing run world)
 whole_is header run world =
     each_output _ (sym (append-nil world.verdicts)) (sym (append-nil (header ++ world.packets))) refl refl
     (both_spelled run (messages_of (origin_of run.job) world.events) (closed_at (origin_of run.job) world.clock world.events) (last_message run.job world) (all_messages (origin_of run.job) world.clock world.events))
 
 -- the header alone is what no packets write
-pub header_is_online : (old new : Outputs) (header : List ℕ) (run : Run) (world : World) → written run.job world ≡ no_texts → Grew old new (header_alone header) → Grew old new (online header run world)
-header_is_online old new header run world none grew =
+pub header_is_online : (told : Sinks Bool) (old new : Outputs) (header : List ℕ) (run : Run) (world : World) → written run.job world ≡ no_texts → Grew told old new (header_alone header) → Grew told old new (online header run world)
+header_is_online told old new header run world none grew =
     each_output _
-    (grew output.Verdicts ∙ ap (λ (t : Texts). old.verdicts ++ t.verdicts) (sym none))
-    (grew output.Packets ∙ ap (λ (t : List ℕ). old.packets ++ t) (sym (append-nil header)) ∙ ap (λ (t : Texts). old.packets ++ (header ++ t.packets)) (sym none))
+    (λ t. grew output.Verdicts t ∙ ap (λ (t : Texts). old.verdicts ++ t.verdicts) (sym none))
+    (λ t. grew output.Packets t ∙ ap (λ (t : List ℕ). old.packets ++ t) (sym (append-nil header)) ∙ ap (λ (t : Texts). old.packets ++ (header ++ t.packets)) (sym none))
     (grew output.Counters) (grew output.States)
-    (grew output.Messages ∙ ap (λ (t : List ℕ). old.messages ++ t) (sym (spelled_none run.form run.job.interface.address)) ∙ ap (λ (t : Texts). old.messages ++ messages_text run t.messages) (sym none))
+    (λ t. grew output.Messages t ∙ ap (λ (t : List ℕ). old.messages ++ t) (sym (spelled_none run.form run.job.interface.address)) ∙ ap (λ (t : Texts). old.messages ++ messages_text run t.messages) (sym none))

@@ -1,5 +1,5 @@
 -- How the batches of a capture are given, and what they add is taken.
-use Rattle.std.specs.Prelude.{◌≡◌, ◌⊎◌, ◌≤◌, ◌+◌, ◌++◌, min, ℕ, Bool, IsTrue, false, List, [], length, Option, Some, None, Result, Ok, IfErr, IfOk, OnOk}
+use Rattle.std.specs.Prelude.{◌≡◌, ◌⊎◌, ◌≤◌, ◌+◌, ◌++◌, min, ℕ, Bool, IsTrue, false, List, [], length, Option, Some, None, Result, Ok, Err, IfErr, IfOk, IfSome, OnOk}
 use Rattle.std.specs.List.{All}
 use Rattle.std.specs.Option.{option_map}
 use Rattle.pfr_net.specs.declared.address.Ipv4Address.{Ipv4Address}
@@ -7,6 +7,7 @@ use Rattle.pfr_capture.specs.declared.capture.Record.{Record}
 use Rattle.pfr_capture.specs.Reading.{FieldsOf, HasGiven}
 use Rattle.pfr_commit.specs.declared.book.Book.{Book}
 use Rattle.pfr_commit.specs.World.{Texts}
+use Rattle.pfr_feed.specs.Transitions.{Transitions}
 use Rattle.pfr_out.specs.declared.feeding.Cut.{Cut}
 use Rattle.pfr_out.specs.declared.feeding.Cut.TheVariants as cut
 use Rattle.pfr_out.specs.declared.feeding.Feeding.{Feeding}
@@ -15,17 +16,17 @@ use Rattle.pfr_out.specs.declared.report.Stop.{Stop}
 use Rattle.pfr_out.specs.declared.report.Stop.TheVariants as stop
 use Rattle.pfr_out.specs.declared.settings.Form.{Form}
 use Rattle.pfr_out.specs.declared.sinks.Sinks.{Sinks}
-use Rattle.pfr_out.specs.Outputs.{AllTold, Grew, GrewBy, Outputs, Stay, TookPart, batch_alone, each_of, header_alone}
-use Rattle.pfr_out.specs.Reading.{BatchFails, BatchSays, End, records_of, wants_memory}
-use Rattle.pfr_out.specs.Replay.{StopFails, Stopped, closing}
+use Rattle.pfr_out.specs.Outputs.{Grew, GrewBy, KeepsMessages, Outputs, Stay, TookPart, batch_alone, each_of, header_alone}
+use Rattle.pfr_out.specs.Reading.{BatchFails, End, SaysIn, wants_memory}
+use Rattle.pfr_out.specs.Replay.{StopFails, Stopped}
 use Rattle.pfr_out.specs.Spelling.{spelled}
-use Rattle.pfr_out.specs.Taking.{ConcludeFails, ConcludesIn, IsLate, Reaches, SinksFail, Standing, run_in}
+use Rattle.pfr_out.specs.Taking.{ClosesIn, ConcludeFails, ConcludesIn, IsPastHeader, Reaches, SinksFail, run_in}
 
 -- a piece, as it is written
 abbrev pub piece_alone : Form → Ipv4Address → Texts → Outputs
 piece_alone form address piece = batch_alone piece.verdicts piece.packets (spelled form address piece.messages)
 
--- the stop by which a piece was cut, behind so many packets committed
+-- the stop by which a piece was cut, after `committed` packets
 abbrev pub stop_by : ℕ → Cut → Stop
 stop_by committed cut.Memory = stop.Memory committed
 stop_by committed (cut.Write output) = stop.Write output committed
@@ -41,10 +42,10 @@ pub record Same {R S : Type 0} (old new : Feeding R S) : Type 0 where
 
 -- ---- reading
 
--- it read these records, of which it dropped those of a batch for which memory was refused
+-- it read these records; it dropped those of a batch for which memory was refused
 pub record Reads {R S : Type 0} (tells : R → Bool) (unread : R → List ℕ) (failures : R → ℕ) (old new : Feeding R S) (records : List Record) : Type 0 where
   pub going : old.end ≡ None
-  pub says : IsTrue (tells old.source.now) → BatchSays old.capture.now new.capture.now (unread old.source.now) (unread new.source.now) (records_of records) new.end
+  pub says : SaysIn tells unread old.capture.now new.capture.now old.source.now new.source.now records new.end
   pub form : new.capture.now.form ≡ old.capture.now.form
   pub header : new.capture.now.header ≡ old.capture.now.header
   pub fields : All (FieldsOf old.capture.now.form) records
@@ -62,7 +63,7 @@ pub record Gives {R S : Type 0} (tells : R → Bool) (unread : R → List ℕ) (
   pub reads : Reads tells unread failures old new records
   pub wants : wants_memory new.end ≡ false
 
--- the reading had ended, or it ends with no record more
+-- the reading had ended, or it ends with no further record
 abbrev pub Ends : {R S : Type 0} → (tells : R → Bool) → (unread : R → List ℕ) → (failures : R → ℕ) → (old new : Feeding R S) → Type 0
 Ends tells unread failures old new = ((end : End) × (old.end ≡ Some end) × (new ≡ old)) ⊎ ((end : End) × (new.end ≡ Some end) × Reads tells unread failures old new [])
 
@@ -79,28 +80,42 @@ pub record Rests {R S : Type 0} (old new : Feeding R S) : Type 0 where
 
 -- ---- writing
 
--- what a call that writes leaves as it is
+-- what stays when a piece is written
 pub record Writes {R S : Type 0} (tells : S → Bool) (old new : Feeding R S) : Type 0 where
   pub capture : new.capture.now ≡ old.capture.now
   pub source : new.source.now ≡ old.source.now
   pub end : new.end ≡ old.end
   pub given : new.given ≡ old.given
   pub told : each_of tells new.sinks.now ≡ each_of tells old.sinks.now
+  pub messages : KeepsMessages old.channel.now.form old.sinks.now new.sinks.now
   pub same : Same old new
+
+-- the outputs grew by a piece
+abbrev pub GrewByPiece : {R S : Type 0} → (tells : S → Bool) → (written : S → List ℕ) → (old : Feeding R S) → Texts → (new : Feeding R S) → Type 0
+GrewByPiece tells written old piece new = GrewBy tells written old.sinks.now new.sinks.now (piece_alone old.channel.now.form old.address piece)
 
 pub record Takes {R S : Type 0} (tells : S → Bool) (written : S → List ℕ) (failures : S → ℕ) (old : Feeding R S) (piece : Texts) (new : Feeding R S) : Type 0 where
   pub writes : Writes tells old new
-  pub grew : GrewBy tells written old.sinks.now new.sinks.now (piece_alone old.channel.now.form old.address piece)
+  pub grew : GrewByPiece tells written old piece new
   pub failed : Stay failures old.sinks.now new.sinks.now
   -- a batch has the most records, unless the reading ends with it
   pub committed : new.committed ≡ min (old.committed + old.most) old.given
   pub cut : new.cut ≡ old.cut
 
--- why a piece wasn't taken whole, behind so many packets committed: memory was refused for its messages, or a sink failed
+-- why a piece wasn't taken whole, after `committed` packets: memory was refused for its messages, or a sink failed
 abbrev pub CutsOff : {S : Type 0} → (tells : S → Bool) → (written : S → List ℕ) → (committed : ℕ) → (old new : Sinks S) → Outputs → Stop → Type 0
 CutsOff tells written committed old new piece (stop.Memory count) = (count ≡ committed) × (new ≡ old)
 CutsOff tells written committed old new piece (stop.Write output count) = (count ≡ committed) × TookPart tells written old new piece output
 CutsOff tells written committed old new piece _ = ⊥
+
+-- the same of a feed, by its cut
+abbrev pub CutsPiece : {R S : Type 0} → (tells : S → Bool) → (written : S → List ℕ) → (old : Feeding R S) → Texts → (new : Feeding R S) → Cut → Type 0
+CutsPiece tells written old piece new cut =
+    CutsOff tells written old.committed old.sinks.now new.sinks.now (piece_alone old.channel.now.form old.address piece) (stop_by old.committed cut)
+
+-- what a cut says of the sinks' counts of failures
+abbrev pub CutFails : {R S : Type 0} → (failures : S → ℕ) → (old new : Feeding R S) → Cut → Type 0
+CutFails failures old new cut = SinksFail (stop_by old.committed cut) (each_of failures old.sinks.now) (each_of failures new.sinks.now)
 
 pub record Cuts {R S : Type 0} (tells : S → Bool) (written : S → List ℕ) (failures : S → ℕ) (old : Feeding R S) (piece : Texts) (new : Feeding R S) : Type 0 where
   pub writes : Writes tells old new
@@ -109,9 +124,23 @@ pub record Cuts {R S : Type 0} (tells : S → Bool) (written : S → List ℕ) (
   pub off : CutsOff tells written old.committed old.sinks.now new.sinks.now (piece_alone old.channel.now.form old.address piece) why
   pub failed : SinksFail why (each_of failures old.sinks.now) (each_of failures new.sinks.now)
 
+-- what each call of such a feed does
+abbrev pub transitions_of : {R S : Type 0} → (tells : R → Bool) → (unread : R → List ℕ) → (failures : R → ℕ) → (told : S → Bool) → (written : S → List ℕ) → (sink_failures : S → ℕ) → Transitions (Feeding R S)
+transitions_of tells unread failures told written sink_failures = record {
+  gives = Gives tells unread failures;
+  ends = Ends tells unread failures;
+  takes = Takes told written sink_failures;
+  cuts = Cuts told written sink_failures;
+  rests = Rests;
+}
+
 -- ---- a run
 
--- nothing was given or taken yet
+-- the devices tell their bytes as before
+abbrev pub TellAsBefore : {R S : Type 0} → (tells : R → Bool) → (told : S → Bool) → (old new : Feeding R S) → Type 0
+TellAsBefore tells told old new = (tells new.source.now ≡ tells old.source.now) × (each_of told new.sinks.now ≡ each_of told old.sinks.now)
+
+-- nothing has been given or taken
 pub record Fresh {R S : Type 0} (feeding : Feeding R S) : Type 0 where
   pub count : feeding.capture.now.count ≡ 0
   pub given : feeding.given ≡ 0
@@ -119,16 +148,16 @@ pub record Fresh {R S : Type 0} (feeding : Feeding R S) : Type 0 where
   pub end : feeding.end ≡ None
   pub cut : feeding.cut ≡ None
 
--- A fact of a run behind a reader that has given no record, and behind the capture's header, which has grown these outputs: the text,
--- what is left of it, and the outputs before and behind.
+-- A fact of a run after its reader was opened and the header of the capture was written: of the text, what is left of it, and the outputs
+-- before the header and at the end.
 abbrev pub Behind : {R S : Type 0} → (tells : R → Bool) → (unread : R → List ℕ) → (told : S → Bool) → (written : S → List ℕ) → (old new : Feeding R S)
     → ((text left : List ℕ) → (told : Sinks Bool) → (before behind : Outputs) → Type 0) → Type 0
 Behind tells unread told written old new P =
     IsTrue (tells old.source.now) → (read : List ℕ) (before : Outputs) → HasGiven old.capture.now read []
-    → (AllTold (each_of told old.sinks.now) → Grew before (each_of written old.sinks.now) (header_alone old.capture.now.header))
+    → Grew (each_of told old.sinks.now) before (each_of written old.sinks.now) (header_alone old.capture.now.header)
     → P (read ++ unread old.source.now) (unread new.source.now) (each_of told old.sinks.now) before (each_of written new.sinks.now)
 
--- the run went to the end of the reading, and a book has taken all packets
+-- the run went to the end of the reading, and the book has taken all packets
 pub record RunEnds {R S : Type 0} (tells : R → Bool) (unread : R → List ℕ) (failures : R → ℕ) (told : S → Bool) (written : S → List ℕ) (sink_failures : S → ℕ) (book : Book) (old new : Feeding R S) (last_book : Option Book) : Type 0 where
   pub end : End
   pub last : Book
@@ -142,13 +171,23 @@ pub record RunEnds {R S : Type 0} (tells : R → Bool) (unread : R → List ℕ)
 -- it stopped before
 pub record RunStops {R S : Type 0} (tells : R → Bool) (unread : R → List ℕ) (failures : R → ℕ) (told : S → Bool) (written : S → List ℕ) (sink_failures : S → ℕ) (book : Book) (old new : Feeding R S) (why : Stop) : Type 0 where
   pub stopped : Behind tells unread told written old new (λ text left told before behind. Stopped (run_in book old.channel.now.form) old.most text left told before behind why)
-  pub late : IsLate why
+  pub late : IsPastHeader why
   pub failed : StopFails why (failures old.source.now) (failures new.source.now) (each_of sink_failures old.sinks.now) (each_of sink_failures new.sinks.now)
 
 -- the end of a run whose reading has ended
 pub record Concluded {S : Type 0} (told : S → Bool) (written : S → List ℕ) (failures : S → ℕ) (book : Book) (form : Form) (end : End) (old new : Sinks S) (result : Result Report Stop) : Type 0 where
   pub closed : IfOk result (λ report. (report.committed ≡ book.count) × (end ≡ Ok report.tail))
-  pub grew : OnOk result (Standing book (λ world. GrewBy told written old new (closing (run_in book form) world)))
+  pub grew : OnOk result (ClosesIn told written book form old new)
   pub stops : IfErr result (λ s. ConcludesIn told written end book form old new s)
   pub no_failure : OnOk result (Stay failures old new)
   pub failure : IfErr result (λ s. ConcludeFails end book.count (each_of failures old) (each_of failures new) s)
+
+-- the same of a feed that wasn't cut, with the book that took all packets
+abbrev pub Finishes : {R S : Type 0} → (told : S → Bool) → (written : S → List ℕ) → (failures : S → ℕ) → Feeding R S → Option Book → Sinks S → Result Report Stop → Type 0
+Finishes told written failures feeding last sinks result =
+    feeding.cut ≡ None
+    → IfSome last (λ book. IfSome feeding.end (λ end. Concluded told written failures book feeding.channel.now.form end feeding.sinks.now sinks result))
+
+-- a feed that was cut, which stops the run
+abbrev pub Breaks : {R S : Type 0} → Feeding R S → Sinks S → Result Report Stop → Type 0
+Breaks feeding sinks result = IfSome (stop_of feeding) (λ stop. (result ≡ Err stop) × (sinks ≡ feeding.sinks.now))

@@ -8,13 +8,13 @@ use Rattle.pfr_sync.specs.Files.{ip_header}
 use Rattle.pfr_out.specs.declared.settings.Form.{Form}
 use Rattle.pfr_out.specs.declared.settings.Form.TheVariants as form
 
--- what the outputs of a run hang on, but for its capture
+-- what the outputs of a run depend on, apart from its capture
 pub record Run : Type 0 where
   pub job : RunJob
   -- of the messages to a standby
   pub form : Form
 
--- a message behind an IP header from an interface's address
+-- a message after an IP header from the address of an interface
 abbrev pub packet_of : Ipv4Address → Content → List ℕ
 packet_of source message = ip_header source (length (spelling message)) ++ spelling message
 

@@ -10,14 +10,14 @@ use std::alloc::{AllocError, Global};
 /// The length of the IP header before a message in a file.
 const IP_HEADER: usize = 20;
 
-/// What spells messages in a form, into a text that is kept.
+/// Spells messages in a form, into a text that is kept.
 #[derive(Drop)]
 pub struct Channel {
     pub(crate) form: Form,
     text: Vec<u8>,
 }
 
-/// Puts a message behind an IP header, and both behind a text.
+/// Appends an IP header and a message to a text.
 fn put_packet(source: Ipv4Address, message: &Message, text: &mut Vec<u8>) -> Result<(), AllocError>
     ensures { OnOk result (text.new.items ≡ text.old.items ++ spec.packet_of source message.now) }
 {
@@ -34,7 +34,7 @@ fn put_packet(source: Ipv4Address, message: &Message, text: &mut Vec<u8>) -> Res
 }
 
 impl Channel {
-    /// What spells messages in a form.
+    /// A channel for messages in a form.
     pub(crate) fn new(alloc: Global, form: Form) -> Channel
         ensures { result.form ≡ form }
     {
@@ -44,7 +44,7 @@ impl Channel {
         }
     }
 
-    /// Puts a message behind the text, from an interface's address.
+    /// Appends a message to the text, from the address of an interface.
     fn put(&mut self, source: Ipv4Address, message: &Message) -> Result<(), AllocError>
         ensures text { OnOk result (self.new.text.items ≡ self.old.text.items ++ spec.in_form self.old.form source message.now) }
         ensures form { self.new.form ≡ self.old.form }
@@ -56,7 +56,7 @@ impl Channel {
         }
     }
 
-    /// Spells messages from an interface's address, in place of what was spelled before.
+    /// Spells messages from the address of an interface, in place of what was spelled before.
     pub(crate) fn spell(
         &mut self,
         source: Ipv4Address,
@@ -72,7 +72,7 @@ impl Channel {
         Ok(())
     }
 
-    /// What was spelled.
+    /// The messages as they were spelled.
     pub(crate) fn text(&self) -> &[u8]
         ensures { result.now ≡ self.now.text.items }
     {

@@ -1,10 +1,9 @@
-//! The batches of a capture, and what they add on its way into the outputs.
-ghost use Rattle.std.specs.Prelude.{◌≡◌, ◌≤◌, ◌+◌, ◌^◌, min, None, Some, Err, IfErr, IfSome, IsSome, OnOk};
+//! The batches of a capture, and the way of what they add into the outputs.
+ghost use Rattle.std.specs.Prelude.{◌≡◌, ◌≤◌, ◌+◌, ◌^◌, min, None, Some, IfErr, IfSome, IsSome, OnOk};
 ghost use Rattle.pfr_commit.specs.Books.{StandsAt, job_of};
 ghost use Rattle.pfr_commit.specs.World.{opening};
 ghost use Rattle.pfr_commit.specs.Emissions.{texts_of};
-ghost use Rattle.pfr_out.specs.Outputs.{GrewBy, Stay, each_of};
-ghost use Rattle.pfr_out.specs.Taking.{SinksFail};
+ghost use Rattle.pfr_out.specs.Outputs.{KeepsMessages, Stay, each_of};
 ghost use Rattle.pfr_out.specs.declared.report.Stop.TheVariants.{Memory};
 
 use crate::channel::Channel;
@@ -16,7 +15,7 @@ use pfr_capture::{Capture, CaptureError, Record, Sink, Source, Tail};
 use pfr_commit::{Book, Emitted};
 use pfr_headers::View;
 use pfr_net::Ipv4Address;
-use pfr_work::{Feed, Gate, Lists, Naming, OfRun, run_workers};
+use pfr_work::{Feed, Gate, Histories, Naming, OfRun, run_workers};
 use std::alloc::{AllocGlobal, Global};
 use std::sync::Wait;
 use std::thread::Threads;
@@ -43,7 +42,7 @@ pub(crate) struct Feeding<'a, R, S> {
     /// The address from which messages come.
     pub(crate) address: Ipv4Address,
     pub(crate) sinks: &'a mut Sinks<S>,
-    /// How many records were given, and of how many all is written that they add. Batches are read ahead.
+    /// How many records were given, and how many of them are written. Batches are read ahead.
     pub(crate) given: u64,
     pub(crate) committed: u64,
     /// How the reading has ended, if it has.
@@ -56,7 +55,7 @@ pub(crate) struct Feeding<'a, R, S> {
 }
 
 impl<R: Source, S: Sink> Feeding<'_, R, S> {
-    ghost use Rattle.pfr_out.specs.Feedings.{CutsOff, Writes, piece_alone, stop_by};
+    ghost use Rattle.pfr_out.specs.Feedings.{CutFails, CutsPiece, GrewByPiece, Writes};
 
     /// Writes what a batch adds.
     fn write(&mut self, piece: &Emitted) -> Result<(), Cut>
@@ -64,10 +63,10 @@ impl<R: Source, S: Sink> Feeding<'_, R, S> {
         ensures committed { self.new.committed ≡ self.old.committed }
         ensures cut { self.new.cut ≡ self.old.cut }
         ensures names { (self.new.source.ghost_name ≡ self.old.source.ghost_name) × (self.new.sinks.ghost_name ≡ self.old.sinks.ghost_name) }
-        ensures grew { OnOk result (GrewBy S.told S.written self.old.sinks.now self.new.sinks.now (piece_alone self.old.channel.now.form self.old.address (texts_of piece.now))) }
+        ensures grew { OnOk result (GrewByPiece S.told S.written self.old (texts_of piece.now) self.new) }
         ensures no_failure { OnOk result (Stay S.failures self.old.sinks.now self.new.sinks.now) }
-        ensures off { IfErr result (λ cut. CutsOff S.told S.written self.old.committed self.old.sinks.now self.new.sinks.now (piece_alone self.old.channel.now.form self.old.address (texts_of piece.now)) (stop_by self.old.committed cut)) }
-        ensures failure { IfErr result (λ cut. SinksFail (stop_by self.old.committed cut) (each_of S.failures self.old.sinks.now) (each_of S.failures self.new.sinks.now)) }
+        ensures off { IfErr result (λ cut. CutsPiece S.told S.written self.old (texts_of piece.now) self.new cut) }
+        ensures failure { IfErr result (λ cut. CutFails S.failures self.old self.new cut) }
     {
         match self.channel.spell(self.address, piece.messages.as_slice()) {
             Ok(()) => {}
@@ -79,7 +78,7 @@ impl<R: Source, S: Sink> Feeding<'_, R, S> {
         }
     }
 
-    /// How many records there are up to the end of the next batch. The last one may have less than the most.
+    /// How many records there are up to the end of the next batch. The last batch may have less than the most.
     fn behind_next(&self) -> u64
         ensures { result ≡ min (self.now.committed + self.now.most) self.now.given }
     {
@@ -89,18 +88,10 @@ impl<R: Source, S: Sink> Feeding<'_, R, S> {
 
 impl<R: Source, S: Sink> Feed for Feeding<'_, R, S> {
     ghost use Rattle.std.specs.Prelude.{◌&&◌};
-    ghost use Rattle.pfr_out.specs.Feedings.{Cuts, Ends, Gives, Rests, Takes};
+    ghost use Rattle.pfr_out.specs.Feedings.{transitions_of};
     ghost use Rattle.pfr_out.specs.Outputs.{all_told};
 
-    ghost gives = { λ old records new. Gives R.told R.unread R.failures old records new };
-
-    ghost ends = { λ old new. Ends R.told R.unread R.failures old new };
-
-    ghost takes = { λ old piece new. Takes S.told S.written S.failures old piece new };
-
-    ghost cuts = { λ old piece new. Cuts S.told S.written S.failures old piece new };
-
-    ghost rests = { λ old new. Rests old new };
+    ghost transitions = { transitions_of R.told R.unread R.failures S.told S.written S.failures };
 
     ghost told = { λ feeding. R.told feeding.source.now && all_told S.told feeding.sinks.now };
 
@@ -113,7 +104,7 @@ impl<R: Source, S: Sink> Feed for Feeding<'_, R, S> {
             return None;
         }
         let mut records = Vec::new(self.alloc);
-        // where room is refused, so is that of a record
+        // if room is refused here, so is the room of a record
         let _ = records.reserve(self.most);
         let before = self.capture.taken();
         self.end = read_batch(self.capture, self.source, self.most, &mut records);
@@ -156,7 +147,7 @@ impl<R: Source, S: Sink> Feed for Feeding<'_, R, S> {
 }
 
 impl<'a, R: Source, S: Sink> Feeding<'a, R, S> {
-    ghost use Rattle.pfr_out.specs.Feedings.{Concluded, Fresh, RunEnds, RunStops, stop_of};
+    ghost use Rattle.pfr_out.specs.Feedings.{Breaks, Finishes, Fresh, RunEnds, RunStops, TellAsBefore, stop_of};
 
     /// Notes that memory was refused.
     fn without_memory(mut self) -> Feeding<'a, R, S>
@@ -170,8 +161,8 @@ impl<'a, R: Source, S: Sink> Feeding<'a, R, S> {
         self
     }
 
-    /// Has a book take the packets of the capture, and writes what they add, a batch at a time. So many workers evaluate the packets
-    /// of the next batches ahead, if there are any. Where no stop came before the end of the reading, the book is handed back.
+    /// Has a book take the packets of the capture, and writes what they add, a batch at a time. If there are `workers`, they evaluate
+    /// the packets of the next batches ahead. `last` is that book then, unless memory was refused.
     pub(crate) fn run<
         J: OfRun + Send + Sync + 'static,
         K: Naming + Send + Sync + 'static,
@@ -183,7 +174,7 @@ impl<'a, R: Source, S: Sink> Feeding<'a, R, S> {
         book: Book,
         workers: u64,
         gate: &G,
-        lists: Lists,
+        histories: Histories,
         last: &mut Option<Book>,
     ) -> Feeding<'a, R, S>
         requires fresh { Fresh self }
@@ -191,18 +182,19 @@ impl<'a, R: Source, S: Sink> Feeding<'a, R, S> {
         requires address { self.address ≡ (job_of book).interface.address }
         requires job { J.job ≡ Some (job_of book) }
         requires limit { (job_of book).rules.options.state_limit ≡ J.limit }
-        requires changes { lists.changes ≡ J.history }
-        requires batches { lists.batches ≡ K.history }
+        requires changes { histories.changes ≡ J.history }
+        requires batches { histories.batches ≡ K.history }
         requires workers { workers ≤ 64 }
         ensures source { result.source.ghost_name ≡ self.entry.source.ghost_name }
         ensures sinks { result.sinks.ghost_name ≡ self.entry.sinks.ghost_name }
-        ensures told { (R.told result.source.now ≡ R.told self.entry.source.now) × (each_of S.told result.sinks.now ≡ each_of S.told self.entry.sinks.now) }
+        ensures told { TellAsBefore R.told S.told self.entry result }
         ensures form { result.channel.now.form ≡ self.entry.channel.now.form }
+        ensures messages { KeepsMessages self.entry.channel.now.form self.entry.sinks.now result.sinks.now }
         ensures over { result.cut ≡ None → RunEnds R.told R.unread R.failures S.told S.written S.failures book self.entry result last.new }
-        ensures stopped { IfSome (stop_of result) (λ stop. RunStops R.told R.unread R.failures S.told S.written S.failures book self.entry result stop) }
+        ensures stopped { IfSome (stop_of result) (RunStops R.told R.unread R.failures S.told S.written S.failures book self.entry result) }
     {
         let (book, feeding, trace, result) = run_workers::<J, K, H, Feeding<'a, R, S>, G>(
-            rt, book, self, workers, gate, lists,
+            rt, book, self, workers, gate, histories,
         );
         drop(trace.close(rt));
         match result {
@@ -227,15 +219,16 @@ impl<'a, R: Source, S: Sink> Feeding<'a, R, S> {
         }
     }
 
-    /// Ends a run: where the reading has ended what stands there is written, and a stop before that is told.
+    /// Ends a run: if the reading has ended it writes the last texts, and it reports a stop that came before.
     pub(crate) fn finish(&mut self, last: Option<Book>) -> Result<Report, Stop>
         requires over { self.old.cut ≡ None → IsSome self.old.end × IsSome last }
         ensures source { self.new.source.ghost_name ≡ self.old.source.ghost_name }
         ensures source_stays { self.new.source.now ≡ self.old.source.now }
         ensures sinks { self.new.sinks.ghost_name ≡ self.old.sinks.ghost_name }
         ensures told { each_of S.told self.new.sinks.now ≡ each_of S.told self.old.sinks.now }
-        ensures stopped { IfSome (stop_of self.old) (λ stop. (result ≡ Err stop) × (self.new.sinks.now ≡ self.old.sinks.now)) }
-        ensures concluded { self.old.cut ≡ None → IfSome last (λ book. IfSome self.old.end (λ end. Concluded S.told S.written S.failures book self.old.channel.now.form end self.old.sinks.now self.new.sinks.now result)) }
+        ensures messages { KeepsMessages self.old.channel.now.form self.old.sinks.now self.new.sinks.now }
+        ensures stopped { Breaks self.old self.new.sinks.now result }
+        ensures concluded { Finishes S.told S.written S.failures self.old last self.new.sinks.now result }
     {
         if let Some(stop) = self.stop() {
             return Err(stop);

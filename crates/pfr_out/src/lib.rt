@@ -1,10 +1,10 @@
 //! A capture through a ruleset: the lines that say what becomes of each packet, the packets that aren't blocked, the counters
 //! of the rules, the states that are left, and the messages by which another firewall is told of the states.
 //!
-//! [`replay`] is the whole run, over any source and any sinks. Its contract is the theorem of this crate: for all sizes of a batch,
-//! numbers of workers and orders of their results, at a run to the end the sinks have grown by exactly what one thread writes
-//! that takes the packets in the order of the capture; and where a device fails, by a beginning of that, which holds at least
-//! the packets that the stop reports as committed.
+//! [`replay`] is the whole run, over any source and any sinks. Its contract is the theorem of this crate, for all sizes of a batch,
+//! numbers of workers and orders of their results. After a run to the end the sinks have grown by exactly what one thread writes
+//! that takes the packets in the order of the capture. If a device fails, they have grown by a beginning of that, which holds at
+//! least the packets that the stop reports as committed.
 #![tactic(auto)]
 
 mod channel;
@@ -21,5 +21,5 @@ pub use pfr_conf::{ConfError, ConfErrorKind};
 pub use pfr_work::Gate;
 pub use report::{Output, Report, Stop};
 pub use run::{replay, replay_job};
-pub use settings::{Form, Settings};
+pub use settings::{Form, RunSettings, Settings};
 pub use sinks::Sinks;

@@ -1,8 +1,8 @@
 //! Records from a capture, a batch at a time.
-ghost use Rattle.std.specs.Prelude.{◌≡◌, ◌≤◌, ◌+◌, ◌^◌, [], None, IsTrue, length};
+ghost use Rattle.std.specs.Prelude.{◌≡◌, ◌≤◌, ◌+◌, ◌^◌, [], None, length};
 ghost use Rattle.std.specs.List.{All};
 ghost use Rattle.pfr_capture.specs.Reading.{FieldsOf};
-ghost use Rattle.pfr_out.specs.Reading.{BatchFails, BatchSays, records_of, wants_memory};
+ghost use Rattle.pfr_out.specs.Reading.{BatchFails, SaysIn, wants_memory};
 
 use pfr_capture::{Capture, CaptureError, Record, Source, Tail};
 use pfr_headers::View;
@@ -16,7 +16,7 @@ pub(crate) fn give_back(capture: &mut Capture, packets: Vec<(Record, View)>)
     }
 }
 
-/// Reads a batch of records, of at most so many. It answers how the reading ends, if it does: at the capture's end, or with a
+/// Reads a batch of at most `most` records. It returns how the reading ends, if it does: at the end of the capture, or with a
 /// refusal.
 pub(crate) fn read_batch<R: Source>(
     capture: &mut Capture,
@@ -31,10 +31,11 @@ pub(crate) fn read_batch<R: Source>(
     ensures same { (capture.new.form ≡ capture.old.form) × (capture.new.header ≡ capture.old.header) }
     ensures fields { All (FieldsOf capture.old.form) records.new.items }
     ensures at_most { length records.new.items ≤ most }
-    ensures full { result ≡ None → (length records.new.items ≡ most) × (capture.new.over ≡ None) × (capture.new.count ≡ capture.old.count + length records.new.items) }
+    ensures full { result ≡ None → length records.new.items ≡ most }
+    ensures goes_on { result ≡ None → (capture.new.over ≡ None) × (capture.new.count ≡ capture.old.count + length records.new.items) }
     ensures counted { capture.old.count + length records.new.items ≤ capture.new.count }
     ensures few { capture.old.count ≤ 2 ^ 40 → capture.new.count ≤ 2 ^ 40 }
-    ensures says { IsTrue (R.told source.old) → BatchSays capture.old capture.new (R.unread source.old) (R.unread source.new) (records_of records.new.items) result }
+    ensures says { SaysIn R.told R.unread capture.old capture.new source.old source.new records.new.items result }
     ensures failures { BatchFails result (R.failures source.old) (R.failures source.new) }
 {
     while records.len() < most {
@@ -50,7 +51,7 @@ pub(crate) fn read_batch<R: Source>(
     None
 }
 
-/// Whether the reading ends since memory was refused.
+/// Whether the reading ends because memory was refused.
 pub(crate) fn wants_memory(end: &Option<Result<Tail, CaptureError>>) -> bool
     ensures { result ≡ wants_memory end.now }
 {

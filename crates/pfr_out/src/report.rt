@@ -27,8 +27,8 @@ pub enum Output {
     Messages,
 }
 
-/// Why a run ended before that. The number is that of the packets committed: of those of which verdicts and packets hold all
-/// that is to be written.
+/// Why a run ended before the end of its capture. The number counts the packets committed: the outputs of verdicts and packets hold
+/// all that these write.
 #[derive(Debug, Drop, Error)]
 pub enum Stop {
     #[error("{0}")]

@@ -5,7 +5,7 @@ use pfr_ruleset::Interface;
 /// The form of the messages to a standby.
 #[derive(Clone, Copy, Debug, PartialEq, Eq)]
 pub enum Form {
-    /// Each behind an IP header, as in a capture of the packets that would carry them.
+    /// Each after an IP header, as in a capture of the packets that would carry them.
     File,
     /// One after the other, as a stream.
     Peer,
@@ -13,10 +13,21 @@ pub enum Form {
     None,
 }
 
-/// How a capture is replayed.
+/// How the packets of a capture are taken and written, whatever the ruleset.
+#[derive(Clone, Copy)]
+pub struct RunSettings {
+    /// How many packets are taken and written at a time, 1 to 4096.
+    pub batch: usize,
+    /// How many workers evaluate packets ahead, 0 to 64.
+    pub workers: u64,
+    /// The form of the messages to a standby.
+    pub form: Form,
+}
+
+/// How a capture is replayed through the text of a ruleset.
 #[derive(Clone, Copy)]
 pub struct Settings<'a> {
-    /// The interface on which the packets are.
+    /// The interface that the packets pass.
     pub interface: Interface,
     /// The networks whose packets go out.
     pub inside: &'a [Net],

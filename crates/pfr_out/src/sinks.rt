@@ -1,8 +1,9 @@
 //! Where the outputs go.
-ghost use Rattle.std.specs.Prelude.{◌≡◌, IfErr, OnOk};
+ghost use Rattle.std.specs.Prelude.{◌≡◌, ◌++◌, [], IsTrue, IfErr, OnErr, OnOk};
+ghost use Rattle.pfr_capture.specs.Device.{GrewByPart, Rose};
 
 use crate::report::Output;
-use pfr_capture::{Sink, write_all};
+use pfr_capture::{Fault, Sink, write_all};
 use pfr_commit::{Emitted, Ending};
 
 /// Where the outputs go.
@@ -20,10 +21,25 @@ pub struct Sinks<S> {
     pub messages: S,
 }
 
-impl<S: Sink> Sinks<S> {
-    ghost use Rattle.pfr_out.specs.Outputs.{GrewBy, RoseAt, TookPart, all_told, batch_alone, each_of, ending_alone, header_alone};
+/// Writes messages as they are spelled. If there is none, the sink isn't touched.
+fn write_messages<S: Sink>(sink: &mut S, messages: &[u8]) -> Result<(), Fault>
+    ensures told { S.told sink.new ≡ S.told sink.old }
+    ensures none { messages.now ≡ [] → sink.new ≡ sink.old }
+    ensures whole { OnOk result (IsTrue (S.told sink.old) → S.written sink.new ≡ S.written sink.old ++ messages.now) }
+    ensures part { OnErr result (IsTrue (S.told sink.old) → GrewByPart (S.written sink.old) (S.written sink.new) messages.now) }
+    ensures no_failure { OnOk result (S.failures sink.new ≡ S.failures sink.old) }
+    ensures failure { OnErr result (Rose (S.failures sink.old) (S.failures sink.new)) }
+{
+    if messages.is_empty() {
+        return Ok(());
+    }
+    write_all(sink, messages)
+}
 
-    /// Whether contracts speak of the bytes of all sinks.
+impl<S: Sink> Sinks<S> {
+    ghost use Rattle.pfr_out.specs.Outputs.{GrewBy, RoseAt, TookPart, all_told, each_of, emitted_alone, header_alone, last_alone};
+
+    /// Whether all sinks tell their bytes.
     pub(crate) fn tell(&self) -> bool
         ensures { result ≡ all_told S.told self.now }
     {
@@ -37,6 +53,7 @@ impl<S: Sink> Sinks<S> {
     /// Writes the header of a capture.
     pub(crate) fn write_header(&mut self, header: &[u8]) -> Result<(), Output>
         ensures told { each_of S.told self.new ≡ each_of S.told self.old }
+        ensures messages { self.new.messages ≡ self.old.messages }
         ensures ok { OnOk result (GrewBy S.told S.written self.old self.new (header_alone header.now)) }
         ensures fails { IfErr result (λ output. TookPart S.told S.written self.old self.new (header_alone header.now) output) }
         ensures no_failure { OnOk result (each_of S.failures self.new ≡ each_of S.failures self.old) }
@@ -45,15 +62,16 @@ impl<S: Sink> Sinks<S> {
         write_all(&mut self.packets, header).map_err(|_| Output::Packets)
     }
 
-    /// Writes what packets add: the messages that they close, their lines, and then those that aren't blocked.
+    /// Writes what packets add: the messages that they close, their verdict lines, and then the packets that aren't blocked.
     pub(crate) fn write_batch(&mut self, batch: &Emitted, messages: &[u8]) -> Result<(), Output>
         ensures told { each_of S.told self.new ≡ each_of S.told self.old }
-        ensures ok { OnOk result (GrewBy S.told S.written self.old self.new (batch_alone batch.now.verdicts.items batch.now.packets.items messages.now)) }
-        ensures fails { IfErr result (λ output. TookPart S.told S.written self.old self.new (batch_alone batch.now.verdicts.items batch.now.packets.items messages.now) output) }
+        ensures messages { messages.now ≡ [] → self.new.messages ≡ self.old.messages }
+        ensures ok { OnOk result (GrewBy S.told S.written self.old self.new (emitted_alone batch.now messages.now)) }
+        ensures fails { IfErr result (λ output. TookPart S.told S.written self.old self.new (emitted_alone batch.now messages.now) output) }
         ensures no_failure { OnOk result (each_of S.failures self.new ≡ each_of S.failures self.old) }
         ensures failure { IfErr result (λ output. RoseAt output (each_of S.failures self.old) (each_of S.failures self.new)) }
     {
-        write_all(&mut self.messages, messages).map_err(|_| Output::Messages)?;
+        write_messages(&mut self.messages, messages).map_err(|_| Output::Messages)?;
         write_all(&mut self.verdicts, batch.verdicts.as_slice()).map_err(|_| Output::Verdicts)?;
         write_all(&mut self.packets, batch.packets.as_slice()).map_err(|_| Output::Packets)
     }
@@ -61,12 +79,13 @@ impl<S: Sink> Sinks<S> {
     /// Writes what stands at the end of a run: the last message, the counters, and then the states.
     pub(crate) fn write_ending(&mut self, ending: &Ending, message: &[u8]) -> Result<(), Output>
         ensures told { each_of S.told self.new ≡ each_of S.told self.old }
-        ensures ok { OnOk result (GrewBy S.told S.written self.old self.new (ending_alone ending.now.counters.items ending.now.states.items message.now)) }
-        ensures fails { IfErr result (λ output. TookPart S.told S.written self.old self.new (ending_alone ending.now.counters.items ending.now.states.items message.now) output) }
+        ensures messages { message.now ≡ [] → self.new.messages ≡ self.old.messages }
+        ensures ok { OnOk result (GrewBy S.told S.written self.old self.new (last_alone ending.now message.now)) }
+        ensures fails { IfErr result (λ output. TookPart S.told S.written self.old self.new (last_alone ending.now message.now) output) }
         ensures no_failure { OnOk result (each_of S.failures self.new ≡ each_of S.failures self.old) }
         ensures failure { IfErr result (λ output. RoseAt output (each_of S.failures self.old) (each_of S.failures self.new)) }
     {
-        write_all(&mut self.messages, message).map_err(|_| Output::Messages)?;
+        write_messages(&mut self.messages, message).map_err(|_| Output::Messages)?;
         write_all(&mut self.counters, ending.counters.as_slice()).map_err(|_| Output::Counters)?;
         write_all(&mut self.states, ending.states.as_slice()).map_err(|_| Output::States)
     }

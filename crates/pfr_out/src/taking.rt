@@ -1,8 +1,8 @@
 //! The end of a run.
 ghost use Rattle.std.specs.Prelude.{◌≡◌, IfErr, IfOk, OnOk, Ok};
-ghost use Rattle.pfr_out.specs.Outputs.{GrewBy, each_of};
-ghost use Rattle.pfr_out.specs.Replay.{closing, stop_for};
-ghost use Rattle.pfr_out.specs.Taking.{ConcludeFails, ConcludesIn, EndStopsIn, SinksFail, Standing, run_in};
+ghost use Rattle.pfr_out.specs.Outputs.{KeepsMessages, each_of};
+ghost use Rattle.pfr_out.specs.Replay.{stop_for};
+ghost use Rattle.pfr_out.specs.Taking.{ClosesIn, ConcludeFails, ConcludesIn, EndStopsIn, SinksFail};
 
 use crate::channel::Channel;
 use crate::report::{Report, Stop};
@@ -10,7 +10,7 @@ use crate::sinks::Sinks;
 use pfr_capture::{CaptureError, Sink, Tail};
 use pfr_commit::Book;
 
-/// Writes what stands at the end of a run.
+/// Writes the last texts of a run.
 pub(crate) fn close<S: Sink>(
     book: Book,
     tail: Tail,
@@ -18,8 +18,9 @@ pub(crate) fn close<S: Sink>(
     sinks: &mut Sinks<S>,
 ) -> Result<Report, Stop>
     ensures told { each_of S.told sinks.new ≡ each_of S.told sinks.old }
+    ensures messages { KeepsMessages channel.old.form sinks.old sinks.new }
     ensures closed { IfOk result (λ report. (report.committed ≡ book.count) × (report.tail ≡ tail)) }
-    ensures written { OnOk result (Standing book (λ world. GrewBy S.told S.written sinks.old sinks.new (closing (run_in book channel.old.form) world))) }
+    ensures written { OnOk result (ClosesIn S.told S.written book channel.old.form sinks.old sinks.new) }
     ensures stops { IfErr result (λ stop. EndStopsIn S.told S.written book channel.old.form sinks.old sinks.new stop) }
     ensures no_failure { OnOk result (each_of S.failures sinks.new ≡ each_of S.failures sinks.old) }
     ensures failure { IfErr result (λ stop. SinksFail stop (each_of S.failures sinks.old) (each_of S.failures sinks.new)) }
@@ -51,7 +52,7 @@ pub(crate) fn stop_for(refusal: CaptureError, committed: u64) -> Stop
     }
 }
 
-/// Ends a run whose reading has ended: at the capture's end what stands there is written, and a refusal is told.
+/// Ends a run whose reading has ended: at the end of the capture it writes the last texts, and it reports a refusal.
 pub(crate) fn conclude<S: Sink>(
     book: Book,
     end: Result<Tail, CaptureError>,
@@ -59,8 +60,9 @@ pub(crate) fn conclude<S: Sink>(
     sinks: &mut Sinks<S>,
 ) -> Result<Report, Stop>
     ensures told { each_of S.told sinks.new ≡ each_of S.told sinks.old }
+    ensures messages { KeepsMessages channel.old.form sinks.old sinks.new }
     ensures closed { IfOk result (λ report. (report.committed ≡ book.count) × (end ≡ Ok report.tail)) }
-    ensures written { OnOk result (Standing book (λ world. GrewBy S.told S.written sinks.old sinks.new (closing (run_in book channel.old.form) world))) }
+    ensures written { OnOk result (ClosesIn S.told S.written book channel.old.form sinks.old sinks.new) }
     ensures stops { IfErr result (λ stop. ConcludesIn S.told S.written end book channel.old.form sinks.old sinks.new stop) }
     ensures no_failure { OnOk result (each_of S.failures sinks.new ≡ each_of S.failures sinks.old) }
     ensures failure { IfErr result (λ stop. ConcludeFails end book.count (each_of S.failures sinks.old) (each_of S.failures sinks.new) stop) }

@@ -15,7 +15,7 @@ returns-then-is_empty-clause-none g c =
     let none : length c.read_batch-self.new.records.items ≡ 0 = omega arith in
     let empty = nil_from_length c.read_batch-self.new.records.items none in
     let least = c.args.self.now.batch.0 in
-    let some : c.read_batch-self.result ≡ None → ⊥ = λ is. (let full = (r.full is).0 in omega arith) in
+    let some : c.read_batch-self.result ≡ None → ⊥ = λ is. (let full = r.full is in omega arith) in
     ended_empty g.R.Source.told g.R.Source.unread g.R.Source.failures c.args.self.now _ some (record {
       going = none_of c.args.self.now.end (sym c.is_some.ensures ∙ c.if-is_some.false);
       says = λ t. rw empty at (r.says t);

@@ -8,37 +8,37 @@ use Rattle.pfr_out.proofs.sinks.Sinks.write_ending.Goals as goal
 
 pub returns-in_err-map_err-clause-fails : goal.returns-in_err-map_err-clause-fails
 returns-in_err-map_err-clause-fails g c =
-    let wrote : IfErr c.from_residual.result (λ o. (o ≡ output.Messages) × (IsTrue (g.S.Sink.told c.args.self.now.messages) → GrewByPart (g.S.Sink.written c.args.self.now.messages) (g.S.Sink.written c.write_all.new.sink) c.args.message.now)) = search rules in
-    IfErr-weaker c.from_residual.result _ _ (λ (o : Output) grew told. rw grew.0 (record {
-      part = grew.1 (told output.Messages);
-      before = each_output _ (λ is. absurd (omega (arith, is))) (λ is. absurd (omega (arith, is))) (λ is. absurd (omega (arith, is))) (λ is. absurd (omega (arith, is))) (λ is. absurd (omega (arith, is)));
-      behind = each_output _ (λ is. refl) (λ is. refl) (λ is. refl) (λ is. refl) (λ is. absurd (omega (arith, is)));
+    let wrote : IfErr c.from_residual.result (λ o. (o ≡ output.Messages) × (IsTrue (g.S.Sink.told c.args.self.now.messages) → GrewByPart (g.S.Sink.written c.args.self.now.messages) (g.S.Sink.written c.write_messages.new.sink) c.args.message.now)) = search rules in
+    IfErr-weaker c.from_residual.result _ _ (λ (o : Output) grew. rw grew.0 (record {
+      part = grew.1;
+      before = each_output _ (λ t is. absurd (omega (arith, is))) (λ t is. absurd (omega (arith, is))) (λ t is. absurd (omega (arith, is))) (λ t is. absurd (omega (arith, is))) (λ t is. absurd (omega (arith, is)));
+      behind = each_output _ (λ t is. refl) (λ t is. refl) (λ t is. refl) (λ t is. refl) (λ t is. absurd (omega (arith, is)));
     })) wrote
 
 pub returns-in_err-map_err-2-clause-fails : goal.returns-in_err-map_err-2-clause-fails
 returns-in_err-map_err-2-clause-fails g c =
-    let first : IsTrue (g.S.Sink.told c.args.self.now.messages) → g.S.Sink.written c.write_all.new.sink ≡ g.S.Sink.written c.args.self.now.messages ++ c.args.message.now = search rules in
-    let wrote : IfErr c.from_residual-in_err-map_err-2.result (λ o. (o ≡ output.Counters) × (IsTrue (g.S.Sink.told c.args.self.now.counters) → GrewByPart (g.S.Sink.written c.args.self.now.counters) (g.S.Sink.written c.write_all-2.new.sink) c.args.ending.now.counters.items)) = search rules in
-    IfErr-weaker c.from_residual-in_err-map_err-2.result _ _ (λ (o : Output) grew told. rw grew.0 (record {
-      part = grew.1 (told output.Counters);
-      before = each_output _ (λ is. grew_by_nothing _) (λ is. grew_by_nothing _) (λ is. absurd (omega (arith, is))) (λ is. absurd (omega (arith, is))) (λ is. first (told output.Messages));
-      behind = each_output _ (λ is. absurd (omega (arith, is))) (λ is. absurd (omega (arith, is))) (λ is. absurd (omega (arith, is))) (λ is. refl) (λ is. absurd (omega (arith, is)));
+    let first : IsTrue (g.S.Sink.told c.args.self.now.messages) → g.S.Sink.written c.write_messages.new.sink ≡ g.S.Sink.written c.args.self.now.messages ++ c.args.message.now = search rules in
+    let wrote : IfErr c.from_residual-in_err-map_err-2.result (λ o. (o ≡ output.Counters) × (IsTrue (g.S.Sink.told c.args.self.now.counters) → GrewByPart (g.S.Sink.written c.args.self.now.counters) (g.S.Sink.written c.write_all.new.sink) c.args.ending.now.counters.items)) = search rules in
+    IfErr-weaker c.from_residual-in_err-map_err-2.result _ _ (λ (o : Output) grew. rw grew.0 (record {
+      part = grew.1;
+      before = each_output _ (λ t is. grew_by_nothing _) (λ t is. grew_by_nothing _) (λ t is. absurd (omega (arith, is))) (λ t is. absurd (omega (arith, is))) (λ t is. first t);
+      behind = each_output _ (λ t is. absurd (omega (arith, is))) (λ t is. absurd (omega (arith, is))) (λ t is. absurd (omega (arith, is))) (λ t is. refl) (λ t is. absurd (omega (arith, is)));
     })) wrote
 
 pub returns-clause-ok : goal.returns-clause-ok
 returns-clause-ok g c =
-    let first : IsTrue (g.S.Sink.told c.args.self.now.messages) → g.S.Sink.written c.write_all.new.sink ≡ g.S.Sink.written c.args.self.now.messages ++ c.args.message.now = search rules in
-    let second : IsTrue (g.S.Sink.told c.args.self.now.counters) → g.S.Sink.written c.write_all-2.new.sink ≡ g.S.Sink.written c.args.self.now.counters ++ c.args.ending.now.counters.items = search rules in
-    let wrote : OnOk c.map_err-3.result (IsTrue (g.S.Sink.told c.args.self.now.states) → g.S.Sink.written c.write_all-3.new.sink ≡ g.S.Sink.written c.args.self.now.states ++ c.args.ending.now.states.items) = search rules in
-    on_ok_weaker c.map_err-3.result (λ grew told. each_output _ (grew_by_nothing _) (grew_by_nothing _) (second (told output.Counters)) (grew (told output.States)) (first (told output.Messages))) wrote
+    let first : IsTrue (g.S.Sink.told c.args.self.now.messages) → g.S.Sink.written c.write_messages.new.sink ≡ g.S.Sink.written c.args.self.now.messages ++ c.args.message.now = search rules in
+    let second : IsTrue (g.S.Sink.told c.args.self.now.counters) → g.S.Sink.written c.write_all.new.sink ≡ g.S.Sink.written c.args.self.now.counters ++ c.args.ending.now.counters.items = search rules in
+    let wrote : OnOk c.map_err-3.result (IsTrue (g.S.Sink.told c.args.self.now.states) → g.S.Sink.written c.write_all-2.new.sink ≡ g.S.Sink.written c.args.self.now.states ++ c.args.ending.now.states.items) = search rules in
+    on_ok_weaker c.map_err-3.result (λ grew. each_output _ (λ t. grew_by_nothing _) (λ t. grew_by_nothing _) second grew first) wrote
 
 pub returns-clause-fails : goal.returns-clause-fails
 returns-clause-fails g c =
-    let first : IsTrue (g.S.Sink.told c.args.self.now.messages) → g.S.Sink.written c.write_all.new.sink ≡ g.S.Sink.written c.args.self.now.messages ++ c.args.message.now = search rules in
-    let second : IsTrue (g.S.Sink.told c.args.self.now.counters) → g.S.Sink.written c.write_all-2.new.sink ≡ g.S.Sink.written c.args.self.now.counters ++ c.args.ending.now.counters.items = search rules in
-    let wrote : IfErr c.map_err-3.result (λ o. (o ≡ output.States) × (IsTrue (g.S.Sink.told c.args.self.now.states) → GrewByPart (g.S.Sink.written c.args.self.now.states) (g.S.Sink.written c.write_all-3.new.sink) c.args.ending.now.states.items)) = search rules in
-    IfErr-weaker c.map_err-3.result _ _ (λ (o : Output) grew told. rw grew.0 (record {
-      part = grew.1 (told output.States);
-      before = each_output _ (λ is. grew_by_nothing _) (λ is. grew_by_nothing _) (λ is. second (told output.Counters)) (λ is. absurd (omega (arith, is))) (λ is. first (told output.Messages));
-      behind = each_output _ (λ is. absurd (omega (arith, is))) (λ is. absurd (omega (arith, is))) (λ is. absurd (omega (arith, is))) (λ is. absurd (omega (arith, is))) (λ is. absurd (omega (arith, is)));
+    let first : IsTrue (g.S.Sink.told c.args.self.now.messages) → g.S.Sink.written c.write_messages.new.sink ≡ g.S.Sink.written c.args.self.now.messages ++ c.args.message.now = search rules in
+    let second : IsTrue (g.S.Sink.told c.args.self.now.counters) → g.S.Sink.written c.write_all.new.sink ≡ g.S.Sink.written c.args.self.now.counters ++ c.args.ending.now.counters.items = search rules in
+    let wrote : IfErr c.map_err-3.result (λ o. (o ≡ output.States) × (IsTrue (g.S.Sink.told c.args.self.now.states) → GrewByPart (g.S.Sink.written c.args.self.now.states) (g.S.Sink.written c.write_all-2.new.sink) c.args.ending.now.states.items)) = search rules in
+    IfErr-weaker c.map_err-3.result _ _ (λ (o : Output) grew. rw grew.0 (record {
+      part = grew.1;
+      before = each_output _ (λ t is. grew_by_nothing _) (λ t is. grew_by_nothing _) (λ t is. second t) (λ t is. absurd (omega (arith, is))) (λ t is. first t);
+      behind = each_output _ (λ t is. absurd (omega (arith, is))) (λ t is. absurd (omega (arith, is))) (λ t is. absurd (omega (arith, is))) (λ t is. absurd (omega (arith, is))) (λ t is. absurd (omega (arith, is)));
     })) wrote

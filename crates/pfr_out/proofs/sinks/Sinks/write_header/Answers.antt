@@ -9,13 +9,13 @@ use Rattle.pfr_out.proofs.sinks.Sinks.write_header.Goals as goal
 pub returns-clause-ok : goal.returns-clause-ok
 returns-clause-ok g c =
     let wrote : OnOk c.map_err.result (IsTrue (g.S.Sink.told c.args.self.now.packets) → g.S.Sink.written c.write_all.new.sink ≡ g.S.Sink.written c.args.self.now.packets ++ c.args.header.now) = search rules in
-    on_ok_weaker c.map_err.result (λ grew told. each_output _ (grew_by_nothing _) (grew (told output.Packets)) (grew_by_nothing _) (grew_by_nothing _) (grew_by_nothing _)) wrote
+    on_ok_weaker c.map_err.result (λ grew. each_output _ (λ t. grew_by_nothing _) grew (λ t. grew_by_nothing _) (λ t. grew_by_nothing _) (λ t. grew_by_nothing _)) wrote
 
 pub returns-clause-fails : goal.returns-clause-fails
 returns-clause-fails g c =
     let wrote : IfErr c.map_err.result (λ o. (o ≡ output.Packets) × (IsTrue (g.S.Sink.told c.args.self.now.packets) → GrewByPart (g.S.Sink.written c.args.self.now.packets) (g.S.Sink.written c.write_all.new.sink) c.args.header.now)) = search rules in
-    IfErr-weaker c.map_err.result _ _ (λ (o : Output) grew told. rw grew.0 (record {
-      part = grew.1 (told output.Packets);
-      before = each_output _ (λ is. grew_by_nothing _) (λ is. absurd (omega (arith, is))) (λ is. grew_by_nothing _) (λ is. grew_by_nothing _) (λ is. grew_by_nothing _);
-      behind = each_output _ (λ is. refl) (λ is. absurd (omega (arith, is))) (λ is. refl) (λ is. refl) (λ is. refl);
+    IfErr-weaker c.map_err.result _ _ (λ (o : Output) grew. rw grew.0 (record {
+      part = grew.1;
+      before = each_output _ (λ t is. grew_by_nothing _) (λ t is. absurd (omega (arith, is))) (λ t is. grew_by_nothing _) (λ t is. grew_by_nothing _) (λ t is. grew_by_nothing _);
+      behind = each_output _ (λ t is. refl) (λ t is. absurd (omega (arith, is))) (λ t is. refl) (λ t is. refl) (λ t is. refl);
     })) wrote
