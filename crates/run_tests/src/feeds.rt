@@ -8,7 +8,7 @@ use crate::turns::{Plan, Told, Turns, Watch};
 use pfr_capture::Record;
 use pfr_commit::{Book, Emitted};
 use pfr_headers::View;
-use pfr_work::{Feed, Gate, Lists, Naming, OfRun, run_workers};
+use pfr_work::{Feed, Gate, Histories, Naming, OfRun, run_workers};
 use std::alloc::{AllocError, AllocGlobal, Global};
 use std::marker::Brand;
 use std::sync::Wait;
@@ -67,15 +67,7 @@ struct Listed<'a, W> {
 impl<W: Watch> Feed for Listed<'_, W> {
     ghost use Rattle.std.specs.Prelude.{⊤, true};
 
-    ghost gives = { λ old records new. ⊤ };
-
-    ghost ends = { λ old new. ⊤ };
-
-    ghost takes = { λ old piece new. ⊤ };
-
-    ghost cuts = { λ old piece new. ⊤ };
-
-    ghost rests = { λ old new. ⊤ };
+    ghost transitions = { record { gives = λ old records new. ⊤; ends = λ old new. ⊤; takes = λ old piece new. ⊤; cuts = λ old piece new. ⊤; rests = λ old new. ⊤ } };
 
     ghost told = { λ feed. true };
 
@@ -151,16 +143,16 @@ fn streamed<
     K: Naming + Send + Sync + 'static,
     R: AllocGlobal + Threads + Wait + Sync,
     G: Gate + Watch,
->(rt: &R, book: Book, feed: Listed<'_, G>, workers: u64, gate: &G, lists: Lists) -> Left
+>(rt: &R, book: Book, feed: Listed<'_, G>, workers: u64, gate: &G, histories: Histories) -> Left
     requires start { StandsAt book (opening (job_of book)) }
     requires job { J.job ≡ Some (job_of book) }
     requires limit { (job_of book).rules.options.state_limit ≡ J.limit }
-    requires changes { lists.changes ≡ J.history }
-    requires batches { lists.batches ≡ K.history }
+    requires changes { histories.changes ≡ J.history }
+    requires batches { histories.batches ≡ K.history }
     requires workers { workers ≤ 64 }
 {
     let (book, feed, trace, outcome) = run_workers::<J, K, R, Listed<'_, G>, G>(
-        rt, book, feed, workers, gate, lists,
+        rt, book, feed, workers, gate, histories,
     );
     let batches = trace.batches.len();
     let shown = trace.close(rt).map(|table| table.len());
@@ -193,7 +185,7 @@ fn ran<R: AllocGlobal + Threads + Wait + Sync, G: Gate + Watch>(
     requires start { StandsAt book (opening (job_of book)) }
     requires workers { workers ≤ 64 }
 {
-    streamed::<Brand, Brand, R, G>(rt, book, feed, workers, gate, Lists::new())
+    streamed::<Brand, Brand, R, G>(rt, book, feed, workers, gate, Histories::new())
 }
 
 impl<'a> Run<'a> {

@@ -16,6 +16,8 @@ mod given;
 #[cfg(test)]
 mod orders;
 #[cfg(test)]
+mod pace;
+#[cfg(test)]
 mod reading;
 #[cfg(test)]
 mod runs;

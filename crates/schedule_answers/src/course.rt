@@ -9,7 +9,7 @@ use crate::schedule::{Schedule, Step};
 use pfr_capture::Record;
 use pfr_commit::{Book, Emitted};
 use pfr_packet::Job;
-use pfr_work::{Lists, Naming, OfRun, run_workers};
+use pfr_work::{Histories, Naming, OfRun, run_workers};
 use std::alloc::{AllocError, AllocGlobal, Global};
 use std::marker::Brand;
 use std::sync::{Arc, Wait};
@@ -40,17 +40,17 @@ fn run_as<
     feed: Listed<'_, R>,
     workers: u64,
     schedule: &Schedule<'_, R>,
-    lists: Lists,
+    histories: Histories,
 ) -> Outcome
     requires start { StandsAt book (opening (job_of book)) }
     requires job { J.job ≡ Some (job_of book) }
     requires limit { (job_of book).rules.options.state_limit ≡ J.limit }
-    requires changes { lists.changes ≡ J.history }
-    requires batches { lists.batches ≡ K.history }
+    requires changes { histories.changes ≡ J.history }
+    requires batches { histories.batches ≡ K.history }
     requires workers { workers ≤ 64 }
 {
     let (book, feed, trace, outcome) = run_workers::<J, K, R, Listed<'_, R>, Schedule<'_, R>>(
-        rt, book, feed, workers, schedule, lists,
+        rt, book, feed, workers, schedule, histories,
     );
     let shown = match trace.close(rt) {
         Some(table) => Some(table.len()),
@@ -75,7 +75,7 @@ fn run<R: AllocGlobal + Threads + Wait + Clock + Sync>(
     requires start { StandsAt book (opening (job_of book)) }
     requires workers { workers ≤ 64 }
 {
-    run_as::<Brand, Brand, R>(rt, book, feed, workers, schedule, Lists::new())
+    run_as::<Brand, Brand, R>(rt, book, feed, workers, schedule, Histories::new())
 }
 
 /// Which packets were evaluated again, as the gate was told.

@@ -57,15 +57,7 @@ impl<'a, R> Listed<'a, R> {
 }
 
 impl<R: Clock> Feed for Listed<'_, R> {
-    ghost gives = { λ old records new. Unit {0} };
-
-    ghost ends = { λ old new. Unit {0} };
-
-    ghost takes = { λ old piece new. Unit {0} };
-
-    ghost cuts = { λ old piece new. Unit {0} };
-
-    ghost rests = { λ old new. Unit {0} };
+    ghost transitions = { record { gives = λ old records new. Unit {0}; ends = λ old new. Unit {0}; takes = λ old piece new. Unit {0}; cuts = λ old piece new. Unit {0}; rests = λ old new. Unit {0} } };
 
     ghost told = { λ feed. true };
 
