@@ -191,8 +191,8 @@ impl<J: Naming, E> Front<J, E> {
         self.count <= other.count
     }
 
-    /// Adds an entry behind these, and says whether it did. It did not where the list was longer already, or is as long as
-    /// 64 bits can say.
+    /// Adds an entry behind these, and says whether it did. It doesn't if the list was longer already, or is as long as 64 bits
+    /// can say.
     pub fn add(&mut self, history: &History<J, E>, entry: &E) -> bool
         ensures { MatchBool result (self.new ≡ self.old ++ entry.now ∷ []) (IsPrefix self.old self.new) }
     {

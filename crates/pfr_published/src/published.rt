@@ -57,7 +57,7 @@ impl<J: TableNaming> Published<StoreWriter<J>> {
         }
     }
 
-    /// A viewer that knows nothing yet. It is refused where there are as many as there may be, or there is no memory.
+    /// A viewer that knows nothing yet. It is refused if there are as many as there may be, or no memory.
     pub fn viewer(&self, history: &History<J, Change>) -> Result<Viewer<J>, AllocError>
         ensures { IfOk result (λ viewer. viewer ≡ []) }
     {

@@ -71,7 +71,7 @@ impl<J: TableNaming> Model for Showing<J> {
 }
 
 impl<J: TableNaming> Viewer<J> {
-    /// Learns how far the list had come. What was known stays known, also where that was more.
+    /// Learns how far the list had come. What was known stays known, even if that was more.
     pub fn learn(&mut self, told: Told<J>)
         ensures kept { IsPrefix self.old self.new }
         ensures told { IsPrefix told self.new }

@@ -97,7 +97,7 @@ fn has_room_so(table: &Table, clock: Clock, room: &Option<bool>) -> bool
     }
 }
 
-/// Whether a table answers a question so at a clock. The state that is asked for is looked for where a hint says first.
+/// Whether a table answers a question so at a clock. The state of the question is looked for where a hint says first.
 #[tactic(auto, unfolding(pfr_packet::specs::Plan::found_in, pfr_packet::specs::Plan::has_room_in, pfr_packet::specs::Plan::purged_at))]
 fn is_answered(
     table: &Table,
@@ -136,7 +136,7 @@ fn is_answered_at(
     }
 }
 
-/// Whether a table gives at a clock all these answers. The state that was asked for first is looked for where a hint says first.
+/// Whether a table gives at a clock all these answers. The state of the first question is looked for where a hint says first.
 #[tactic(auto, using(crate::proofs::RecordLemmas::agrees_more, crate::proofs::RecordLemmas::agrees_all))]
 fn are_answered(
     answers: &IndexMap<Question, Answer>,
@@ -222,7 +222,7 @@ impl Lookups {
         }
     }
 
-    /// Whether a table gives at a clock each answer: states are the same in all that they hold. The state that was asked for first is
+    /// Whether a table gives at a clock each answer: states are the same in all that they hold. The state of the first question is
     /// looked for where a hint says first.
     pub(crate) fn hold_near(&self, table: &Table, clock: Clock, hint: Option<Place>) -> bool
         ensures { IsTrue result ↔ Agrees (purged_at clock table.now) self.now }

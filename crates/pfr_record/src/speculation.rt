@@ -41,16 +41,16 @@ impl Speculation {
         self.number
     }
 
-    /// How many questions its record has. A pick among many taken ports asks one for each of them, so a record may grow large,
-    /// and who makes many may let go of such a one.
+    /// How many questions its record has. A pick among many taken ports asks one for each of them, so a record may grow large, and a
+    /// caller that keeps many speculations may drop such a one.
     pub fn questions(&self) -> usize
         ensures { result ≡ length self.now.answers }
     {
         self.answers.len()
     }
 
-    /// Whether a table gives at a clock each answer that was recorded: states are the same in all that they hold. The state that
-    /// was asked for first is looked for where a hint says first.
+    /// Whether a table gives at a clock each answer that was recorded: states are the same in all that they hold. The state of
+    /// the first question is looked for where a hint says first.
     fn holds_near(&self, table: &Table, clock: Clock, hint: Option<Place>) -> bool
         ensures { IsTrue result ↔ Agrees (purged_at clock table.now) self.now.answers }
     {
@@ -86,8 +86,8 @@ impl Speculation {
             && self.holds_near(table, clock, hint)
     }
 
-    /// The outcome for a packet of a job over a table: there is one where this is of just that packet, and its record holds in
-    /// the table.
+    /// The outcome for a packet of a job over a table: there is one if this is of just that packet, and its record holds in the
+    /// table.
     pub fn outcome_for(
         self,
         job: &Job,
@@ -106,8 +106,8 @@ impl Speculation {
         }
     }
 
-    /// The same, with this left where it is. It may be known that this is of the job, which isn't compared then. The state that was
-    /// asked for first may stand at a place that is named, as by [`Table::place_by`]; nothing rests on it that it stands there.
+    /// The same, with this left where it is. It may be known that this is of the job, which isn't compared then. The state of
+    /// the first question may stand at the place of the hint, as [`Table::place_by`] names one. A wrong hint costs time alone.
     pub fn outcome_near(
         &self,
         is_of_job: bool,

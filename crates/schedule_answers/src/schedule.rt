@@ -58,7 +58,7 @@ impl<'a, R: Clock> Schedule<'a, R> {
         }
     }
 
-    /// Waits until so many steps are passed, and passes the next one.
+    /// Waits until `place` steps are passed, and passes the next one.
     fn wait_for(&self, place: u64) {
         for _turn in 0..self.patience {
             if self.is_late.load(Ordering::SeqCst) {

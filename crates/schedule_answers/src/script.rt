@@ -50,7 +50,7 @@ fn interface() -> Interface {
     }
 }
 
-/// The last ones of some records, at most so many, in their order.
+/// The last ones of some records, at most `count`, in their order.
 fn last_of(
     alloc: Global,
     records: &mut Vec<Record>,
