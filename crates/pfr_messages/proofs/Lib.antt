@@ -1,4 +1,5 @@
 pub mod Actions
+pub mod Beginnings
 pub mod Chains
 pub mod ExactMessages
 pub mod ExactRecords

@@ -1,11 +1,11 @@
-//! Why bytes are no message.
+//! Why a message is refused.
 ghost use Rattle.std.specs.Prelude.{◌≡◌};
 ghost use Rattle.pfr_messages.specs.declared.error.SyncError.TheVariants.{Memory};
 
 use std::alloc::{AllocError, AllocFailed};
 use thiserror::Error;
 
-/// Why bytes don't begin with a message: what is wrong first, from the left.
+/// Why bytes don't begin with a message, which is what is wrong first, from the left; or why a standby refuses a message.
 #[derive(Clone, Copy, Debug, PartialEq, Eq, Drop, Error)]
 pub enum SyncError {
     /// There are fewer bytes than a message has.
@@ -29,6 +29,9 @@ pub enum SyncError {
     /// Bytes of the message stand behind its end.
     #[error("trailing")]
     Trailing,
+    /// The message updates or deletes a state that isn't held, or inserts one that is. No bytes are refused for it.
+    #[error("unknown state")]
+    UnknownState,
     #[error("no memory")]
     Memory,
     /// A byte that no message has there, by its place in the message.

@@ -1,0 +1,3 @@
+pub mod HeldLemmas
+pub mod MapLemmas
+pub mod RowLemmas
