@@ -3,6 +3,7 @@ pub mod EditLemmas
 pub mod EntryLemmas
 pub mod FileLemmas
 pub mod GatherLemmas
+pub mod HoldingLemmas
 pub mod LawLemmas
 pub mod MessageLemmas
 pub mod NameLemmas

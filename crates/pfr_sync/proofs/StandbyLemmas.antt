@@ -96,7 +96,7 @@ after_part origin n numbers (first ∷ part) =
 
 -- ---- the events of one state
 
-last_append : (b : Event) (bs : List Event) (first : Event) (rest : List Event) → last_of b (bs ++ first ∷ rest) ≡ last_of first rest
+pub last_append : (b : Event) (bs : List Event) (first : Event) (rest : List Event) → last_of b (bs ++ first ∷ rest) ≡ last_of first rest
 last_append b [] first rest = refl
 last_append b (x ∷ bs) first rest = last_append x bs first rest
 
@@ -177,7 +177,7 @@ moves_on events n before part more b bs first rest history are kept next =
     let lives : list_all (λ x. not (is_removed x)) (b ∷ bs) ≡ true = ap (list_all (λ (x : Event). not (is_removed x))) (sym all_kept) ∙ lives_by first (before ++ place.front) may in
     (moved_by first (before ++ place.front) may some, not-true (is_removed (last_of b bs)) (last_all (λ x. not (is_removed x)) b bs lives))
 
-joins : (events : List Event) (n : ℕ) (before part more : List Event) → IsHistory events → events ≡ before ++ (part ++ more) → Joins (filter (is_of n) before) (filter (is_of n) part)
+pub joins : (events : List Event) (n : ℕ) (before part more : List Event) → IsHistory events → events ≡ before ++ (part ++ more) → Joins (filter (is_of n) before) (filter (is_of n) part)
 joins events n before part more history are = record {
   begins = λ first rest none next.
       made_first events n (before ++ part) more first rest history (are ∙ sym (append_assoc before part more))

@@ -1,5 +1,5 @@
 -- The statements of the laws.
-use Rattle.std.specs.Prelude.{◌≡◌, ◌≤◌, ◌<◌, ℕ, ◌+◌, ◌^◌, ◌==◌, ◌&&◌, Bool, true, false, not, List, [], ◌∷◌, ◌++◌, length, map, fold}
+use Rattle.std.specs.Prelude.{◌≡◌, ◌≤◌, ◌<◌, ℕ, ◌+◌, ◌^◌, ◌==◌, ◌&&◌, Bool, true, false, not, if◌then◌else◌, List, [], ◌∷◌, ◌++◌, length, map, fold, Option, Some, None, Ok, option_map, ⊤}
 use Rattle.std.specs.List.{All, IsDistinct, filter, flat_map, list_any}
 use Rattle.pfr_net.specs.declared.address.Ipv4Address.{Ipv4Address}
 use Rattle.pfr_headers.specs.declared.packet.Packet.{Packet}
@@ -8,9 +8,12 @@ use Rattle.pfr_headers.specs.declared.transport.Transport.TheVariants.{Other}
 use Rattle.pfr_headers.specs.Checksum.{Verifies, sum_of_words}
 use Rattle.pfr_headers.specs.View.{view_of}
 use Rattle.pfr_messages.specs.Messages.{Content}
+use Rattle.pfr_standby.specs.declared.kept.Kept.{Kept}
+use Rattle.pfr_standby.specs.Standby.{Standing, rises, standby_of, state_of}
+use Rattle.pfr_track.specs.declared.state.State.{State}
 use Rattle.pfr_sync.specs.declared.event.Event.{Event}
 use Rattle.pfr_sync.specs.declared.origin.Origin.{Origin}
-use Rattle.pfr_sync.specs.Events.{MayCome, is_made, is_of, is_removed}
+use Rattle.pfr_sync.specs.Events.{MayCome, is_made, is_of, is_removed, maker_of, other_of, parties_of, rule_of}
 use Rattle.pfr_sync.specs.Files.{ip_header}
 use Rattle.pfr_sync.specs.Messages.{last_of, message_of, messages_of, parts_of}
 
@@ -89,3 +92,51 @@ pub record IsHistory (events : List Event) : Type 0 where
 abbrev pub AStandbyHoldsWhatIsLeft : Type 0
 AStandbyHoldsWhatIsLeft =
     (origin : Origin) (events : List Event) → IsHistory events → (n : ℕ) → has n (held_after (messages_of origin events)) ≡ is_left n events
+
+-- ---- the states that a standby holds
+
+-- what a standby keeps of a state that is inserted, at whatever clock and by whatever firewall
+abbrev pub kept_by : State → Kept
+kept_by state = record {
+  wire = parties_of state.wire;
+  stack = parties_of state.stack;
+  protocol = state.wire.protocol;
+  direction = state.direction;
+  rule = rule_of state.rules.filter;
+  maker = maker_of state.peers;
+  other = other_of state.peers;
+  timeout = state.timeout;
+}
+
+-- the state after the last of the events of one state, if they leave it in the table
+abbrev pub left_by : List Event → Option State
+left_by [] = None
+left_by (first ∷ events) = if leave_it (first ∷ events) then Some (last_of first events).state else None
+
+-- the state of a number as events leave it in the table
+abbrev pub left : ℕ → List Event → Option State
+left n events = left_by (filter (is_of n) events)
+
+-- two states have the same keys, direction and rule
+pub record AreOfOne (first other : State) : Type 0 where
+  pub wire : first.wire ≡ other.wire
+  pub stack : first.stack ≡ other.stack
+  pub direction : first.direction ≡ other.direction
+  pub rule : first.rules.filter ≡ other.rules.filter
+
+-- the states of events have the keys, the direction and the rule of the first one
+abbrev pub StayOfOne : List Event → Type 0
+StayOfOne [] = ⊤
+StayOfOne (first ∷ events) = All (λ event. AreOfOne first.state event.state) events
+
+-- a history in which all events of a number are of one connection
+pub record IsHistoryOfStates (events : List Event) : Type 0 where
+  pub history : IsHistory events
+  pub of_one : (n : ℕ) → StayOfOne (filter (is_of n) events)
+
+-- A standby that takes the messages of events refuses none, and holds each state as the events leave it, and no other state.
+abbrev pub AStandbyHoldsTheStatesLeft : Type 0
+AStandbyHoldsTheStatesLeft =
+    (origin : Origin) (events : List Event) → IsHistoryOfStates events
+    → (standing : Standing) × (standby_of (messages_of origin events) ≡ Ok standing) × (rises standing ≡ true)
+    × ((n : ℕ) → state_of n standing ≡ option_map kept_by (left n events))

@@ -4,7 +4,9 @@ ghost use Rattle.pfr_track.specs.declared.state.State.{State as S};
 ghost use Rattle.pfr_track.specs.declared.time.Clock.{Clock as C};
 ghost use Rattle.pfr_sync.specs.declared.event.Event.{Event as E};
 ghost use Rattle.pfr_sync.specs.declared.queue.QueuedState.{QueuedState as N};
+ghost use Rattle.pfr_sync.specs.Edits.{edited};
 ghost use Rattle.pfr_sync.specs.Edits as edits;
+ghost use Rattle.pfr_sync.specs.Queues.{with_entry};
 ghost use Rattle.pfr_sync.specs.Queues as spec;
 ghost use Rattle.pfr_sync.specs.Sizes as sizes;
 
@@ -52,7 +54,7 @@ pub struct Edit {
 fn place_of(entries: &Entries, number: StateNumber) -> usize
     requires { spec.rise entries.now ≡ true }
     ensures within { result ≤ length entries.now }
-    ensures entries { (event : E) → event.state.number ≡ number → spec.with_entry event entries.now ≡ take result entries.now ++ spec.with_entry event (drop result entries.now) }
+    ensures entries { (event : E) → event.state.number ≡ number → with_entry event entries.now ≡ take result entries.now ++ with_entry event (drop result entries.now) }
     ensures above { (other : N) → result < length entries.now → number.0 ≤ spec.number_of (slice_index_or entries.now result other) }
 {
     let mut low = 0;
@@ -71,10 +73,10 @@ fn place_of(entries: &Entries, number: StateNumber) -> usize
 /// The edit that an event makes to the entries. It doesn't depend on the clock.
 pub fn edit_of(entries: &Entries, kind: EventKind, state: &State) -> Edit
     requires { spec.rise entries.now ≡ true }
-    ensures entries { (clock : C) → spec.with_entry (record { kind = kind; state = state.now; clock = clock }) entries.now ≡ edits.edited state.now result entries.now }
+    ensures entries { (clock : C) → with_entry (record { kind = kind; state = state.now; clock = clock }) entries.now ≡ edited state.now result entries.now }
     ensures within { edits.behind result.place result.old ≤ length entries.now }
     ensures gone { IfNone result.new (IsSome result.old) }
-    ensures counts { sizes.Exchanges result.old result.new (sizes.counts_of entries.now) (sizes.counts_of (edits.edited state.now result entries.now)) }
+    ensures counts { sizes.Exchanges result.old result.new (sizes.counts_of entries.now) (sizes.counts_of (edited state.now result entries.now)) }
 {
     let place = place_of(entries, state.number);
     if place == entries.len() || state.number.0 < entries.get(place).state.number.0 {
@@ -97,7 +99,7 @@ pub fn edit_of(entries: &Entries, kind: EventKind, state: &State) -> Edit
 pub fn apply(entries: &mut Entries, edit: Edit, state: &State) -> Result<(), AllocError>
     requires within { edits.behind edit.place edit.old ≤ length entries.old }
     requires gone { IfNone edit.new (IsSome edit.old) }
-    ensures entries { OnOk result (entries.new ≡ edits.edited state.now edit entries.old) }
+    ensures entries { OnOk result (entries.new ≡ edited state.now edit entries.old) }
     ensures kept { OnErr result (entries.new ≡ entries.old) }
 {
     match edit.new {

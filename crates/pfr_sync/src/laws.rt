@@ -2,7 +2,7 @@
 ghost use Rattle.std.specs.Prelude.{◌≡◌, length, ℕ};
 ghost use Rattle.pfr_net.specs.declared.address.Ipv4Address.{Ipv4Address};
 ghost use Rattle.pfr_sync.specs.Files.{ip_header};
-ghost use Rattle.pfr_sync.specs.Laws.{AStandbyHoldsWhatIsLeft, AStateIsToldOfOnce, ClosedMessagesStay, FileHeaderVerifies, FileMessageIsAPacket};
+ghost use Rattle.pfr_sync.specs.Laws.{AStandbyHoldsTheStatesLeft, AStandbyHoldsWhatIsLeft, AStateIsToldOfOnce, ClosedMessagesStay, FileHeaderVerifies, FileMessageIsAPacket};
 
 pub use pfr_messages::laws::{one_spelling, readable};
 
@@ -33,4 +33,10 @@ pub fn a_state_is_told_of_once()
 /// leave, and no others.
 pub fn a_standby_holds_what_is_left()
     ensures { AStandbyHoldsWhatIsLeft }
+{}
+
+/// A standby that takes the messages of events, from the first on, refuses none of them. It ends with the states that the events
+/// leave, each with its keys, protocol, direction, rule, ends and timeout, and with no others.
+pub fn standby_holds()
+    ensures { AStandbyHoldsTheStatesLeft }
 {}

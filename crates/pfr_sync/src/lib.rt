@@ -7,6 +7,8 @@
 //! tells, one entry per state, and returns the messages that close. Its contracts hold for every list of events: the messages
 //! are those of the list's parts, as the definition cuts it. [`encode`] spells a [`Message`], and [`decode`] reads one.
 //!
+//! A [`Standby`] that takes the messages of events holds the states that the events leave (`laws::standby_holds`).
+//!
 //! In a file each message follows an IP header, [`ip_header`]. Its checksum verifies (`laws::file_header_verifies`).
 #![tactic(auto)]
 
@@ -28,4 +30,5 @@ pub use event::{Event, EventKind};
 pub use file::ip_header;
 pub use origin::Origin;
 pub use pfr_messages::{Message, SyncError, decode, encode, encode_onto};
+pub use pfr_standby::{Kept, Standby};
 pub use queue::Queue;
