@@ -1,2 +1,3 @@
+pub mod Holding
 pub mod Standby
 pub mod Telling

@@ -1,6 +1,7 @@
 -- What a standby is told of the states of a table at a packet.
-use Rattle.std.specs.Prelude.{◌≡◌, ℕ, ◌≤◌, ◌+◌, true, if◌then◌else◌, List, [], ◌∷◌, ◌++◌, Option, Some, None, ⊤}
+use Rattle.std.specs.Prelude.{◌≡◌, ℕ, ◌≤◌, ◌+◌, true, if◌then◌else◌, List, [], ◌∷◌, ◌++◌, Option, Some, None, IfSome, ⊤}
 use Rattle.std.specs.List.{All, Contains, flat_map}
+use Rattle.std.specs.Option.{option_to_list}
 use Rattle.pfr_track.specs.declared.state.State.{State}
 use Rattle.pfr_track.specs.declared.time.Clock.{Clock}
 use Rattle.pfr_states.specs.declared.change.TableChange.{TableChange}
@@ -10,8 +11,8 @@ use Rattle.pfr_messages.specs.Messages.{Content}
 use Rattle.pfr_sync.specs.declared.event.EventKind.{EventKind}
 use Rattle.pfr_sync.specs.declared.event.EventKind.TheVariants.{Made, Touched, Removed}
 use Rattle.pfr_sync.specs.declared.event.Event.{Event}
-use Rattle.pfr_sync.specs.Events.{is_removed}
-use Rattle.pfr_sync.specs.Messages.{closed_at}
+use Rattle.pfr_sync.specs.Events.{MayCome, is_removed}
+use Rattle.pfr_sync.specs.Messages.{closed_at, message_of, open_at}
 use Rattle.pfr_sync.specs.Queues.{Tells}
 use Rattle.pfr_telling.specs.declared.telling.Telling.{Telling}
 
@@ -74,3 +75,52 @@ abbrev pub IsNextChange : ℕ → List State → TableChange → Type 0
 IsNextChange count states (table.Made state) = state.number.0 ≡ count + 1
 IsNextChange count states (table.Touched state) = (before : State) × Contains states before × (state.number ≡ before.number)
 IsNextChange count states (table.Removed number) = ⊤
+
+-- ---- what is told next
+
+-- whatever was told up to a clock, at a later one no message of an earlier second is open
+abbrev pub ClosesBefore : (clock later : Clock) → (old new : Telling) → Type 0
+ClosesBefore clock later old new =
+    (before : List Content) (events : List Event)
+    → HasTold before old clock events
+    → All (λ event. event.clock.0 ≤ clock.0) events
+    → HasTold before new later events
+
+-- the same at the next packet, for which no message was closed yet
+abbrev pub BeginsAt : (clock later : Clock) → (old new : Telling) → Type 0
+BeginsAt clock later old new =
+    (before : List Content) (events : List Event)
+    → Tells old.queue clock events
+    → closed_at old.queue.origin clock events ≡ before
+    → All (λ event. event.clock.0 ≤ clock.0) events
+    → HasTold before new later events
+
+-- an event is told after all that may stand before it
+abbrev pub TellsEvent : Event → (old new : Telling) → Type 0
+TellsEvent event old new =
+    (before : List Content) (events : List Event)
+    → HasTold before old event.clock events
+    → MayCome events event
+    → HasTold before new event.clock (events ++ told event.kind event.clock event.state)
+
+-- the removals of a purge are told, which leaves these states
+abbrev pub TellsPurge : Clock → (states left : List State) → (old new : Telling) → Type 0
+TellsPurge clock states left old new =
+    (before : List Content) (events : List Event) (count : ℕ)
+    → HasTold before old clock events
+    → AreTold count clock states events
+    → HasTold before new clock (events ++ events_of_purge clock states) × AreTold count clock left (events ++ events_of_purge clock states)
+
+-- a packet's own change is told
+abbrev pub TellsChange : Clock → Option TableChange → List State → (old new : Telling) → Type 0
+TellsChange clock change states old new =
+    (before : List Content) (events : List Event) (count : ℕ)
+    → HasTold before old clock events
+    → AreTold count clock states events
+    → IfSome change (λ change. IsNextChange count states change)
+    → HasTold before new clock (events ++ events_of_change clock change states)
+
+-- the message that is open at a clock, if anything is told
+abbrev pub ClosesOpen : Clock → Telling → Option Content → Type 0
+ClosesOpen clock telling message =
+    (events : List Event) → Tells telling.queue clock events → option_to_list message ≡ message_of telling.queue.origin (open_at telling.queue.origin clock events)

@@ -1,14 +1,8 @@
 //! What a standby is told of a packet.
-ghost use Rattle.std.specs.Prelude.{◌≡◌, ◌≤◌, ◌++◌, ◌∷◌, [], ℕ, List, None, Some, IfOk, IfSome, OnOk};
-ghost use Rattle.std.specs.List.{All};
-ghost use Rattle.std.specs.Option.{option_to_list};
-ghost use Rattle.pfr_messages.specs.Messages.{Content};
+ghost use Rattle.std.specs.Prelude.{◌≡◌, ◌≤◌, None, Some, IfOk, IfSome, OnOk};
 ghost use Rattle.pfr_states.specs.declared.change.TableChange.TheVariants.{Removed};
 ghost use Rattle.pfr_states.specs.States.{purged, refusal, with_change};
-ghost use Rattle.pfr_sync.specs.declared.event.Event.{Event as E};
-ghost use Rattle.pfr_sync.specs.Events.{MayCome};
-ghost use Rattle.pfr_sync.specs.Messages.{closed_at, message_of, open_at};
-ghost use Rattle.pfr_sync.specs.Queues.{Tells, new_queue, plain_name};
+ghost use Rattle.pfr_sync.specs.Queues.{new_queue, plain_name};
 ghost use Rattle.pfr_telling.specs.Telling as spec;
 
 use pfr_net::IfName;
@@ -49,7 +43,7 @@ fn apply(table: &mut Table, change: &TableChange, place: Option<Place>) -> Resul
 }
 
 impl Telling {
-    ghost use Rattle.pfr_telling.specs.Telling.{AreTold, HasTold, IsNextChange};
+    ghost use Rattle.pfr_telling.specs.Telling.{BeginsAt, ClosesBefore, ClosesOpen, TellsChange, TellsEvent, TellsPurge};
 
     /// Nothing is told yet. Messages name an interface, the checksum of the rules and the firewall's number.
     pub fn new(alloc: Global, interface: &IfName, checksum: [u8; 16], creator: u32) -> Telling
@@ -64,8 +58,7 @@ impl Telling {
     /// Begins with the next packet, at the clock `later`. If that is above the last one, the open message is closed.
     pub fn begin(&mut self, clock: Clock, later: Clock) -> Result<(), AllocError>
         requires { clock.0 ≤ later.0 }
-        ensures told { OnOk result ((before : List Content) (events : List E) → Tells self.old.queue clock events → closed_at self.old.queue.origin clock events ≡ before
-            → All (λ event. event.clock.0 ≤ clock.0) events → HasTold before self.new later events) }
+        ensures told { OnOk result (BeginsAt clock later self.old self.new) }
         ensures origin { self.new.queue.origin ≡ self.old.queue.origin }
     {
         self.closed.clear();
@@ -74,8 +67,7 @@ impl Telling {
 
     /// Tells an event of a state, unless its rule says `no-sync`.
     fn tell(&mut self, kind: EventKind, state: &State, clock: Clock) -> Result<(), AllocError>
-        ensures told { OnOk result ((before : List Content) (events : List E) → HasTold before self.old clock events → MayCome events (record { kind = kind; state = state.now; clock = clock })
-            → HasTold before self.new clock (events ++ spec.told kind clock state.now)) }
+        ensures told { OnOk result (TellsEvent (record { kind = kind; state = state.now; clock = clock }) self.old self.new) }
         ensures origin { self.new.queue.origin ≡ self.old.queue.origin }
     {
         if !state.rules.is_synchronised {
@@ -90,7 +82,7 @@ impl Telling {
     /// Closes the open message at its clock if the next clock is later.
     fn close_before(&mut self, clock: Clock, later: Clock) -> Result<(), AllocError>
         requires { clock.0 ≤ later.0 }
-        ensures told { OnOk result ((before : List Content) (events : List E) → HasTold before self.old clock events → All (λ event. event.clock.0 ≤ clock.0) events → HasTold before self.new later events) }
+        ensures told { OnOk result (ClosesBefore clock later self.old self.new) }
         ensures origin { self.new.queue.origin ≡ self.old.queue.origin }
     {
         if clock < later {
@@ -104,8 +96,7 @@ impl Telling {
     /// Removes the states whose deadline has come, one after the other, and tells of each.
     pub fn purge(&mut self, table: &mut Table, clock: Clock) -> Result<(), AllocError>
         ensures table { OnOk result (table.new ≡ record { states = purged clock table.old.states; limit = table.old.limit }) }
-        ensures told { OnOk result ((before : List Content) (events : List E) (count : ℕ) → HasTold before self.old clock events → AreTold count clock table.old.states events
-            → HasTold before self.new clock (events ++ spec.events_of_purge clock table.old.states) × AreTold count clock table.new.states (events ++ spec.events_of_purge clock table.old.states)) }
+        ensures told { OnOk result (TellsPurge clock table.old.states table.new.states self.old self.new) }
         ensures origin { self.new.queue.origin ≡ self.old.queue.origin }
     {
         // the state that is due first is in the table, and a purge removes it until none is due
@@ -127,8 +118,7 @@ impl Telling {
         clock: Clock,
         change: &TableChange,
     ) -> Result<(), AllocError>
-        ensures told { OnOk result ((before : List Content) (events : List E) (count : ℕ) → HasTold before self.old clock events → AreTold count clock table.now.states events
-            → IsNextChange count table.now.states change.now → HasTold before self.new clock (events ++ spec.events_of_change clock (Some change.now) table.now.states)) }
+        ensures told { OnOk result (TellsChange clock (Some change.now) table.now.states self.old self.new) }
         ensures origin { self.new.queue.origin ≡ self.old.queue.origin }
     {
         match change {
@@ -152,8 +142,7 @@ impl Telling {
     ) -> Result<(), AllocError>
         requires { IfSome change.now (λ change. refusal change table.old.limit table.old.states ≡ None) }
         ensures table { OnOk result (table.new ≡ spec.changed change.now table.old) }
-        ensures told { OnOk result ((before : List Content) (events : List E) (count : ℕ) → HasTold before self.old clock events → AreTold count clock table.old.states events
-            → IfSome change.now (λ change. IsNextChange count table.old.states change) → HasTold before self.new clock (events ++ spec.events_of_change clock change.now table.old.states)) }
+        ensures told { OnOk result (TellsChange clock change.now table.old.states self.old self.new) }
         ensures origin { self.new.queue.origin ≡ self.old.queue.origin }
     {
         let Some(change) = change else {
@@ -165,7 +154,7 @@ impl Telling {
 
     /// Closes the open message at the end of a run, and returns it if anything is told.
     pub fn close(&mut self, clock: Clock) -> Result<Option<Message>, AllocError>
-        ensures { IfOk result (λ message. (events : List E) → Tells self.old.queue clock events → option_to_list message ≡ message_of self.old.queue.origin (open_at self.old.queue.origin clock events)) }
+        ensures { IfOk result (λ message. ClosesOpen clock self.old message) }
     {
         self.queue.close(clock)
     }
