@@ -4,6 +4,7 @@ pub mod ChangeLemmas
 pub mod CountLemmas
 pub mod EmittedLemmas
 pub mod EndingLemmas
+pub mod HoldingLemmas
 pub mod MachineLemmas
 pub mod OnlineLemmas
 pub mod ResultLemmas

@@ -27,7 +27,7 @@ use Rattle.pfr_commit.proofs.StandLemmas.{option_change_is_next}
 use Rattle.pfr_commit.proofs.TableLemmas.{NoneRefused, OwnChanges, table_next}
 
 -- a state that is touched is told of as it was
-own_stays : (count : ℕ) (clock : Clock) (states : List State) (outcome : Outcome) (change : TableChange) → rise states ≡ true → IsOwnChange count clock states outcome change → StaysTold states change
+pub own_stays : (count : ℕ) (clock : Clock) (states : List State) (outcome : Outcome) (change : TableChange) → rise states ≡ true → IsOwnChange count clock states outcome change → StaysTold states change
 own_stays count clock states outcome (Made state) in_order own = tt
 own_stays count clock states outcome (Touched state) in_order own = λ before is_there number.
     let same : own.before ≡ before = one_number states in_order own.before before own.is_there is_there (ap (λ (n : StateNumber). n.0) (sym own.number_is ∙ number)) in
@@ -44,12 +44,12 @@ together count states None next stays = tt
 together count states (Some change) next stays = (next, stays)
 
 -- what each world of a run keeps
-record KeepsTold (world : World) : Type 0 where
+pub record KeepsTold (world : World) : Type 0 where
   pub table : IsTable world.table
   pub told : AreTold world.count world.clock world.table.states world.events
   pub leave : Leave world.table.states world.events
 
-told_next : NoneRefused → OwnChanges → (job : RunJob) (world : World) (frame : Frame) → KeepsTold world → KeepsTold (after job world frame)
+pub told_next : NoneRefused → OwnChanges → (job : RunJob) (world : World) (frame : Frame) → KeepsTold world → KeepsTold (after job world frame)
 unfolding after with_outcome purged_at events_of
 told_next none own job world frame keeps =
     let p = next_taken job world frame in
@@ -71,12 +71,12 @@ told_next none own job world frame keeps =
       leave = subst (λ (es : List Event). Leave (changed p.outcome.change purged_table).states es) all leave;
     }
 
-told_after : NoneRefused → OwnChanges → (job : RunJob) (world : World) (frames : List Frame) → KeepsTold world → KeepsTold (world_after job world frames)
+pub told_after : NoneRefused → OwnChanges → (job : RunJob) (world : World) (frames : List Frame) → KeepsTold world → KeepsTold (world_after job world frames)
 unfolding world_after
 told_after none own job world [] keeps = keeps
 told_after none own job world (frame ∷ frames) keeps = told_after none own job (after job world frame) frames (told_next none own job world frame keeps)
 
-told_opening : (job : RunJob) → KeepsTold (opening job)
+pub told_opening : (job : RunJob) → KeepsTold (opening job)
 unfolding opening
 told_opening job = record {
   table = record { in_order = refl; own_keys = refl; few = omega arith };

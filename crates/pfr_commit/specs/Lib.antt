@@ -2,11 +2,11 @@ pub mod Books
 pub mod Counters
 pub mod Emissions
 pub mod Endings
+pub mod Holding
 pub mod Laws
 pub mod Lines
 pub mod Machine
 pub mod Results
 pub mod ResultsByPlace
 pub mod Runs
-pub mod Texts
 pub mod World

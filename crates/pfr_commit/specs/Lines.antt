@@ -11,7 +11,7 @@ use Rattle.pfr_track.specs.Datagrams as datagram
 use Rattle.pfr_track.specs.Tcp as tcp
 use Rattle.pfr_packet.specs.declared.outcome.Outcome.{Outcome}
 use Rattle.pfr_packet.specs.Verdicts.{reason_text, verdict_text}
-use Rattle.pfr_commit.specs.Texts.{direction_text, key_text, rule_text, state_text, traffic_text}
+use Rattle.pfr_texts.specs.Texts.{direction_text, key_text, rule_text, state_text, traffic_text}
 
 -- " r=R t=T s=S", and the rest of a line
 abbrev pub named_before : Outcome → List ℕ → List ℕ

@@ -3,6 +3,7 @@ ghost use Rattle.std.specs.Prelude.{◌≡◌, ◌≤◌, List, length, map};
 ghost use Rattle.std.specs.List.{All, range_with_len};
 ghost use Rattle.pfr_states.specs.States.{IsTable};
 ghost use Rattle.pfr_packet.specs.Job.{RunJob};
+ghost use Rattle.pfr_commit.specs.Holding.{AStandbyHoldsEachState};
 ghost use Rattle.pfr_commit.specs.Laws.{AStandbyHoldsTheStates, BytesOfARule, ChangesMakeTheTable, ClockIsOfARecord, EachHasItsLine, EachHasItsRecord, PacketsOfARule, StatesAreOfPackets, TotalsAreTheCount, TheLastMessageIsTheRest, TotalsCountVerdicts, TwoPartsAreTheWhole, WhatIsWrittenStays};
 ghost use Rattle.pfr_commit.specs.Machine.{EveryRun};
 ghost use Rattle.pfr_commit.specs.Runs.{taken_in};
@@ -83,6 +84,17 @@ pub fn a_standby_holds_the_states()
     // each packet leaves a table
     no_change_is_refused();
     // and touches a state that keeps its rules
+    every_change_is_of_the_named_state();
+}
+
+/// A standby that takes the messages of a run, from the first on to the last, refuses none of them. It holds at the end just the states
+/// that are left, except those of rules with `no-sync`, each with its keys, protocol, direction, rule, ends and timeout.
+pub fn standby_holds()
+    ensures { AStandbyHoldsEachState }
+{
+    // each packet leaves a table
+    no_change_is_refused();
+    // and touches a state that keeps its keys, its direction and its rules
     every_change_is_of_the_named_state();
 }
 

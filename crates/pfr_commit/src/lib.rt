@@ -15,7 +15,6 @@ pub mod gate;
 pub mod laws;
 mod results;
 pub mod state_line;
-mod texts;
 pub mod verdict_line;
 
 pub use book::Book;

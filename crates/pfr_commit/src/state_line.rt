@@ -2,8 +2,8 @@
 ghost use Rattle.std.specs.Prelude.{◌≡◌, ◌+◌, ◌≤◌, ◌++◌, length, OnOk};
 ghost use Rattle.pfr_commit.specs.Lines as spec;
 
-use crate::texts::{put_byte, put_direction, put_key, put_rule, put_traffic};
 use pfr_digits::Tail;
+use pfr_texts::{put_byte, put_direction, put_key, put_rule, put_traffic};
 use pfr_track::{DatagramPeer, Peers, State, TcpPeer};
 use std::alloc::AllocError;
 

@@ -3,9 +3,9 @@ ghost use Rattle.std.specs.Prelude.{◌≡◌, ◌+◌, ◌≤◌, ◌++◌, len
 ghost use Rattle.pfr_packet.specs.Verdicts.{reason_text, verdict_text};
 ghost use Rattle.pfr_commit.specs.Lines as spec;
 
-use crate::texts::{put_direction, put_rule, put_state};
 use pfr_digits::Tail;
 use pfr_packet::{Outcome, Reason, Verdict};
+use pfr_texts::{put_direction, put_rule, put_state};
 use pfr_track::Clock;
 use std::alloc::AllocError;
 
