@@ -62,3 +62,7 @@ abbrev pub Comes : {F : Type 0} → Transitions F → RunJob → (start : F) →
 Comes feeds job start GoesOn book feed = SoFar feeds job start book feed
 Comes feeds job start IsOver book feed = EndsWell feeds job start book feed
 Comes feeds job start IsRefused book feed = EndsRefused feeds job start book feed
+
+-- a turn of a run by one thread, from however far it has come
+abbrev pub IsTurn : {F : Type 0} → Transitions F → Turn → (old new : Book) → (feed feed' : F) → Type 0
+IsTurn {F} feeds turn old new feed feed' = (job : RunJob) (start : F) → job_of old ≡ job → SoFar feeds job start old feed → Comes feeds job start turn new feed'

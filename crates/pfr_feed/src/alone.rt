@@ -1,11 +1,10 @@
 //! A run by the calling thread alone.
 ghost use Rattle.std.specs.Prelude.{◌≡◌, ◌≤◌, ◌<◌, ◌-◌, ◌^◌, OnOk, OnErr};
-ghost use Rattle.pfr_packet.specs.Job.{RunJob};
 ghost use Rattle.pfr_commit.specs.Books.{StandsAt, job_of};
 ghost use Rattle.pfr_commit.specs.World.{opening};
 ghost use Rattle.pfr_feed.specs.declared.turn.Turn.TheVariants.{GoesOn};
 ghost use Rattle.pfr_feed.specs.Runs.{EndsRefused, EndsWell};
-ghost use Rattle.pfr_feed.specs.Turns.{Comes, SoFar};
+ghost use Rattle.pfr_feed.specs.Turns.{IsTurn};
 
 use crate::feed::Feed;
 use crate::packets::viewed;
@@ -21,8 +20,7 @@ fn take_turn<F: Feed>(alloc: Global, book: &mut Book, feed: &mut F, room: &mut R
     ensures names { F.names feed.new ≡ F.names feed.old }
     ensures job { book.new.job ≡ book.old.job }
     ensures few { result ≡ GoesOn → book.new.count ≤ F.given feed.new }
-    ensures comes { (job : RunJob) (start : F) → job_of book.old ≡ job → SoFar F.transitions job start book.old feed.old
-        → Comes F.transitions job start result book.new feed.new }
+    ensures comes { IsTurn F.transitions result book.old book.new feed.old feed.new }
     ensures nearer { result ≡ GoesOn → 2 ^ 43 - F.given feed.new < 2 ^ 43 - F.given feed.old }
 {
     let Some(records) = feed.batch() else {

@@ -31,7 +31,7 @@ impl Room {
         }
     }
 
-    /// An empty piece with this much room. What is done to the table isn't asked for.
+    /// An empty piece with this much room. It doesn't list what is done to the table.
     pub fn piece(self, alloc: Global) -> Emitted
         ensures texts { texts_of result ≡ no_texts }
         ensures changes { result.changes ≡ None }
