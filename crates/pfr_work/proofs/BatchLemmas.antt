@@ -19,7 +19,7 @@ last_is : (front : List Batch) (batch : Batch) → slice_get (front ++ batch ∷
 last_is [] batch = refl
 last_is (first ∷ front) batch = last_is front batch
 
--- a batch of which so many numbers more were drawn, by these workers
+-- a batch of which more numbers were drawn, by these workers
 abbrev with_claims : Batch → List (ℕ × ℕ) → ℕ → Batch
 with_claims batch more count = record batch { word = batch.word + count; claims = batch.claims ++ more }
 

@@ -82,7 +82,7 @@ messages_next job frames frame =
 
 -- ---- commits
 
--- so many of the packets are committed
+-- the first packets are committed
 abbrev pub committed_at : RunJob → List Frame → Machine → ℕ → Machine
 committed_at job packets machine count =
     let world = world_of job (take count packets) in

@@ -1,8 +1,12 @@
 -- How many packets batches have that wait.
-use Rattle.std.proofs.Common.{◌≡◌, ◌≤◌, ◌+◌, ◌^◌, ℕ, inl, inr, List, [], ◌∷◌, ◌++◌, length, refl, sym, subst, arith}
+use Rattle.std.proofs.Common.{◌≡◌, ◌≤◌, ◌+◌, ◌^◌, ℕ, inl, inr, List, [], ◌∷◌, ◌++◌, length, Vec, refl, sym, ap, subst, arith}
 use Rattle.std.proofs.lemmas.List.Elements.{All-head, All-nil, All-push, All-tail}
 use Rattle.std.proofs.lemmas.List.Sums.{sum_by-append, sum_by-cons}
+use Rattle.std.specs.declared.alloc.Global.{Global}
 use Rattle.pfr_capture.specs.declared.capture.Record.{Record}
+use Rattle.pfr_claims.specs.declared.gathered.Gathered.{Gathered}
+use Rattle.pfr_workers.specs.declared.incomplete.Incomplete.{Incomplete}
+use Rattle.pfr_work.specs.Running.{AllRoom}
 use Rattle.pfr_work.specs.Turns.{Fits}
 
 -- ---- batches that wait
@@ -57,3 +61,14 @@ pub fits_none : {X : Type 0} (records_of : X → List Record) (count_of workers_
 fits_none {X = X} records_of count_of workers_of waiting count given workers none first =
     subst (λ (w : List X). Fits w records_of count_of workers_of count given workers) (sym none)
     (record { few = omega (arith, first); most = inl refl; sizes = All-nil (λ (x : X). (count_of x ≡ length (records_of x)) × (workers_of x ≡ workers)) })
+
+-- ---- room for what comes back
+
+-- the first one is taken, and uses room for one at most
+pub room_popped : {X : Type 0} (waiting later : List X) (x : X) (entries entries' : Vec Gathered Global) (lost lost' : Vec Incomplete Global) → waiting ≡ x ∷ later → AllRoom (length waiting) entries lost
+    → ((n : ℕ) → AllRoom (n + 1) entries lost → AllRoom n entries' lost') → AllRoom (length later) entries' lost'
+room_popped {X = X} waiting later x entries entries' lost lost' is room stays =
+    let long = ap (λ (w : List X). length w) is in
+    let of_entries = room.0 in
+    let of_lost = room.1 in
+    stays (length later) (omega (arith, long, of_entries), omega (arith, long, of_lost))

@@ -16,7 +16,7 @@ use Rattle.pfr_work.proofs.LeadLemmas.{Leads, leads_on, leads_to, one_event, sta
 
 -- ---- what workers see
 
--- one worker sees so many commits
+-- one worker sees `count` commits
 abbrev now_seen : ℕ → ℕ → (ℕ → ℕ) → ℕ → ℕ
 now_seen worker commits sees = λ other. if other == worker then commits else sees other
 
@@ -72,7 +72,7 @@ none_committed : (job : RunJob) (packets : List Frame) (batches : List Batch) (o
 unfolding world_of world_after opening
 none_committed job packets batches opened = refl
 
--- so many more are committed
+-- `count` more are committed
 commits_on : (job : RunJob) (packets : List Frame) (machine : Machine) (count last : ℕ) → count ≤ last → last ≤ machine.opened → machine.opened ≤ length packets → Leads job packets (committed_at job packets machine count) (committed_at job packets machine last)
 commits_on job packets machine count last rises below within =
     let is : count + (last - count) ≡ last = omega (arith, rises) in

@@ -162,7 +162,7 @@ list_is lists word worker rising once =
 
 -- ---- batches
 
--- the batch of these records, with what came back of it, behind so many packets; one of which nothing came back is open
+-- the batch of these records, with what came back of it, behind other packets; one of which nothing came back is open
 abbrev batch_of : ℕ → Option Gathered → List Record → Batch
 batch_of first None records = record { first = first; count = length records; word = 0; claims = [] }
 batch_of first (Some entry) records = record { first = first; count = length records; word = entry.word; claims = claims_of (lists_of entry.passes.value.items) entry.word }

@@ -15,11 +15,11 @@ Follow first (batch ∷ batches) last = (batch.first ≡ first) × Follow (first
 abbrev pub IsDrawn : Batch → Type 0
 IsDrawn batch = map (λ claim. claim.1) batch.claims ≡ range_with_len 0 batch.word
 
--- the tables after none, one and so on up to so many of the packets
+-- the tables after none, one and so on up to `count` of the packets
 abbrev pub tables_of : RunJob → List Frame → ℕ → List StateTable
 tables_of job packets count = map (λ k. (world_of job (take k packets)).table) (range_with_len 0 (count + 1))
 
--- a state that is the end of a run with so many workers
+-- a state that is the end of a run with `workers` workers
 pub record IsEnd (job : RunJob) (packets : List Frame) (workers : ℕ) (machine : Machine) : Type 0 where
   -- its batches follow one another from the first packet on, and hold no packet past the last
   pub follow : Follow 0 machine.batches machine.opened

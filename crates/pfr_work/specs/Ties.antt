@@ -38,7 +38,7 @@ AreShownBy [] (records ∷ given) (batch ∷ batches) = IsShownBy None records b
 AreShownBy (it ∷ returns) (records ∷ given) (batch ∷ batches) = IsShownBy it records batch × AreShownBy returns given batches
 AreShownBy returns given batches = ⊥
 
--- a state of the machine that is the end of a run with this trace, after so many packets, of which so many are published
+-- a state of the machine that is the end of a run with this trace, after `committed` packets, of which `published` are published
 pub record IsEndWith (job : RunJob) (workers : ℕ) (calls : List Call) (seen : Seen) (committed published : ℕ) (machine : Machine) : Type 0 where
   pub is_end : IsEnd job (packets_of (given_in calls)) workers machine
   pub committed_is : machine.committed ≡ committed

@@ -16,7 +16,7 @@ use Rattle.pfr_feed.specs.Transitions.{Transitions}
 
 -- ---- the passes of batches
 
--- a batch was opened for these records, to so many workers
+-- a batch was opened for these records, to `workers` workers
 abbrev pub IsOpenedFor : ℕ → Batch → List Record → Type 0
 IsOpenedFor workers batch records = (batch.sizes.count ≡ length records) × (batch.sizes.workers ≡ workers)
 
@@ -58,8 +58,8 @@ pub record CameBack (batches : List Batch) (entries : List Gathered) (lost : Lis
 abbrev pub packets_of : List (List Record) → List Frame
 packets_of batches = flat_map (λ records. map frame_of records) batches
 
--- what a trace shows of a run by these calls: of the batches that were opened some may still be open, and the table shows what the
--- first so many packets did to it
+-- what a trace shows of a run by these calls: of the batches that were opened some may still be open, and the table shows what the first
+-- `published` packets did to it
 pub record IsTrace (job : RunJob) (workers : ℕ) (calls : List Call) (opened : List Batch) (entries : List Gathered) (lost : List Incomplete) (still_open : List Batch) (handed published : ℕ) (shown : Option (List Change)) : Type 0 where
   -- the batches that were opened are the first of those that were given
   pub opens : AllZip (IsOpenedFor workers) opened (take (length opened) (given_in calls))

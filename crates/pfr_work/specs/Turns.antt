@@ -15,7 +15,7 @@ use Rattle.pfr_feed.specs.declared.turn.Turn.TheVariants.{GoesOn, IsOver, IsRefu
 use Rattle.pfr_feed.specs.Runs.{Call, Cut, Over, Point, Refused, Went, given_in, taken_in}
 use Rattle.pfr_feed.specs.Transitions.{Transitions}
 use Rattle.pfr_feed.specs.Turns.{HasCome}
-use Rattle.pfr_work.specs.Traces.{IsOpenedFor, IsTrace, batches_of}
+use Rattle.pfr_work.specs.Traces.{CameBack, IsOpenedFor, IsTrace, batches_of}
 
 -- ---- batches that wait
 
@@ -26,7 +26,7 @@ pub record Fits {X : Type 0} (waiting : List X) (records_of : X → List Record)
   pub most : (waiting ≡ []) ⊎ (given ≤ 2 ^ 43)
   pub sizes : All (λ x. (count_of x ≡ length (records_of x)) × (workers_of x ≡ workers)) waiting
 
--- so many more elements have room
+-- `count` more elements have room
 abbrev pub HasRoomFor : {A : Type 0} → ℕ → Vec A Global → Type 0
 HasRoomFor count list = vec_len list + count ≤ vec_capacity list
 
@@ -60,6 +60,10 @@ ComesShort batch entries entries' lost lost' = (it : Incomplete) × (it.claims.v
 
 abbrev pub ComesBack : Batch → (entries entries' : List Gathered) → (lost lost' : List Incomplete) → Type 0
 ComesBack batch entries entries' lost lost' = ComesWhole batch entries entries' lost lost' ⊎ ComesShort batch entries entries' lost lost'
+
+-- what comes back of batches behind that of any others
+abbrev pub ComesAfter : (entries entries' : List Gathered) → (lost lost' : List Incomplete) → List Batch → Type 0
+ComesAfter entries entries' lost lost' batches = (back : List Batch) → CameBack back entries lost → CameBack (back ++ batches) entries' lost'
 
 -- a feed took a piece, and then the packets back, unless somebody still shares them
 abbrev pub TakesPiece : {F : Type 0} → Transitions F → F → Texts → F → Type 0

@@ -1,25 +1,28 @@
 //! A run beside workers that live as long as it.
-ghost use Rattle.std.specs.Prelude.{◌≡◌, ◌≤◌, ◌<◌, [], OnOk, OnErr, Some, None};
+ghost use Rattle.std.specs.Prelude.{◌≡◌, ◌≤◌, ◌<◌, [], vec_len, IfOk, OnOk, OnErr, Some};
+ghost use Rattle.std.specs.Arc.{arc_value};
 ghost use Rattle.pfr_commit.specs.Books.{StandsAt, job_of};
 ghost use Rattle.pfr_commit.specs.World.{opening};
 ghost use Rattle.pfr_published.specs.Ends.{is_shown, list_of};
 ghost use Rattle.pfr_work.specs.Seen.{seen_of};
 ghost use Rattle.pfr_work.specs.Traces.{RunsRefused, RunsWell};
 
+use crate::batch::Batch;
 use crate::course::Course;
 use crate::evaluator::evaluators;
-use crate::found::OfRun;
+use crate::found::{FoundOut, OfRun};
 use crate::trace::Trace;
 use crate::turns::run_turns;
 use pfr_commit::{Book, Gate};
 use pfr_feed::Feed;
 use pfr_history::{History, Naming};
+use pfr_packet::Job;
 use pfr_published::{Published, StoreWriter};
 use pfr_states::Change;
-use pfr_workers::{Openings, hire};
+use pfr_workers::{Crew, Openings, hire};
 use std::alloc::{AllocError, Global};
-use std::sync::Wait;
 use std::sync::atomic::AtomicBool;
+use std::sync::{Arc, Wait};
 use std::thread::{Scope, Threads};
 
 /// The trace of a run in which no batch was opened.
@@ -39,6 +42,32 @@ pub(crate) fn no_trace<W, K: Naming>(
         openings,
         gave_up: false,
     }
+}
+
+/// Starts the workers of a run, in its scope.
+fn start_workers<
+    's,
+    E,
+    J: OfRun + Send + Sync + 's,
+    K: Naming + Send + Sync + 's,
+    R: Threads + Wait + Sync,
+    G: Gate,
+>(
+    scope: &Scope<'s, E>,
+    rt: &'s R,
+    alloc: Global,
+    job: &Arc<Job>,
+    history: &History<J, Change>,
+    published: &Published<StoreWriter<J>>,
+    gate: &'s G,
+    stop: &'s AtomicBool,
+    workers: u64,
+) -> Result<Crew<K, Batch<J>, FoundOut<J>>, AllocError>
+    requires { J.job ≡ Some (arc_value job.now) }
+    ensures { IfOk result (λ crew. vec_len crew.desks ≡ workers) }
+{
+    let hands = evaluators(alloc, published, history, job, gate, stop, workers)?;
+    hire(scope, rt, alloc, hands)
 }
 
 /// A run in a scope: publishes the empty table, starts the workers, and takes all batches. The workers end with the crew.
@@ -76,28 +105,27 @@ pub(crate) fn run_beside<
     let limit = book.job().rules().options.state_limit as usize;
     let published = match Published::new(alloc, history, limit, workers as usize) {
         Ok(published) => published,
-        Err(refused) => return (book, feed, no_trace(alloc, openings, None), Err(refused)),
-    };
-    let hands = match evaluators(alloc, &published, history, book.job(), gate, stop, workers) {
-        Ok(hands) => hands,
         Err(refused) => {
-            return (
-                book,
-                feed,
-                no_trace(alloc, openings, Some(published)),
-                Err(refused),
-            );
+            let trace = no_trace(alloc, openings, None);
+            return (book, feed, trace, Err(refused));
         }
     };
-    let crew = match hire(scope, rt, alloc, hands) {
+    let started = start_workers(
+        scope,
+        rt,
+        alloc,
+        book.job(),
+        history,
+        &published,
+        gate,
+        stop,
+        workers,
+    );
+    let crew = match started {
         Ok(crew) => crew,
         Err(refused) => {
-            return (
-                book,
-                feed,
-                no_trace(alloc, openings, Some(published)),
-                Err(refused),
-            );
+            let trace = no_trace(alloc, openings, Some(published));
+            return (book, feed, trace, Err(refused));
         }
     };
     let course = Course::new(alloc, book.job(), workers, openings);

@@ -14,6 +14,7 @@ mod oldest;
 pub mod pace;
 mod reading;
 mod run;
+mod running;
 mod shown;
 pub mod trace;
 mod turns;

@@ -1,23 +1,19 @@
 //! The oldest batch that waits: it is taken, handed on and shown.
-ghost use Rattle.std.specs.Prelude.{◌≡◌, ◌≤◌, ◌+◌, ◌∷◌, ◌^◌, ℕ, Bool, true, false, List, Some, length, IfOk, OnOk, OnErr};
-ghost use Rattle.std.specs.Arc.{arc_value};
-ghost use Rattle.pfr_capture.specs.declared.capture.Record.{Record};
-ghost use Rattle.pfr_claims.specs.Batches.{Batch as ClaimsOf};
-ghost use Rattle.pfr_packet.specs.Job.{RunJob};
+ghost use Rattle.std.specs.Prelude.{◌≡◌, ◌≤◌, ◌<◌, ◌+◌, ◌^◌, ℕ, [], true, false, Some, length, IfOk, OnOk, OnErr};
 ghost use Rattle.pfr_commit.specs.Books.{job_of};
 ghost use Rattle.pfr_commit.specs.Emissions.{are_kept, listed, texts_of};
 ghost use Rattle.pfr_published.specs.Ends.{is_shown, list_of};
 ghost use Rattle.pfr_feed.specs.declared.turn.Turn.TheVariants.{GoesOn};
 ghost use Rattle.pfr_feed.specs.Turns.{IsRefusedAt, TakesBatch};
-ghost use Rattle.pfr_work.specs.Turns.{Comes, ComesBack, ComesWhole, SoFar, TakesPiece};
-ghost use Rattle.pfr_work.specs.Waiting.{AllRoom, claims_in, count_in, records_in, workers_in};
+ghost use Rattle.pfr_work.specs.Running.{AllRoom, FitsIn, HasRoom, IsTurn, claims_in, left_of, records_in};
+ghost use Rattle.pfr_work.specs.Turns.{ComesBack, ComesWhole, TakesPiece};
 
 use crate::batch::Batch;
 use crate::course::Course;
 use crate::evaluator::speculations;
 use crate::found::OfRun;
 use crate::pace::BatchReport;
-use crate::reading::Open;
+use crate::running::{Open, Run};
 use crate::shown::show;
 use pfr_commit::{Book, Changes, Emitted, Gate};
 use pfr_feed::{Feed, Turn};
@@ -119,55 +115,57 @@ fn hand_on<J: OfRun, F: Feed>(feed: &mut F, piece: Emitted, batch: Arc<Batch<J>>
     true
 }
 
-/// Takes the oldest batch, hands on what it adds, and shows what it did to the table.
-pub(crate) fn take_oldest<
-    J: OfRun + Send + Sync,
-    K: Naming + Send + Sync,
-    R: Wait,
-    F: Feed,
-    G: Gate,
->(
-    rt: &R,
-    alloc: Global,
-    book: &mut Book,
-    feed: &mut F,
-    course: &mut Course<K>,
-    oldest: Open<J, K>,
-    history: &History<J, Change>,
-    published: Published<StoreWriter<J>>,
-    gate: &G,
-) -> (Published<StoreWriter<J>>, Turn)
-    requires job { J.job ≡ Some (job_of book.old) }
-    requires few { book.old.count + length (records_in oldest) ≤ 2 ^ 43 }
-    requires room { AllRoom 1 course.old.entries course.old.lost }
-    ensures told { F.told feed.new ≡ F.told feed.old }
-    ensures names { F.names feed.new ≡ F.names feed.old }
-    ensures given { F.given feed.new ≡ F.given feed.old }
-    ensures job { book.new.job ≡ book.old.job }
-    ensures counted { result.1 ≡ GoesOn → book.new.count ≡ book.old.count + length (records_in oldest) }
-    ensures stays { (n : ℕ) → AllRoom (n + 1) course.old.entries course.old.lost → AllRoom n course.new.entries course.new.lost }
-    ensures gave_up { course.new.gave_up ≡ false → course.old.gave_up ≡ false }
-    ensures shown { course.new.gave_up ≡ false → is_shown result.0 ≡ is_shown published }
-    ensures comes { (job : RunJob) (workers : ℕ) (start : F) (later : List (List Record)) (later_open : List ClaimsOf) (is_over : Bool) → job_of book.old ≡ job
-        → SoFar F.transitions job workers start book.old feed.old (records_in oldest ∷ later) is_over course.old.openings course.old.entries.items course.old.lost.items (claims_in oldest ∷ later_open) (list_of published)
-        → Comes F.transitions job workers start result.1 book.new feed.new later is_over course.new.openings course.new.entries.items course.new.lost.items later_open (list_of result.0) }
-{
-    let Ok(
-        Committed {
-            batch,
-            piece,
+impl<J: OfRun + Send + Sync, K: Naming + Send + Sync, F: Feed> Run<J, K, F> {
+    /// Takes the oldest batch that waits, hands on what it adds, and shows what it did to the table. If none waits the run is over.
+    pub(crate) fn take_oldest<R: Wait, G: Gate>(
+        &mut self,
+        rt: &R,
+        alloc: Global,
+        history: &History<J, Change>,
+        published: Published<StoreWriter<J>>,
+        gate: &G,
+    ) -> (Published<StoreWriter<J>>, Turn)
+        requires job { J.job ≡ Some (job_of self.old.book) }
+        requires over { self.old.waiting.items ≡ [] → self.old.is_over ≡ true }
+        requires fits { (workers : ℕ) × FitsIn (F.given self.old.feed) workers self.old }
+        requires room { HasRoom self.old }
+        ensures told { F.told self.new.feed ≡ F.told self.old.feed }
+        ensures names { F.names self.new.feed ≡ F.names self.old.feed }
+        ensures job { self.new.book.job ≡ self.old.book.job }
+        ensures fits { result.1 ≡ GoesOn → (workers : ℕ) → FitsIn (F.given self.old.feed) workers self.old → FitsIn (F.given self.new.feed) workers self.new }
+        ensures room { HasRoom self.new }
+        ensures gave_up { self.new.course.gave_up ≡ false → self.old.course.gave_up ≡ false }
+        ensures shown { self.new.course.gave_up ≡ false → is_shown result.0 ≡ is_shown published }
+        ensures comes { (workers : ℕ) → IsTurn F.transitions workers result.1 self.old self.new (list_of published) (list_of result.0) }
+        ensures nearer { result.1 ≡ GoesOn → left_of (F.given self.new.feed) self.new < left_of (F.given self.old.feed) self.old }
+    {
+        let Some(oldest) = self.waiting.pop_front() else {
+            return (published, Turn::IsOver);
+        };
+        let Ok(
+            Committed {
+                batch,
+                piece,
+                changes,
+            },
+        ) = commit_oldest(rt, alloc, &mut self.book, &mut self.course, oldest, gate)
+        else {
+            return (published, Turn::IsRefused);
+        };
+        if !hand_on(&mut self.feed, piece, batch) {
+            return (published, Turn::IsOver);
+        }
+        let (published, outcome) = show(
+            rt,
+            alloc,
+            history,
+            published,
             changes,
-        },
-    ) = commit_oldest(rt, alloc, book, course, oldest, gate)
-    else {
-        return (published, Turn::IsRefused);
-    };
-    if !hand_on(feed, piece, batch) {
-        return (published, Turn::IsOver);
-    }
-    let (published, outcome) = show(rt, alloc, history, published, changes, course.gave_up);
-    match outcome {
-        Ok(()) => (published, Turn::GoesOn),
-        Err(_) => (published, Turn::IsRefused),
+            self.course.gave_up,
+        );
+        match outcome {
+            Ok(()) => (published, Turn::GoesOn),
+            Err(_) => (published, Turn::IsRefused),
+        }
     }
 }

@@ -223,7 +223,7 @@ impl Pace {
         saved >= batch.evaluated_ahead.saturating_mul(costs)
     }
 
-    /// Whether the ruleset has so many rules that workers may pay.
+    /// Whether the ruleset has enough rules that workers may pay.
     fn may_pay(&self) -> bool {
         self.saves(self.rules) >= HANDING
     }

@@ -1,31 +1,25 @@
 //! Batches that are read ahead, and opened to workers.
-ghost use Rattle.std.specs.Prelude.{◌≡◌, ℕ, ◌≤◌, ◌<◌, ◌+◌, ◌-◌, ◌*◌, ◌++◌, ◌∷◌, ◌^◌, [], false, cond, length, map, vec_len, List, IfOk, IfSome, MatchResult, OnOk, OnErr};
+ghost use Rattle.std.specs.Prelude.{◌≡◌, ℕ, ◌≤◌, ◌<◌, ◌+◌, ◌++◌, ◌∷◌, [], false, length, vec_len, List, IfOk, IfSome, MatchResult, OnOk};
 ghost use Rattle.std.specs.Arc.{arc_value};
 ghost use Rattle.std.specs.VecDeque.{deque_len, deque_capacity};
-ghost use Rattle.pfr_capture.specs.declared.capture.Record.{Record};
-ghost use Rattle.pfr_commit.specs.declared.book.Book.{Book};
 ghost use Rattle.pfr_states.specs.declared.change.Change.{Change};
-ghost use Rattle.pfr_packet.specs.Job.{RunJob};
 ghost use Rattle.pfr_feed.specs.declared.turn.Turn.TheVariants.{GoesOn};
+ghost use Rattle.pfr_work.specs.Running.{AllRoom, FitsIn, HasRoom, IsTurn, claims_in, count_in, left_of, records_in, workers_in};
 ghost use Rattle.pfr_work.specs.Traces.{IsOpenedFor};
-ghost use Rattle.pfr_work.specs.Turns.{Comes, Fits, HasRoomFor, SoFar};
-ghost use Rattle.pfr_work.specs.Waiting.{AllRoom, claims_in, count_in, records_in, workers_in};
 
 use crate::batch::{Batch, clocks, viewed_for};
 use crate::course::Course;
 use crate::found::{FoundOut, OfRun};
+use crate::running::{Open, Run};
 use pfr_capture::Record;
 use pfr_feed::{Feed, Turn};
 use pfr_history::Naming;
 use pfr_published::Told;
-use pfr_workers::{Crew, OpenBatch};
+use pfr_workers::Crew;
 use std::alloc::{AllocError, Global};
 use std::collections::VecDeque;
 use std::sync::Wait;
 use std::thread::Threads;
-
-/// A batch that the workers of a run draw from.
-pub(crate) type Open<J, K> = OpenBatch<K, Batch<J>, FoundOut<J>>;
 
 /// Opens a batch of records: the workers are told how far the published table has come, and draw its packets, unless they rest.
 fn open_batch<J: OfRun + Send + Sync, K: Naming + Send + Sync, R: Threads + Wait + Sync>(
@@ -82,49 +76,42 @@ fn make_room<T: Drop, K: Naming>(
     course.reserve(waiting.len() + 1)
 }
 
-/// Asks the feed for the next batch, and opens it after those that wait.
-pub(crate) fn read_ahead<
-    J: OfRun + Send + Sync,
-    K: Naming + Send + Sync,
-    R: Threads + Wait + Sync,
-    F: Feed,
->(
-    rt: &R,
-    alloc: Global,
-    feed: &mut F,
-    crew: &Crew<K, Batch<J>, FoundOut<J>>,
-    course: &mut Course<K>,
-    told: Told<J>,
-    waiting: &mut VecDeque<Open<J, K>>,
-    is_over: &mut bool,
-) -> Turn
-    requires workers { (0 < vec_len crew.now.desks) × (vec_len crew.now.desks ≤ 64) }
-    requires open { is_over.old ≡ false }
-    requires few { length waiting.old.items < 3 }
-    requires room { AllRoom (length waiting.old.items) course.old.entries course.old.lost }
-    ensures told { F.told feed.new ≡ F.told feed.old }
-    ensures names { F.names feed.new ≡ F.names feed.old }
-    ensures gave_up { course.new.gave_up ≡ course.old.gave_up }
-    ensures room { AllRoom (length waiting.new.items) course.new.entries course.new.lost }
-    ensures fits { result ≡ GoesOn → (count : ℕ) → Fits waiting.old.items records_in count_in workers_in count (F.given feed.old) (vec_len crew.now.desks)
-        → Fits waiting.new.items records_in count_in workers_in count (F.given feed.new) (vec_len crew.now.desks) }
-    ensures comes { (job : RunJob) (start : F) (book : Book) (shown : List Change)
-        → SoFar F.transitions job (vec_len crew.now.desks) start book feed.old (map records_in waiting.old.items) is_over.old course.old.openings course.old.entries.items course.old.lost.items (map claims_in waiting.old.items) shown
-        → Comes F.transitions job (vec_len crew.now.desks) start result book feed.new (map records_in waiting.new.items) is_over.new course.new.openings course.new.entries.items course.new.lost.items (map claims_in waiting.new.items) shown }
-    ensures nearer { result ≡ GoesOn → 3 * (2 ^ 43 - F.given feed.new) + length waiting.new.items + cond is_over.new 0 1 < 3 * (2 ^ 43 - F.given feed.old) + length waiting.old.items + cond is_over.old 0 1 }
-{
-    let Ok(()) = make_room(waiting, course) else {
-        return Turn::IsRefused;
-    };
-    let Some(records) = feed.batch() else {
-        *is_over = true;
-        return Turn::GoesOn;
-    };
-    match open_batch(rt, alloc, crew, course, told, records) {
-        Ok(open_batch) => {
-            waiting.push_back_reserved(open_batch);
-            Turn::GoesOn
+impl<J: OfRun + Send + Sync, K: Naming + Send + Sync, F: Feed> Run<J, K, F> {
+    /// Asks the feed for the next batch, and opens it after those that wait.
+    pub(crate) fn read_ahead<R: Threads + Wait + Sync>(
+        &mut self,
+        rt: &R,
+        alloc: Global,
+        crew: &Crew<K, Batch<J>, FoundOut<J>>,
+        told: Told<J>,
+    ) -> Turn
+        requires workers { (0 < vec_len crew.now.desks) × (vec_len crew.now.desks ≤ 64) }
+        requires open { self.old.is_over ≡ false }
+        requires few { length self.old.waiting.items < 3 }
+        requires fits { FitsIn (F.given self.old.feed) (vec_len crew.now.desks) self.old }
+        requires room { HasRoom self.old }
+        ensures told { F.told self.new.feed ≡ F.told self.old.feed }
+        ensures names { F.names self.new.feed ≡ F.names self.old.feed }
+        ensures book { self.new.book ≡ self.old.book }
+        ensures gave_up { self.new.course.gave_up ≡ self.old.course.gave_up }
+        ensures fits { result ≡ GoesOn → FitsIn (F.given self.new.feed) (vec_len crew.now.desks) self.new }
+        ensures room { HasRoom self.new }
+        ensures comes { (shown : List Change) → IsTurn F.transitions (vec_len crew.now.desks) result self.old self.new shown shown }
+        ensures nearer { result ≡ GoesOn → left_of (F.given self.new.feed) self.new < left_of (F.given self.old.feed) self.old }
+    {
+        let Ok(()) = make_room(&mut self.waiting, &mut self.course) else {
+            return Turn::IsRefused;
+        };
+        let Some(records) = self.feed.batch() else {
+            self.is_over = true;
+            return Turn::GoesOn;
+        };
+        match open_batch(rt, alloc, crew, &mut self.course, told, records) {
+            Ok(open_batch) => {
+                self.waiting.push_back_reserved(open_batch);
+                Turn::GoesOn
+            }
+            Err(_) => Turn::IsRefused,
         }
-        Err(_) => Turn::IsRefused,
     }
 }

@@ -2,8 +2,8 @@ use Rattle.std.proofs.Common.{◌≡◌, List, [], ◌++◌, length, map}
 use Rattle.pfr_claims.specs.Batches.{Batch}
 use Rattle.pfr_work.specs.Traces.{CameBack}
 use Rattle.pfr_work.specs.Turns.{Extends}
-use Rattle.pfr_work.specs.Waiting.{AllRoom, claims_in}
-use Rattle.pfr_work.proofs.turns.finish_all.Given as goal
+use Rattle.pfr_work.specs.Running.{AllRoom, claims_in}
+use Rattle.pfr_work.proofs.running.finish_all.Given as goal
 
 abbrev pub invariant-loop-open_batch : goal.invariant-loop-open_batch
 invariant-loop-open_batch g l = record {

@@ -1,9 +1,9 @@
 use Rattle.std.proofs.Common.{◌∙◌, ◌++◌, ◌∷◌, [], List, length, map, append_assoc, refl, sym, ap, arith}
 use Rattle.std.proofs.lemmas.List.{append-nil}
 use Rattle.pfr_claims.specs.Batches.{Batch}
-use Rattle.pfr_work.specs.Waiting.{claims_in}
+use Rattle.pfr_work.specs.Running.{claims_in}
 use Rattle.pfr_work.proofs.BackLemmas.{came_more, extends_on, not_empty, one_came}
-use Rattle.pfr_work.proofs.turns.finish_all.Goals as goal
+use Rattle.pfr_work.proofs.running.finish_all.Goals as goal
 
 pub loop-open_batch-init : goal.loop-open_batch-init
 loop-open_batch-init g c = record {
