@@ -1,0 +1,6 @@
+pub mod BackLemmas
+pub mod FitLemmas
+pub mod Framed
+pub mod OnlyLemmas
+pub mod RowLemmas
+pub mod Takings

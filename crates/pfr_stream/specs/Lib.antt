@@ -1,0 +1,5 @@
+pub mod Laws
+pub mod Lines
+pub mod Outcomes
+pub mod Reading
+pub mod Stream
