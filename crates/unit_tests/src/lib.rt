@@ -23,7 +23,11 @@ mod published;
 #[cfg(test)]
 mod rewriting;
 #[cfg(test)]
+mod standby;
+#[cfg(test)]
 mod states;
+#[cfg(test)]
+mod streams;
 #[cfg(test)]
 mod tables;
 #[cfg(test)]
