@@ -1,3 +1,4 @@
 pub mod Destinations
+pub mod Outputs
 pub mod Peers
 pub mod Seeds

@@ -11,6 +11,19 @@ const RUN_EXAMPLE: &str = "Example:
 const CHECK_EXAMPLE: &str = "Example:
   pfreplay check /etc/pf.conf --interface em0 --address 192.0.2.1/24";
 
+const STANDBY_EXAMPLE: &str =
+    "It prints a line for each state, by number: N PROTO DIR WIRE STACK r=R PEER PEER TIMEOUT.
+N is the number of the packet that made the state, PROTO its protocol's number.
+DIR is in or out, WIRE and STACK are the ends outside and inside on the two sides.
+R is the number of the rule, - if there is none.
+PEER is CODE/LOW/HIGH/WINDOW/SCALE of the end that made the state, and of the other one.
+TIMEOUT: 0 to 5 tcp.first, tcp.opening, tcp.established, tcp.closing, tcp.finwait,
+  tcp.closed; 6 to 8 udp.first, udp.single, udp.multiple; 9 and 10 icmp.first,
+  icmp.error; 11 to 13 other.first, other.single, other.multiple.
+
+Example:
+  pfreplay standby --messages messages.bin";
+
 /// The flags that say which interface a ruleset is for: their names, what the help calls their values, and their help.
 const INTERFACE_FLAGS: [(&str, &str, &str); 2] = [
     (
@@ -41,7 +54,8 @@ const RUN_FLAGS: [(&str, &str, &str); 5] = [
 /// The whole command line.
 pub fn command_line<'a>(alloc: Global) -> Result<Command<'a>, AllocError> {
     let program = with_run(alloc, program(alloc)?)?;
-    program.subcommand(check_command(alloc)?)
+    let program = program.subcommand(check_command(alloc)?)?;
+    program.subcommand(standby_command(alloc)?)
 }
 
 /// The program without its commands.
@@ -109,6 +123,19 @@ fn check_command<'a>(alloc: Global) -> Result<Command<'a>, AllocError> {
         .about("Reads a ruleset and prints how many rules it makes, and its checksum")
         .after_help(CHECK_EXAMPLE);
     with_ruleset(alloc, command)
+}
+
+/// The command that reads messages.
+fn standby_command<'a>(alloc: Global) -> Result<Command<'a>, AllocError> {
+    let file = "The file with the messages, each behind an IP header";
+    let file = flag(alloc, "messages", FILE, file).required(false);
+    let listen = "Where to wait for one connection that sends the messages";
+    let listen = flag(alloc, "listen", PEER, listen).required(false);
+    let command = Command::new(alloc, "standby")
+        .about("Reads what a run tells a standby, and prints the states that it holds then")
+        .after_help(STANDBY_EXAMPLE)
+        .arg(file.conflicts_with("listen")?)?;
+    command.arg(listen)
 }
 
 /// A command with the words that say a ruleset and the interface that it is for.

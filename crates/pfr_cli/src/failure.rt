@@ -1,7 +1,8 @@
 //! What the program says when something is wrong, in one line, and the statuses that it ends with.
 use pfr_capture::CaptureError;
 use pfr_expand::RulesetError;
-use pfr_out::{ConfError, ConfErrorKind, Stop};
+use pfr_out::{ConfError, ConfErrorKind, StandbyStop, Stop};
+use pfr_sync::SyncError;
 use std::alloc::AllocError;
 use std::{fmt, io};
 
@@ -31,10 +32,14 @@ pub enum Failure<'a> {
         form: &'a str,
         word: &'a str,
     },
+    /// The output of this name is the capture, the ruleset or another output.
+    SameFile(&'a str),
     /// A file can't be opened or created, a ruleset's not be read, or a peer not be reached.
     CannotOpen(&'a str),
     /// The ruleset was refused, or the run was stopped.
     Stopped(Stop),
+    /// A standby has not taken all messages.
+    StandbyStopped(StandbyStop),
     /// Standard output failed.
     PrintFailed,
 }
@@ -79,9 +84,11 @@ impl<'a> Failure<'a> {
             Failure::NoWords
             | Failure::Usage(_)
             | Failure::MissingWord(_)
-            | Failure::BadValue { .. } => REFUSED,
+            | Failure::BadValue { .. }
+            | Failure::SameFile(_) => REFUSED,
             Failure::CannotOpen(_) | Failure::PrintFailed => DEVICE,
             Failure::Stopped(stop) => status_of(stop),
+            Failure::StandbyStopped(stop) => standby_status_of(stop),
         }
     }
 }
@@ -96,6 +103,31 @@ fn status_of(stop: &Stop) -> u8 {
         Stop::Capture(_, _) => REFUSED,
         Stop::Read(_) | Stop::Write(_, _) => DEVICE,
         Stop::Memory(_) => NO_MEMORY,
+    }
+}
+
+/// The status after a standby's stop.
+fn standby_status_of(stop: &StandbyStop) -> u8 {
+    match stop {
+        StandbyStop::Message(_, _) => REFUSED,
+        StandbyStop::Read(_) | StandbyStop::Write(_) => DEVICE,
+        StandbyStop::Memory(_) => NO_MEMORY,
+    }
+}
+
+/// The number by which the program names why a message is refused.
+fn code_of(refusal: SyncError) -> u8 {
+    match refusal {
+        SyncError::Short => 1,
+        SyncError::Version => 2,
+        SyncError::Length => 3,
+        SyncError::Action(_) => 4,
+        SyncError::Count => 5,
+        SyncError::NoEnd => 6,
+        SyncError::Trailing => 7,
+        SyncError::UnknownState => 8,
+        SyncError::Memory => 9,
+        SyncError::Fixed(_) => 10,
     }
 }
 
@@ -115,8 +147,10 @@ impl fmt::Display for Failure<'_> {
             Failure::BadValue { flag, form, word } => {
                 write!(f, "invalid value '{word}' for '{flag} <{form}>'")
             }
+            Failure::SameFile(name) => write!(f, "same file: {name}"),
             Failure::CannotOpen(name) => write!(f, "cannot open: {name}"),
             Failure::Stopped(stop) => write_stop(stop, f),
+            Failure::StandbyStopped(stop) => write_standby_stop(stop, f),
             Failure::PrintFailed => write!(f, "write failed: standard output"),
         }
     }
@@ -137,5 +171,16 @@ fn write_stop<W: fmt::Write>(stop: &Stop, f: &mut fmt::Formatter<W>) -> fmt::Res
             write!(f, "write failed: {output}, committed {committed}")
         }
         Stop::Memory(committed) => write!(f, "no memory, committed {committed}"),
+    }
+}
+
+/// Writes why a standby has not taken all messages, with the number of the message that is refused, or how many were taken.
+fn write_standby_stop<W: fmt::Write>(stop: &StandbyStop, f: &mut fmt::Formatter<W>) -> fmt::Result {
+    match stop {
+        StandbyStop::Message(number, refusal) => {
+            let code = code_of(*refusal);
+            write!(f, "message {number} refused: {code}")
+        }
+        _ => write!(f, "{stop}"),
     }
 }

@@ -1,11 +1,11 @@
-//! The peer that messages go to, and the connection to it.
+//! Who messages go to or come from, and the connection.
 use crate::failure::Failure;
 use pfr_net::Port;
 use std::io;
 use std::io::Write;
-use std::net::{Net, OpenStream, Shutdown, TcpStream};
+use std::net::{Net, OpenListener, OpenStream, Shutdown, TcpListener, TcpStream};
 
-/// Where a peer listens.
+/// Where a peer listens, or this program.
 #[derive(Clone, Copy)]
 pub struct Peer<'a> {
     /// The word that names it, `HOST:PORT`.
@@ -49,4 +49,15 @@ pub fn connected<'a, R: Net>(
         Ok(stream) => Ok(Connection { stream }),
         Err(error) => Err(Failure::of_opening(peer.word, &error)),
     }
+}
+
+/// The first connection to an address of this machine. No other one is taken: the listener is closed then.
+pub fn accepted<'a, R: Net>(rt: &R, address: &Peer<'a>) -> Result<R::Stream, Failure<'a>> {
+    first_connection(rt, address).map_err(|error| Failure::of_opening(address.word, &error))
+}
+
+fn first_connection<R: Net>(rt: &R, address: &Peer<'_>) -> io::Result<R::Stream> {
+    let listener = TcpListener::bind(rt, (address.host, address.port.0))?;
+    let (stream, _from) = listener.accept()?;
+    Ok(stream)
 }

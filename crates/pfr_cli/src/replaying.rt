@@ -3,6 +3,7 @@ use crate::destination::Destination;
 use crate::failure::{CUT, DONE, Failure};
 use crate::files::{created, opened, ruleset_text};
 use crate::peer::{Connection, connected};
+use crate::same_file::repeated_output;
 use crate::words::{Messages, OutputNames, RunWords};
 use pfr_capture::{ReaderSource, Tail, WriterSink};
 use pfr_out::{Form, Gate, Report, RunSettings, Sinks, replay_job};
@@ -33,6 +34,9 @@ pub fn replay<'a, R: Files + Net + AllocGlobal + Threads + Wait + Sync, O: Write
     asked: &RunWords<'a>,
     out: &mut O,
 ) -> Result<u8, Failure<'a>> {
+    if let Some(name) = repeated_output(rt, asked)? {
+        return Err(Failure::SameFile(name));
+    }
     // A fault of the ruleset is reported before any other file is touched.
     let job = job_of(rt, asked)?;
     let mut source = ReaderSource::new(opened(rt, asked.capture)?);

@@ -2,6 +2,7 @@
 use crate::failure::{DONE, Failure, report};
 use crate::files::ruleset_text;
 use crate::replaying::replay;
+use crate::standby::stand_by;
 use crate::summary::Summary;
 use crate::words::{Asked, parse};
 use pfr_ruleset::Interface;
@@ -34,6 +35,7 @@ fn work<'a, R: Files + Net + AllocGlobal + Threads + Wait + Sync, O: Write>(
         Asked::Text(text) => print(out, text.as_bytes()),
         Asked::Check { rules, interface } => check(rt, rules, &interface, out),
         Asked::Run(asked) => replay(rt, &asked, out),
+        Asked::Standby(stream) => stand_by(rt, &stream, out),
     }
 }
 

@@ -134,13 +134,13 @@ pub fn workers<'a>(word: &'a str) -> Result<u64, Failure<'a>>
     }
 }
 
-/// The peer that a word names.
-pub fn peer<'a>(word: &'a str) -> Result<Peer<'a>, Failure<'a>>
+/// The host and the port that the word behind a flag names.
+pub fn peer<'a>(flag: &'a str, word: &'a str) -> Result<Peer<'a>, Failure<'a>>
     ensures named { IfOk result (λ peer. (peer.word.now ≡ word.now) × Names word.now peer.host.now peer.port.0) }
     ensures refused { OnErr result (NamesNone word.now) }
 {
     peer_of(word).ok_or(Failure::BadValue {
-        flag: "--peer",
+        flag,
         form: PEER,
         word,
     })

@@ -23,8 +23,19 @@ pub enum Asked<'a> {
         rules: &'a str,
         interface: Interface,
     },
+    /// To print what a standby holds after the messages that stand here.
+    Standby(Stream<'a>),
     /// To print this text and no more.
     Text(String),
+}
+
+/// Where the messages stand that a standby takes.
+#[derive(Clone, Copy)]
+pub enum Stream<'a> {
+    /// In the file of this name.
+    File(&'a str),
+    /// In what the first one sends who connects to this address.
+    Listen(Peer<'a>),
 }
 
 /// What the words behind `run` say: which capture is replayed through which ruleset, and how.
@@ -89,8 +100,11 @@ pub fn parse<'a>(alloc: Global, words: &'a [String]) -> Result<Asked<'a>, Failur
     if let Some(matches) = matches.subcommand_matches("run") {
         return run_words(alloc, matches);
     }
-    match matches.subcommand_matches("check") {
-        Some(matches) => check_words(matches),
+    if let Some(matches) = matches.subcommand_matches("check") {
+        return check_words(matches);
+    }
+    match matches.subcommand_matches("standby") {
+        Some(matches) => standby_words(matches),
         None => Err(Failure::MissingWord("COMMAND")),
     }
 }
@@ -142,7 +156,7 @@ fn given_messages<'a>(matches: &ArgMatches<'a>) -> Result<Messages<'a>, Failure<
         return Ok(Messages::File(name));
     }
     match matches.get_str("peer") {
-        Some(word) => Ok(Messages::Peer(peer(word)?)),
+        Some(word) => Ok(Messages::Peer(peer("--peer", word)?)),
         None => Ok(Messages::Nowhere),
     }
 }
@@ -181,6 +195,17 @@ fn check_words<'a>(matches: &ArgMatches<'a>) -> Result<Asked<'a>, Failure<'a>> {
         rules: given(matches, "RULES")?,
         interface: given_interface(matches)?,
     })
+}
+
+/// What the words behind `standby` ask for. One of the two flags has to be there, and at most one is.
+fn standby_words<'a>(matches: &ArgMatches<'a>) -> Result<Asked<'a>, Failure<'a>> {
+    if let Some(name) = matches.get_str("messages") {
+        return Ok(Asked::Standby(Stream::File(name)));
+    }
+    match matches.get_str("listen") {
+        Some(word) => Ok(Asked::Standby(Stream::Listen(peer("--listen", word)?))),
+        None => Err(Failure::MissingWord("--messages or --listen")),
+    }
 }
 
 /// The interface that the words say.

@@ -5,6 +5,8 @@
 //! numbers of workers and orders of their results. After a run to the end the sinks have grown by exactly what one thread writes
 //! that takes the packets in the order of the capture. If a device fails, they have grown by a beginning of that, which holds at
 //! least the packets that the stop reports as committed.
+//!
+//! [`standby`] reads the messages that a run writes, and writes the states that who reads them holds.
 #![tactic(auto)]
 
 mod channel;
@@ -18,6 +20,7 @@ pub mod sinks;
 mod taking;
 
 pub use pfr_conf::{ConfError, ConfErrorKind};
+pub use pfr_stream::{Framing, StandbyStop, standby};
 pub use pfr_work::Gate;
 pub use report::{Output, Report, Stop};
 pub use run::{replay, replay_job};

@@ -1,0 +1,16 @@
+-- The files that a run writes.
+use Rattle.std.specs.Prelude.{ℕ, List, [], ◌∷◌, ◌++◌}
+use Rattle.std.specs.Borrow.{Bor}
+use Rattle.pfr_cli.specs.declared.words.OutputNames.{OutputNames}
+use Rattle.pfr_cli.specs.declared.words.Messages.{Messages}
+use Rattle.pfr_cli.specs.declared.words.Messages.TheVariants.{File, Peer, Nowhere}
+
+-- the name of the file of messages, if they go into one
+abbrev pub messages_names : Messages → List (Bor (List ℕ))
+messages_names (File name) = name ∷ []
+messages_names (Peer peer) = []
+messages_names Nowhere = []
+
+-- the names of the files of a run's outputs, in the order in which they are made
+abbrev pub file_names : OutputNames → List (Bor (List ℕ))
+file_names outputs = (outputs.verdicts ∷ outputs.packets ∷ outputs.counters ∷ outputs.states ∷ []) ++ messages_names outputs.messages

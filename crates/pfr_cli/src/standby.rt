@@ -1,0 +1,43 @@
+//! What `pfreplay standby` does.
+use crate::failure::{DONE, Failure};
+use crate::files::opened;
+use crate::peer::accepted;
+use crate::words::Stream;
+use pfr_capture::{ReaderSource, Source, WriterSink};
+use pfr_out::{Framing, standby};
+use std::alloc::Global;
+use std::io::Write;
+use std::net::Net;
+use std::rt::Files;
+
+/// Takes the messages of a run, prints the states that a standby holds then, and answers the status.
+pub fn stand_by<'a, R: Files + Net + AllocGlobal, O: Write>(
+    rt: &R,
+    stream: &Stream<'a>,
+    out: &mut O,
+) -> Result<u8, Failure<'a>> {
+    match stream {
+        Stream::File(name) => {
+            let mut source = ReaderSource::new(opened(rt, name)?);
+            print_states(rt.alloc(), &mut source, Framing::File, out)
+        }
+        Stream::Listen(address) => {
+            let mut source = ReaderSource::new(accepted(rt, address)?);
+            print_states(rt.alloc(), &mut source, Framing::Bare, out)
+        }
+    }
+}
+
+/// Prints the states that a standby holds after the messages of a source.
+fn print_states<'a, S: Source, O: Write>(
+    alloc: Global,
+    source: &mut S,
+    framing: Framing,
+    out: &mut O,
+) -> Result<u8, Failure<'a>> {
+    let mut sink = WriterSink::new(out);
+    match standby(alloc, source, framing, &mut sink) {
+        Ok(_taken) => Ok(DONE),
+        Err(stop) => Err(Failure::StandbyStopped(stop)),
+    }
+}
