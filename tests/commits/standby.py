@@ -2,8 +2,7 @@
 
 from typing import NamedTuple
 
-from messages.check import messages_in
-from messages.reading import Refusal, read
+from messages.reading import stream_of
 from messages.spelling import in_file
 
 WORDS = ("messages", "message")
@@ -14,8 +13,8 @@ def messages_of(line):
     word, _, digits = line.partition(" ")
     if word not in WORDS:
         return None
-    found = messages_in(bytes.fromhex(digits.replace("-", "")), read)
-    return [] if isinstance(found, Refusal) else found
+    stream = stream_of(bytes.fromhex(digits.replace("-", "")))
+    return [] if stream.refusal else stream.messages
 
 
 def with_sizes(lines):

@@ -27,10 +27,11 @@ from messages import answers, cut, happenings, queue, random_events, random_mess
 from messages.cut import Origin
 from messages.events import REMOVED, packet_of
 from messages.message import DIRECTIONS, INS, IP_HEADER, size
-from messages.reading import Refusal, read, read_in_file
+from messages.reading import Refusal, read, read_in_file, stream_of
 from messages.run import told
 from messages.samples import VECTOR, five_messages
 from messages.spelling import bare, in_file, ip_header
+from standby.model import Kept, Standby
 
 SEED = 20261129
 LEAST = 100
@@ -73,18 +74,6 @@ def read_again(message, address):
         yield f"it is read from a file as {read_in_file(filed)}: {filed.hex()}"
 
 
-def messages_in(stream, by):
-    """The messages of which a stream is made, or what it is refused by."""
-    found = []
-    while stream:
-        answer = by(stream)
-        if isinstance(answer, Refusal):
-            return answer
-        found.append(answer[0])
-        stream = stream[answer[1]:]
-    return found
-
-
 def spelled_again(text):
     """What is wrong where the text is read as a message, and spelled otherwise."""
     answer = read(text)
@@ -98,23 +87,16 @@ def spelled_again(text):
 
 def held_by(messages):
     """What a standby holds that takes these messages."""
-    held = {}
+    standby = Standby()
     for message in messages:
-        for record in message.inserts:
-            assert record.number not in held, f"state {record.number} is told anew"
-            held[record.number] = (record.protocol, record.direction, record.wire, record.stack, record.rule,
-                                   record.maker, record.other, record.timeout)
-        for record in message.updates:
-            held[record.number] = (*held[record.number][:5], record.maker, record.other, record.timeout)
-        for record in message.deletes:
-            del held[record.number]
-    return held
+        assert standby.take(message), f"a standby that holds {sorted(standby.states)} refuses {message.text()}"
+    return standby.states
 
 
 def to_hold(states):
     """What it should hold."""
-    return {state.number: (state.protocol, DIRECTIONS[state.direction], state.wire, state.stack, state.rule,
-                           state.maker, state.other, state.timeout) for state in states if state.is_told}
+    return {state.number: Kept(state.protocol, DIRECTIONS[state.direction], state.wire, state.stack, state.rule,
+                               state.maker, state.other, state.timeout) for state in states if state.is_told}
 
 
 # Lists of events
@@ -187,8 +169,8 @@ def row_faults(row):
     filed = [in_file(message, address) for message in messages]
     found = [("by the cut", row.sizes, [message.size() for message in messages]),
              ("by the queue", messages, list(chain.from_iterable(closed))),
-             ("from the file", messages, messages_in(b"".join(filed), read_in_file)),
-             ("bare", messages, messages_in(b"".join(map(bare, messages)), read)),
+             ("from the file", (messages, None), stream_of(b"".join(filed), read_in_file)),
+             ("bare", (messages, None), stream_of(b"".join(map(bare, messages)))),
              ("last", list(row.last), [message.numbers() for message in messages][len(messages) - len(row.last):])]
     for place, offset, digits in row.bytes:
         octets = bytes.fromhex(digits)

@@ -87,9 +87,13 @@ def size(counts):
     return IP_HEADER + HEADER + kinds + SUBHEADER
 
 
+def key_text(key):
+    return ",".join(f"{dotted(address)}:{port}" for address, port in key)
+
+
 def value_text(name, value):
     if name in ("wire", "stack"):
-        return ",".join(f"{dotted(address)}:{port}" for address, port in value)
+        return key_text(value)
     if name == "interface":
         return value.hex() or "-"
     if isinstance(value, Peer):

@@ -24,6 +24,8 @@ What stands behind the message isn't read. In a file there is an IP header befor
 3. The total length isn't that of the message and 20: `length`.
 
 Offsets of `fixed` count from the message's own header, also in a file.
+
+A stream is a row of messages. What isn't one is refused in the same way.
 """
 
 from typing import NamedTuple
@@ -235,3 +237,25 @@ def read_in_file(octets):
     except Refused as why:
         return why.refusal
     return message, IP_BYTES + length
+
+
+# Streams
+
+class Stream(NamedTuple):
+    """The whole messages at the front of a stream, and why the bytes behind them are refused, None if none are left."""
+    messages: list
+    refusal: Refusal | None
+
+
+def stream_of(octets, by=read):
+    """The messages of which a stream is made, by what reads one of its form."""
+    messages, place = [], 0
+    while place < len(octets):
+        # no message has more bytes
+        answer = by(octets[place:place + IP_BYTES + MOST])
+        if isinstance(answer, Refusal):
+            return Stream(messages, answer)
+        message, length = answer
+        messages.append(message)
+        place += length
+    return Stream(messages, None)

@@ -8,7 +8,7 @@ import captures.cases
 import captures.frame_cases
 import steps.cases
 from runs import (cases, devices, filter_cases, filter_rows, lines, message_cases, message_rows, model, random_cases,
-                  rows)
+                  rows, same_files)
 from runs.case import EXAMPLES, INSIDE, PACKETS, Case, capture_of
 from runs.comparison import a_line
 from runs.model import FILE, NONE, OUTPUTS, PEER, Outcome
@@ -65,6 +65,7 @@ def compare(comparison):
     good_lines(comparison)
     bad_lines(comparison)
     devices.compare(comparison)
+    same_files.compare(comparison)
     example_captures(comparison)
 
 

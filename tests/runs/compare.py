@@ -35,6 +35,14 @@ def model_alone():
     end(comparison)
 
 
+def alone(compare_some):
+    """Runs the cases of one function by themselves, such as those of same_files.compare."""
+    with tempfile.TemporaryDirectory() as folder:
+        comparison = Comparison(building.pfreplay(), Path(folder))
+        compare_some(comparison)
+    end(comparison)
+
+
 def messages_apart(program):
     """How many runs there are of which much is to be told, and what went wrong in them."""
     with tempfile.TemporaryDirectory() as folder:

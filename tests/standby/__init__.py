@@ -1,0 +1,1 @@
+"""The program's command `standby`: what a standby holds that takes messages."""
