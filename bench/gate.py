@@ -4,7 +4,7 @@
     bench/gate.py [COMMAND WORDS..]
 
 The command runs at the top of the repository, and its output goes on as it comes. Behind it stands a table for
-docs/ARCHITECTURE.md: for each crate the processor minutes of its proofs, of its unit tests' proofs and of its must-fail
+docs/GATE.md: for each crate the processor minutes of its proofs, of its unit tests' proofs and of its must-fail
 edits, and how many edits it has; and the minutes by the clock. The prover's processes are looked at in short turns, so what
 one of them does behind its last look isn't counted. Those of other sessions of the machine (`setsid`) aren't either.
 """
