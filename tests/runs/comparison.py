@@ -28,7 +28,8 @@ class Comparison:
         self.count = 0
         self.wrong = []
 
-    def execute(self, words, out=subprocess.PIPE, peer=None, err=subprocess.PIPE, before=None, home=None, variables=None):
+    def execute(self, words, out=subprocess.PIPE, peer=None, err=subprocess.PIPE, before=None, home=None,
+                variables=None):
         """One run of the program, with the peer to which it may send, what its process does before, and its folder and
         environment if they aren't those of this process; None if it takes too long."""
         with subprocess.Popen([self.program, *map(str, words)], stdin=subprocess.DEVNULL, stdout=out, stderr=err,

@@ -1,5 +1,6 @@
-"""Runs of the program one of whose outputs is its capture, its ruleset or another output, by whatever name. Each of them
-is refused, and leaves every file as it was. Runs stand beside them whose files only look alike."""
+"""Runs of the program of which an output is the capture, the ruleset or another output, by whatever name. Each of them
+is refused and leaves every file as it was. Beside them stand runs whose files only look alike, which are not refused.
+"""
 
 import itertools
 import os
@@ -78,8 +79,8 @@ def expect_refused(comparison, title, refused, names, more=(), **how):
 def expect_whole(comparison, title, names, lost=(), out=b"", **how):
     """A run that goes to its end, but for what becomes of some outputs; it prints something first."""
     whole = model.run(CASE)
-    seen = execute(comparison, names, **how)
-    comparison.expect(title, whole._replace(files=whole.files._replace(**dict.fromkeys(lost)), out=out + whole.out), seen)
+    files = whole.files._replace(**dict.fromkeys(lost))
+    comparison.expect(title, whole._replace(files=files, out=out + whole.out), execute(comparison, names, **how))
 
 
 # Names
@@ -170,7 +171,7 @@ def pairs(comparison):
 
 
 def pairs_without_inodes(comparison):
-    """The same for a few pairs on a system that tells no inodes. There hard links can't be told."""
+    """The same for a few pairs on a system that tells no inodes. There a hard link is another file."""
     library = comparison.folder / "no_inodes.so"
     code = Path(__file__).with_name("no_inodes.c")
     subprocess.run(["cc", "-shared", "-fPIC", "-o", library, code, "-ldl"], check=True)
@@ -183,6 +184,11 @@ def pairs_without_inodes(comparison):
     expect_whole(comparison, "files that are not one, without inodes", {}, variables=preloaded)
     begin(comparison)
     expect_whole(comparison, "files that are not one and new, without inodes", {}, variables=preloaded)
+    begin(comparison)
+    name = by_hard_link(comparison.folder, "capture")
+    comparison.expect("a capture and its hard link, without inodes",
+                      model.refused("capture: header cut", model.EMPTY._replace(packets=None)),
+                      execute(comparison, {"packets": name}, variables=preloaded))
 
 
 def all_at_once(comparison):
@@ -297,8 +303,8 @@ def standard_output(comparison):
 
 
 def unlike(comparison):
-    """Files that only look alike: names of one beginning, one name in two folders, one text in two files, and the end of
-    a link that leads to no file yet."""
+    """Files that only look alike: names of one beginning, one name in two folders, one text in two files, and the end
+    of a link that leads to no file yet."""
     whole = model.run(CASE)
     for is_old in (False, True):
         side = begin(comparison, is_old)
@@ -334,7 +340,7 @@ def unseen(comparison):
                          "missing")
     for title, name in (("a folder that isn't there", "missing/new"), ("a folder", SIDE), ("no name", ""),
                         ("a way through a file", "rules/new"), ("a name too long", "n" * 256),
-                        ("a folder's name with a new file's", f"{SIDE}/new/"), ("a dot behind a new file", f"{SIDE}/new/.")):
+                        ("a new folder", f"{SIDE}/new/"), ("a dot in a new folder", f"{SIDE}/new/.")):
         begin(comparison)
         expect_untouched(comparison, f"{title} twice", {"verdicts": name, "states": name}, name)
     side = begin(comparison)

@@ -1,7 +1,7 @@
 //! Runs over devices in memory that fail, at each place in turn.
 ghost use Rattle.std.specs.Prelude.{◌≤◌};
 
-use crate::given::{capture, replay_in_memory, sinks};
+use crate::given::{capture, replay_into, sinks};
 use crate::turns::{Freely, Turns};
 use pfr_capture::{Mem, Tail};
 use pfr_out::{Form, Output, Report, Sinks, Stop};
@@ -118,7 +118,7 @@ fn run<R: AllocGlobal + Threads + Wait + Clock + Sync>(
         .at_most(28)
         .failing_after(faults.reads);
     let mut outputs = failing(alloc, faults);
-    let end = replay_in_memory(
+    let end = replay_into(
         rt,
         &mut source,
         b"pass out\n",
@@ -283,7 +283,7 @@ fn read_part<R: AllocGlobal + Threads + Wait + Clock + Sync>(
     let alloc = rt.alloc();
     let mut source = capture(alloc, 4500, 0)?.failing_after(reads);
     let mut outputs = sinks(alloc, Mem::new(Vec::new(alloc)));
-    let end = replay_in_memory(
+    let end = replay_into(
         rt,
         &mut source,
         b"pass out\n",

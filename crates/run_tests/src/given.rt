@@ -3,7 +3,7 @@ ghost use Rattle.std.specs.Prelude.{◌≤◌, IfOk};
 ghost use Rattle.pfr_commit.specs.Books.{StandsAt, job_of};
 ghost use Rattle.pfr_commit.specs.World.{opening};
 
-use pfr_capture::{Mem, Record, Source};
+use pfr_capture::{Mem, Record, Sink, Source};
 use pfr_commit::Book;
 use pfr_net::{IfName, Ipv4Address, Net};
 use pfr_out::{Form, Gate, Report, Settings, Sinks, Stop, replay};
@@ -20,7 +20,7 @@ static INSIDE: [Net; 1] = [Net {
 }];
 
 /// The header of a capture of raw IP packets.
-const HEADER: [u8; 24] = [
+pub(crate) const HEADER: [u8; 24] = [
     0xd4, 0xc3, 0xb2, 0xa1, 2, 0, 4, 0, 0, 0, 0, 0, 0, 0, 0, 0, 0, 0, 4, 0, 101, 0, 0, 0,
 ];
 
@@ -100,14 +100,14 @@ pub(crate) fn sinks(alloc: Global, verdicts: Mem) -> Sinks<Mem> {
 }
 
 /// Replays a capture by these rules, `batch` packets at a time and with `workers` workers.
-pub(crate) fn replay_in_memory<R: AllocGlobal + Threads + Wait + Sync, S: Source, G: Gate>(
+pub(crate) fn replay_into<R: AllocGlobal + Threads + Wait + Sync, S: Source, O: Sink, G: Gate>(
     rt: &R,
     source: &mut S,
     rules: &[u8],
     batch: usize,
     workers: u64,
     form: Form,
-    outputs: &mut Sinks<Mem>,
+    outputs: &mut Sinks<O>,
     gate: &G,
 ) -> Result<Report, Stop>
     requires batch { (1 ≤ batch) × (batch ≤ 4096) }

@@ -14,6 +14,8 @@ mod feeds;
 #[cfg(test)]
 mod given;
 #[cfg(test)]
+mod loopback;
+#[cfg(test)]
 mod orders;
 #[cfg(test)]
 mod pace;

@@ -2,7 +2,7 @@
 ghost use Rattle.std.specs.Prelude.{◌≤◌};
 
 use crate::devices::{End, end_of};
-use crate::given::{capture, replay_in_memory, sinks};
+use crate::given::{capture, replay_into, sinks};
 use crate::told::rules;
 use crate::turns::{Freely, Turns};
 use pfr_capture::{Fault, Mem, Source};
@@ -50,7 +50,7 @@ fn reads_ahead(rt: HostRuntime) -> Result<(), Fail> {
         reads: 0,
     };
     let mut outputs = sinks(alloc, Mem::new(Vec::new(alloc)).failing_after(0));
-    let end = replay_in_memory(
+    let end = replay_into(
         &rt,
         &mut source,
         b"pass out\n",
@@ -84,7 +84,7 @@ fn makes_all_reads<R: AllocGlobal + Threads + Wait + Clock + Sync>(
     let alloc = rt.alloc();
     let verdicts = Mem::new(Vec::new(alloc)).failing_after(writes);
     let mut outputs = sinks(alloc, verdicts);
-    let end = replay_in_memory(
+    let end = replay_into(
         rt,
         &mut source,
         text,

@@ -1,7 +1,7 @@
 //! Runs over devices in memory, one of which fails.
 ghost use Rattle.std.specs.Prelude.{◌≤◌};
 
-use crate::given::{capture, replay_in_memory, sinks};
+use crate::given::{capture, replay_into, sinks};
 use pfr_capture::{Mem, Tail};
 use pfr_out::{Form, Gate, Output, Report, Sinks, Stop};
 use std::alloc::{AllocError, AllocGlobal};
@@ -69,7 +69,7 @@ fn run<R: AllocGlobal + Threads + Wait + Sync>(
     let mut source = capture(alloc, 5, 0)?.at_most(28).failing_after(reads);
     let verdicts = Mem::new(Vec::new(alloc)).failing_after(writes);
     let mut outputs = sinks(alloc, verdicts);
-    let end = replay_in_memory(
+    let end = replay_into(
         rt,
         &mut source,
         b"pass out\n",

@@ -1,7 +1,7 @@
 //! Which packets of a run workers evaluate, and which the committer does.
 ghost use Rattle.std.specs.Prelude.{◌≤◌};
 
-use crate::given::{capture, replay_in_memory, sinks};
+use crate::given::{capture, replay_into, sinks};
 use crate::turns::{Freely, Turns};
 use pfr_capture::Mem;
 use pfr_out::{Form, Gate};
@@ -38,7 +38,7 @@ fn told_by<R: AllocGlobal + Threads + Wait + Clock + Sync>(
     let mut source = capture(alloc, packets, packets)?;
     let mut outputs = sinks(alloc, Mem::new(Vec::new(alloc)));
     let turns = Turns::by(rt, Freely);
-    let end = replay_in_memory(
+    let end = replay_into(
         rt,
         &mut source,
         text.as_slice(),
@@ -201,7 +201,7 @@ fn most_at_once<R: AllocGlobal + Threads + Wait + Clock + Sync>(
         now: AtomicU64::new(0),
         most: AtomicU64::new(0),
     };
-    let end = replay_in_memory(
+    let end = replay_into(
         rt,
         &mut source,
         text,
