@@ -31,6 +31,8 @@ TEXTS = (
     ("write failed", 3, rb"write failed, after " + COUNT),
     ("no memory", 4, rb"no memory, after " + COUNT),
 )
+# if memory is refused while the words are read: which command they ask for isn't known then
+NO_WORDS = b"pfreplay: no memory, committed 0\n"
 
 
 def places(command):
@@ -70,6 +72,8 @@ def ending_of(trial, seen):
     """The ending that status and standard error tell, once standard output and the number of messages agree with it."""
     if seen == trial.clean:
         return "whole"
+    if seen == Seen(4, b"", NO_WORDS):
+        return "no memory"
     for ending, status, text in TEXTS:
         found = re.fullmatch(rb"pfreplay: " + text + rb"\n", seen.err)
         if found and seen.status == status:

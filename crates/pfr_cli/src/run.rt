@@ -5,6 +5,7 @@ use crate::replaying::replay;
 use crate::standby::stand_by;
 use crate::summary::Summary;
 use crate::words::{Asked, parse};
+use pfr_out::{StandbyStop, Stop};
 use pfr_ruleset::Interface;
 use std::io::Write;
 use std::net::Net;
@@ -22,7 +23,18 @@ pub fn run<R: Files + Net + AllocGlobal + Threads + Wait + Sync, O: Write, E: Wr
 ) -> u8 {
     match work(rt, words, out) {
         Ok(status) => status,
+        Err(Failure::Stopped(Stop::Memory(_))) if ask_for_standby(words) => {
+            report(&Failure::StandbyStopped(StandbyStop::Memory(0)), err)
+        }
         Err(failure) => report(&failure, err),
+    }
+}
+
+/// Whether the words, the program's name first, ask for the command `standby`: it counts messages and no packets.
+fn ask_for_standby(words: &[String]) -> bool {
+    match words.get(1) {
+        Some(word) => word.as_str() == "standby",
+        None => false,
     }
 }
 
