@@ -7,7 +7,7 @@ output and standard error are written.
 import re
 
 from faults.replay import ERROR, MEMORY, TRANSFER, judge_lost
-from faults.trial import Target, Unlawful
+from faults.trial import Target, Unlawful, lawful
 
 RULES = Target("read", "", TRANSFER)
 ANSWER = Target("write", "1", TRANSFER)
@@ -40,10 +40,7 @@ def judge(trial, fault, counts, seen):
         return judge_shorter(trial, counts, seen)
     if fault.target == ERROR and fault.deed != "cut":
         return judge_lost(trial.clean, seen)
-    ending = ending_of(trial, seen)
-    if ending not in LAWFUL.get((fault.target, fault.deed), {"whole"}):
-        raise Unlawful(f"'{ending}' isn't lawful after this fault")
-    return ending
+    return lawful(ending_of(trial, seen), fault, LAWFUL)
 
 
 def ending_of(trial, seen):

@@ -12,7 +12,7 @@ from pathlib import Path
 from typing import NamedTuple
 
 from captures.model import Refused
-from faults.trial import PEER, Seen, Target, Unlawful
+from faults.trial import PEER, Seen, Target, Unlawful, lawful
 from runs import model
 from runs.case import NO_SEED, Case
 from runs.model import Files
@@ -252,8 +252,7 @@ def judge_by(check_outputs, trial, fault, counts, seen):
     if fault.target == ERROR and fault.deed != "cut":
         return judge_lost(trial.clean, seen)
     ending, told = told_of(trial, seen)
-    if ending not in LAWFUL.get((fault.target, fault.deed), {"whole"}):
-        raise Unlawful(f"'{ending}' isn't lawful after this fault")
+    lawful(ending, fault, LAWFUL)
     check_ending(check_outputs, trial, ending, told, counts, seen)
     return ending
 

@@ -8,7 +8,7 @@ import re
 from pathlib import Path
 
 from faults.replay import ANSWER, ERROR, MEMORY, TRANSFER, judge_lost
-from faults.trial import Seen, Target, Unlawful
+from faults.trial import Seen, Target, Unlawful, lawful
 from runs.model import FILE
 from standby import model
 
@@ -46,10 +46,7 @@ def judge(trial, fault, counts, seen):
         return judge_read(trial, fault, counts, seen)
     if fault.target == ERROR and fault.deed != "cut":
         return judge_lost(trial.clean, seen)
-    ending = ending_of(trial, seen)
-    if ending not in LAWFUL.get((fault.target, fault.deed), {"whole"}):
-        raise Unlawful(f"'{ending}' isn't lawful after this fault")
-    return ending
+    return lawful(ending_of(trial, seen), fault, LAWFUL)
 
 
 def octets_of(trial):

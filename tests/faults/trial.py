@@ -80,6 +80,14 @@ class Unlawful(Exception):
     """A run ended in a way that its judge doesn't allow."""
 
 
+def lawful(ending, fault, endings):
+    """The ending, if it is one that `endings` allows after the fault's deed at its target. Where they say nothing of these, the run has to
+    end as without a fault."""
+    if ending not in endings.get((fault.target, fault.deed), {"whole"}):
+        raise Unlawful(f"'{ending}' isn't lawful after this fault")
+    return ending
+
+
 def ended(run, peer):
     """The status of a command that runs, None where it takes too long, and what its peer got, if it has one."""
     taken = None

@@ -309,7 +309,7 @@ def rows():
 
 
 def many_states(count):
-    """A row of so many states that their lines don't go through a pipe at once, six in a message."""
+    """A row of `count` states, six in a message: more than a pipe takes the lines of at once."""
     numbers = range(1, count + 1)
     texts = [made(numbers[place:place + 6]) for place in range(0, count, 6)]
     return row(f"{count} states", texts, *map(inserted, numbers))

@@ -1,5 +1,5 @@
 -- The lines of the outputs.
-use Rattle.std.specs.Prelude.{ℕ, List, [], ◌∷◌, ◌++◌, Option, Some, None, codes}
+use Rattle.std.specs.Prelude.{ℕ, List, [], ◌∷◌, ◌++◌, Some, codes}
 use Rattle.std.specs.Fmt.{decimal}
 use Rattle.pfr_track.specs.declared.datagram.DatagramPeer.{DatagramPeer}
 use Rattle.pfr_track.specs.declared.peers.Peers.{Peers}
@@ -11,7 +11,7 @@ use Rattle.pfr_track.specs.Datagrams as datagram
 use Rattle.pfr_track.specs.Tcp as tcp
 use Rattle.pfr_packet.specs.declared.outcome.Outcome.{Outcome}
 use Rattle.pfr_packet.specs.Verdicts.{reason_text, verdict_text}
-use Rattle.pfr_texts.specs.Texts.{direction_text, key_text, rule_text, state_text, traffic_text}
+use Rattle.pfr_texts.specs.Texts.{direction_text, key_text, peer_text, rule_text, state_text, traffic_text}
 
 -- " r=R t=T s=S", and the rest of a line
 abbrev pub named_before : Outcome → List ℕ → List ℕ
@@ -30,16 +30,9 @@ verdict_line number clock outcome =
 
 -- ---- states
 
-abbrev pub offer_text : Option ℕ → List ℕ
-offer_text (Some shift) = decimal shift
-offer_text None = codes "-"
-
--- what was seen of an end of a TCP connection: its code, the sequence number after what it has sent, the one after what it may send, its
--- greatest window, the shift that it offered
-unfoldable pub tcp_end_text : TcpPeer → List ℕ
-tcp_end_text end =
-    decimal (tcp.code_of end.state) ++ (codes "/" ++ (decimal end.low.0 ++ (codes "/" ++ (decimal end.high.0 ++ (codes "/"
-    ++ (decimal end.greatest_window ++ (codes "/" ++ offer_text end.scale)))))))
+-- what was seen of an end of a TCP connection
+abbrev pub tcp_end_text : TcpPeer → List ℕ
+tcp_end_text end = peer_text (tcp.code_of end.state) end.low.0 end.high.0 end.greatest_window end.scale
 
 unfoldable pub datagram_end_text : DatagramPeer → List ℕ
 datagram_end_text end = decimal (datagram.code_of end) ++ codes "/0/0/0/-"

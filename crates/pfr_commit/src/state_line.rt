@@ -3,7 +3,7 @@ ghost use Rattle.std.specs.Prelude.{◌≡◌, ◌+◌, ◌≤◌, ◌++◌, len
 ghost use Rattle.pfr_commit.specs.Lines as spec;
 
 use pfr_digits::Tail;
-use pfr_texts::{put_byte, put_direction, put_key, put_rule, put_traffic};
+use pfr_texts::{put_byte, put_direction, put_key, put_peer, put_rule, put_traffic};
 use pfr_track::{DatagramPeer, Peers, State, TcpPeer};
 use std::alloc::AllocError;
 
@@ -13,34 +13,21 @@ pub struct StateLine<'a> {
     pub state: &'a State,
 }
 
-/// Puts the shift of an end's windows before the rest of a line: `-` if it offered none.
-fn put_offer(line: &mut Tail, offer: Option<u8>)
-    requires room { length line.old + 20 ≤ 128 }
-    ensures text { line.new ≡ spec.offer_text offer ++ line.old }
-    ensures long { length line.new ≤ length line.old + 3 }
-{
-    match offer {
-        Some(shift) => put_byte(line, shift),
-        None => line.put_word(b"-"),
-    }
-}
-
 /// Puts one end of a TCP connection before the rest of a line: `code/low/high/window/offer`.
-#[tactic(auto, unfolding(crate::specs::Lines::tcp_end_text))]
 fn put_tcp_end(line: &mut Tail, end: TcpPeer)
     requires room { length line.old + 52 ≤ 128 }
     ensures text { line.new ≡ spec.tcp_end_text end ++ line.old }
     ensures long { length line.new ≤ length line.old + 35 }
 {
-    put_offer(line, end.scale);
-    line.put_word(b"/");
-    line.put_number(u64::from(end.greatest_window));
-    line.put_word(b"/");
-    line.put_number(u64::from(end.high.0));
-    line.put_word(b"/");
-    line.put_number(u64::from(end.low.0));
-    line.put_word(b"/");
-    put_byte(line, end.state.code());
+    let code = end.state.code();
+    put_peer(
+        line,
+        code,
+        end.low.0,
+        end.high.0,
+        end.greatest_window,
+        end.scale,
+    );
 }
 
 /// Puts one end of another connection before the rest of a line: `code/0/0/0/-`.

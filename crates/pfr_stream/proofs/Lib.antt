@@ -4,3 +4,4 @@ pub mod Framed
 pub mod OnlyLemmas
 pub mod RowLemmas
 pub mod Takings
+pub mod WritingLemmas

@@ -12,9 +12,9 @@ use Rattle.pfr_messages.specs.Records.{deletion_at}
 use Rattle.pfr_messages.specs.declared.error.SyncError.TheVariants as refusals
 use Rattle.pfr_messages.specs.declared.records.Peer.{Peer}
 use Rattle.pfr_standby.specs.declared.kept.Kept.{Kept}
-use Rattle.pfr_texts.specs.Texts.{address_text, end_text, key_text}
+use Rattle.pfr_texts.specs.Texts.{address_text, end_text, key_text, peer_text}
 use Rattle.pfr_stream.specs.declared.framing.Framing.TheVariants.{File, Bare}
-use Rattle.pfr_stream.specs.Lines.{line, peer_text}
+use Rattle.pfr_stream.specs.Lines.{line}
 use Rattle.pfr_stream.specs.Stream.{framed_at, header_refusal, taken_at}
 
 -- ---- the message that state 1 of creator 1 is gone, alone and behind a header

@@ -3,3 +3,4 @@ pub mod Lines
 pub mod Outcomes
 pub mod Reading
 pub mod Stream
+pub mod Writing

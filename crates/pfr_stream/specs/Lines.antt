@@ -1,5 +1,5 @@
 -- The lines of the states that a standby holds.
-use Rattle.std.specs.Prelude.{ℕ, List, [], ◌∷◌, ◌++◌, Option, Some, None, codes}
+use Rattle.std.specs.Prelude.{ℕ, List, [], ◌∷◌, ◌++◌, Some, codes}
 use Rattle.std.specs.Fmt.{decimal}
 use Rattle.std.specs.List.{flat_map}
 use Rattle.pfr_messages.specs.declared.records.Parties.{Parties}
@@ -8,20 +8,12 @@ use Rattle.pfr_net.specs.declared.protocol.Protocol.{Protocol}
 use Rattle.pfr_net.specs.Timeouts.{code_of}
 use Rattle.pfr_standby.specs.declared.kept.Kept.{Kept}
 use Rattle.pfr_standby.specs.Standby.{Standing}
-use Rattle.pfr_texts.specs.Texts.{direction_text, key_text, rule_text}
+use Rattle.pfr_texts.specs.Texts.{direction_text, key_text, peer_text, rule_text}
 use Rattle.pfr_track.specs.declared.key.Key.{Key}
 
--- the shift of an end's windows that it offered
-abbrev pub offer_text : Option ℕ → List ℕ
-offer_text (Some shift) = decimal shift
-offer_text None = codes "-"
-
--- what was seen of an end of a connection: its code, the sequence number after what it has sent, the one after what it may send, its
--- greatest window, the shift that it offered
-unfoldable pub peer_text : Peer → List ℕ
-peer_text peer =
-    decimal peer.code ++ (codes "/" ++ (decimal peer.low.0 ++ (codes "/" ++ (decimal peer.high.0 ++ (codes "/"
-    ++ (decimal peer.greatest_window ++ (codes "/" ++ offer_text peer.scale)))))))
+-- what was seen of an end of a connection
+abbrev pub held_end_text : Peer → List ℕ
+held_end_text peer = peer_text peer.code peer.low.0 peer.high.0 peer.greatest_window peer.scale
 
 -- the parties of a protocol as a key
 abbrev pub key_of : Protocol → Parties → Key
@@ -36,7 +28,7 @@ keys_part number kept =
 -- " r=R PEER PEER TIMEOUT", and a newline; the maker's end first
 abbrev pub ends_part : Kept → List ℕ
 ends_part kept =
-    codes " r=" ++ (rule_text kept.rule ++ (codes " " ++ (peer_text kept.maker ++ (codes " " ++ (peer_text kept.other
+    codes " r=" ++ (rule_text kept.rule ++ (codes " " ++ (held_end_text kept.maker ++ (codes " " ++ (held_end_text kept.other
     ++ (codes " " ++ (decimal (code_of kept.timeout) ++ 10 ∷ [])))))))
 
 -- N PROTO DIR WIRE STACK r=R PEER PEER TIMEOUT

@@ -124,6 +124,14 @@ abbrev pub Fails : {R S : Type 0} → (failures : R → ℕ) → (failures' : S 
 Fails failures failures' source source' sink sink' (Ok count) = NoneFails (failures source) (failures source') (failures' sink) (failures' sink')
 Fails failures failures' source source' sink sink' (Err s) = StopFails s (failures source) (failures source') (failures' sink) (failures' sink')
 
+-- the lines of some states were written, or a beginning of them if the sink failed
+abbrev pub WritesLines : {S : Type 0} → (told : S → Bool) → (written : S → List ℕ) → (old new : S) → Result ℕ StandbyStop → Type 0
+WritesLines told written old new (Ok count) = (standing : Standing) × Wrote told written old new standing
+WritesLines told written old new (Err (stop.Message number refusal)) = (standing : Standing) × Wrote told written old new standing
+WritesLines told written old new (Err (stop.Read count)) = (standing : Standing) × Wrote told written old new standing
+WritesLines told written old new (Err (stop.Write count)) = (standing : Standing) × WrotePart told written old new standing
+WritesLines told written old new (Err (stop.Memory count)) = new ≡ old
+
 -- want of memory leaves the sink as it was
 abbrev pub LeavesSink : {S : Type 0} → (old new : S) → StandbyStop → Type 0
 LeavesSink old new (stop.Memory count) = new ≡ old

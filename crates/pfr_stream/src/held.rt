@@ -80,8 +80,8 @@ impl Held {
     }
 }
 
-/// A buffer of so many bytes.
-fn room(alloc: Global, count: usize) -> Result<Vec<u8>, AllocError>
+/// A buffer of `count` bytes.
+pub(crate) fn room(alloc: Global, count: usize) -> Result<Vec<u8>, AllocError>
     ensures { IfOk result (λ buffer. length buffer.items ≡ count) }
 {
     let mut buffer = Vec::new(alloc);
@@ -101,7 +101,7 @@ fn move_to_front(buffer: &mut Vec<u8>, start: usize, end: usize)
     buffer.copy_within(start..end, 0);
 }
 
-/// Reads once behind so many bytes, which stay, and answers how many came.
+/// Reads once behind the first `held` bytes, which stay, and answers how many came.
 fn read_behind<R: Source>(buffer: &mut Vec<u8>, held: usize, source: &mut R) -> Result<usize, Fault>
     requires { held < length buffer.old.items }
     ensures told { R.told source.new ≡ R.told source.old }

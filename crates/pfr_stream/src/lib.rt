@@ -5,6 +5,7 @@
 #![tactic(auto)]
 
 pub mod framing;
+mod gathered;
 mod held;
 pub mod laws;
 mod lines;

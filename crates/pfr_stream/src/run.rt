@@ -1,26 +1,27 @@
 //! A run of a standby over a source.
 ghost use Rattle.std.specs.Prelude.{◌≡◌, ◌≤◌, ◌^◌, IfOk, IfErr, OnOk};
-ghost use Rattle.pfr_stream.specs.Outcomes.{Ends, Fails, LeavesSink, Stops, Wrote};
+ghost use Rattle.pfr_stream.specs.Outcomes.{Ends, Fails, LeavesSink, Stops, WritesLines, Wrote};
 ghost use Rattle.pfr_stream.specs.Reading as spec;
 
 use crate::framing::Framing;
-use crate::lines::lines;
+use crate::gathered::Gathered;
+use crate::lines::write_lines;
 use crate::reading::Stream;
 use crate::stop::{Ending, StandbyStop};
-use pfr_capture::{Sink, Source, write_all};
+use pfr_capture::{Sink, Source};
 use std::alloc::Global;
 
-/// Writes the lines of the states that are held, all at once.
+/// Writes the lines of the states that are held.
 fn write_states<S: Sink>(alloc: Global, stream: &Stream, sink: &mut S) -> Result<(), StandbyStop>
     ensures told { S.told sink.new ≡ S.told sink.old }
     ensures wrote { OnOk result (Wrote S.told S.written sink.old sink.new stream.now.standing) }
     ensures ok { OnOk result (S.failures sink.new ≡ S.failures sink.old) }
     ensures stops { IfErr result (spec.StopsWriting S.told S.written S.failures sink.old sink.new stream.now) }
 {
-    let Ok(text) = lines(alloc, stream.holder()) else {
+    let Ok(mut gathered) = Gathered::new(alloc) else {
         return Err(StandbyStop::Memory(stream.count()));
     };
-    match write_all(sink, text.as_slice()) {
+    match write_lines(&mut gathered, stream.holder(), sink) {
         Ok(()) => Ok(()),
         Err(_) => Err(StandbyStop::Write(stream.count())),
     }
@@ -51,6 +52,7 @@ fn run<R: Source, S: Sink>(
     ensures ok { IfOk result (Ends R.told R.unread S.told S.written stream.old.framing source.old sink.old sink.new) }
     ensures stops { IfErr result (Stops R.told R.unread R.failures S.told S.written stream.old.framing source.old source.new sink.old sink.new) }
     ensures failures { Fails R.failures S.failures source.old source.new sink.old sink.new result }
+    ensures lines { WritesLines S.told S.written sink.old sink.new result }
     ensures memory { IfErr result (LeavesSink sink.old sink.new) }
 {
     let Ok(ending) = stream.take_all(alloc, source) else {
@@ -66,9 +68,9 @@ fn run<R: Source, S: Sink>(
 /// Answers how many messages were taken.
 ///
 /// A stop says after how many messages it came. If a message is refused, or if the source fails, the lines are those of the states that
-/// are held before it. All lines are written at once, and none if memory is refused. Messages that stand whole in the bytes that came are
-/// taken before the source is asked again, so that nothing depends on how it hands out its bytes; a source that failed isn't asked again.
-/// Beside the states, a buffer of 4096 bytes and one message are held in memory, and at the end the lines.
+/// are held before it. No line is written before reading has ended, and none if memory is refused. Messages that stand whole in the bytes
+/// that came are taken before the source is asked again, so that nothing depends on how it hands out its bytes; a source that failed isn't
+/// asked again. Beside the states, two buffers of 4096 bytes and one message are held in memory.
 pub fn standby<R: Source, S: Sink>(
     alloc: Global,
     source: &mut R,
@@ -84,6 +86,7 @@ pub fn standby<R: Source, S: Sink>(
 
     // Whatever it tells.
     ensures failures { Fails R.failures S.failures source.old source.new sink.old sink.new result }
+    ensures lines { WritesLines S.told S.written sink.old sink.new result }
     ensures memory { IfErr result (LeavesSink sink.old sink.new) }
 {
     let Ok(mut stream) = Stream::new(alloc, framing) else {

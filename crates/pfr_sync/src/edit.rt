@@ -1,8 +1,7 @@
 //! What an event does to the entries of the open message.
-ghost use Rattle.std.specs.Prelude.{◌≡◌, ◌+◌, ◌≤◌, ◌<◌, ◌++◌, true, take, drop, length, slice_index_or, [], ◌∷◌, OnOk, OnErr, IfNone, IsSome};
+ghost use Rattle.std.specs.Prelude.{◌≡◌, ◌+◌, ◌≤◌, ◌<◌, true, length, slice_index_or, [], ◌∷◌, OnOk, OnErr, IfNone, IsSome};
 ghost use Rattle.pfr_track.specs.declared.state.State.{State as S};
 ghost use Rattle.pfr_track.specs.declared.time.Clock.{Clock as C};
-ghost use Rattle.pfr_sync.specs.declared.event.Event.{Event as E};
 ghost use Rattle.pfr_sync.specs.declared.queue.QueuedState.{QueuedState as N};
 ghost use Rattle.pfr_sync.specs.Edits.{edited};
 ghost use Rattle.pfr_sync.specs.Edits as edits;
@@ -54,7 +53,7 @@ pub struct Edit {
 fn place_of(entries: &Entries, number: StateNumber) -> usize
     requires { spec.rise entries.now ≡ true }
     ensures within { result ≤ length entries.now }
-    ensures entries { (event : E) → event.state.number ≡ number → with_entry event entries.now ≡ take result entries.now ++ with_entry event (drop result entries.now) }
+    ensures entries { edits.IsPlaceOf number result entries.now }
     ensures above { (other : N) → result < length entries.now → number.0 ≤ spec.number_of (slice_index_or entries.now result other) }
 {
     let mut low = 0;

@@ -39,3 +39,14 @@ key_text key = end_text key.outside ++ (codes "," ++ end_text key.inside)
 -- packets and bytes
 unfoldable pub traffic_text : Traffic → List ℕ
 traffic_text traffic = decimal traffic.packets ++ (codes " " ++ decimal traffic.bytes)
+
+-- the shift of an end's windows that it offered
+abbrev pub offer_text : Option ℕ → List ℕ
+offer_text (Some shift) = decimal shift
+offer_text None = codes "-"
+
+-- what was seen of an end of a connection: its code, the sequence number after what it has sent, the one after what it may send, its
+-- greatest window, the shift that it offered
+unfoldable pub peer_text : (code low high window : ℕ) → Option ℕ → List ℕ
+peer_text code low high window offer =
+    decimal code ++ (codes "/" ++ (decimal low ++ (codes "/" ++ (decimal high ++ (codes "/" ++ (decimal window ++ (codes "/" ++ offer_text offer)))))))

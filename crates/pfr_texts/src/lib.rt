@@ -6,4 +6,4 @@
 
 mod texts;
 
-pub use texts::{put_byte, put_direction, put_key, put_rule, put_state, put_traffic};
+pub use texts::{put_byte, put_direction, put_key, put_peer, put_rule, put_state, put_traffic};

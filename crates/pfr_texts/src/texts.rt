@@ -105,3 +105,33 @@ pub fn put_traffic(line: &mut Tail, traffic: Traffic)
     line.put_word(b" ");
     line.put_number(traffic.packets);
 }
+
+/// Puts the shift of an end's windows: `-` if it offered none.
+fn put_offer(line: &mut Tail, offer: Option<u8>)
+    requires room { length line.old + 20 ≤ 128 }
+    ensures text { line.new ≡ spec.offer_text offer ++ line.old }
+    ensures long { length line.new ≤ length line.old + 3 }
+{
+    match offer {
+        Some(shift) => put_byte(line, shift),
+        None => line.put_word(b"-"),
+    }
+}
+
+/// Puts what was seen of one end of a connection: `code/low/high/window/offer`.
+#[tactic(auto, unfolding(crate::specs::Texts::peer_text))]
+pub fn put_peer(line: &mut Tail, code: u8, low: u32, high: u32, window: u16, offer: Option<u8>)
+    requires room { length line.old + 52 ≤ 128 }
+    ensures text { line.new ≡ spec.peer_text code low high window offer ++ line.old }
+    ensures long { length line.new ≤ length line.old + 35 }
+{
+    put_offer(line, offer);
+    line.put_word(b"/");
+    line.put_number(u64::from(window));
+    line.put_word(b"/");
+    line.put_number(u64::from(high));
+    line.put_word(b"/");
+    line.put_number(u64::from(low));
+    line.put_word(b"/");
+    put_byte(line, code);
+}

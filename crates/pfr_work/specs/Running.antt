@@ -1,5 +1,5 @@
 -- A run with workers between two turns: the batches that wait, and the room for what comes back of them.
-use Rattle.std.specs.Prelude.{◌≡◌, ◌+◌, ◌-◌, ◌*◌, ◌^◌, ℕ, cond, length, map, List, Vec}
+use Rattle.std.specs.Prelude.{◌≡◌, ◌+◌, ◌-◌, ◌*◌, ◌^◌, ℕ, [], ◌∷◌, ◌++◌, cond, length, map, List, MatchResult, Result, Vec}
 use Rattle.std.specs.Arc.{arc_value}
 use Rattle.std.specs.declared.alloc.Global.{Global}
 use Rattle.pfr_capture.specs.declared.capture.Record.{Record}
@@ -39,10 +39,18 @@ module _ {J K : Type 0} {o : runs.Ghosts J} {t : tables.Ghosts J} {n : naming.Gh
   abbrev pub workers_in : OpenBatch K (Batch J o t n) (FoundOut J o t n) k → ℕ
   workers_in it = it.workers
 
+  -- the batch that was opened is behind those before, and none is if memory was refused
+  abbrev pub OpensOne : {E : Type 0} → (old new : List claims.Batch) → Result (OpenBatch K (Batch J o t n) (FoundOut J o t n) k) E → Type 0
+  OpensOne old new opened = MatchResult opened (λ it. new ≡ old ++ claims_in it ∷ []) (λ _. new ≡ old)
+
 module _ {J K F : Type 0} {o : runs.Ghosts J} {t : tables.Ghosts J} {n : naming.Ghosts J} {k : naming.Ghosts K} where
   -- with the packets that were taken, those of the batches that wait are at most as many as were given
   abbrev pub FitsIn : (given workers : ℕ) → Run J K F o t n k → Type 0
   FitsIn given workers run = Fits run.waiting.items records_in count_in workers_in run.book.count given workers
+
+  -- for any number of workers for which they did before
+  abbrev pub StillFit : (given given' : ℕ) → (old new : Run J K F o t n k) → Type 0
+  StillFit given given' old new = (workers : ℕ) → FitsIn given workers old → FitsIn given' workers new
 
   abbrev pub HasRoom : Run J K F o t n k → Type 0
   HasRoom run = AllRoom (length run.waiting.items) run.course.entries run.course.lost

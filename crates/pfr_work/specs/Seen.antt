@@ -1,5 +1,5 @@
 -- What contracts see of a run's trace.
-use Rattle.std.specs.Prelude.{Bool, false, List}
+use Rattle.std.specs.Prelude.{◌≡◌, Bool, false, List, [], None}
 use Rattle.std.specs.Option.{option_map, option_map_or}
 use Rattle.pfr_states.specs.declared.change.Change.{Change}
 use Rattle.pfr_published.specs.declared.published.Published.{Published}
@@ -16,3 +16,7 @@ module _ {W K : Type 0} where
     is_shown = option_map_or is_shown trace.published false;
     gave_up = trace.gave_up;
   }
+
+  -- no batch was opened, and no table published
+  abbrev pub IsEmpty : Trace W K → Type 0
+  IsEmpty trace = (trace.openings ≡ []) × (trace.batches.items ≡ []) × (trace.lost.items ≡ []) × (trace.published ≡ None)

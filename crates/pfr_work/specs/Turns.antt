@@ -1,5 +1,5 @@
 -- How a run with workers goes on from one turn to the next.
-use Rattle.std.specs.Prelude.{◌≡◌, ◌⊎◌, ◌≤◌, ◌+◌, ◌^◌, ℕ, Bool, List, [], ◌∷◌, ◌++◌, length, Some, Vec, vec_len, vec_capacity}
+use Rattle.std.specs.Prelude.{◌≡◌, ◌⊎◌, ◌≤◌, ◌+◌, ◌^◌, ℕ, Bool, List, [], ◌∷◌, ◌++◌, length, MatchResult, Result, Some, Vec, vec_len, vec_capacity}
 use Rattle.std.specs.List.{All, AllZip, sum_by}
 use Rattle.std.specs.declared.alloc.Global.{Global}
 use Rattle.pfr_claims.specs.declared.gathered.Gathered.{Gathered}
@@ -29,6 +29,13 @@ pub record Fits {X : Type 0} (waiting : List X) (records_of : X → List Record)
 -- `count` more elements have room
 abbrev pub HasRoomFor : {A : Type 0} → ℕ → Vec A Global → Type 0
 HasRoomFor count list = vec_len list + count ≤ vec_capacity list
+
+-- what came back of a batch is behind the entries if it is one, and else behind the incomplete ones
+abbrev pub WithEntry : (old new : List Gathered) → Result Gathered Incomplete → Type 0
+WithEntry old new gathered = MatchResult gathered (λ it. new ≡ old ++ it ∷ []) (λ it. new ≡ old)
+
+abbrev pub WithLost : (old new : List Incomplete) → Result Gathered Incomplete → Type 0
+WithLost old new gathered = MatchResult gathered (λ it. new ≡ old) (λ it. new ≡ old ++ it ∷ [])
 
 -- the same list with others behind it
 abbrev pub Extends : {A : Type 0} → (old new : List A) → Type 0

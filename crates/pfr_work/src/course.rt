@@ -1,7 +1,7 @@
 //! What a run with workers knows of the batches so far.
-ghost use Rattle.std.specs.Prelude.{◌≡◌, ◌+◌, ◌++◌, ◌∷◌, ℕ, [], true, false, IfOk, IsOk, IsTrue, MatchResult, OnOk, ◌↔◌};
+ghost use Rattle.std.specs.Prelude.{◌≡◌, ◌+◌, ℕ, [], true, false, IfOk, IsOk, IsTrue, OnOk, ◌↔◌};
 ghost use Rattle.pfr_commit.specs.Emissions.{are_kept, listed};
-ghost use Rattle.pfr_work.specs.Turns.{HasRoomFor};
+ghost use Rattle.pfr_work.specs.Turns.{HasRoomFor, WithEntry, WithLost};
 
 use crate::pace::{BatchReport, Pace};
 use pfr_claims::Gathered;
@@ -78,8 +78,8 @@ impl<K: Naming> Course<K> {
         requires room { HasRoomFor 1 self.old.entries }
         requires lost_room { HasRoomFor 1 self.old.lost }
         ensures told { IsTrue result ↔ IsOk gathered }
-        ensures entries { MatchResult gathered (λ it. self.new.entries.items ≡ self.old.entries.items ++ it ∷ []) (λ it. self.new.entries.items ≡ self.old.entries.items) }
-        ensures lost { MatchResult gathered (λ it. self.new.lost.items ≡ self.old.lost.items) (λ it. self.new.lost.items ≡ self.old.lost.items ++ it ∷ []) }
+        ensures entries { WithEntry self.old.entries.items self.new.entries.items gathered }
+        ensures lost { WithLost self.old.lost.items self.new.lost.items gathered }
         ensures stays { (n : ℕ) → HasRoomFor (n + 1) self.old.entries → HasRoomFor n self.new.entries }
         ensures lost_stays { (n : ℕ) → HasRoomFor (n + 1) self.old.lost → HasRoomFor n self.new.lost }
         ensures others { (self.new.openings ≡ self.old.openings) × (self.new.gave_up ≡ self.old.gave_up) }

@@ -5,7 +5,7 @@ ghost use Rattle.pfr_commit.specs.Emissions.{are_kept, listed, texts_of};
 ghost use Rattle.pfr_published.specs.Ends.{is_shown, list_of};
 ghost use Rattle.pfr_feed.specs.declared.turn.Turn.TheVariants.{GoesOn};
 ghost use Rattle.pfr_feed.specs.Turns.{IsRefusedAt, TakesBatch};
-ghost use Rattle.pfr_work.specs.Running.{AllRoom, FitsIn, HasRoom, IsTurn, claims_in, left_of, records_in};
+ghost use Rattle.pfr_work.specs.Running.{AllRoom, FitsIn, HasRoom, IsTurn, StillFit, claims_in, left_of, records_in};
 ghost use Rattle.pfr_work.specs.Turns.{ComesBack, ComesWhole, TakesPiece};
 
 use crate::batch::Batch;
@@ -116,7 +116,8 @@ fn hand_on<J: OfRun, F: Feed>(feed: &mut F, piece: Emitted, batch: Arc<Batch<J>>
 }
 
 impl<J: OfRun + Send + Sync, K: Naming + Send + Sync, F: Feed> Run<J, K, F> {
-    /// Takes the oldest batch that waits, hands on what it adds, and shows what it did to the table. If none waits the run is over.
+    /// Takes the oldest batch that waits, passes what it adds to the feed, and publishes what it did to the table. If none waits the run is
+    /// over.
     pub(crate) fn take_oldest<R: Wait, G: Gate>(
         &mut self,
         rt: &R,
@@ -132,7 +133,7 @@ impl<J: OfRun + Send + Sync, K: Naming + Send + Sync, F: Feed> Run<J, K, F> {
         ensures told { F.told self.new.feed ≡ F.told self.old.feed }
         ensures names { F.names self.new.feed ≡ F.names self.old.feed }
         ensures job { self.new.book.job ≡ self.old.book.job }
-        ensures fits { result.1 ≡ GoesOn → (workers : ℕ) → FitsIn (F.given self.old.feed) workers self.old → FitsIn (F.given self.new.feed) workers self.new }
+        ensures fits { result.1 ≡ GoesOn → StillFit (F.given self.old.feed) (F.given self.new.feed) self.old self.new }
         ensures room { HasRoom self.new }
         ensures gave_up { self.new.course.gave_up ≡ false → self.old.course.gave_up ≡ false }
         ensures shown { self.new.course.gave_up ≡ false → is_shown result.0 ≡ is_shown published }

@@ -1,10 +1,10 @@
 //! Batches that are read ahead, and opened to workers.
-ghost use Rattle.std.specs.Prelude.{◌≡◌, ℕ, ◌≤◌, ◌<◌, ◌+◌, ◌++◌, ◌∷◌, [], false, length, vec_len, List, IfOk, IfSome, MatchResult, OnOk};
+ghost use Rattle.std.specs.Prelude.{◌≡◌, ℕ, ◌≤◌, ◌<◌, ◌+◌, false, length, vec_len, List, IfOk, OnOk};
 ghost use Rattle.std.specs.Arc.{arc_value};
 ghost use Rattle.std.specs.VecDeque.{deque_len, deque_capacity};
 ghost use Rattle.pfr_states.specs.declared.change.Change.{Change};
 ghost use Rattle.pfr_feed.specs.declared.turn.Turn.TheVariants.{GoesOn};
-ghost use Rattle.pfr_work.specs.Running.{AllRoom, FitsIn, HasRoom, IsTurn, claims_in, count_in, left_of, records_in, workers_in};
+ghost use Rattle.pfr_work.specs.Running.{AllRoom, FitsIn, HasRoom, IsTurn, OpensOne, claims_in, count_in, left_of, records_in, workers_in};
 ghost use Rattle.pfr_work.specs.Traces.{IsOpenedFor};
 
 use crate::batch::{Batch, clocks, viewed_for};
@@ -36,7 +36,7 @@ fn open_batch<J: OfRun + Send + Sync, K: Naming + Send + Sync, R: Threads + Wait
     ensures told { IfOk result (λ it. (arc_value it.batch).told ≡ told) }
     ensures sizes { IfOk result (λ it. (count_in it ≡ length records.items) × (workers_in it ≡ vec_len crew.now.desks)) }
     ensures opened_for { IfOk result (λ it. IsOpenedFor (vec_len crew.now.desks) (claims_in it) records.items) }
-    ensures opened { MatchResult result (λ it. course.new.openings ≡ course.old.openings ++ claims_in it ∷ []) (λ _. course.new.openings ≡ course.old.openings) }
+    ensures opened { OpensOne course.old.openings course.new.openings result }
     ensures entries { (course.new.entries ≡ course.old.entries) × (course.new.lost ≡ course.old.lost) }
     ensures gave_up { course.new.gave_up ≡ course.old.gave_up }
 {

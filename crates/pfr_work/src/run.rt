@@ -3,7 +3,7 @@ ghost use Rattle.std.specs.Prelude.{◌≡◌, ◌≤◌, ◌<◌, [], None, OnO
 ghost use Rattle.pfr_commit.specs.Books.{StandsAt, job_of};
 ghost use Rattle.pfr_commit.specs.World.{opening};
 ghost use Rattle.pfr_published.specs.Ends.{is_shown, list_of};
-ghost use Rattle.pfr_work.specs.Seen.{seen_of};
+ghost use Rattle.pfr_work.specs.Seen.{IsEmpty, seen_of};
 ghost use Rattle.pfr_work.specs.Traces.{RunsRefused, RunsWell};
 
 use crate::beside::{no_trace, run_beside};
@@ -70,7 +70,7 @@ pub fn run_workers<
     ensures names { F.names result.1 ≡ F.names feed }
     ensures ok { OnOk result.3 (RunsWell F.transitions (job_of book) workers feed result.0 result.1 (seen_of list_of is_shown result.2)) }
     ensures err { OnErr result.3 (RunsRefused F.transitions (job_of book) workers feed result.0 result.1 (seen_of list_of is_shown result.2)) }
-    ensures alone { workers ≡ 0 → (result.2.openings ≡ []) × (result.2.batches.items ≡ []) × (result.2.lost.items ≡ []) × (result.2.published ≡ None) }
+    ensures alone { workers ≡ 0 → IsEmpty result.2 }
 {
     let alloc = rt.alloc();
     keep_memory(alloc);
