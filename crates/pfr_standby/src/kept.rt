@@ -8,18 +8,18 @@ use pfr_net::{Direction, Protocol, RuleNumber, Timeout};
 /// What a standby keeps of a state.
 #[derive(Clone, Copy)]
 pub struct Kept {
+    /// The number of the rule that made it, below 2^32 - 1.
+    pub rule: Option<RuleNumber>,
     /// The parties of its packets on the wire.
     pub wire: Parties,
     /// The parties behind the firewall's translation.
     pub stack: Parties,
-    pub protocol: Protocol,
-    /// The way of the packet that made it.
-    pub direction: Direction,
-    /// The number of the rule that made it, below 2^32 - 1.
-    pub rule: Option<RuleNumber>,
     /// The end of the state's maker.
     pub maker: Peer,
     pub other: Peer,
+    pub protocol: Protocol,
+    /// The way of the packet that made it.
+    pub direction: Direction,
     pub timeout: Timeout,
 }
 
