@@ -117,9 +117,9 @@ fn plain_len(text: &[u8]) -> usize
     run_len(Class::Plain, 0, text)
 }
 
-/// The length of the first piece of a text.
+/// The length of the first piece of a text: a word, or what separates words. A text is its pieces, one behind the other.
 #[tactic(auto, unfolding(crate::specs::Words::piece_len))]
-pub(crate) fn piece_len(text: &[u8]) -> usize
+pub fn piece_len(text: &[u8]) -> usize
     requires { 0 < length text.now }
     ensures value { result ≡ spec.piece_len text.now }
     ensures within { (1 ≤ result) × (result ≤ length text.now) }

@@ -72,7 +72,7 @@ fn sign_of<'a>(first: u8, second: u8) -> Token<'a>
 
 /// The word that a piece is, if it doesn't only separate words.
 #[tactic(auto, unfolding(crate::specs::Words::token_of))]
-fn token_of(piece: &[u8]) -> Option<Token<'_>>
+pub fn token_of(piece: &[u8]) -> Option<Token<'_>>
     requires { 0 < length piece.now }
     ensures { result ≡ spec.token_of piece.now }
 {
@@ -87,7 +87,8 @@ fn token_of(piece: &[u8]) -> Option<Token<'_>>
     }
 }
 
-fn newlines(text: &[u8]) -> usize
+/// How many newlines a text has.
+pub fn newlines(text: &[u8]) -> usize
     ensures value { result ≡ spec.newlines text.now }
     ensures within { result ≤ length text.now }
 {
