@@ -1,0 +1,2 @@
+pub mod AdaptLemmas
+pub mod FaultLemmas

@@ -1,0 +1,3 @@
+pub mod Adapting
+pub mod Faults
+pub mod Laws

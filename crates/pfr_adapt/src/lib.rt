@@ -1,0 +1,14 @@
+//! A ruleset text as it is written, as the strict reader may take it.
+//!
+//! [`adapt`] rewrites what a text says in words that the strict reader doesn't know, and says what it did. A text that is accepted as it
+//! is stays so, and so does what was adapted before ([`laws`]).
+#![tactic(auto)]
+
+pub mod adapting;
+pub mod faults;
+pub mod laws;
+
+pub use adapting::{Adapted, Surroundings, adapt};
+pub use faults::all_faults;
+pub use pfr_conf::ConfError;
+pub use pfr_rewrite::{Finding, Kind, Reason};
