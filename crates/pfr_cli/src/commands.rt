@@ -11,6 +11,14 @@ const RUN_EXAMPLE: &str = "Example:
 const CHECK_EXAMPLE: &str = "Example:
   pfreplay check /etc/pf.conf --interface em0 --address 192.0.2.1/24";
 
+const ADAPT_EXAMPLE: &str =
+    "It prints the text on standard output, and on standard error a line for each part that it rewrote:
+RULES:LINE:COLUMN: KIND: WORD: WHY. KIND is note if no verdict depends on it, and warning if
+verdicts may differ from pf's. error says what is still refused.
+
+Example:
+  pfreplay adapt /etc/pf.conf --interface em0 --address 192.0.2.1/24 > adapted.conf";
+
 const STANDBY_EXAMPLE: &str =
     "It prints a line for each state, by number: N PROTO DIR WIRE STACK r=R PEER PEER TIMEOUT.
 N is the number of the packet that made the state, PROTO its protocol's number.
@@ -55,6 +63,7 @@ const RUN_FLAGS: [(&str, &str, &str); 5] = [
 pub fn command_line<'a>(alloc: Global) -> Result<Command<'a>, AllocError> {
     let program = with_run(alloc, program(alloc)?)?;
     let program = program.subcommand(check_command(alloc)?)?;
+    let program = program.subcommand(adapt_command(alloc)?)?;
     program.subcommand(standby_command(alloc)?)
 }
 
@@ -83,7 +92,7 @@ fn run_command<'a>(alloc: Global) -> Result<Command<'a>, AllocError> {
         .about("Replays a packet capture through a ruleset")
         .after_help(RUN_EXAMPLE)
         .arg(word(alloc, "CAPTURE", capture))?;
-    let command = with_ruleset(alloc, command)?;
+    let command = with_adapt(alloc, with_ruleset(alloc, command)?)?;
     with_choices(alloc, command)
 }
 
@@ -122,6 +131,26 @@ fn check_command<'a>(alloc: Global) -> Result<Command<'a>, AllocError> {
     let command = Command::new(alloc, "check")
         .about("Reads a ruleset and prints how many rules it makes, and its checksum")
         .after_help(CHECK_EXAMPLE);
+    with_adapt(alloc, with_ruleset(alloc, command)?)
+}
+
+/// A command with the flag that has the ruleset rewritten before it is read.
+fn with_adapt<'a>(alloc: Global, command: Command<'a>) -> Result<Command<'a>, AllocError> {
+    let help =
+        "Rewrite the ruleset as the command adapt does, and say on standard error what was rewritten";
+    command.arg(
+        Arg::new(alloc, "adapt")
+            .long("adapt")
+            .help(help)
+            .action(ArgAction::SetTrue),
+    )
+}
+
+/// The command that rewrites a ruleset.
+fn adapt_command<'a>(alloc: Global) -> Result<Command<'a>, AllocError> {
+    let command = Command::new(alloc, "adapt")
+        .about("Rewrites a ruleset in the words that run and check read")
+        .after_help(ADAPT_EXAMPLE);
     with_ruleset(alloc, command)
 }
 

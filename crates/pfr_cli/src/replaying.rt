@@ -1,7 +1,8 @@
 //! What `pfreplay run` does.
+use crate::adapting::rules_text;
 use crate::destination::Destination;
 use crate::failure::{CUT, DONE, Failure};
-use crate::files::{created, opened, ruleset_text};
+use crate::files::{created, opened};
 use crate::peer::{Connection, connected};
 use crate::same_file::repeated_output;
 use crate::words::{Messages, OutputNames, RunWords};
@@ -29,16 +30,17 @@ impl Gate for Unwatched {
 type OutputSink<R> = WriterSink<Destination<<R as Files>::File, Connection<<R as Net>::Stream>>>;
 
 /// Replays a capture through a ruleset, prints how many packets were committed, and answers the status.
-pub fn replay<'a, R: Files + Net + AllocGlobal + Threads + Wait + Sync, O: Write>(
+pub fn replay<'a, R: Files + Net + AllocGlobal + Threads + Wait + Sync, O: Write, E: Write>(
     rt: &R,
     asked: &RunWords<'a>,
     out: &mut O,
+    err: &mut E,
 ) -> Result<u8, Failure<'a>> {
     if let Some(name) = repeated_output(rt, asked)? {
         return Err(Failure::SameFile(name));
     }
     // A fault of the ruleset is reported before any other file is touched.
-    let job = job_of(rt, asked)?;
+    let job = job_of(rt, asked, err)?;
     let mut source = ReaderSource::new(opened(rt, asked.capture)?);
     let mut sinks = sinks(rt, &asked.outputs)?;
     let settings = RunSettings {
@@ -51,17 +53,23 @@ pub fn replay<'a, R: Files + Net + AllocGlobal + Threads + Wait + Sync, O: Write
 }
 
 /// What the packets of the run are evaluated by. The ruleset's text is read here, and nowhere else.
-fn job_of<'a, R: Files + AllocGlobal>(rt: &R, asked: &RunWords<'a>) -> Result<Job, Failure<'a>> {
-    let text = ruleset_text(rt, asked.rules)?;
-    let inside = asked.inside.as_slice();
+fn job_of<'a, R: Files + AllocGlobal, E: Write>(
+    rt: &R,
+    asked: &RunWords<'a>,
+    err: &mut E,
+) -> Result<Job, Failure<'a>> {
+    let text = rules_text(rt, asked.rules, &asked.interface, err)?;
     let job = Job::new(
         rt.alloc(),
-        text.as_slice(),
+        text.text.as_slice(),
         asked.interface,
-        inside,
+        asked.inside.as_slice(),
         asked.seed,
-    )?;
-    Ok(job)
+    );
+    match job {
+        Ok(job) => Ok(job),
+        Err(fault) => Err(text.with_line(Failure::from(fault))),
+    }
 }
 
 /// The form in which messages are written.

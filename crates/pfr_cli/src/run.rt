@@ -1,6 +1,6 @@
 //! What the program does.
+use crate::adapting::{RulesFile, adapt_rules, rules_text};
 use crate::failure::{DONE, Failure, report};
-use crate::files::ruleset_text;
 use crate::replaying::replay;
 use crate::standby::stand_by;
 use crate::summary::Summary;
@@ -21,7 +21,7 @@ pub fn run<R: Files + Net + AllocGlobal + Threads + Wait + Sync, O: Write, E: Wr
     out: &mut O,
     err: &mut E,
 ) -> u8 {
-    match work(rt, words, out) {
+    match work(rt, words, out, err) {
         Ok(status) => status,
         Err(Failure::Stopped(Stop::Memory(_))) if ask_for_standby(words) => {
             report(&Failure::StandbyStopped(StandbyStop::Memory(0)), err)
@@ -38,30 +38,37 @@ fn ask_for_standby(words: &[String]) -> bool {
     }
 }
 
-fn work<'a, R: Files + Net + AllocGlobal + Threads + Wait + Sync, O: Write>(
+fn work<'a, R: Files + Net + AllocGlobal + Threads + Wait + Sync, O: Write, E: Write>(
     rt: &R,
     words: &'a [String],
     out: &mut O,
+    err: &mut E,
 ) -> Result<u8, Failure<'a>> {
     match parse(rt.alloc(), words)? {
         Asked::Text(text) => print(out, text.as_bytes()),
-        Asked::Check { rules, interface } => check(rt, rules, &interface, out),
-        Asked::Run(asked) => replay(rt, &asked, out),
+        Asked::Check { rules, interface } => check(rt, rules, &interface, out, err),
+        Asked::Adapt { rules, interface } => adapt_rules(rt, rules, &interface, out, err),
+        Asked::Run(asked) => replay(rt, &asked, out, err),
         Asked::Standby(stream) => stand_by(rt, &stream, out),
     }
 }
 
 /// Prints what a ruleset makes for an interface.
-fn check<'a, R: Files + AllocGlobal, O: Write>(
+fn check<'a, R: Files + AllocGlobal, O: Write, E: Write>(
     rt: &R,
-    rules: &'a str,
+    rules: RulesFile<'a>,
     interface: &Interface,
     out: &mut O,
+    err: &mut E,
 ) -> Result<u8, Failure<'a>> {
-    let text = ruleset_text(rt, rules)?;
-    let summary = Summary::of(rt.alloc(), text.as_slice(), interface)?;
-    let line = summary.line(rt.alloc())?;
-    print(out, line.as_bytes())
+    let text = rules_text(rt, rules, interface, err)?;
+    match Summary::of(rt.alloc(), text.text.as_slice(), interface) {
+        Ok(summary) => {
+            let line = summary.line(rt.alloc())?;
+            print(out, line.as_bytes())
+        }
+        Err(error) => Err(text.with_line(Failure::from(error))),
+    }
 }
 
 /// Prints a text and no more.

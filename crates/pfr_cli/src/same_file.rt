@@ -56,7 +56,7 @@ fn repeated_among<'a, R: Files + AllocGlobal>(
     ensures { IfOk result (λ repeated. IfSome repeated (Contains (file_names asked.now.outputs))) }
 {
     add_input(rt, files, asked.capture)?;
-    add_input(rt, files, asked.rules)?;
+    add_input(rt, files, asked.rules.name)?;
     let outputs = &asked.outputs;
     let names = [
         outputs.verdicts,

@@ -1,6 +1,7 @@
 //! The words of the command line.
 ghost use Rattle.std.specs.Prelude.{◌≤◌, IfOk};
 
+use crate::adapting::RulesFile;
 use crate::commands::command_line;
 use crate::failure::Failure;
 use crate::peer::Peer;
@@ -20,6 +21,11 @@ pub enum Asked<'a> {
     Run(RunWords<'a>),
     /// To say how many rules the ruleset in this file makes for an interface.
     Check {
+        rules: RulesFile<'a>,
+        interface: Interface,
+    },
+    /// To print the ruleset in this file in the words of the strict reader.
+    Adapt {
         rules: &'a str,
         interface: Interface,
     },
@@ -42,7 +48,7 @@ pub enum Stream<'a> {
 #[derive(Drop)]
 pub struct RunWords<'a> {
     pub capture: &'a str,
-    pub rules: &'a str,
+    pub rules: RulesFile<'a>,
     pub interface: Interface,
     pub inside: Vec<Net>,
     pub seed: [u8; 32],
@@ -103,6 +109,9 @@ pub fn parse<'a>(alloc: Global, words: &'a [String]) -> Result<Asked<'a>, Failur
     if let Some(matches) = matches.subcommand_matches("check") {
         return check_words(matches);
     }
+    if let Some(matches) = matches.subcommand_matches("adapt") {
+        return adapt_words(matches);
+    }
     match matches.subcommand_matches("standby") {
         Some(matches) => standby_words(matches),
         None => Err(Failure::MissingWord("COMMAND")),
@@ -123,7 +132,7 @@ fn refused<'a>(alloc: Global, error: &clap::Error) -> Result<Asked<'a>, Failure<
 /// What the words behind `run` ask for.
 fn run_words<'a>(alloc: Global, matches: &ArgMatches<'a>) -> Result<Asked<'a>, Failure<'a>> {
     let capture = given(matches, "CAPTURE")?;
-    let rules = given(matches, "RULES")?;
+    let rules = given_rules(matches)?;
     let outputs = given_outputs(matches)?;
     let interface = given_interface(matches)?;
     let inside = networks(alloc, given(matches, "inside")?)?;
@@ -189,9 +198,25 @@ fn given_workers<'a>(matches: &ArgMatches<'a>) -> Result<u64, Failure<'a>>
     }
 }
 
+/// The file with the ruleset, and whether it is to be adapted.
+fn given_rules<'a>(matches: &ArgMatches<'a>) -> Result<RulesFile<'a>, Failure<'a>> {
+    Ok(RulesFile {
+        name: given(matches, "RULES")?,
+        adapts: matches.get_flag("adapt"),
+    })
+}
+
 /// What the words behind `check` ask for.
 fn check_words<'a>(matches: &ArgMatches<'a>) -> Result<Asked<'a>, Failure<'a>> {
     Ok(Asked::Check {
+        rules: given_rules(matches)?,
+        interface: given_interface(matches)?,
+    })
+}
+
+/// What the words behind `adapt` ask for.
+fn adapt_words<'a>(matches: &ArgMatches<'a>) -> Result<Asked<'a>, Failure<'a>> {
+    Ok(Asked::Adapt {
         rules: given(matches, "RULES")?,
         interface: given_interface(matches)?,
     })
