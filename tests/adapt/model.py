@@ -399,6 +399,8 @@ class Rewriter:
             at += 1
             word = words[at]
             if at in gone:
+                if word.kind == PLAIN and word.text in names.GRAMMAR and word.text not in AMONG_ADDRESSES:
+                    last = word.text
                 continue
             depth = max(depth + word.is_sign(LISTED) - word.is_sign(b"}"), 0)
             if word.is_sign(b"->"):
