@@ -1,0 +1,18 @@
+//! What the text of a ruleset can't say by itself: the addresses of interfaces, the interfaces of groups, the names of
+//! hosts(5) and of services(5), and the files of tables.
+//!
+//! A [`Given`] holds, for words of a ruleset, the texts that are written in their place. It is asked for a word as one
+//! [`Subject`]: how many texts stand for it ([`count_of`]), and what they are ([`joined`]).
+#![tactic(auto)]
+
+pub mod entry;
+mod forms;
+mod hosts;
+mod listing;
+mod parts;
+mod services;
+mod tables;
+mod written;
+
+pub use entry::{Entry, Given, Subject, count_of};
+pub use listing::joined;
