@@ -1,0 +1,2 @@
+pub mod Braces
+pub mod Marks

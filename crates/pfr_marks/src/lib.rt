@@ -1,0 +1,8 @@
+//! The words of a ruleset text, with the places where they stand.
+//!
+//! [`mark::marks`] answers the words of a text, its signs and the ends of its lines, each as a [`mark::Mark`].
+//! [`braces::are_closed`] says whether each brace among them is closed.
+#![tactic(auto)]
+
+pub mod braces;
+pub mod mark;
