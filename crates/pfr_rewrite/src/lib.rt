@@ -1,21 +1,20 @@
 //! A ruleset text as it is written, rewritten in words that the strict reader knows.
 #![tactic(auto)]
 
-mod applying;
-mod braces;
-pub mod change;
-mod changing;
-mod context;
-mod inet6;
-pub mod mark;
-mod options;
-mod phrases;
-pub mod reason;
-mod settings;
-mod statements;
-mod values;
+mod antispoof;
+mod elsewhere;
+mod known;
+pub mod laws;
+mod macros;
+mod replacing;
+mod tables;
+mod targets;
+mod unseen;
+mod unseen_list;
+mod whole;
 
-pub use applying::{NewText, rewritten};
-pub use change::{Becomes, Change, Finding, Words};
-pub use changing::changes;
-pub use reason::{Kind, Reason};
+pub use elsewhere::other_interfaces;
+pub use pfr_phrases::applying::{NewText, rewritten};
+pub use pfr_phrases::change::{Becomes, Change, Finding, Text, Words};
+pub use pfr_phrases::reason::{Kind, Reason};
+pub use whole::changes;

@@ -1,0 +1,5 @@
+pub mod ApplyLemmas
+pub mod CoverLawLemmas
+pub mod OptionLemmas
+pub mod PlainLawLemmas
+pub mod StatementLemmas

@@ -1,0 +1,13 @@
+pub mod Applying
+pub mod Changes
+pub mod Changing
+pub mod Contexts
+pub mod Inet6
+pub mod Lengths
+pub mod Options
+pub mod Phrases
+pub mod Reasons
+pub mod Settings
+pub mod Statements
+pub mod Tracing
+pub mod Values

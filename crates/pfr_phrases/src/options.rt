@@ -1,0 +1,170 @@
+//! What is left out of brackets and braces.
+ghost use Rattle.std.specs.Prelude.{◌≡◌, ◌≤◌, ◌<◌, length, map, true, IfSome};
+ghost use Rattle.pfr_phrases.specs.Options as spec;
+
+use crate::inet6::inet6_len;
+use crate::phrases::{ADAPTIVE_TIMEOUTS, LIMITS, Phrase, STATE_OPTIONS, phrase_at};
+use pfr_marks::mark::{Mark, begins_with, is};
+use pfr_words::names::is_among;
+
+/// The option that is left out at the front of marks, and how many it has.
+pub(crate) fn option_at(marks: &[Mark<'_>]) -> Option<(usize, Phrase)>
+    ensures value { result ≡ spec.option_at marks.now }
+    ensures within { IfSome result (λ found. (0 < found.0) × (found.0 ≤ length marks.now)) }
+{
+    phrase_at(&STATE_OPTIONS, marks)
+}
+
+/// How many marks an option has that is left out; none if there is none at the front.
+#[tactic(auto, unfolding(crate::specs::Options::option_len))]
+fn option_len(marks: &[Mark<'_>]) -> usize
+    ensures value { result ≡ spec.option_len marks.now }
+    ensures within { result ≤ length marks.now }
+{
+    match option_at(marks) {
+        Some((len, _)) => len,
+        None => 0,
+    }
+}
+
+/// Elements that are left out of a list.
+#[derive(Clone, Copy, Debug)]
+pub enum Group {
+    /// The options of a state, in round brackets.
+    Options,
+    /// IPv6 addresses, in braces.
+    Inet6,
+    /// The same, and what packets don't show of an address.
+    Unseen,
+    /// Timeouts of `set timeout`, in braces.
+    Timeouts,
+    /// Limits of `set limit`, in braces.
+    Limits,
+}
+
+/// Words among addresses that ask for what packets don't show.
+const NO_ADDRESSES: [&[u8]; 2] = [b"no-route", b"urpf-failed"];
+
+/// How many marks an element has that is the first part of a phrase of a table; none if there is none at the front.
+#[tactic(auto, unfolding(crate::specs::Options::phrase_len))]
+fn phrase_len(table: &[(&[u8], Phrase)], marks: &[Mark<'_>]) -> usize
+    ensures value { result ≡ spec.phrase_len (map (λ e. (e.0.now, e.1)) table.now) marks.now }
+    ensures within { result ≤ length marks.now }
+{
+    match phrase_at(table, marks) {
+        Some((len, _)) => len,
+        None => 0,
+    }
+}
+
+/// Whether the word at the front asks for what packets don't show of an address.
+pub(crate) fn is_no_address(marks: &[Mark<'_>]) -> bool
+    ensures value { result ≡ spec.is_no_address marks.now }
+    ensures some { result ≡ true → 0 < length marks.now }
+{
+    match marks.first() {
+        Some(first) => is_among(&NO_ADDRESSES, first.piece.as_slice()),
+        None => false,
+    }
+}
+
+/// How many marks the element has that is left out for its address; none if there is none at the front.
+fn unseen_len(marks: &[Mark<'_>]) -> usize
+    ensures value { result ≡ spec.unseen_len marks.now }
+    ensures within { result ≤ length marks.now }
+{
+    if is_no_address(marks) {
+        1
+    } else {
+        inet6_len(marks)
+    }
+}
+
+/// How many marks the element at the front has that is left out; none if there is none.
+pub fn element_len(group: Group, marks: &[Mark<'_>]) -> usize
+    ensures value { result ≡ spec.element_len group marks.now }
+    ensures within { result ≤ length marks.now }
+{
+    match group {
+        Group::Options => option_len(marks),
+        Group::Inet6 => inet6_len(marks),
+        Group::Unseen => unseen_len(marks),
+        Group::Timeouts => phrase_len(&ADAPTIVE_TIMEOUTS, marks),
+        Group::Limits => phrase_len(&LIMITS, marks),
+    }
+}
+
+/// Whether a mark ends a list.
+fn ends(group: Group, mark: &Mark<'_>) -> bool
+    ensures { result ≡ spec.ends group mark.now }
+{
+    match group {
+        Group::Options => is(mark, b")"),
+        Group::Inet6 | Group::Unseen | Group::Timeouts | Group::Limits => is(mark, b"}"),
+    }
+}
+
+/// Whether these marks begin with a comma that isn't the last of brackets, and before another one.
+fn is_comma(mark: &Mark<'_>, behind: &[Mark<'_>]) -> bool
+    ensures { result ≡ spec.is_comma mark.now behind.now }
+{
+    is(mark, b",") && !begins_with(behind, b")") && !begins_with(behind, b",")
+}
+
+/// Whether a mark stands between elements of a list, or before one, and is none.
+fn is_between(group: Group, mark: &Mark<'_>, behind: &[Mark<'_>]) -> bool
+    ensures { result ≡ spec.is_between group mark.now behind.now }
+{
+    match group {
+        Group::Options => is_comma(mark, behind),
+        Group::Timeouts | Group::Limits => is(mark, b",") || is(mark, b"\n"),
+        Group::Inet6 | Group::Unseen => is(mark, b",") || is(mark, b"\n") || is(mark, b"!"),
+    }
+}
+
+/// What is known of a list behind some of its marks.
+#[derive(Clone, Copy)]
+enum Seen {
+    /// All so far is left out, and so are this many marks behind it.
+    LeftOut(usize),
+    /// Whether all is left out.
+    Known(bool),
+}
+
+/// What is known behind the first of these marks, if so many of them belong to an element that was seen.
+fn see(group: Group, passed: usize, marks: &[Mark<'_>]) -> Seen
+    ensures { result ≡ spec.seen_at group passed marks.now }
+{
+    let Some(mark) = marks.first() else {
+        return Seen::Known(false);
+    };
+    if passed > 0 {
+        return Seen::LeftOut(passed - 1);
+    }
+    if ends(group, mark) {
+        return Seen::Known(true);
+    }
+    if is_between(group, mark, &marks[1..]) {
+        return Seen::LeftOut(0);
+    }
+    let len = element_len(group, marks);
+    if len == 0 {
+        return Seen::Known(false);
+    }
+    Seen::LeftOut(len - 1)
+}
+
+/// Whether all elements of a list are left out, by what stands behind its beginning.
+#[tactic(auto, unfolding(crate::specs::Options::are_all_left_out))]
+pub(crate) fn are_all_left_out(group: Group, marks: &[Mark<'_>]) -> bool
+    ensures { result ≡ spec.are_all_left_out group marks.now }
+{
+    let mut passed: usize = 0;
+    for at in 0..marks.len() {
+        match see(group, passed, &marks[at..]) {
+            Seen::LeftOut(more) => passed = more,
+            Seen::Known(all) => return all,
+        }
+    }
+    false
+}

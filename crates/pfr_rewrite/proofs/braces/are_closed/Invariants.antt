@@ -1,6 +1,0 @@
-use Rattle.std.proofs.Common.{◌≡◌, drop}
-use Rattle.pfr_rewrite.specs.Braces as spec
-use Rattle.pfr_rewrite.proofs.braces.are_closed.Given as goal
-
-abbrev pub invariant-loop-mark : goal.invariant-loop-mark
-invariant-loop-mark l = spec.closes l.so_far (drop l.mark-index l.marks) ≡ spec.closes 0 l.marks

@@ -1,0 +1,35 @@
+-- Addresses that are left out for what a macro stands for.
+use Rattle.std.specs.Prelude.{ℕ, ◌==◌, Bool, nat_le, if◌then◌else◌, List, [], ◌∷◌, length, drop, codes, Option, Some, None}
+use Rattle.pfr_marks.specs.Marks.{begins_with, marks}
+use Rattle.pfr_marks.specs.declared.mark.Mark.{Mark}
+use Rattle.pfr_phrases.specs.Changing.{sign_len}
+use Rattle.pfr_phrases.specs.Options.{element_len}
+use Rattle.pfr_phrases.specs.Statements.{unseen_at}
+use Rattle.pfr_phrases.specs.declared.options.Group.TheVariants as group
+use Rattle.pfr_phrases.specs.declared.reason.Reason.{Reason}
+use Rattle.pfr_rewrite.specs.Macros.{used_value}
+use Rattle.pfr_rewrite.specs.Targets.{list_from}
+use Rattle.pfr_rewrite.specs.declared.known.Known.{Known}
+
+-- one element of a list and no more, or one list
+abbrev pub are_one : List Mark → Bool
+are_one words =
+    if begins_with words (codes "{") then list_from 0 words == length words
+    else element_len group.Unseen (drop (sign_len (codes "!") words) words) == length (drop (sign_len (codes "!") words) words)
+
+-- why nothing but these marks as addresses is left out
+abbrev pub unseen_of : List Mark → Option Reason
+unseen_of words = if are_one words then unseen_at words else None
+
+-- what a rule with a value as addresses is left out for
+abbrev pub unseen_in : List ℕ → Option Reason
+unseen_in value = unseen_of (marks value)
+
+abbrev pub unseen_by : Option (List ℕ) → ℕ → Option Reason
+unseen_by None left = None
+unseen_by (Some value) left = if nat_le (length value) left then unseen_in value else None
+
+-- why addresses are left out that are the macro at the front of marks
+abbrev pub unseen_value : Known → ℕ → List Mark → Option Reason
+unseen_value known left [] = None
+unseen_value known left (first ∷ marks) = unseen_by (used_value known.macros first.piece) left
