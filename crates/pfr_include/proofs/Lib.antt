@@ -1,0 +1,4 @@
+pub mod CountLemmas
+pub mod ItselfLemmas
+pub mod StatementLemmas
+pub mod TurnLemmas
