@@ -1,0 +1,3 @@
+pub mod OtherWords
+pub mod RemarkLemmas
+pub mod WordLemmas
