@@ -1,0 +1,13 @@
+//! All faults of a ruleset text at once, each at its word.
+//!
+//! The strict reader answers the first fault of a text, by its line. [`all_faults`] asks it again and again: each time of the words that
+//! are left without the statement that was at fault, and with each word on a line of its own, so that the line says which word it is.
+#![tactic(auto)]
+
+mod faults;
+pub mod laws;
+mod leaving;
+mod spread;
+
+pub use faults::{Fault, all_faults};
+pub use pfr_terms::{ConfError, ConfErrorKind};
