@@ -1,2 +1,1 @@
 pub mod AdaptLemmas
-pub mod FaultLemmas

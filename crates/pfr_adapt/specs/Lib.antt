@@ -1,3 +1,2 @@
 pub mod Adapting
-pub mod Faults
 pub mod Laws

@@ -1,19 +1,27 @@
 //! Texts in the words of the strict reader.
-ghost use Rattle.std.specs.Prelude.{◌≡◌, ◌++◌, map, drop, IfOk};
+ghost use Rattle.std.specs.Prelude.{◌≡◌, ◌≤◌, ◌++◌, [], ◌∷◌, length, IfOk, OnOk};
 ghost use Rattle.pfr_adapt.specs.Adapting as spec;
 
 use pfr_expand::{RulesetError, ruleset_of};
+use pfr_given::Given;
 use pfr_items::Items;
-use pfr_rewrite::{Change, Finding, changes, rewritten};
+use pfr_marks::mark::{Mark, Place, marks};
+use pfr_net::IfName;
+use pfr_phrases::change::{Change, Finding, Text, finding_at};
+use pfr_phrases::reason::Reason;
+use pfr_phrases::tracing::{Piece, old_place, traced};
+use pfr_rewrite::{changes, other_interfaces};
 use pfr_ruleset::Interface;
 use pfr_words::Bytes;
 use std::alloc::{AllocError, Global};
 
 /// What a text can't say.
-#[derive(Clone, Copy)]
+#[derive(Drop)]
 pub struct Surroundings {
     /// The interface that it is for.
     pub interface: Interface,
+    /// What is written for its words.
+    pub given: Given,
 }
 
 /// A text made of another one.
@@ -22,6 +30,8 @@ pub struct Adapted<'a> {
     pub text: Items<u8>,
     /// For each line, the line of the other text that it comes from.
     pub lines: Items<usize>,
+    /// Where its bytes stood in the other text, piece by piece.
+    pub pieces: Items<Piece>,
     /// What was rewritten, and why, in the order of the other text.
     pub findings: Items<Finding<'a>>,
 }
@@ -37,17 +47,93 @@ fn is_accepted(alloc: Global, text: &[u8], around: &Surroundings) -> Result<bool
     }
 }
 
+/// How many bytes stand before the first zero.
+fn zero_in(bytes: &[u8]) -> usize
+    ensures value { result ≡ spec.zero_from 0 bytes.now }
+    ensures within { result ≤ length bytes.now }
+{
+    for (before, byte) in bytes.iter().enumerate() {
+        if *byte == 0 {
+            return before;
+        }
+    }
+    bytes.len()
+}
+
+/// The name of an interface.
+fn name_of(name: &IfName) -> &[u8]
+    ensures { result.now ≡ spec.name_of name.now }
+{
+    let bytes = name.bytes.as_slice();
+    let (name, _) = bytes.split_at(zero_in(bytes));
+    name
+}
+
+/// What is rewritten of a text.
+fn changes_for<'a>(
+    alloc: Global,
+    text: &'a [u8],
+    around: &Surroundings,
+) -> Result<Items<Change<'a>>, AllocError>
+    ensures { IfOk result (λ changes. changes ≡ spec.changes_for text.now around.now) }
+{
+    changes(alloc, text, name_of(&around.interface.name), &around.given)
+}
+
+/// What is said at the place of a finding, for another reason.
+fn finding_for<'a>(finding: &Finding<'a>, reason: Reason) -> Finding<'a>
+    ensures { result ≡ spec.finding_for finding.now reason }
+{
+    Finding {
+        place: finding.place,
+        word: Bytes::new(finding.word.as_slice()),
+        reason,
+    }
+}
+
+/// Puts what is said of the words of a text behind the findings so far, at the place where the text stands.
+fn put_reasons<'a>(
+    findings: &mut Items<Finding<'a>>,
+    finding: &Finding<'a>,
+    reasons: &[Reason],
+) -> Result<(), AllocError>
+    ensures { OnOk result (findings.new ≡ findings.old ++ spec.findings_for finding.now reasons.now) }
+{
+    for reason in reasons {
+        findings.push(finding_for(finding, *reason))?;
+    }
+    Ok(())
+}
+
+/// Puts what is said of the text of a change, if it has one, behind the findings so far.
+fn put_text<'a>(
+    findings: &mut Items<Finding<'a>>,
+    finding: &Finding<'a>,
+    text: &Option<Text>,
+) -> Result<(), AllocError>
+    ensures { OnOk result (findings.new ≡ findings.old ++ spec.text_findings finding.now text.now) }
+{
+    match text {
+        Some(text) => put_reasons(findings, finding, text.reasons.as_slice()),
+        None => Ok(()),
+    }
+}
+
+/// Puts what a change says behind the findings so far.
+fn put<'a>(findings: &mut Items<Finding<'a>>, change: &Change<'a>) -> Result<(), AllocError>
+    ensures { OnOk result (findings.new ≡ (findings.old ++ change.now.finding ∷ []) ++ spec.text_findings change.now.finding change.now.text) }
+{
+    findings.push(finding_for(&change.finding, change.finding.reason))?;
+    put_text(findings, &change.finding, &change.text)
+}
+
 /// What changes say.
 fn findings_of<'a>(alloc: Global, changes: &[Change<'a>]) -> Result<Items<Finding<'a>>, AllocError>
-    ensures { IfOk result (λ findings. findings ≡ map (λ change. change.finding) changes.now) }
+    ensures { IfOk result (λ findings. findings ≡ spec.findings_of changes.now) }
 {
     let mut findings = Items::new(alloc);
     for change in changes {
-        findings.push(Finding {
-            place: change.finding.place,
-            word: Bytes::new(change.finding.word.as_slice()),
-            reason: change.finding.reason,
-        })?;
+        put(&mut findings, change)?;
     }
     Ok(findings)
 }
@@ -61,33 +147,88 @@ fn adapted_by<'a>(
 ) -> Result<Adapted<'a>, AllocError>
     ensures { IfOk result (λ adapted. adapted ≡ spec.adapted_by text.now changes.now) }
 {
-    let made = rewritten(alloc, text, changes)?;
+    let traced = traced(alloc, text, changes)?;
     Ok(Adapted {
-        text: made.text,
-        lines: made.lines,
+        text: traced.made.text,
+        lines: traced.made.lines,
+        pieces: traced.pieces,
         findings: findings_of(alloc, changes)?,
     })
 }
 
-fn is_nothing(changes: &[Change<'_>]) -> bool
-    ensures { result ≡ spec.is_nothing changes.now }
+/// Whether a word begins at an offset, or behind it.
+fn is_from(offset: usize, mark: &Mark<'_>) -> bool
+    ensures { result ≡ spec.is_from offset mark.now }
 {
-    changes.first().is_none()
+    offset <= mark.start.offset
 }
 
-/// Whether a text stays as it is: it is accepted, or nothing of it is rewritten.
-#[tactic(auto, unfolding(crate::specs::Adapting::is_settled))]
-fn is_settled(alloc: Global, text: &[u8], around: &Surroundings) -> Result<bool, AllocError>
-    ensures { IfOk result (λ settled. settled ≡ spec.is_settled text.now around.now) }
+/// What is said of a text that isn't rewritten: at the first of these words that begins at an offset, or behind it.
+fn unsettled_from<'a>(offset: usize, marks: &[Mark<'a>]) -> Option<Finding<'a>>
+    ensures { result ≡ spec.unsettled_from offset marks.now }
 {
-    if is_accepted(alloc, text, around)? {
-        return Ok(true);
+    for mark in marks {
+        if is_from(offset, mark) {
+            return Some(finding_at(mark, Reason::Unsettled));
+        }
     }
-    let changes = changes(alloc, text)?;
-    Ok(is_nothing(changes.as_slice()))
+    None
 }
 
-/// A text with all that is to be rewritten, unless something of what comes out would be rewritten again: then as it is.
+/// The place in a text at which the first of these changes of the new text is said.
+fn first_place(pieces: &[Piece], changes: &[Change<'_>]) -> Option<Place>
+    ensures { result ≡ spec.first_place pieces.now changes.now }
+{
+    match changes.first() {
+        Some(change) => Some(old_place(pieces, change.finding.place, 0)),
+        None => None,
+    }
+}
+
+/// The place in a text at which its new text would be rewritten again, if it would be.
+fn again_at(
+    alloc: Global,
+    adapted: &Adapted<'_>,
+    around: &Surroundings,
+) -> Result<Option<Place>, AllocError>
+    ensures { IfOk result (λ place. place ≡ spec.again_at adapted.now around.now) }
+{
+    let changes = changes_for(alloc, adapted.text.as_slice(), around)?;
+    Ok(first_place(adapted.pieces.as_slice(), changes.as_slice()))
+}
+
+/// What is said of a text that would have to be rewritten again, by the place at which it would be.
+#[tactic(auto, unfolding(crate::specs::Adapting::unsettled_findings))]
+fn unsettled_findings<'a>(
+    alloc: Global,
+    text: &'a [u8],
+    place: Place,
+) -> Result<Items<Finding<'a>>, AllocError>
+    ensures { IfOk result (λ findings. findings ≡ spec.unsettled_findings text.now place) }
+{
+    let mut findings = Items::new(alloc);
+    let words = marks(alloc, text)?;
+    if let Some(finding) = unsettled_from(place.offset, words.as_slice()) {
+        findings.push(finding)?;
+    }
+    Ok(findings)
+}
+
+/// A text as it is, that would have to be rewritten again at a place.
+#[tactic(auto, unfolding(crate::specs::Adapting::unsettled))]
+fn unsettled<'a>(alloc: Global, text: &'a [u8], place: Place) -> Result<Adapted<'a>, AllocError>
+    ensures { IfOk result (λ adapted. adapted ≡ spec.unsettled text.now place) }
+{
+    let unchanged = adapted_by(alloc, text, &[])?;
+    Ok(Adapted {
+        text: unchanged.text,
+        lines: unchanged.lines,
+        pieces: unchanged.pieces,
+        findings: unsettled_findings(alloc, text, place)?,
+    })
+}
+
+/// A text with all that is to be rewritten, unless something of what comes out would be rewritten again: then as it is, and this is said.
 #[tactic(auto, unfolding(crate::specs::Adapting::settled))]
 fn settled<'a>(
     alloc: Global,
@@ -96,18 +237,21 @@ fn settled<'a>(
 ) -> Result<Adapted<'a>, AllocError>
     ensures { IfOk result (λ adapted. adapted ≡ spec.settled text.now around.now) }
 {
-    let changes = changes(alloc, text)?;
+    let changes = changes_for(alloc, text, around)?;
     let adapted = adapted_by(alloc, text, changes.as_slice())?;
-    if is_settled(alloc, adapted.text.as_slice(), around)? {
-        Ok(adapted)
-    } else {
-        adapted_by(alloc, text, &[])
+    if is_accepted(alloc, adapted.text.as_slice(), around)? {
+        return Ok(adapted);
+    }
+    match again_at(alloc, &adapted, around)? {
+        Some(place) => unsettled(alloc, text, place),
+        None => Ok(adapted),
     }
 }
 
 /// A text in the words of the strict reader, as far as they say what it says, and what was rewritten for that.
 ///
-/// A text that the strict reader accepts is answered as it is. What is answered is answered as it is if it is given again.
+/// A text that the strict reader accepts is answered as it is, and nothing is said of it. What is answered is answered as it is if it is
+/// given again.
 #[tactic(auto, unfolding(crate::specs::Adapting::adapted))]
 pub fn adapt<'a>(
     alloc: Global,
@@ -121,4 +265,21 @@ pub fn adapt<'a>(
     } else {
         settled(alloc, text, around)
     }
+}
+
+/// The rules and anchors of a text that hold for no packet, since they name other interfaces than the one that it is for: each at the
+/// first of them. A group that is given isn't taken for one if the text was adapted, since its interfaces are written for it then.
+pub fn rules_of_others<'a>(
+    alloc: Global,
+    text: &'a [u8],
+    around: &Surroundings,
+    was_adapted: bool,
+) -> Result<Items<Finding<'a>>, AllocError>
+    ensures { IfOk result (λ findings. findings ≡ spec.rules_of_others text.now around.now was_adapted) }
+{
+    let own = name_of(&around.interface.name);
+    if was_adapted {
+        return other_interfaces(alloc, text, own, &around.given);
+    }
+    other_interfaces(alloc, text, own, &Given::new(alloc))
 }

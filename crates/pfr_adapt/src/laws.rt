@@ -7,7 +7,7 @@ pub fn an_accepted_text_stays()
     ensures same { UnchangedIsTheText }
 {}
 
-/// What was adapted is answered as it is.
+/// What was adapted is answered as it is: nothing is said of it, or what was said of it before.
 pub fn an_adapted_text_stays()
     ensures { AnAdaptedTextStays }
 {}

@@ -5,10 +5,9 @@
 #![tactic(auto)]
 
 pub mod adapting;
-pub mod faults;
 pub mod laws;
 
-pub use adapting::{Adapted, Surroundings, adapt};
-pub use faults::all_faults;
-pub use pfr_conf::ConfError;
-pub use pfr_rewrite::{Finding, Kind, Reason};
+pub use adapting::{Adapted, Surroundings, adapt, rules_of_others};
+pub use pfr_phrases::change::Finding;
+pub use pfr_phrases::reason::{Kind, Reason};
+pub use pfr_phrases::tracing::{Piece, old_place};
