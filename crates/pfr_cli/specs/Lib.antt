@@ -1,4 +1,2 @@
 pub mod Destinations
 pub mod Outputs
-pub mod Peers
-pub mod Seeds

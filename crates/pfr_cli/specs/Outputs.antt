@@ -1,9 +1,9 @@
 -- The files that a run writes.
 use Rattle.std.specs.Prelude.{ℕ, List, [], ◌∷◌, ◌++◌}
 use Rattle.std.specs.Borrow.{Bor}
-use Rattle.pfr_cli.specs.declared.words.OutputNames.{OutputNames}
-use Rattle.pfr_cli.specs.declared.words.Messages.{Messages}
-use Rattle.pfr_cli.specs.declared.words.Messages.TheVariants.{File, Peer, Nowhere}
+use Rattle.pfr_command.specs.declared.words.OutputNames.{OutputNames}
+use Rattle.pfr_command.specs.declared.words.Messages.{Messages}
+use Rattle.pfr_command.specs.declared.words.Messages.TheVariants.{File, Peer, Nowhere}
 
 -- the name of the file of messages, if they go into one
 abbrev pub messages_names : Messages → List (Bor (List ℕ))

@@ -1,7 +1,9 @@
 //! What the program says when something is wrong, in one line, and the statuses that it ends with.
 use pfr_capture::CaptureError;
+use pfr_command::Refused;
 use pfr_expand::RulesetError;
 use pfr_out::{ConfError, ConfErrorKind, StandbyStop, Stop};
+use pfr_prepare::{Prepared, Refusal};
 use pfr_sync::SyncError;
 use std::alloc::AllocError;
 use std::{fmt, io};
@@ -20,18 +22,8 @@ pub const NO_MEMORY: u8 = 4;
 /// Why the program did not do what was asked.
 #[derive(Drop)]
 pub enum Failure<'a> {
-    /// The words of the command line can't be read as text.
-    NoWords,
-    /// The words of the command line don't fit, as this text says.
-    Usage(String),
-    /// No word was given where this one is asked for.
-    MissingWord(&'a str),
-    /// A word isn't of the form that the flag asks for.
-    BadValue {
-        flag: &'a str,
-        form: &'a str,
-        word: &'a str,
-    },
+    /// The words of the command line don't fit. Where memory was refused for them, it is `Stopped`.
+    Words(Refused<'a>),
     /// The output of this name is the capture, the ruleset or another output.
     SameFile(&'a str),
     /// A file can't be opened or created, a ruleset's not be read, or a peer not be reached.
@@ -44,6 +36,15 @@ pub enum Failure<'a> {
     PrintFailed,
 }
 
+impl<'a> From<Refused<'a>> for Failure<'a> {
+    fn from(refused: Refused<'a>) -> Self {
+        match refused {
+            Refused::Memory => Failure::from(AllocError),
+            other => Failure::Words(other),
+        }
+    }
+}
+
 impl From<ConfError> for Failure<'_> {
     fn from(fault: ConfError) -> Self {
         Failure::Stopped(Stop::Ruleset(fault))
@@ -53,6 +54,15 @@ impl From<ConfError> for Failure<'_> {
 impl From<RulesetError> for Failure<'_> {
     fn from(error: RulesetError) -> Self {
         Failure::from(ConfError::from(error))
+    }
+}
+
+impl<'a> From<Refusal<'a>> for Failure<'a> {
+    fn from(refusal: Refusal<'a>) -> Self {
+        match refusal {
+            Refusal::CannotOpen(name) => Failure::CannotOpen(name),
+            Refusal::Memory => Failure::from(ConfError::from(AllocError)),
+        }
     }
 }
 
@@ -78,14 +88,21 @@ impl<'a> Failure<'a> {
         }
     }
 
+    /// The same with the line of the ruleset's file, if it is a fault of a text that was made of that file.
+    pub fn in_file(self, text: &Prepared) -> Failure<'a> {
+        match self {
+            Failure::Stopped(Stop::Ruleset(fault)) => Failure::from(ConfError {
+                line: text.line_of(fault.line),
+                kind: fault.kind,
+            }),
+            other => other,
+        }
+    }
+
     /// The status that the program ends with.
     pub fn status(&self) -> u8 {
         match self {
-            Failure::NoWords
-            | Failure::Usage(_)
-            | Failure::MissingWord(_)
-            | Failure::BadValue { .. }
-            | Failure::SameFile(_) => REFUSED,
+            Failure::Words(_) | Failure::SameFile(_) => REFUSED,
             Failure::CannotOpen(_) | Failure::PrintFailed => DEVICE,
             Failure::Stopped(stop) => status_of(stop),
             Failure::StandbyStopped(stop) => standby_status_of(stop),
@@ -141,12 +158,7 @@ pub fn report<E: io::Write>(failure: &Failure<'_>, err: &mut E) -> u8 {
 impl fmt::Display for Failure<'_> {
     fn fmt<W: fmt::Write>(&self, f: &mut fmt::Formatter<W>) -> fmt::Result {
         match self {
-            Failure::NoWords => write!(f, "the command line is no text"),
-            Failure::Usage(text) => f.write_str(text.as_str()),
-            Failure::MissingWord(name) => write!(f, "'{name}' is missing"),
-            Failure::BadValue { flag, form, word } => {
-                write!(f, "invalid value '{word}' for '{flag} <{form}>'")
-            }
+            Failure::Words(refused) => write!(f, "{refused}"),
             Failure::SameFile(name) => write!(f, "same file: {name}"),
             Failure::CannotOpen(name) => write!(f, "cannot open: {name}"),
             Failure::Stopped(stop) => write_stop(stop, f),

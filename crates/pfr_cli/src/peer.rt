@@ -1,19 +1,9 @@
-//! Who messages go to or come from, and the connection.
+//! The connection to whom messages go to or come from.
 use crate::failure::Failure;
-use pfr_net::Port;
+use pfr_command::Peer;
 use std::io;
 use std::io::Write;
 use std::net::{Net, OpenListener, OpenStream, Shutdown, TcpListener, TcpStream};
-
-/// Where a peer listens, or this program.
-#[derive(Clone, Copy)]
-pub struct Peer<'a> {
-    /// The word that names it, `HOST:PORT`.
-    pub word: &'a str,
-    /// A dotted address, or a name that the system resolves.
-    pub host: &'a str,
-    pub port: Port,
-}
 
 /// A connection that is written to alone. At its end the writing side is shut down, so that the peer sees that no more comes.
 pub struct Connection<S: OpenStream + Drop> {

@@ -1,14 +1,14 @@
 //! What `pfreplay run` does.
-use crate::adapting::rules_text;
 use crate::destination::Destination;
 use crate::failure::{CUT, DONE, Failure};
 use crate::files::{created, opened};
 use crate::peer::{Connection, connected};
 use crate::same_file::repeated_output;
-use crate::words::{Messages, OutputNames, RunWords};
 use pfr_capture::{ReaderSource, Tail, WriterSink};
+use pfr_command::{Messages, OutputNames, RunWords};
 use pfr_out::{Form, Gate, Report, RunSettings, Sinks, replay_job};
 use pfr_packet::Job;
+use pfr_prepare::prepared_text;
 use std::io::Write;
 use std::net::Net;
 use std::rt::Files;
@@ -58,17 +58,17 @@ fn job_of<'a, R: Files + AllocGlobal, E: Write>(
     asked: &RunWords<'a>,
     err: &mut E,
 ) -> Result<Job, Failure<'a>> {
-    let text = rules_text(rt, asked.rules, &asked.interface, err)?;
+    let text = prepared_text(rt, &asked.rules, err)?;
     let job = Job::new(
         rt.alloc(),
         text.text.as_slice(),
-        asked.interface,
+        asked.rules.interface,
         asked.inside.as_slice(),
         asked.seed,
     );
     match job {
         Ok(job) => Ok(job),
-        Err(fault) => Err(text.with_line(Failure::from(fault))),
+        Err(fault) => Err(Failure::from(fault).in_file(&text)),
     }
 }
 

@@ -1,12 +1,12 @@
 //! What the program does.
-use crate::adapting::{RulesFile, adapt_rules, rules_text};
-use crate::failure::{DONE, Failure, report};
+use crate::failure::{DONE, Failure, REFUSED, report};
 use crate::replaying::replay;
 use crate::standby::stand_by;
 use crate::summary::Summary;
-use crate::words::{Asked, parse};
+use pfr_command::{Asked, parse};
 use pfr_out::{StandbyStop, Stop};
-use pfr_ruleset::Interface;
+use pfr_prepare::{Prepared, Refusal, Request, prepared_text, say_faults};
+use std::alloc::Global;
 use std::io::Write;
 use std::net::Net;
 use std::rt::Files;
@@ -46,8 +46,8 @@ fn work<'a, R: Files + Net + AllocGlobal + Threads + Wait + Sync, O: Write, E: W
 ) -> Result<u8, Failure<'a>> {
     match parse(rt.alloc(), words)? {
         Asked::Text(text) => print(out, text.as_bytes()),
-        Asked::Check { rules, interface } => check(rt, rules, &interface, out, err),
-        Asked::Adapt { rules, interface } => adapt_rules(rt, rules, &interface, out, err),
+        Asked::Check(rules) => check(rt, &rules, out, err),
+        Asked::Adapt(rules) => adapt(rt, &rules, out, err),
         Asked::Run(asked) => replay(rt, &asked, out, err),
         Asked::Standby(stream) => stand_by(rt, &stream, out),
     }
@@ -56,18 +56,54 @@ fn work<'a, R: Files + Net + AllocGlobal + Threads + Wait + Sync, O: Write, E: W
 /// Prints what a ruleset makes for an interface.
 fn check<'a, R: Files + AllocGlobal, O: Write, E: Write>(
     rt: &R,
-    rules: RulesFile<'a>,
-    interface: &Interface,
+    rules: &Request<'a>,
     out: &mut O,
     err: &mut E,
 ) -> Result<u8, Failure<'a>> {
-    let text = rules_text(rt, rules, interface, err)?;
-    match Summary::of(rt.alloc(), text.text.as_slice(), interface) {
-        Ok(summary) => {
-            let line = summary.line(rt.alloc())?;
-            print(out, line.as_bytes())
-        }
-        Err(error) => Err(text.with_line(Failure::from(error))),
+    let text = prepared_text(rt, rules, err)?;
+    match Summary::of(rt.alloc(), text.text.as_slice(), &rules.interface) {
+        Ok(summary) => print_summary(rt.alloc(), summary, out),
+        Err(error) => Err(Failure::from(error).in_file(&text)),
+    }
+}
+
+/// Prints the line of a summary.
+fn print_summary<'a, O: Write>(
+    alloc: Global,
+    summary: Summary,
+    out: &mut O,
+) -> Result<u8, Failure<'a>> {
+    let line = summary.line(alloc)?;
+    print(out, line.as_bytes())
+}
+
+/// Says what was rewritten of a ruleset's text and all that is refused still, and prints the text in the words of the strict reader.
+/// Nothing is printed where memory is refused.
+fn adapt<'a, R: Files + AllocGlobal, O: Write, E: Write>(
+    rt: &R,
+    rules: &Request<'a>,
+    out: &mut O,
+    err: &mut E,
+) -> Result<u8, Failure<'a>> {
+    let text = prepared_text(rt, rules, err)?;
+    let status = faults(rt.alloc(), rules, &text, err)?;
+    match out.write_all(text.text.as_slice()) {
+        Ok(()) => Ok(status),
+        Err(_) => Err(Failure::PrintFailed),
+    }
+}
+
+/// Says all that is refused of a text, and answers the status.
+fn faults<'a, E: Write>(
+    alloc: Global,
+    rules: &Request<'a>,
+    text: &Prepared,
+    err: &mut E,
+) -> Result<u8, Failure<'a>> {
+    match say_faults(alloc, rules, text, err) {
+        Ok(true) => Ok(REFUSED),
+        Ok(false) => Ok(DONE),
+        Err(_) => Err(Failure::from(Refusal::Memory)),
     }
 }
 

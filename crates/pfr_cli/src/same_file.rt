@@ -1,11 +1,12 @@
 //! Finds an output of a run that is another of its files.
 //!
 //! A run empties its outputs before it reads the capture. So a run is refused before it opens a file if an output is the
-//! capture, the ruleset or another output, by whatever name.
+//! capture, the ruleset, a file that a flag names for it, or another output, by whatever name.
 ghost use Rattle.std.specs.Prelude.{◌≡◌, [], ◌∷◌, ◌++◌, Contains, IfOk, IfSome, if◌then◌else◌};
 ghost use Rattle.pfr_cli.specs.Outputs.{file_names};
 
-use crate::words::{Messages, RunWords};
+use pfr_command::{Messages, RunWords};
+use pfr_prepare::{Flag, Request};
 use std::alloc::AllocError;
 use std::fs::Metadata;
 use std::io::ErrorKind;
@@ -35,8 +36,8 @@ enum Location {
     Path(PathBuf),
 }
 
-/// The name of the first output that is the capture, the ruleset or an output before it. Only regular files are compared,
-/// and files that don't exist yet. A file that can't be looked at equals none.
+/// The name of the first output that is the capture, the ruleset, a file that a flag names for it, or an output before it. Only
+/// regular files are compared, and files that don't exist yet. A file that can't be looked at equals none.
 pub fn repeated_output<'a, R: Files + AllocGlobal>(
     rt: &R,
     asked: &RunWords<'a>,
@@ -56,7 +57,7 @@ fn repeated_among<'a, R: Files + AllocGlobal>(
     ensures { IfOk result (λ repeated. IfSome repeated (Contains (file_names asked.now.outputs))) }
 {
     add_input(rt, files, asked.capture)?;
-    add_input(rt, files, asked.rules.name)?;
+    add_ruleset(rt, files, &asked.rules)?;
     let outputs = &asked.outputs;
     let names = [
         outputs.verdicts,
@@ -111,6 +112,31 @@ fn is_among(files: &mut Vec<FileIdentity>, file: FileIdentity) -> Result<bool, A
     }
     files.push(file)?;
     Ok(false)
+}
+
+/// Adds a ruleset's file, and if it is rewritten those that flags name, if they exist.
+fn add_ruleset<R: Files + AllocGlobal>(
+    rt: &R,
+    files: &mut Vec<FileIdentity>,
+    rules: &Request<'_>,
+) -> Result<(), AllocError> {
+    add_input(rt, files, rules.name)?;
+    for flag in rules.flags.as_slice() {
+        add_file_of(rt, files, flag)?;
+    }
+    Ok(())
+}
+
+/// Adds the file that a flag names, if it names one that exists.
+fn add_file_of<R: Files + AllocGlobal>(
+    rt: &R,
+    files: &mut Vec<FileIdentity>,
+    flag: &Flag<'_>,
+) -> Result<(), AllocError> {
+    match flag.file() {
+        Some(name) => add_input(rt, files, name),
+        None => Ok(()),
+    }
 }
 
 /// Adds a file that is read, if it exists.

@@ -2,8 +2,8 @@
 use crate::failure::{DONE, Failure};
 use crate::files::opened;
 use crate::peer::accepted;
-use crate::words::Stream;
 use pfr_capture::{ReaderSource, Source, WriterSink};
+use pfr_command::Stream;
 use pfr_out::{Framing, standby};
 use std::alloc::Global;
 use std::io::Write;

@@ -1,4 +1,5 @@
 //! The commands of the program, with their words, flags and help.
+use crate::around::surrounding_args;
 use crate::values::{ADDRESS, BATCH, FILE, INSIDE, INTERFACE, PEER, SEED, WORKERS};
 use clap::{Arg, ArgAction, Command};
 use std::alloc::{AllocError, Global};
@@ -16,8 +17,9 @@ const ADAPT_EXAMPLE: &str =
 RULES:LINE:COLUMN: KIND: WORD: WHY. KIND is note if no verdict depends on it, and warning if
 verdicts may differ from pf's. error says what is still refused.
 
-Example:
-  pfreplay adapt /etc/pf.conf --interface em0 --address 192.0.2.1/24 > adapted.conf";
+Examples:
+  pfreplay adapt /etc/pf.conf --interface em0 --address 192.0.2.1/24 > adapted.conf
+  pfreplay adapt pf.conf --interface em0 --address 192.0.2.1/24 --table spammers=spammers.txt";
 
 const STANDBY_EXAMPLE: &str =
     "It prints a line for each state, by number: N PROTO DIR WIRE STACK r=R PEER PEER TIMEOUT.
@@ -60,7 +62,7 @@ const RUN_FLAGS: [(&str, &str, &str); 5] = [
 ];
 
 /// The whole command line.
-pub fn command_line<'a>(alloc: Global) -> Result<Command<'a>, AllocError> {
+pub(crate) fn command_line<'a>(alloc: Global) -> Result<Command<'a>, AllocError> {
     let program = with_run(alloc, program(alloc)?)?;
     let program = program.subcommand(check_command(alloc)?)?;
     let program = program.subcommand(adapt_command(alloc)?)?;
@@ -138,12 +140,21 @@ fn check_command<'a>(alloc: Global) -> Result<Command<'a>, AllocError> {
 fn with_adapt<'a>(alloc: Global, command: Command<'a>) -> Result<Command<'a>, AllocError> {
     let help =
         "Rewrite the ruleset as the command adapt does, and say on standard error what was rewritten";
-    command.arg(
-        Arg::new(alloc, "adapt")
-            .long("adapt")
-            .help(help)
-            .action(ArgAction::SetTrue),
-    )
+    let adapt = Arg::new(alloc, "adapt")
+        .long("adapt")
+        .help(help)
+        .action(ArgAction::SetTrue);
+    with_surroundings(alloc, command.arg(adapt)?, true)
+}
+
+/// A command with the flags that say what a ruleset can't. If they need it, they are refused without the flag that has the ruleset
+/// rewritten.
+fn with_surroundings<'a>(
+    alloc: Global,
+    command: Command<'a>,
+    need_adapt: bool,
+) -> Result<Command<'a>, AllocError> {
+    command.args(surrounding_args(alloc, need_adapt)?)
 }
 
 /// The command that rewrites a ruleset.
@@ -151,7 +162,7 @@ fn adapt_command<'a>(alloc: Global) -> Result<Command<'a>, AllocError> {
     let command = Command::new(alloc, "adapt")
         .about("Rewrites a ruleset in the words that run and check read")
         .after_help(ADAPT_EXAMPLE);
-    with_ruleset(alloc, command)
+    with_surroundings(alloc, with_ruleset(alloc, command)?, false)
 }
 
 /// The command that reads messages.

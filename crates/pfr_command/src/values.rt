@@ -1,11 +1,11 @@
 //! The values behind the flags of the command line, and their forms.
 ghost use Rattle.std.specs.Prelude.{◌≡◌, ◌≤◌, ◌<◌, ℕ, IfOk, IfSome, MatchOption, OnErr, SomeIff, length, slice_index};
 ghost use Rattle.std.specs.Char.{digit_value};
-ghost use Rattle.pfr_cli.specs.Peers.{Names, NamesNone, WritesNone, WritesPort};
-ghost use Rattle.pfr_cli.specs.Seeds.{byte_at};
+ghost use Rattle.pfr_command.specs.Peers.{Names, NamesNone, WritesNone, WritesPort};
+ghost use Rattle.pfr_command.specs.Seeds.{byte_at};
 
-use crate::failure::Failure;
 use crate::peer::Peer;
+use crate::refused::Refused;
 use pfr_net::interface::LONGEST_NAME;
 use pfr_net::notation::number;
 use pfr_net::{IfName, Net, Port};
@@ -13,26 +13,26 @@ use pfr_ruleset::Interface;
 use std::alloc::{AllocError, Global};
 
 /// The form of the value behind `--interface`.
-pub const INTERFACE: &str = "NAME";
+pub(crate) const INTERFACE: &str = "NAME";
 /// The form of the value behind `--address`.
-pub const ADDRESS: &str = "A.B.C.D/BITS";
+pub(crate) const ADDRESS: &str = "A.B.C.D/BITS";
 /// The form of the value behind `--inside`.
-pub const INSIDE: &str = "NETS";
+pub(crate) const INSIDE: &str = "NETS";
 /// The form of the value behind `--seed`.
-pub const SEED: &str = "HEX";
+pub(crate) const SEED: &str = "HEX";
 /// The form of the value behind `--batch`.
-pub const BATCH: &str = "1..4096";
+pub(crate) const BATCH: &str = "1..4096";
 /// The form of the value behind `--workers`.
-pub const WORKERS: &str = "0..64";
+pub(crate) const WORKERS: &str = "0..64";
 /// The form of the value behind `--peer`.
-pub const PEER: &str = "HOST:PORT";
+pub(crate) const PEER: &str = "HOST:PORT";
 /// The form of the value behind the flags that name a file.
-pub const FILE: &str = "FILE";
+pub(crate) const FILE: &str = "FILE";
 
 /// The interface of this name, which has 1 to 15 bytes, and this address, with the length of its prefix.
-pub fn interface<'a>(name: &'a str, address: &'a str) -> Result<Interface, Failure<'a>> {
+pub(crate) fn interface<'a>(name: &'a str, address: &'a str) -> Result<Interface, Refused<'a>> {
     if name.is_empty() || name.len() > LONGEST_NAME {
-        return Err(Failure::BadValue {
+        return Err(Refused::BadValue {
             flag: "--interface",
             form: INTERFACE,
             word: name,
@@ -44,7 +44,7 @@ pub fn interface<'a>(name: &'a str, address: &'a str) -> Result<Interface, Failu
             address: network.address,
             bits: network.bits,
         }),
-        _ => Err(Failure::BadValue {
+        _ => Err(Refused::BadValue {
             flag: "--address",
             form: ADDRESS,
             word: address,
@@ -53,13 +53,13 @@ pub fn interface<'a>(name: &'a str, address: &'a str) -> Result<Interface, Failu
 }
 
 /// The networks that a word lists, one or more, separated by commas; one without a prefix is a single address.
-pub fn networks<'a>(alloc: Global, word: &'a str) -> Result<Vec<Net>, Failure<'a>> {
+pub(crate) fn networks<'a>(alloc: Global, word: &'a str) -> Result<Vec<Net>, Refused<'a>> {
     let mut networks = Vec::new(alloc);
     for part in word.split(',') {
         match Net::parse(part.as_bytes()) {
             Some(network) => networks.push(network).map_err(AllocError::from)?,
             None => {
-                return Err(Failure::BadValue {
+                return Err(Refused::BadValue {
                     flag: "--inside",
                     form: INSIDE,
                     word: part,
@@ -71,8 +71,8 @@ pub fn networks<'a>(alloc: Global, word: &'a str) -> Result<Vec<Net>, Failure<'a
 }
 
 /// The seed that 64 hexadecimal digits write, first digits first.
-pub fn seed<'a>(word: &'a str) -> Result<[u8; 32], Failure<'a>> {
-    seed_of(word.as_bytes()).ok_or(Failure::BadValue {
+pub(crate) fn seed<'a>(word: &'a str) -> Result<[u8; 32], Refused<'a>> {
+    seed_of(word.as_bytes()).ok_or(Refused::BadValue {
         flag: "--seed",
         form: SEED,
         word,
@@ -107,12 +107,12 @@ fn digit(byte: u8) -> Option<u8>
 }
 
 /// How many packets are taken and written at a time, 1 to 4096, in decimal digits.
-pub fn batch<'a>(word: &'a str) -> Result<usize, Failure<'a>>
+pub(crate) fn batch<'a>(word: &'a str) -> Result<usize, Refused<'a>>
     ensures { IfOk result (λ batch. (1 ≤ batch) × (batch ≤ 4096)) }
 {
     match number(word.as_bytes()) {
         Some(batch) if 1 <= batch && batch <= 4096 => Ok(batch as usize),
-        _ => Err(Failure::BadValue {
+        _ => Err(Refused::BadValue {
             flag: "--batch",
             form: BATCH,
             word,
@@ -121,12 +121,12 @@ pub fn batch<'a>(word: &'a str) -> Result<usize, Failure<'a>>
 }
 
 /// How many workers evaluate packets ahead, 0 to 64, in decimal digits.
-pub fn workers<'a>(word: &'a str) -> Result<u64, Failure<'a>>
+pub(crate) fn workers<'a>(word: &'a str) -> Result<u64, Refused<'a>>
     ensures { IfOk result (λ workers. workers ≤ 64) }
 {
     match number(word.as_bytes()) {
         Some(workers) if workers <= 64 => Ok(workers),
-        _ => Err(Failure::BadValue {
+        _ => Err(Refused::BadValue {
             flag: "--workers",
             form: WORKERS,
             word,
@@ -135,11 +135,11 @@ pub fn workers<'a>(word: &'a str) -> Result<u64, Failure<'a>>
 }
 
 /// The host and the port that the word behind a flag names.
-pub fn peer<'a>(flag: &'a str, word: &'a str) -> Result<Peer<'a>, Failure<'a>>
+pub(crate) fn peer<'a>(flag: &'a str, word: &'a str) -> Result<Peer<'a>, Refused<'a>>
     ensures named { IfOk result (λ peer. (peer.word.now ≡ word.now) × Names word.now peer.host.now peer.port.0) }
     ensures refused { OnErr result (NamesNone word.now) }
 {
-    peer_of(word).ok_or(Failure::BadValue {
+    peer_of(word).ok_or(Refused::BadValue {
         flag,
         form: PEER,
         word,

@@ -1,14 +1,15 @@
 //! The words of the command line.
 ghost use Rattle.std.specs.Prelude.{◌≤◌, IfOk};
 
-use crate::adapting::RulesFile;
+use crate::around::given_flags;
 use crate::commands::command_line;
-use crate::failure::Failure;
 use crate::peer::Peer;
+use crate::refused::Refused;
 use crate::values::{batch, interface, networks, peer, seed, workers};
 use clap::ArgMatches;
 use clap::error::ErrorKind;
 use pfr_net::Net;
+use pfr_prepare::Request;
 use pfr_ruleset::Interface;
 use std::alloc::{AllocError, Global};
 use std::rt::Env;
@@ -19,16 +20,10 @@ use std::{env, io};
 pub enum Asked<'a> {
     /// To replay a capture.
     Run(RunWords<'a>),
-    /// To say how many rules the ruleset in this file makes for an interface.
-    Check {
-        rules: RulesFile<'a>,
-        interface: Interface,
-    },
-    /// To print the ruleset in this file in the words of the strict reader.
-    Adapt {
-        rules: &'a str,
-        interface: Interface,
-    },
+    /// To say how many rules a ruleset makes.
+    Check(Request<'a>),
+    /// To print a ruleset in the words of the strict reader.
+    Adapt(Request<'a>),
     /// To print what a standby holds after the messages that stand here.
     Standby(Stream<'a>),
     /// To print this text and no more.
@@ -47,14 +42,19 @@ pub enum Stream<'a> {
 /// What the words behind `run` say: which capture is replayed through which ruleset, and how.
 #[derive(Drop)]
 pub struct RunWords<'a> {
+    /// The file with the packet capture.
     pub capture: &'a str,
-    pub rules: RulesFile<'a>,
-    pub interface: Interface,
+    /// The ruleset, and the interface that it is for.
+    pub rules: Request<'a>,
+    /// The networks whose packets go out.
     pub inside: Vec<Net>,
+    /// What random choices begin with.
     pub seed: [u8; 32],
-    /// How many packets are taken and written at a time, and how many workers evaluate them ahead.
+    /// How many packets are taken and written at a time, 1 to 4096.
     pub batch: usize,
+    /// How many workers evaluate them ahead, 0 to 64.
     pub workers: u64,
+    /// The files that are written, and where the messages go.
     pub outputs: OutputNames<'a>,
     pub ghost batch_within: { (1 ≤ batch) × (batch ≤ 4096) },
     pub ghost workers_within: { workers ≤ 64 },
@@ -69,10 +69,15 @@ const WORKERS: u64 = 4;
 /// The files that a run writes, and where its messages go.
 #[derive(Clone, Copy)]
 pub struct OutputNames<'a> {
+    /// The file for a line on each packet.
     pub verdicts: &'a str,
+    /// The file for the packets that go on.
     pub packets: &'a str,
+    /// The file for the counters of the rules.
     pub counters: &'a str,
+    /// The file for the states at the end.
     pub states: &'a str,
+    /// Where the messages to a standby go.
     pub messages: Messages<'a>,
 }
 
@@ -83,22 +88,23 @@ pub enum Messages<'a> {
     File(&'a str),
     /// To this peer.
     Peer(Peer<'a>),
+    /// None are written.
     Nowhere,
 }
 
 /// The words that the process was started with, the program's name first.
-pub fn of_process<'a, R: Env + AllocGlobal>(rt: &R) -> Result<Vec<String>, Failure<'a>> {
+pub fn of_process<'a, R: Env + AllocGlobal>(rt: &R) -> Result<Vec<String>, Refused<'a>> {
     match env::args(rt) {
         Ok(words) => Ok(words.collect(rt.alloc())?),
         Err(error) => match error.kind() {
-            io::ErrorKind::OutOfMemory => Err(Failure::from(AllocError)),
-            _ => Err(Failure::NoWords),
+            io::ErrorKind::OutOfMemory => Err(Refused::from(AllocError)),
+            _ => Err(Refused::NoWords),
         },
     }
 }
 
 /// Reads the words of a command line, the program's name first.
-pub fn parse<'a>(alloc: Global, words: &'a [String]) -> Result<Asked<'a>, Failure<'a>> {
+pub fn parse<'a>(alloc: Global, words: &'a [String]) -> Result<Asked<'a>, Refused<'a>> {
     let matches = match command_line(alloc)?.try_get_matches_from(words) {
         Ok(matches) => matches,
         Err(error) => return refused(alloc, &error),
@@ -107,49 +113,51 @@ pub fn parse<'a>(alloc: Global, words: &'a [String]) -> Result<Asked<'a>, Failur
         return run_words(alloc, matches);
     }
     if let Some(matches) = matches.subcommand_matches("check") {
-        return check_words(matches);
+        return check_words(alloc, matches);
     }
     if let Some(matches) = matches.subcommand_matches("adapt") {
-        return adapt_words(matches);
+        return adapt_words(alloc, matches);
     }
     match matches.subcommand_matches("standby") {
         Some(matches) => standby_words(matches),
-        None => Err(Failure::MissingWord("COMMAND")),
+        None => Err(Refused::MissingWord("COMMAND")),
     }
 }
 
 /// What becomes of words that are no command: a text where they ask for it, and else what is wrong with them.
-fn refused<'a>(alloc: Global, error: &clap::Error) -> Result<Asked<'a>, Failure<'a>> {
+fn refused<'a>(alloc: Global, error: &clap::Error) -> Result<Asked<'a>, Refused<'a>> {
     match error.kind() {
-        ErrorKind::OutOfMemory => Err(Failure::from(AllocError)),
+        ErrorKind::OutOfMemory => Err(Refused::from(AllocError)),
         ErrorKind::DisplayHelp | ErrorKind::DisplayVersion => {
             Ok(Asked::Text(error.to_string(alloc)?))
         }
-        _ => Err(Failure::Usage(one_line(alloc, error)?)),
+        _ => Err(Refused::Usage(one_line(alloc, error)?)),
     }
 }
 
 /// What the words behind `run` ask for.
-fn run_words<'a>(alloc: Global, matches: &ArgMatches<'a>) -> Result<Asked<'a>, Failure<'a>> {
+fn run_words<'a>(alloc: Global, matches: &ArgMatches<'a>) -> Result<Asked<'a>, Refused<'a>> {
     let capture = given(matches, "CAPTURE")?;
-    let rules = given_rules(matches)?;
     let outputs = given_outputs(matches)?;
-    let interface = given_interface(matches)?;
-    let inside = networks(alloc, given(matches, "inside")?)?;
+    let inside = given(matches, "inside")?;
+    let seed = given_seed(matches)?;
+    let batch = given_batch(matches)?;
+    let workers = given_workers(matches)?;
+    let rules = given_rules(alloc, matches, matches.get_flag("adapt"))?;
+    let inside = networks(alloc, inside)?;
     Ok(Asked::Run(RunWords {
         capture,
         rules,
-        interface,
         inside,
-        seed: given_seed(matches)?,
-        batch: given_batch(matches)?,
-        workers: given_workers(matches)?,
+        seed,
+        batch,
+        workers,
         outputs,
     }))
 }
 
 /// The files that the words name for the outputs, and where they send the messages.
-fn given_outputs<'a>(matches: &ArgMatches<'a>) -> Result<OutputNames<'a>, Failure<'a>> {
+fn given_outputs<'a>(matches: &ArgMatches<'a>) -> Result<OutputNames<'a>, Refused<'a>> {
     Ok(OutputNames {
         verdicts: given(matches, "verdicts")?,
         packets: given(matches, "packets")?,
@@ -160,7 +168,7 @@ fn given_outputs<'a>(matches: &ArgMatches<'a>) -> Result<OutputNames<'a>, Failur
 }
 
 /// Where the words send the messages. At most one of the two flags is there.
-fn given_messages<'a>(matches: &ArgMatches<'a>) -> Result<Messages<'a>, Failure<'a>> {
+fn given_messages<'a>(matches: &ArgMatches<'a>) -> Result<Messages<'a>, Refused<'a>> {
     if let Some(name) = matches.get_str("messages") {
         return Ok(Messages::File(name));
     }
@@ -171,7 +179,7 @@ fn given_messages<'a>(matches: &ArgMatches<'a>) -> Result<Messages<'a>, Failure<
 }
 
 /// The seed that the words say, or zeros.
-fn given_seed<'a>(matches: &ArgMatches<'a>) -> Result<[u8; 32], Failure<'a>> {
+fn given_seed<'a>(matches: &ArgMatches<'a>) -> Result<[u8; 32], Refused<'a>> {
     match matches.get_str("seed") {
         Some(digits) => seed(digits),
         None => Ok([0; 32]),
@@ -179,7 +187,7 @@ fn given_seed<'a>(matches: &ArgMatches<'a>) -> Result<[u8; 32], Failure<'a>> {
 }
 
 /// How many packets the words say are taken and written at a time, or the default.
-fn given_batch<'a>(matches: &ArgMatches<'a>) -> Result<usize, Failure<'a>>
+fn given_batch<'a>(matches: &ArgMatches<'a>) -> Result<usize, Refused<'a>>
     ensures { IfOk result (λ batch. (1 ≤ batch) × (batch ≤ 4096)) }
 {
     match matches.get_str("batch") {
@@ -189,7 +197,7 @@ fn given_batch<'a>(matches: &ArgMatches<'a>) -> Result<usize, Failure<'a>>
 }
 
 /// How many workers the words say, or the default.
-fn given_workers<'a>(matches: &ArgMatches<'a>) -> Result<u64, Failure<'a>>
+fn given_workers<'a>(matches: &ArgMatches<'a>) -> Result<u64, Refused<'a>>
     ensures { IfOk result (λ workers. workers ≤ 64) }
 {
     match matches.get_str("workers") {
@@ -198,49 +206,53 @@ fn given_workers<'a>(matches: &ArgMatches<'a>) -> Result<u64, Failure<'a>>
     }
 }
 
-/// The file with the ruleset, and whether it is to be adapted.
-fn given_rules<'a>(matches: &ArgMatches<'a>) -> Result<RulesFile<'a>, Failure<'a>> {
-    Ok(RulesFile {
-        name: given(matches, "RULES")?,
-        adapts: matches.get_flag("adapt"),
+/// The file with the ruleset, its interface and what else its text can't say.
+fn given_rules<'a>(
+    alloc: Global,
+    matches: &ArgMatches<'a>,
+    adapts: bool,
+) -> Result<Request<'a>, Refused<'a>> {
+    let name = given(matches, "RULES")?;
+    let interface = given_interface(matches)?;
+    let flags = given_flags(alloc, matches)?;
+    Ok(Request {
+        name,
+        adapts,
+        interface,
+        flags,
     })
 }
 
 /// What the words behind `check` ask for.
-fn check_words<'a>(matches: &ArgMatches<'a>) -> Result<Asked<'a>, Failure<'a>> {
-    Ok(Asked::Check {
-        rules: given_rules(matches)?,
-        interface: given_interface(matches)?,
-    })
+fn check_words<'a>(alloc: Global, matches: &ArgMatches<'a>) -> Result<Asked<'a>, Refused<'a>> {
+    let adapts = matches.get_flag("adapt");
+    Ok(Asked::Check(given_rules(alloc, matches, adapts)?))
 }
 
 /// What the words behind `adapt` ask for.
-fn adapt_words<'a>(matches: &ArgMatches<'a>) -> Result<Asked<'a>, Failure<'a>> {
-    Ok(Asked::Adapt {
-        rules: given(matches, "RULES")?,
-        interface: given_interface(matches)?,
-    })
+fn adapt_words<'a>(alloc: Global, matches: &ArgMatches<'a>) -> Result<Asked<'a>, Refused<'a>> {
+    Ok(Asked::Adapt(given_rules(alloc, matches, true)?))
 }
 
 /// What the words behind `standby` ask for. One of the two flags has to be there, and at most one is.
-fn standby_words<'a>(matches: &ArgMatches<'a>) -> Result<Asked<'a>, Failure<'a>> {
+fn standby_words<'a>(matches: &ArgMatches<'a>) -> Result<Asked<'a>, Refused<'a>> {
     if let Some(name) = matches.get_str("messages") {
         return Ok(Asked::Standby(Stream::File(name)));
     }
     match matches.get_str("listen") {
         Some(word) => Ok(Asked::Standby(Stream::Listen(peer("--listen", word)?))),
-        None => Err(Failure::MissingWord("--messages or --listen")),
+        None => Err(Refused::MissingWord("--messages or --listen")),
     }
 }
 
 /// The interface that the words say.
-fn given_interface<'a>(matches: &ArgMatches<'a>) -> Result<Interface, Failure<'a>> {
+fn given_interface<'a>(matches: &ArgMatches<'a>) -> Result<Interface, Refused<'a>> {
     interface(given(matches, "interface")?, given(matches, "address")?)
 }
 
 /// The word for this place or flag, which was asked for.
-fn given<'a>(matches: &ArgMatches<'a>, name: &'a str) -> Result<&'a str, Failure<'a>> {
-    matches.get_str(name).ok_or(Failure::MissingWord(name))
+fn given<'a>(matches: &ArgMatches<'a>, name: &'a str) -> Result<&'a str, Refused<'a>> {
+    matches.get_str(name).ok_or(Refused::MissingWord(name))
 }
 
 /// What is wrong with the words, in one line: the text up to its first empty line.

@@ -6,7 +6,7 @@ use Rattle.std.specs.Str.{NoCharPasses}
 use Rattle.std.proofs.lemmas.List.{get_or_at}
 use Rattle.std.proofs.lemmas.Str.Pattern.{NoCharPasses-char, drop_at_char}
 use Rattle.pfr_net.specs.Notation.{are_digits, number}
-use Rattle.pfr_cli.specs.Peers.{Names, NamesNone, WritesNone, WritesPort}
+use Rattle.pfr_command.specs.Peers.{Names, NamesNone, WritesNone, WritesPort}
 
 abbrev pub HasNoColon : List ℕ → Type 0
 HasNoColon text = (front back : List ℕ) → text ≡ front ++ 58 ∷ back → ⊥

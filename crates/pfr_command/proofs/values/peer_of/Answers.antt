@@ -1,7 +1,7 @@
 use Rattle.std.proofs.Common.{◌≡◌, length, subst, arith}
-use Rattle.pfr_cli.specs.Peers.{NamesNone, WritesNone}
-use Rattle.pfr_cli.proofs.PeerLemmas.{none_without_colon, none_without_host, none_without_port}
-use Rattle.pfr_cli.proofs.values.peer_of.Goals as goal
+use Rattle.pfr_command.specs.Peers.{NamesNone, WritesNone}
+use Rattle.pfr_command.proofs.PeerLemmas.{none_without_colon, none_without_host, none_without_port}
+use Rattle.pfr_command.proofs.values.peer_of.Goals as goal
 
 pub returns-in_err-host : goal.returns-in_err-host
 returns-in_err-host c =

@@ -1,0 +1,45 @@
+//! What is wrong with the words of a command line.
+use std::alloc::AllocError;
+use std::fmt;
+
+/// Why the words of a command line ask for nothing that can be done.
+#[derive(Drop)]
+pub enum Refused<'a> {
+    /// The words of the command line can't be read as text.
+    NoWords,
+    /// The words of the command line don't fit, as this text says.
+    Usage(String),
+    /// No word was given where this one is asked for.
+    MissingWord(&'a str),
+    /// A word isn't of the form that the flag asks for.
+    BadValue {
+        /// The flag as it is written.
+        flag: &'a str,
+        /// The form, as the help calls it.
+        form: &'a str,
+        /// The word behind the flag, or the part of it that is wrong.
+        word: &'a str,
+    },
+    /// Memory was refused.
+    Memory,
+}
+
+impl From<AllocError> for Refused<'_> {
+    fn from(_refused: AllocError) -> Self {
+        Refused::Memory
+    }
+}
+
+impl fmt::Display for Refused<'_> {
+    fn fmt<W: fmt::Write>(&self, f: &mut fmt::Formatter<W>) -> fmt::Result {
+        match self {
+            Refused::NoWords => write!(f, "the command line is no text"),
+            Refused::Usage(text) => f.write_str(text.as_str()),
+            Refused::MissingWord(name) => write!(f, "'{name}' is missing"),
+            Refused::BadValue { flag, form, word } => {
+                write!(f, "invalid value '{word}' for '{flag} <{form}>'")
+            }
+            Refused::Memory => write!(f, "no memory"),
+        }
+    }
+}

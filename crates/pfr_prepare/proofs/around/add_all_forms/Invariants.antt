@@ -1,0 +1,8 @@
+use Rattle.std.proofs.Common.{◌≡◌, ◌++◌, drop}
+use Rattle.pfr_prepare.specs.Sources as spec
+use Rattle.pfr_prepare.proofs.around.add_all_forms.Given as goal
+
+abbrev pub invariant-loop-source : goal.invariant-loop-source
+invariant-loop-source l =
+    l.given.entries ++ spec.all_forms l.group l.member (drop l.source-index l.sources)
+    ≡ l.fn.given.entries ++ spec.all_forms l.group l.member l.sources

@@ -1,0 +1,5 @@
+pub mod Flags
+pub mod Lines
+pub mod Making
+pub mod Refused
+pub mod Sources
