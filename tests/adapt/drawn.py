@@ -1,6 +1,8 @@
 """Random texts: statements of pieces of the grammar in any order, and hostile texts."""
 
 from adapt import names
+from adapt.drawn_forms import MACROS, POOL_WORDS, Forms
+from adapt.drawn_surroundings import ADDRESSES, GROUP_NAMES, SERVICE_NAMES
 
 BATCH = 10
 
@@ -32,29 +34,13 @@ SETTINGS = words("""
     debug~urgent ruleset-optimization~basic optimization
     """)
 BLANKS = (" ",) * 30 + ("  ", "\t", " \t ", "\r ", " \\\n ", "\\\n")
+BLANKS_OF_VALUES = tuple(blank for blank in BLANKS if "\r" not in blank)
 LINE_ENDS = ("\n",) * 8 + ("\r\n", " # of tag x { (\n", "\n\n", " \n", " # a \\\n b\n")
 BYTES = bytes(range(256))
 
 
-class Drawer:
-    """Draws statements."""
-
-    def __init__(self, random):
-        self.random = random
-
-    def one_of(self, *pieces):
-        return self.random.choice(pieces)
-
-    def is_so(self, share):
-        return self.random.random() < share
-
-    def listed(self, pieces):
-        """One of the pieces, or some in braces."""
-        if self.is_so(0.6):
-            return self.one_of(*pieces)
-        items = self.random.choices(pieces, k=self.random.randint(1, 4))
-        comma = self.one_of(", ", ",", " ", " , ", ",\n  ", "  # , imaps\n ")
-        return f"{{{self.one_of('', ' ')}{comma.join(items)}{self.one_of('', ' ')}}}"
+class Drawer(Forms):
+    """Draws statements and texts."""
 
     def hosts(self, pieces):
         """One of the hosts, or some in braces, with an IPv6 address among them now and then, or nothing but these."""
@@ -119,7 +105,8 @@ class Drawer:
                             "no nat", "no rdr", "rdr pass", "no binat")
         parts = [self.one_of("in", "out", "log", "log (all)", "log (all, to pflog1)", "quick") for _ in range(2)
                  if self.is_so(0.5)]
-        parts += [f"on {self.listed(('em0', '!em1', 'lo0'))}"] if self.is_so(0.5) else []
+        # a rule has one `on`: of others the program tells by themselves whether they are those of the run
+        parts += [f"on {self.listed(('em0', '!em1', 'lo0'))}"] if " on " not in start and self.is_so(0.5) else []
         parts += [self.option()] if self.is_so(0.3) else []
         parts += ["inet"] if self.is_so(0.3) else []
         parts += [f"proto {self.listed(PROTOCOLS)}"] if self.is_so(0.5) else []
@@ -134,7 +121,9 @@ class Drawer:
         return " ".join([start, *parts])
 
     def statement(self, depth=0):
-        kind = self.random.randint(0, 19)
+        kind = self.random.randint(0, 23)
+        if kind > 19:
+            return self.new_statement()
         if kind < 12:
             return self.rule()
         if kind == 12:
@@ -164,8 +153,14 @@ class Drawer:
 
     def line(self):
         """A statement with blanks and ends of lines of any kind."""
-        parts = self.statement().split(" ")
-        return "".join(part + self.one_of(*BLANKS) for part in parts[:-1]) + parts[-1]
+        return self.blanked(self.statement())
+
+    def blanked(self, statement):
+        """A statement with blanks of any kind. There is no carriage return in the value of a macro: FORMATS has such a
+        value as unknown, and the program knows it."""
+        blanks = BLANKS_OF_VALUES if " = " in statement else BLANKS
+        parts = statement.split(" ")
+        return "".join(part + self.one_of(*blanks) for part in parts[:-1]) + parts[-1]
 
     def text(self, count=BATCH):
         """A text of some statements."""
@@ -173,10 +168,6 @@ class Drawer:
         return (lines.rstrip("\n") if self.is_so(0.2) else lines).encode()
 
     # Texts in the order of the language, of which most are accepted
-
-    def some(self, share, *pieces):
-        """One of the pieces, or nothing."""
-        return [self.one_of(*pieces)] if self.is_so(share) else []
 
     def fitting_hosts(self):
         hosts = ("any", "10/8", "172.16/12", "192.168.1/24", "10.0.0.1", "(em0)", "em0:network", "<t>", "!10/8", "self")
@@ -217,8 +208,7 @@ class Drawer:
         return " ".join([*start, *self.fitting_hosts(), *options])
 
     def fitting_line(self, statement):
-        parts = statement.split(" ")
-        return "".join(part + self.one_of(*BLANKS) for part in parts[:-1]) + parts[-1] + self.one_of(*LINE_ENDS)
+        return self.blanked(statement) + self.one_of(*LINE_ENDS)
 
     def fitting(self, count=BATCH):
         """A text whose statements are in order."""
@@ -238,11 +228,15 @@ class Drawer:
             statements.append(rule)
         return "".join(map(self.fitting_line, statements)).encode()
 
+    def written(self, count=BATCH):
+        """A text in the forms that programs write."""
+        return "".join(map(self.fitting_line, self.written_statements(count))).encode()
+
     # Hostile texts
 
     def broken(self):
         """A text with some of its bytes gone, doubled, or others."""
-        text = bytearray(self.text(4))
+        text = bytearray(self.text(4) if self.is_so(0.5) else self.written(4))
         for _ in range(self.random.randint(1, 8)):
             at = self.random.randrange(len(text))
             text[at:at + self.random.randint(0, 3)] = self.random.choice(
@@ -251,9 +245,17 @@ class Drawer:
 
     def pieces(self):
         """Pieces in any order."""
-        every = (*ENDS, *SERVICES, *VALUES, *STATE_OPTIONS, *RARE, *"{}(),=!<>\n\n\n\\\"", "->", "pass", "from", "set",
-                 "anchor", "table", "tag", "log", "port", "proto", "scrub", "keep", "state", "é", "x" * 5000)
+        every = (*ENDS, *SERVICES, *VALUES, *self.new_pieces(), *STATE_OPTIONS, *RARE, *"{}(),=!<>\n\n\n\\\"", "->",
+                 "pass", "from", "set", "anchor", "table", "tag", "log", "port", "proto", "scrub", "keep", "state", "é",
+                 "x" * 5000)
         return self.one_of(" ", "").join(self.random.choices(every, k=self.random.randint(1, 60))).encode()
+
+    def new_pieces(self):
+        """Words of the forms that programs write."""
+        return (*ADDRESSES, *GROUP_NAMES, *SERVICE_NAMES, *POOL_WORDS, *(f"${name}" for name in MACROS),
+                *(f"${name}:network" for name in MACROS), *(f"\n{self.macro(name)}\n" for name in MACROS),
+                "antispoof", "for", "inet", "label", "file", "<a-b>", "table <a-b>", "(self)", "->", "nat", "rdr", "on",
+                "limit", "anchors", "no-route", "urpf-failed", "max-src-conn-rate", "/", "-", "><")
 
     def bytes(self):
         return bytes(self.random.choices(BYTES, k=self.random.randint(0, 300)))

@@ -8,6 +8,17 @@ GRAMMAR = frozenset(b"""
     binat static-port
     """.split())
 
+# words that are left out in the strict language, and names for numbers that it has: no macro or table has such a name
+TAKEN = GRAMMAR | frozenset(b"""
+    scrub altq queue antispoof load include route-to reply-to dup-to tag tagged user group os tos probability fragment
+    modulate synproxy sloppy max max-src-nodes max-src-states max-src-conn max-src-conn-rate overload source-track
+    bitmask random source-hash round-robin sticky-address file inet6 icmp6-type return-rst return-icmp return-icmp6
+    no-route urpf-failed
+    icmp igmp tcp udp gre esp ah
+    ftp ssh telnet smtp domain http www pop3 ntp imap snmp https
+    echorep unreach redir echoreq timex paramprob
+    """.split())
+
 
 def numbered(text):
     """Names with their numbers, as bytes: `NAME NUMBER, NAME NUMBER`."""
@@ -29,6 +40,10 @@ SERVICES = numbered("""
     995, socks 1080, openvpn 1194, radius 1812, radacct 1813, nfsd 2049, mysql 3306, svn 3690, sip 5060, postgresql
     5432
     """)
+# services that the strict language has
+STRICT_SERVICES = numbered("""
+    ftp 21, ssh 22, telnet 23, smtp 25, domain 53, http 80, www 80, pop3 110, ntp 123, imap 143, snmp 161, https 443
+    """)
 ICMP = numbered("""
     squench 4, althost 6, routeradv 9, routersol 10, timereq 13, timerep 14, inforeq 15, inforep 16, maskreq 17,
     maskrep 18, trace 30, dataconv 31, mobredir 32, ipv6-where 33, ipv6-here 34, mobregreq 35, mobregrep 36,
@@ -40,29 +55,45 @@ ICMP = numbered("""
 
 # statements that are left out whole, by their first word
 QUEUES = (b"altq", b"queue")
-SETTINGS = (b"fingerprints", b"syncookies", b"keepcounters", b"reassemble", b"state-defaults")
+SETTINGS = (b"fingerprints", b"syncookies", b"keepcounters", b"fail-policy")
+JUDGED_SETTINGS = (b"reassemble", b"state-defaults")
+ANCHOR_LIMITS = (b"anchors", b"eth-anchors")
 SIX = (b"inet6", b"icmp6-type")
 RULES = (b"pass", b"block", b"match", b"nat", b"rdr", b"binat", b"no")
+# rules of which it is said that pfctl refuses them, and those of packets that pass or don't
+REMARKED = (b"pass", b"block", b"match", b"rdr")
+FILTERS = (b"pass", b"block", b"match")
 ANCHORS = (b"anchor", b"nat-anchor", b"rdr-anchor", b"binat-anchor")
 # rules that are left out whole, by any of their words
-JUDGED = (b"tagged", b"user", b"group", b"os", b"probability", b"fragment", b"tos", b"urpf-failed", b"no-route",
-          b"received-on")
+JUDGED = (b"tagged", b"user", b"group", b"os", b"probability", b"fragment", b"tos", b"received-on")
+# hosts of rules that are left out whole, and of lists that lose them
+ROUTELESS = (b"no-route", b"urpf-failed")
+
+# behind these stand addresses, and these words of the grammar don't end them
+BEFORE_ADDRESSES = (b"from", b"to", b"->", b"table")
+BEFORE_NETWORKS = (b"from", b"to", b"table")
+AMONG_ADDRESSES = (b"any", b"self", b"persist", b"const", b"counters")
 
 # words of a rule that go with a value, and the one that goes alone
-ROUTES = (b"route-to", b"reply-to", b"dup-to", b"rtable")
+TARGETS = (b"route-to", b"reply-to", b"dup-to")
+ROUTES = (*TARGETS, b"rtable")
 RULE_QUEUES = (b"queue", b"dnpipe", b"dnqueue")
 NUMBERS = (b"ridentifier", b"tracker")
 ALONE = b"fastroute"
 ANSWERS = (b"return-rst", b"return-icmp", b"return-icmp6")
 
 # options of states with a value
-LIMITS = (b"max", b"max-src-nodes", b"max-src-states", b"max-src-conn", b"max-src-conn-rate")
+LIMITS = (b"max", b"max-src-nodes", b"max-src-states", b"max-src-conn")
+RATE = b"max-src-conn-rate"
 TIMEOUTS = tuple(b"""
     tcp.first tcp.opening tcp.established tcp.closing tcp.finwait tcp.closed udp.first udp.single udp.multiple
     icmp.first icmp.error other.first other.single other.multiple interval frag src.track adaptive.start adaptive.end
     """.split())
 
 ADAPTIVE = (b"adaptive.start", b"adaptive.end")
+
+# how a pool picks one of its addresses
+POOLS = (b"round-robin", b"random", b"bitmask", b"sticky-address", b"source-hash")
 
 OPTIMIZED = ("tcp.first", "tcp.opening", "tcp.established", "tcp.closing", "tcp.finwait", "tcp.closed")
 OPTIMIZATIONS = {
@@ -71,3 +102,30 @@ OPTIMIZATIONS = {
     b"satellite": (180, 35, 86400, 905, 50, 95),
     b"high-latency": (180, 35, 86400, 905, 50, 95),
 }
+
+# rewritings of which the same is said
+REASONS = (
+    ("protocol", "service", "ICMP type", "ICMP code", "range of services", "given service", "several given services"),
+    ("given address", "several given addresses", "given address in brackets"),
+    ("given group", "several given groups"),
+    ("list as a target", "network as a target", "range as a target", "pick of a target"),
+)
+
+
+def reason_of(done):
+    """The reason that is told of a rewriting: the first of those with the same."""
+    return next((reasons[0] for reasons in REASONS if done in reasons), done)
+
+
+# all that is rewritten: what a comparison has to have seen
+REWRITINGS = (
+    "queue statement", "scrub", "setting", "judged setting", "optimization", "adaptive timeouts",
+    "adaptive timeout in braces", "anchor limits", "anchor limit in braces", "IPv6 rule", "IPv6 hosts alone", "no-route alone", "judged word",
+    "modulate", "synproxy", "answer", "log", "route", "queue", "number of a rule", "tag", "set in a rule",
+    "second label", "option of states", "protocol", "service", "ICMP type", "ICMP code", "short network",
+    "range of services", "(self)", "IPv6 address in a list", "no-route in a list", "given address",
+    "several given addresses", "given address in brackets", "given service", "several given services", "given group",
+    "several given groups", "macro", "macro where none may stand", "name of a table", "file of a table",
+    "entry of a file", "antispoof", "list as a target", "network as a target", "range as a target",
+    "pick of a target",
+)

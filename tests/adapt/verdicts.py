@@ -5,24 +5,19 @@ The verdicts have to be the same, line by line, and so have the packets, the cou
 
 import tempfile
 from pathlib import Path
-from typing import NamedTuple
 
 from adapt.asking import FLAGS
-from adapt.cases import TEXTS, TESTS
+from adapt.cases import TEXTS, TESTS, surroundings_beside
+from adapt.model import adapt
+from adapt.verdict_rows import WRITTEN, Row
+from runs.case import Case
+from runs.model import run
 
 EXAMPLES = TESTS.parent / "examples"
 OUTPUTS = ("verdicts", "packets", "counters", "states")
 
 
-class Row(NamedTuple):
-    """A text of the folder `texts`, a capture of the examples, the networks of the inside and the strict ruleset."""
-    name: str
-    capture: str
-    inside: str
-    strict: str
-
-
-ROWS = (
+OLDER = (
     Row("pfsense_states", "home", "10.0.0.0/24", """
         table <virusprot>
         nat on em0 inet from 10.0.0.0/24 to any -> (em0)
@@ -97,6 +92,8 @@ ROWS = (
         """),
 )
 
+ROWS = (*OLDER, *WRITTEN)
+
 
 def left(asker, text, row):
     """What a run leaves in its files, and what it prints."""
@@ -111,9 +108,23 @@ def left(asker, text, row):
         return tuple(file.read_bytes() for file in files), seen.stdout
 
 
+def fault_by_model(row):
+    """What is wrong with a row, or nothing, if models answer in the place of the program."""
+    path = TEXTS / f"{row.name}.conf"
+    capture = (EXAMPLES / f"{row.capture}.pcap").read_bytes()
+    adapted = adapt(path.read_bytes(), surroundings_beside(path))
+    if adapted.errors:
+        return f"errors {adapted.errors}"
+    texts = (adapted.text, row.strict.encode())
+    one, other = (run(Case(row.name, text, row.inside, capture)).parts() for text in texts)
+    differing = [name for name in ("out", "err", "status", *OUTPUTS) if one[name] != other[name]]
+    return f"other {', '.join(differing)}" if differing else None
+
+
 def fault_of(asker, row):
     """What is wrong with a row, or nothing."""
-    adapted = asker.adapted((TEXTS / f"{row.name}.conf").read_bytes())
+    path = TEXTS / f"{row.name}.conf"
+    adapted = asker.adapted(path.read_bytes(), surroundings_beside(path))
     if adapted.status:
         return f"status {adapted.status}"
     (one, said), (other, also) = left(asker, adapted.text, row), left(asker, row.strict.encode(), row)

@@ -64,11 +64,13 @@ def check_told(trial, ending, found, seen):
 
 
 def judge_shorter(trial, counts, seen):
-    """A ruleset that ends early is as a file of that length."""
+    """A ruleset that ends early is as a file of that length and of the same name."""
     words = list(trial.command)
-    with trial.beginning(words[RULES_WORD], counts.moved) as shorter:
+    name = str(words[RULES_WORD])
+    with trial.beginning(name, counts.moved) as shorter:
         words[RULES_WORD] = shorter.name
         expected = trial.without_fault(words)
+    expected = expected._replace(err=expected.err.replace(shorter.name.encode(), name.encode()))
     if seen != expected:
         raise Unlawful(f"a file of {counts.moved} bytes ends with status {expected.status}, {expected.err!r}")
     return "whole" if seen == trial.clean else "shorter input"

@@ -24,6 +24,8 @@ FILE, PEER, NOWHERE = ("messages",), (trial.PEER,), ()
 RUNS = (("gateway", "gateway", FILE), ("home", "home", FILE), ("server", "server", FILE), ("router", "router", FILE),
         ("gateway", "broken", FILE), ("home", "home", PEER), ("server", "server", NOWHERE))
 CHECKS = ("gateway", "broken")
+# commands that rewrite a ruleset, with the words behind its file
+ADAPTING = (("adapt", ()), ("check", ("--adapt",)))
 # the packets of a batch where a run isn't told another number, and other numbers
 BATCH, SMALL, MIDDLE = replay.BATCH, 7, 64
 CUT_LENGTH, TOO_LONG = 2000, 262145
@@ -62,6 +64,11 @@ def check_ends_lawfully(program, rules):
     return ends_lawfully("check", [program, "check", EXAMPLES / f"{rules}.conf", *INTERFACE])
 
 
+def adapts_lawfully(program, command, words):
+    print(" ".join((command, "written.conf", *words)))
+    return ends_lawfully("adapt", [program, command, EXAMPLES / "written.conf", *INTERFACE, *words])
+
+
 def workers_end_lawfully(program, capture, rules):
     """Of a run of two batches or more whether it does each time: with faults in batches of another size and no workers,
     with faults beside two workers, and with threads refused to four workers."""
@@ -87,6 +94,7 @@ def compare(program):
         lawful += [run_ends_lawfully(program, capture, rules, messages) for messages in (FILE, PEER)]
         lawful += workers_end_lawfully(program, capture, rules)
     lawful += [check_ends_lawfully(program, rules) for rules in CHECKS]
+    lawful += [adapts_lawfully(program, command, words) for command, words in ADAPTING]
     return lawful.count(False)
 
 

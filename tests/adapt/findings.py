@@ -1,0 +1,17 @@
+"""What is said of a word of a text."""
+
+from typing import NamedTuple
+
+
+class Finding(NamedTuple):
+    """What is said of a word."""
+    line: int
+    column: int
+    kind: str
+    word: str
+
+
+def finding_at(text, start, kind, word):
+    """What is said of a word that begins there."""
+    column = start - (text.rfind(b"\n", 0, start) + 1) + 1
+    return Finding(text.count(b"\n", 0, start) + 1, column, kind, word.decode("latin-1"))
