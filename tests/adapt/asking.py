@@ -16,14 +16,14 @@ from adapt.surroundings import ADDRESS, INTERFACE, NOTHING
 TIME_LIMIT = 60
 THREADS = 2
 FLAGS = ("--interface", INTERFACE, "--address", ADDRESS)
-FOUND = re.compile(rb"(\d+):(\d+): (note|warning|error): (\S+): \S.*")
+FOUND = re.compile(rb"(\d+):(\d+): (note|warning|error): (.+?): \S.*", re.DOTALL)
 # what is said of a text that would have to be rewritten again
-UNSETTLED = re.compile(rb"\d+:\d+: error: \S+: what stands for it would have to be rewritten again, .*")
+UNSETTLED = re.compile(rb"\d+:\d+: error: .+?: what stands for it would have to be rewritten again, .*", re.DOTALL)
 MANY_TIMES = re.compile(rb"\$|file$|\{$")
 REFUSED = re.compile(rb"(\d+):(\d+): error: (.+)", re.DOTALL)
 # what is said of a text that stays as it is too
-IDLE = re.compile(rb"\d+:\d+: warning: \S+: no packet of a run is on this interface.*")
-REMARK = re.compile(rb"\d+:\d+: warning: \S+: (?:pfctl refuses|no packet of a run is on this interface).*")
+IDLE = re.compile(rb"\d+:\d+: warning: .+?: no packet of a run is on this interface.*", re.DOTALL)
+REMARK = re.compile(rb"\d+:\d+: warning: .+?: (?:pfctl refuses|no packet of a run is on this interface).*", re.DOTALL)
 
 
 ERROR, SO = "error", "what stands for it would have to be rewritten again, so"
@@ -177,7 +177,7 @@ def misplaced(text, answer):
         # target in braces at the first one
         if place < last or place == last and not MANY_TIMES.match(word):
             return f"said too late: {line!r}"
-        if place[0] > len(lines) or not lines[place[0] - 1][place[1] - 1:].startswith(word):
+        if place[0] > len(lines) or not b"\n".join(lines[place[0] - 1:])[place[1] - 1:].startswith(word):
             return f"not in the text: {line!r}"
         last = place
     if errors > MOST_ERRORS:

@@ -148,7 +148,7 @@ class Rewriter:
             words, uses = self.macros.unfolded(statement.words)
             statements.append((statement.first(), words, uses))
             every += tables.names_in(words)
-        self.tables = tables.renamed(every)
+        self.tables = tables.renamed(every, self.edited.words)
         for first, words, uses in statements:
             if self.take(first, words):
                 self.uses += uses

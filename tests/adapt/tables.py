@@ -24,12 +24,12 @@ def names_in(words):
         at += 1
 
 
-def renamed(words):
-    """The new names of those tables that get one, by the words that are names, in the order of the text. Those in the
-    values of macros have no number."""
-    tables = list(dict.fromkeys(word.text for word in words if not word.use))
+def renamed(words, text):
+    """The new names of those tables that get one, by the words that are names and all words of the text. What stands in
+    `< >` in the text is counted, also where it is no name; names in the values of macros have no number."""
+    tables = list(dict.fromkeys(text[at + 1].text for at in range(len(text)) if table_name_at(text, at, b"")))
     numbers = {table: number for number, table in enumerate(tables, 1)}
-    every = list(dict.fromkeys(word.text for word in words))
+    every = list(dict.fromkeys([*tables, *(word.text for word in words)]))
     plain = {table: plain_name(table) for table in every}
     new = {}
     for table in every:

@@ -7,20 +7,15 @@ output and standard error are written. What was rewritten is said on standard er
 import os
 import re
 
-from faults.check import ENDINGS, LAWFUL, RULES, RULES_WORD, TARGETS, TEXTS, judge_shorter
-from faults.replay import ERROR
-from faults.trial import Unlawful, lawful
+from faults.check import ENDINGS, RULES_WORD, TARGETS, TEXTS, judge_by
+from faults.trial import Unlawful
 
 __all__ = ("ENDINGS", "TARGETS", "judge")
 
 
 def judge(trial, fault, counts, seen):
     """The ending of a run with this fault, one of ENDINGS; Unlawful where it is none of the lawful ones."""
-    if fault.target == RULES and fault.deed == "zero":
-        return judge_shorter(trial, counts, seen)
-    if fault.target == ERROR and fault.deed != "cut":
-        return judge_lost(trial.clean, seen)
-    return lawful(ending_of(trial, seen), fault, LAWFUL)
+    return judge_by(ending_of, judge_lost, trial, fault, counts, seen)
 
 
 def judge_lost(clean, seen):

@@ -36,11 +36,16 @@ TEXTS = (
 
 def judge(trial, fault, counts, seen):
     """The ending of a run with this fault, one of ENDINGS; Unlawful where it is none of the lawful ones."""
+    return judge_by(ending_of, judge_lost, trial, fault, counts, seen)
+
+
+def judge_by(ending, lost, trial, fault, counts, seen):
+    """The same, where `ending` tells the ending of what was seen, and `lost` what a failed write to standard error left."""
     if fault.target == RULES and fault.deed == "zero":
         return judge_shorter(trial, counts, seen)
     if fault.target == ERROR and fault.deed != "cut":
-        return judge_lost(trial.clean, seen)
-    return lawful(ending_of(trial, seen), fault, LAWFUL)
+        return lost(trial.clean, seen)
+    return lawful(ending(trial, seen), fault, LAWFUL)
 
 
 def ending_of(trial, seen):
