@@ -80,8 +80,8 @@ abbrev pub goes_on : Option Hit → Bool
 goes_on None = false
 goes_on (Some hit) = true
 
--- so many faults at most: the first one, and then those of the words without its statement
-unfoldable pub faults_from : ℕ → Left → Interface → List Fault
+-- at most `left` faults: the first one, and then those of the words without its statement
+unfoldable pub faults_from : (left : ℕ) → Left → Interface → List Fault
 faults_from zero words interface = []
 faults_from (suc left) words interface =
     let hit = first_hit words.marks interface in

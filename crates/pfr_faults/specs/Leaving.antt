@@ -55,7 +55,7 @@ start = record { begin = 0; within = beginning }
 abbrev pub at_behind : At → ℕ → Mark → At
 at_behind at here mark = record { begin = if ends_at at.within mark then sum here 1 else at.begin; within = behind at.within mark }
 
--- where the word behind these stands, of which so many stand before the first
+-- where the word behind these stands, the first of which is the one at `here`
 abbrev pub at_from : At → ℕ → List Mark → At
 at_from at here [] = at
 at_from at here (mark ∷ marks) = at_from (at_behind at here mark) (here + 1) marks
@@ -75,7 +75,7 @@ abbrev pub end_behind : Within → ℕ → Bool → List Mark → ℕ
 end_behind within fault is_open [] = fault
 end_behind within fault is_open (mark ∷ marks) = sum (sum fault 1) (rest_behind within mark is_open marks)
 
--- the statement of the word at fault, which has so many before it
+-- the statement of the word at `fault`
 unfoldable pub statement_of : ℕ → Bool → List Mark → Part
 statement_of fault is_open marks = let at = at_from start 0 (take fault marks) in record {
   from = at.begin;
@@ -131,7 +131,7 @@ left_of part left =
       cut = left.cut ++ first_in kept;
     }
 
--- the words that are left without the statement of the one at fault, which has so many before it
+-- the words that are left without the statement of the one at `fault`
 unfoldable pub left_without : ℕ → Bool → Left → Left
 left_without fault is_open left = left_of (statement_of fault is_open left.marks) left
 
@@ -148,7 +148,7 @@ abbrev pub is_cut_at : Option Mark → List Mark → Bool
 is_cut_at None cut = false
 is_cut_at (Some first) cut = is_among first cut
 
--- the statement of the word at fault, which has so many before it
+-- the statement of the word at `fault` was cut down before
 unfoldable pub is_cut : ℕ → Bool → Left → Bool
 is_cut fault is_open left = is_cut_at (slice_get left.marks (statement_of fault is_open left.marks).from) left.cut
 

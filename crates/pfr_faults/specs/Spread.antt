@@ -41,7 +41,7 @@ next_line between line mark = line_behind (line_behind line (newlines mark.piece
 abbrev pub is_reached : (line here : ℕ) → Bool
 is_reached line here = nat_le line here
 
--- the first of these words that begins on a line or behind it; the first of them begins on the line `here`, and so many stand before it
+-- the first of these words that begins on a line or behind it; the first of them begins on the line `here`, and `before` words stand before it
 abbrev pub word_from : Separator → (line here before : ℕ) → List Mark → Option ℕ
 word_from between line here before [] = None
 word_from between line here before (mark ∷ marks) =

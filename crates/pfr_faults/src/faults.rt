@@ -155,7 +155,7 @@ fn find<'a>(
     Ok(true)
 }
 
-/// The faults of some words, so many at most: the first one, then that of the words without its statement, and so on.
+/// The faults of some words, at most `MOST_FAULTS`: the first one, then that of the words without its statement, and so on.
 #[tactic(auto, unfolding(crate::specs::Faults::faults_of))]
 fn faults_of<'a>(
     alloc: Global,

@@ -105,7 +105,7 @@ struct At {
 }
 
 impl At {
-    /// Where the word behind another one stands, which has so many before it.
+    /// Where the word behind the one at `here` stands.
     fn behind(self, here: usize, mark: &Mark<'_>) -> At
         ensures { result ≡ spec.at_behind self here mark.now }
     {
@@ -234,7 +234,7 @@ fn rest_behind(within: Within, fault: &Mark<'_>, is_open: bool, marks: &[Mark<'_
     rest_len(within.behind_fault(fault, is_open), marks)
 }
 
-/// How many words stand before the end of a statement: of the words from the one at fault on, which has so many before it.
+/// How many words stand before the end of a statement: these are the words from the one at `fault` on.
 fn end_behind(within: Within, fault: usize, is_open: bool, marks: &[Mark<'_>]) -> usize
     ensures { result ≡ spec.end_behind within fault is_open marks.now }
 {
@@ -246,7 +246,7 @@ fn end_behind(within: Within, fault: usize, is_open: bool, marks: &[Mark<'_>]) -
     }
 }
 
-/// The statement of the word at fault, which has so many before it.
+/// The statement of the word at `fault`.
 #[tactic(auto, unfolding(crate::specs::Leaving::statement_of))]
 fn statement_of(fault: usize, is_open: bool, marks: &[Mark<'_>]) -> Part
     ensures { result ≡ spec.statement_of fault is_open marks.now }
@@ -259,7 +259,7 @@ fn statement_of(fault: usize, is_open: bool, marks: &[Mark<'_>]) -> Part
     }
 }
 
-/// So many words at the front.
+/// The first `count` words, or all if there are fewer.
 fn first_of<'m, 'a>(count: usize, marks: &'m [Mark<'a>]) -> &'m [Mark<'a>]
     ensures { result.now ≡ take count marks.now }
 {
@@ -267,7 +267,7 @@ fn first_of<'m, 'a>(count: usize, marks: &'m [Mark<'a>]) -> &'m [Mark<'a>]
     front
 }
 
-/// The words behind so many.
+/// The words behind the first `count`, or none if there are fewer.
 fn behind_of<'m, 'a>(count: usize, marks: &'m [Mark<'a>]) -> &'m [Mark<'a>]
     ensures { result.now ≡ drop count marks.now }
 {
@@ -378,7 +378,7 @@ impl<'a> Left<'a> {
         })
     }
 
-    /// The same without the statement of the word at fault, which has so many before it and may be a brace that nothing closes.
+    /// The same without the statement of the word at `fault`, which may be a brace that nothing closes.
     #[tactic(auto, unfolding(crate::specs::Leaving::left_without))]
     pub(crate) fn without(
         &self,
@@ -403,7 +403,7 @@ impl<'a> Left<'a> {
 }
 
 impl Left<'_> {
-    /// Whether the statement of the word at fault, which has so many before it, was cut down before.
+    /// Whether the statement of the word at `fault` was cut down before.
     #[tactic(auto, unfolding(crate::specs::Leaving::is_cut))]
     pub(crate) fn is_cut(&self, fault: usize, is_open: bool) -> bool
         ensures { result ≡ spec.is_cut fault is_open self.now }

@@ -80,7 +80,7 @@ pub(crate) fn spread_out(alloc: Global, marks: &[Mark<'_>]) -> Result<Spread, Al
     })
 }
 
-/// The line behind a line and so many more.
+/// The line that is `count` lines further down.
 fn line_behind(line: usize, count: usize) -> usize
     ensures { result ≡ spec.line_behind line count }
 {

@@ -7,7 +7,7 @@ use Rattle.pfr_words.specs.declared.word.Token.TheVariants as t
 use Rattle.pfr_include.specs.declared.file.File.{File}
 use Rattle.pfr_include.specs.declared.file.Found.{Found}
 
--- the first file of a name, behind so many others
+-- the first file of a name, behind `before` others
 abbrev pub file_from : ℕ → List ℕ → List File → Option Found
 file_from before name [] = None
 file_from before name (file ∷ files) =

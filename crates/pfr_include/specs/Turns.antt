@@ -21,8 +21,8 @@ after_some now (splice ∷ splices) = Some (after now (splice ∷ splices))
 unfoldable pub turn : List File → Included → Option Included
 turn files now = if nat_lt 1048576 (length now.text) then None else after_some now (splices files now.text)
 
--- so many turns at most
-unfoldable pub turns : ℕ → List File → Included → Included
+-- at most `left` turns
+unfoldable pub turns : (left : ℕ) → List File → Included → Included
 turns zero files now = now
 turns (suc left) files now = elim (turn files now) [
   | Some next ↦ turns left files next

@@ -27,7 +27,7 @@ spelled words.Conservative =
 spelled words.Satellite =
     codes "timeout { tcp.first 180, tcp.opening 35, tcp.established 86400, tcp.closing 905, tcp.finwait 50, tcp.closed 95 }"
 
--- so many parts of an address, each a zero behind a dot; three at most
+-- a zero behind a dot for each part of an address that a word leaves out, three at most
 abbrev pub zeros : ℕ → List ℕ
 zeros zero = []
 zeros (suc zero) = codes ".0"

@@ -143,7 +143,7 @@ reason_of group.Timeouts element = reason.Adaptive
 reason_of group.Limits element = reason.Setting
 reason_of _ element = if is_no_address element then reason.NoRoute else reason.Inet6Address
 
--- an element of a list, as a change of marks of which so many stand before it, with the comma behind it if none is before
+-- an element of a list, as a change of marks of which `lead` stand before it, with the comma behind it if none is before
 abbrev pub element_of : Context → Reason → List Mark → ℕ → List Mark → ℕ → Option Found
 element_of context why marks lead [] len = None
 element_of context why marks lead (word ∷ more) len =

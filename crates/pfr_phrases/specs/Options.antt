@@ -64,7 +64,7 @@ is_between group.Limits mark behind = is (codes ",") mark || is (codes "\n") mar
 is_between group.Inet6 mark behind = is (codes ",") mark || is (codes "\n") mark || is (codes "!") mark
 is_between group.Unseen mark behind = is (codes ",") mark || is (codes "\n") mark || is (codes "!") mark
 
--- what is known behind the first of these marks, of which so many belong to an element that was seen
+-- what is known behind the first of these marks, which belongs to no element that was seen
 abbrev pub seen_here : Group → Mark → List Mark → Seen
 seen_here group mark marks =
     if ends group mark then Known true
@@ -72,6 +72,7 @@ seen_here group mark marks =
     else if element_len group (mark ∷ marks) == 0 then Known false
     else LeftOut (element_len group (mark ∷ marks) - 1)
 
+-- the same, if the first `passed` of the marks belong to an element that was seen
 abbrev pub seen_at : Group → ℕ → List Mark → Seen
 seen_at group passed [] = Known false
 seen_at group zero (mark ∷ marks) = seen_here group mark marks

@@ -44,7 +44,7 @@ abbrev pub piece_from : Option Piece → ℕ → List Piece → Option Piece
 piece_from found offset [] = found
 piece_from found offset (piece ∷ pieces) = piece_from (if begins_by piece offset then Some piece else found) offset pieces
 
--- in bytes that stand as they stood, so many of which stand before the place. If its line begins in the piece, the line of the other text
+-- in bytes that stand as they stood, `ahead` of which stand before the place. If its line begins in the piece, the line of the other text
 -- begins as it does.
 abbrev pub kept_place : Piece → Place → (line ahead : ℕ) → Place
 kept_place piece place line ahead =

@@ -41,7 +41,7 @@ fn spelled(words: Words) -> &'static [u8]
     }
 }
 
-/// So many parts of an address, each a zero behind a dot; three at most.
+/// A zero behind a dot for each of `count` parts of an address, three at most.
 fn zeros(count: usize) -> &'static [u8]
     ensures { result.now ≡ spec.zeros count }
 {
@@ -136,7 +136,7 @@ impl NewText {
         Ok(())
     }
 
-    /// Puts a word at the end that has so many zeros more, before its slash.
+    /// Puts a word at the end that has `count` zeros more, before its slash.
     fn put_with_zeros(&mut self, word: &[u8], count: usize) -> Result<(), AllocError>
         ensures { OnOk result (self.new ≡ spec.with_words self.old (spec.word_with_zeros count word.now)) }
     {

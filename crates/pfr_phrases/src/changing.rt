@@ -250,7 +250,7 @@ fn lines_between(start: Place, end: Place) -> Becomes
     }
 }
 
-/// An element of a list that begins behind so many of these marks, as a change of them, with the comma behind it if none is before.
+/// An element of a list that begins behind `lead` of these marks, as a change of them, with the comma behind it if none is before.
 fn element_in<'a>(
     context: Context,
     group: Group,
@@ -276,7 +276,7 @@ fn element_in<'a>(
     )
 }
 
-/// An element of so many marks that begins behind so many others, as a change of them, with the comma behind it if none is before.
+/// An element of `len` marks that begins behind `lead` of these marks, as a change of them, with the comma behind it if none is before.
 pub fn element_of<'a>(
     context: Context,
     reason: Reason,

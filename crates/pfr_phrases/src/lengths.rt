@@ -138,7 +138,7 @@ fn two_values(first: usize, marks: &[Mark<'_>]) -> usize
     if second == 0 { 0 } else { first + second }
 }
 
-/// How many marks a number of so many marks has, with the `/` and the number that may be behind it.
+/// How many marks a number of `number` marks has, with the `/` and the number that may be behind it.
 fn rate_behind(number: usize, marks: &[Mark<'_>]) -> usize
     requires { number ≤ length marks.now }
     ensures value { result ≡ spec.rate_behind number marks.now }

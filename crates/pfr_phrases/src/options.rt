@@ -131,7 +131,7 @@ enum Seen {
     Known(bool),
 }
 
-/// What is known behind the first of these marks, if so many of them belong to an element that was seen.
+/// What is known behind the first of these marks, if `passed` of them belong to an element that was seen.
 fn see(group: Group, passed: usize, marks: &[Mark<'_>]) -> Seen
     ensures { result ≡ spec.seen_at group passed marks.now }
 {

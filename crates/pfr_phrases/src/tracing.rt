@@ -92,7 +92,7 @@ pub fn piece_at(pieces: &[Piece], offset: usize) -> Option<Piece>
     found
 }
 
-/// The place in the other text of a place in bytes of a piece that stand as they stood, with so many of them before it. The line of the
+/// The place in the other text of a place in bytes of a piece that stand as they stood, with `ahead` of them before it. The line of the
 /// other text is the one that the place's line comes from, if that line begins in the piece.
 fn kept_place(piece: Piece, place: Place, line: usize, ahead: usize) -> Place
     ensures { result ≡ spec.kept_place piece place line ahead }

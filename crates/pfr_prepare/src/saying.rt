@@ -152,7 +152,7 @@ fn rank_of(faults: &[Fault<'_>], at: usize) -> usize {
     rank
 }
 
-/// Says the fault of a text that has so many before it.
+/// Says the fault of a text that has `rank` others before it.
 fn say_ranked<E: Write>(
     request: &Request<'_>,
     prepared: &Prepared,

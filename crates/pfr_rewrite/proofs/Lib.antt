@@ -1,14 +1,10 @@
 pub mod ElsewhereLemmas
+pub mod FoundLawLemmas
 pub mod JoinLawLemmas
-pub mod KnownLawLemmas
 pub mod LineLawLemmas
-pub mod MacroLemmas
 pub mod OrderLawLemmas
-pub mod TableLemmas
-pub mod TargetLemmas
 pub mod UnseenLawLemmas
 pub mod UnseenLemmas
 pub mod UnseenListLemmas
-pub mod ValueLemmas
 pub mod WholeLemmas
 pub mod WordLawLemmas

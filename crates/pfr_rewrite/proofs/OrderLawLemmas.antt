@@ -15,11 +15,11 @@ use Rattle.pfr_phrases.specs.declared.change.Change.{Change}
 use Rattle.pfr_phrases.specs.declared.change.Found.{Found}
 use Rattle.pfr_phrases.specs.declared.context.Context.{Context}
 use Rattle.pfr_phrases.proofs.CoverLawLemmas.{CoversIf, either}
-use Rattle.pfr_rewrite.specs.Known.{known_behind}
+use Rattle.pfr_spelling.specs.Known.{known_behind}
+use Rattle.pfr_spelling.specs.declared.known.Known.{Known}
 use Rattle.pfr_rewrite.specs.Laws.{LieBetween}
 use Rattle.pfr_rewrite.specs.Whole.{before, changes, changes_at, changes_from, found_here, known_before, passed_behind, statement_at}
-use Rattle.pfr_rewrite.specs.declared.known.Known.{Known}
-use Rattle.pfr_rewrite.proofs.KnownLawLemmas.{found_covers}
+use Rattle.pfr_rewrite.proofs.FoundLawLemmas.{found_covers}
 
 -- ---- marks lie one behind the other
 

@@ -10,10 +10,10 @@ use Rattle.pfr_phrases.specs.declared.context.Context.{Context}
 use Rattle.pfr_phrases.specs.declared.reason.Reason.{Reason}
 use Rattle.pfr_phrases.specs.declared.statements.TheConstants.{ASKING}
 use Rattle.pfr_phrases.proofs.CoverLawLemmas.{CoversIf, IsAtIf, at_behind, at_later, of_element, of_whole, unless}
-use Rattle.pfr_rewrite.specs.Known.{value_len}
+use Rattle.pfr_spelling.specs.Known.{value_len}
+use Rattle.pfr_spelling.specs.declared.known.Known.{Known}
 use Rattle.pfr_rewrite.specs.Unseen.{element_behind, element_by, element_here, element_reason, lists_addresses, reason_here, rule_for, rule_here, rule_in, said_for, said_from, said_here}
 use Rattle.pfr_rewrite.specs.UnseenValues.{unseen_value}
-use Rattle.pfr_rewrite.specs.declared.known.Known.{Known}
 use Rattle.pfr_rewrite.proofs.UnseenLemmas.{none_here, some_here}
 
 -- ---- rules

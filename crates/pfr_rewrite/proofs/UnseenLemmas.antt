@@ -2,8 +2,8 @@
 use Rattle.std.proofs.Common.{◌≡◌, ◌<◌, ℕ, ◌-◌, List, [], ◌∷◌, Some, None, arith, length, drop, refl}
 use Rattle.pfr_marks.specs.declared.mark.Mark.{Mark}
 use Rattle.pfr_phrases.specs.declared.change.Finding.{Finding}
-use Rattle.pfr_rewrite.specs.declared.known.Known.{Known}
-use Rattle.pfr_rewrite.specs.Known.{value_len}
+use Rattle.pfr_spelling.specs.declared.known.Known.{Known}
+use Rattle.pfr_spelling.specs.Known.{value_len}
 use Rattle.pfr_rewrite.specs.Unseen.{said_from, said_here}
 
 pub none_here : (known : Known) (left : ℕ) (marks : List Mark) → 0 < length marks → said_here known left marks ≡ None

@@ -2,8 +2,8 @@
 use Rattle.std.proofs.Common.{◌≡◌, ◌<◌, List, [], ◌∷◌, Option, arith, length, drop, refl}
 use Rattle.pfr_marks.specs.declared.mark.Mark.{Mark}
 use Rattle.pfr_phrases.specs.declared.reason.Reason.{Reason}
+use Rattle.pfr_spelling.specs.declared.known.Known.{Known}
 use Rattle.pfr_rewrite.specs.UnseenLists.{list_from, list_step}
-use Rattle.pfr_rewrite.specs.declared.known.Known.{Known}
 use Rattle.pfr_rewrite.specs.declared.unseen_list.Seen.{Seen}
 use Rattle.pfr_rewrite.specs.declared.unseen_list.Step.TheVariants as step
 

@@ -6,8 +6,8 @@ use Rattle.pfr_marks.specs.declared.mark.Mark.{Mark}
 use Rattle.pfr_phrases.specs.declared.change.Change.{Change}
 use Rattle.pfr_phrases.specs.declared.context.Context.{Context}
 use Rattle.pfr_phrases.specs.Contexts.{context_behind, is_nothing}
-use Rattle.pfr_rewrite.specs.declared.known.Known.{Known}
-use Rattle.pfr_rewrite.specs.Known.{known_behind}
+use Rattle.pfr_spelling.specs.declared.known.Known.{Known}
+use Rattle.pfr_spelling.specs.Known.{known_behind}
 use Rattle.pfr_rewrite.specs.Whole.{begin_at, changes_at, changes_from, passed_behind, statement_at}
 
 -- at one mark more

@@ -1,5 +1,5 @@
 -- `antispoof` as the rules that it stands for (pf.conf(5), "BLOCKING SPOOFED TRAFFIC").
-use Rattle.std.specs.Prelude.{ℕ, ◌+◌, ◌==◌, ◌||◌, Bool, true, false, not, nat_le, nat_lt, if◌then◌else◌, min, List, [], ◌∷◌, ◌++◌, length, map, take, drop, codes, Option, Some, None}
+use Rattle.std.specs.Prelude.{ℕ, ◌+◌, ◌==◌, ◌||◌, Bool, true, false, not, nat_lt, if◌then◌else◌, List, [], ◌∷◌, ◌++◌, length, map, take, drop, codes, Option, Some, None}
 use Rattle.std.specs.Str.{bytes_eq}
 use Rattle.pfr_given.specs.Entries.{texts_of}
 use Rattle.pfr_given.specs.Texts.{joined_by}
@@ -8,7 +8,7 @@ use Rattle.pfr_given.specs.declared.entry.Subject.TheVariants as subject
 use Rattle.pfr_words.specs.Names.{is_among}
 use Rattle.pfr_words.specs.declared.word.Token.{Token}
 use Rattle.pfr_words.specs.declared.word.Token.TheVariants as token
-use Rattle.pfr_marks.specs.Marks.{begins_with, is, marks}
+use Rattle.pfr_marks.specs.Marks.{begins_with, is}
 use Rattle.pfr_marks.specs.declared.mark.Mark.{Mark}
 use Rattle.pfr_phrases.specs.Changing.{sign_len}
 use Rattle.pfr_phrases.specs.Lengths.{brackets_len}
@@ -16,15 +16,15 @@ use Rattle.pfr_phrases.specs.Statements.{statement_len}
 use Rattle.pfr_phrases.specs.declared.change.Found.{Found}
 use Rattle.pfr_phrases.specs.declared.context.Context.{Context}
 use Rattle.pfr_phrases.specs.declared.reason.Reason.TheVariants as reason
-use Rattle.pfr_rewrite.specs.Known.{replaced_by, text_change}
-use Rattle.pfr_rewrite.specs.Macros.{is_plain, token_in, value_of}
-use Rattle.pfr_rewrite.specs.Targets.{list_from}
+use Rattle.pfr_spelling.specs.Known.{replaced_by, text_change}
+use Rattle.pfr_spelling.specs.Macros.{token_in}
+use Rattle.pfr_spelling.specs.declared.known.Known.{Known}
+use Rattle.pfr_rewrite.specs.Interfaces.{interfaces_len, names_in}
 use Rattle.pfr_rewrite.specs.declared.antispoof.Awaits.{Awaits}
 use Rattle.pfr_rewrite.specs.declared.antispoof.Awaits.TheVariants as awaits
 use Rattle.pfr_rewrite.specs.declared.antispoof.Forms.{Forms}
 use Rattle.pfr_rewrite.specs.declared.antispoof.Frame.{Frame}
-use Rattle.pfr_rewrite.specs.declared.antispoof.TheConstants.{LOOPBACK, NUMBERS, UNKNOWN}
-use Rattle.pfr_rewrite.specs.declared.known.Known.{Known}
+use Rattle.pfr_rewrite.specs.declared.antispoof.TheConstants.{LOOPBACK, NUMBERS}
 
 -- ---- its parts
 
@@ -39,58 +39,6 @@ for_at marks = log_len marks + sign_len (codes "quick") (drop (log_len marks) ma
 abbrev pub interfaces_at : List Mark → ℕ
 interfaces_at marks =
     if sign_len (codes "for") (drop (for_at marks) marks) == 0 then 0 else for_at marks + sign_len (codes "for") (drop (for_at marks) marks)
-
--- a word, one in round brackets, or a list
-abbrev pub interfaces_len : List Mark → ℕ
-interfaces_len marks =
-    if begins_with marks (codes "{") then list_from 0 marks
-    else if not (begins_with marks (codes "(")) then min (length marks) 1
-    else if nat_le 3 (length marks) then 3
-    else 0
-
--- ---- its interfaces
-
-abbrev pub plain_words : List Mark → List (List ℕ)
-plain_words [] = []
-plain_words (mark ∷ marks) = if is_plain mark.piece then mark.piece ∷ plain_words marks else plain_words marks
-
-abbrev pub names_for_texts : List ℕ → List (List ℕ) → List (List ℕ)
-names_for_texts word texts = if length texts == 0 then word ∷ [] else plain_words (marks (joined_by (codes ", ") texts))
-
--- an interface, or those of a group that is given
-abbrev pub names_for : Given → List ℕ → List (List ℕ)
-names_for given word = names_for_texts word (texts_of given subject.Interface (word ++ []))
-
--- what names no interface for a `!`, since all but some interfaces have no names
-abbrev pub names_of_sign : List ℕ → List (List ℕ)
-names_of_sign piece = if bytes_eq piece (codes "!") then UNKNOWN.now ∷ [] else []
-
-abbrev pub names_of_word : Given → List ℕ → List (List ℕ)
-names_of_word given piece = if is_plain piece then names_for given piece else names_of_sign piece
-
-abbrev pub names_of_words : Given → List Mark → List (List ℕ)
-names_of_words given [] = []
-names_of_words given (mark ∷ marks) = names_of_word given mark.piece ++ names_of_words given marks
-
-abbrev pub names_by : Given → Option (List ℕ) → List (List ℕ)
-names_by given (Some value) = names_of_words given (marks value)
-names_by given None = UNKNOWN.now ∷ []
-
--- the words of a macro's value; what names no interface, if that isn't known
-abbrev pub value_names : Given → Known → List ℕ → List (List ℕ)
-value_names given known name = names_by given (value_of known.macros name)
-
-abbrev pub names_in_token : Given → Known → Option Token → List ℕ → List (List ℕ)
-names_in_token given known (Some (token.Plain word)) piece = names_for given word
-names_in_token given known (Some (token.MacroUse name suffix)) piece = value_names given known name
-names_in_token given known _ piece = names_of_sign piece
-
-abbrev pub names_of : Given → Known → List ℕ → List (List ℕ)
-names_of given known piece = names_in_token given known (token_in piece) piece
-
-abbrev pub names_in : Given → Known → List Mark → List (List ℕ)
-names_in given known [] = []
-names_in given known (mark ∷ marks) = names_of given known mark.piece ++ names_in given known marks
 
 -- ---- the network and the address of an interface
 

@@ -12,11 +12,11 @@ use Rattle.pfr_phrases.specs.declared.context.Context.{Context}
 use Rattle.pfr_phrases.specs.declared.context.Within.{Within}
 use Rattle.pfr_phrases.specs.declared.context.Within.TheVariants as within
 use Rattle.pfr_phrases.specs.declared.reason.Reason.TheVariants as reason
-use Rattle.pfr_rewrite.specs.Antispoof.{interfaces_len, names_in}
-use Rattle.pfr_rewrite.specs.Known.{known_behind}
+use Rattle.pfr_spelling.specs.Known.{known_behind}
+use Rattle.pfr_spelling.specs.declared.known.Known.{Known}
+use Rattle.pfr_rewrite.specs.Interfaces.{interfaces_len, names_in}
 use Rattle.pfr_rewrite.specs.Whole.{known_before}
-use Rattle.pfr_rewrite.specs.declared.antispoof.TheConstants.{UNKNOWN}
-use Rattle.pfr_rewrite.specs.declared.known.Known.{Known}
+use Rattle.pfr_rewrite.specs.declared.interfaces.TheConstants.{UNKNOWN}
 
 -- the run's own interface, or one that isn't known
 abbrev pub may_hold : (own name : List ℕ) → Bool

@@ -37,8 +37,8 @@ abbrev pub bytes_of : Option Text → List ℕ
 bytes_of None = []
 bytes_of (Some text) = text.bytes
 
--- so many ends of lines
-abbrev pub line_ends : ℕ → List ℕ
+-- `count` ends of lines
+abbrev pub line_ends : (count : ℕ) → List ℕ
 line_ends zero = []
 line_ends (suc count) = 10 ∷ line_ends count
 

@@ -1,11 +1,7 @@
 pub mod Antispoof
 pub mod Elsewhere
-pub mod Known
+pub mod Interfaces
 pub mod Laws
-pub mod Macros
-pub mod Replacing
-pub mod Tables
-pub mod Targets
 pub mod Unseen
 pub mod UnseenLists
 pub mod UnseenValues

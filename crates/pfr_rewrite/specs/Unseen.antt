@@ -1,5 +1,5 @@
 -- Rules and elements of lists that are left out for what macros stand for.
-use Rattle.std.specs.Prelude.{ℕ, ◌+◌, ◌-◌, ◌||◌, Bool, false, not, nat_le, if◌then◌else◌, List, [], ◌∷◌, length, map, take, drop, codes, Option, Some, None}
+use Rattle.std.specs.Prelude.{ℕ, ◌+◌, ◌-◌, ◌||◌, Bool, false, not, if◌then◌else◌, List, [], ◌∷◌, length, map, take, drop, codes, Option, Some, None}
 use Rattle.std.specs.Option.{is_some}
 use Rattle.pfr_words.specs.Names.{is_among}
 use Rattle.pfr_marks.specs.Marks.{is, marks}
@@ -15,9 +15,8 @@ use Rattle.pfr_phrases.specs.declared.context.Says.TheVariants as says
 use Rattle.pfr_phrases.specs.declared.reason.Reason.{Reason}
 use Rattle.pfr_phrases.specs.declared.reason.Reason.TheVariants as reason
 use Rattle.pfr_phrases.specs.declared.statements.TheConstants.{ASKING}
-use Rattle.pfr_rewrite.specs.Known.{value_len}
-use Rattle.pfr_rewrite.specs.Macros.{used_value}
-use Rattle.pfr_rewrite.specs.declared.known.Known.{Known}
+use Rattle.pfr_spelling.specs.Known.{value_len, value_within}
+use Rattle.pfr_spelling.specs.declared.known.Known.{Known}
 use Rattle.pfr_rewrite.specs.UnseenLists.{unseen_list}
 use Rattle.pfr_rewrite.specs.UnseenValues.{unseen_value}
 
@@ -29,13 +28,13 @@ reason_of (Some finding) = Some finding.reason
 abbrev pub reason_in : List ℕ → Option Reason
 reason_in value = reason_of (criterion_in (marks value))
 
-abbrev pub reason_by : Option (List ℕ) → ℕ → Option Reason
-reason_by None left = None
-reason_by (Some value) left = if nat_le (length value) left then reason_in value else None
+abbrev pub reason_by : Option (List ℕ) → Option Reason
+reason_by None = None
+reason_by (Some value) = reason_in value
 
+-- what a rule is left out for: a word of the value of the macro at the front of marks, if it has at most `left` bytes
 abbrev pub reason_at : Known → ℕ → List Mark → Option Reason
-reason_at known left [] = None
-reason_at known left (first ∷ marks) = reason_by (used_value known.macros first.piece) left
+reason_at known left marks = reason_by (value_within known left marks)
 
 -- why addresses are left out: the list at the front of marks, or the macro there
 abbrev pub unseen_here : Known → ℕ → List Mark → Option Reason

@@ -6,9 +6,9 @@ use Rattle.pfr_phrases.specs.Options.{element_len}
 use Rattle.pfr_phrases.specs.declared.options.Group.TheVariants as group
 use Rattle.pfr_phrases.specs.declared.reason.Reason.{Reason}
 use Rattle.pfr_phrases.specs.declared.reason.Reason.TheVariants as reason
-use Rattle.pfr_rewrite.specs.Known.{value_len}
+use Rattle.pfr_spelling.specs.Known.{value_len}
+use Rattle.pfr_spelling.specs.declared.known.Known.{Known}
 use Rattle.pfr_rewrite.specs.UnseenValues.{unseen_value}
-use Rattle.pfr_rewrite.specs.declared.known.Known.{Known}
 use Rattle.pfr_rewrite.specs.declared.unseen_list.Seen.{Seen}
 use Rattle.pfr_rewrite.specs.declared.unseen_list.Step.{Step}
 use Rattle.pfr_rewrite.specs.declared.unseen_list.Step.TheVariants as step

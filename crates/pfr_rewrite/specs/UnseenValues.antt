@@ -1,5 +1,5 @@
 -- Addresses that are left out for what a macro stands for.
-use Rattle.std.specs.Prelude.{ℕ, ◌==◌, Bool, nat_le, if◌then◌else◌, List, [], ◌∷◌, length, drop, codes, Option, Some, None}
+use Rattle.std.specs.Prelude.{ℕ, ◌==◌, Bool, if◌then◌else◌, List, length, drop, codes, Option, Some, None}
 use Rattle.pfr_marks.specs.Marks.{begins_with, marks}
 use Rattle.pfr_marks.specs.declared.mark.Mark.{Mark}
 use Rattle.pfr_phrases.specs.Changing.{sign_len}
@@ -7,9 +7,9 @@ use Rattle.pfr_phrases.specs.Options.{element_len}
 use Rattle.pfr_phrases.specs.Statements.{unseen_at}
 use Rattle.pfr_phrases.specs.declared.options.Group.TheVariants as group
 use Rattle.pfr_phrases.specs.declared.reason.Reason.{Reason}
-use Rattle.pfr_rewrite.specs.Macros.{used_value}
-use Rattle.pfr_rewrite.specs.Targets.{list_from}
-use Rattle.pfr_rewrite.specs.declared.known.Known.{Known}
+use Rattle.pfr_spelling.specs.Known.{value_within}
+use Rattle.pfr_spelling.specs.Targets.{list_from}
+use Rattle.pfr_spelling.specs.declared.known.Known.{Known}
 
 -- one element of a list and no more, or one list
 abbrev pub are_one : List Mark → Bool
@@ -25,11 +25,10 @@ unseen_of words = if are_one words then unseen_at words else None
 abbrev pub unseen_in : List ℕ → Option Reason
 unseen_in value = unseen_of (marks value)
 
-abbrev pub unseen_by : Option (List ℕ) → ℕ → Option Reason
-unseen_by None left = None
-unseen_by (Some value) left = if nat_le (length value) left then unseen_in value else None
+abbrev pub unseen_by : Option (List ℕ) → Option Reason
+unseen_by None = None
+unseen_by (Some value) = unseen_in value
 
--- why addresses are left out that are the macro at the front of marks
+-- why addresses are left out that are the macro at the front of marks, if it is one with at most `left` bytes
 abbrev pub unseen_value : Known → ℕ → List Mark → Option Reason
-unseen_value known left [] = None
-unseen_value known left (first ∷ marks) = unseen_by (used_value known.macros first.piece) left
+unseen_value known left marks = unseen_by (value_within known left marks)

@@ -11,13 +11,13 @@ use Rattle.pfr_phrases.specs.declared.change.Found.{Found}
 use Rattle.pfr_phrases.specs.declared.context.Context.{Context}
 use Rattle.pfr_phrases.specs.declared.context.Within.{Within}
 use Rattle.pfr_phrases.specs.declared.context.Within.TheVariants as within
+use Rattle.pfr_spelling.specs.Known.{known_behind}
+use Rattle.pfr_spelling.specs.Replacing.{file_here, macro_here, value_here}
+use Rattle.pfr_spelling.specs.Tables.{tables_from}
+use Rattle.pfr_spelling.specs.Targets.{target_here}
+use Rattle.pfr_spelling.specs.declared.known.Known.{Known}
 use Rattle.pfr_rewrite.specs.Antispoof.{antispoof_here}
-use Rattle.pfr_rewrite.specs.Known.{known_behind}
-use Rattle.pfr_rewrite.specs.Replacing.{file_here, macro_here, value_here}
-use Rattle.pfr_rewrite.specs.Tables.{tables_from}
-use Rattle.pfr_rewrite.specs.Targets.{target_here}
 use Rattle.pfr_rewrite.specs.Unseen.{element_here, rule_here}
-use Rattle.pfr_rewrite.specs.declared.known.Known.{Known}
 
 -- what is rewritten in a statement, by what is known beside it
 unfoldable pub known_word : Given → Known → Context → (statement marks : List Mark) → Option Found
@@ -48,7 +48,7 @@ found_here given known context statement marks = first_found (known_here given k
 
 -- ---- one mark after the other
 
--- at the first of these marks, of which so many belong to a change that was found before
+-- at the first of these marks, if the first `passed` belong to a change that was found before
 abbrev pub changes_at : Given → Known → Context → ℕ → (statement marks : List Mark) → List Change
 changes_at given known context zero statement marks = change_in (found_here given known context statement marks)
 changes_at given known context (suc passed) statement marks = []

@@ -2,8 +2,7 @@
 ghost use Rattle.std.specs.Prelude.{◌≡◌, ◌++◌, IfOk, OnOk};
 ghost use Rattle.pfr_rewrite.specs.Elsewhere as spec;
 
-use crate::antispoof::{UNKNOWN, interfaces_len, names_in};
-use crate::known::Known;
+use crate::interfaces::{UNKNOWN, interfaces_len, names_in};
 use crate::whole::known_before;
 use pfr_given::Given;
 use pfr_items::Items;
@@ -12,6 +11,7 @@ use pfr_marks::mark::{BEGINNING, Mark, begins_with, is, marks};
 use pfr_phrases::change::{Finding, finding_at};
 use pfr_phrases::context::{Context, Within};
 use pfr_phrases::reason::Reason;
+use pfr_spelling::known::Known;
 use std::alloc::{AllocError, Global};
 
 /// Whether a rule of an interface of this name may hold: it is the run's own, or isn't known.

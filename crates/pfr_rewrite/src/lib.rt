@@ -3,12 +3,8 @@
 
 mod antispoof;
 mod elsewhere;
-mod known;
+mod interfaces;
 pub mod laws;
-mod macros;
-mod replacing;
-mod tables;
-mod targets;
 mod unseen;
 mod unseen_list;
 mod whole;

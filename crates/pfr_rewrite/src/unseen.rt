@@ -3,9 +3,6 @@ ghost use Rattle.std.specs.Prelude.{◌≡◌, IfOk};
 ghost use Rattle.pfr_rewrite.specs.Unseen as spec;
 ghost use Rattle.pfr_rewrite.specs.UnseenValues as values;
 
-use crate::known::Known;
-use crate::macros::used_value;
-use crate::targets::list_len;
 use crate::unseen_list::unseen_list;
 use pfr_marks::mark::{Mark, begins_with, is, marks};
 use pfr_phrases::change::{Finding, Found, finding_at};
@@ -16,6 +13,8 @@ use pfr_phrases::reason::Reason;
 use pfr_phrases::statements::{
     ASKING, criterion_in, end_of, statement_left_out, statement_len, unseen_at, whole,
 };
+use pfr_spelling::known::Known;
+use pfr_spelling::targets::list_len;
 use pfr_words::names::is_among;
 use std::alloc::{AllocError, Global};
 
@@ -61,7 +60,7 @@ fn unseen_in(alloc: Global, value: &[u8]) -> Result<Option<Reason>, AllocError>
     Ok(unseen_of(words.as_slice()))
 }
 
-/// Why a rule is left out for the macro at the front of marks, if it is one with at most so many bytes.
+/// Why a rule is left out for the macro at the front of marks, if it is one with at most `left` bytes.
 fn reason_at(
     alloc: Global,
     known: &Known,
@@ -70,16 +69,13 @@ fn reason_at(
 ) -> Result<Option<Reason>, AllocError>
     ensures { IfOk result (λ reason. reason ≡ spec.reason_at known.now left marks.now) }
 {
-    let Some(first) = marks.first() else {
-        return Ok(None);
-    };
-    match used_value(known.macros.as_slice(), first.piece.as_slice()) {
-        Some(value) if value.as_slice().len() <= left => reason_in(alloc, value.as_slice()),
-        _ => Ok(None),
+    match known.value_within(left, marks) {
+        Some(value) => reason_in(alloc, value.as_slice()),
+        None => Ok(None),
     }
 }
 
-/// Why addresses are left out that are the macro at the front of marks, if it is one with at most so many bytes.
+/// Why addresses are left out that are the macro at the front of marks, if it is one with at most `left` bytes.
 pub(crate) fn unseen_value(
     alloc: Global,
     known: &Known,
@@ -88,16 +84,13 @@ pub(crate) fn unseen_value(
 ) -> Result<Option<Reason>, AllocError>
     ensures { IfOk result (λ reason. reason ≡ values.unseen_value known.now left marks.now) }
 {
-    let Some(first) = marks.first() else {
-        return Ok(None);
-    };
-    match used_value(known.macros.as_slice(), first.piece.as_slice()) {
-        Some(value) if value.as_slice().len() <= left => unseen_in(alloc, value.as_slice()),
-        _ => Ok(None),
+    match known.value_within(left, marks) {
+        Some(value) => unseen_in(alloc, value.as_slice()),
+        None => Ok(None),
     }
 }
 
-/// Why addresses are left out, if they are: the list at the front of marks, or the macro there, with at most so many bytes.
+/// Why addresses are left out, if they are: the list at the front of marks, or the macro there, with at most `left` bytes.
 fn unseen_here(
     alloc: Global,
     known: &Known,

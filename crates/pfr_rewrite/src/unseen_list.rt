@@ -2,11 +2,11 @@
 ghost use Rattle.std.specs.Prelude.{◌≡◌, IfOk};
 ghost use Rattle.pfr_rewrite.specs.UnseenLists as spec;
 
-use crate::known::Known;
 use crate::unseen::unseen_value;
 use pfr_marks::mark::{Mark, is};
 use pfr_phrases::options::{Group, element_len};
 use pfr_phrases::reason::Reason;
+use pfr_spelling::known::Known;
 use std::alloc::{AllocError, Global};
 
 /// Why an element is left out, and how many marks it has.
@@ -39,7 +39,7 @@ fn own_why(marks: &[Mark<'_>]) -> Option<Why>
     }
 }
 
-/// Why the element at the front is left out, if it is: for its own words, or for what it stands for as a macro of at most so many bytes.
+/// Why the element at the front is left out, if it is: for its own words, or for what it stands for as a macro of at most `left` bytes.
 #[tactic(auto, unfolding(crate::specs::UnseenLists::element_why))]
 fn element_why(
     alloc: Global,

@@ -3,18 +3,18 @@ ghost use Rattle.std.specs.Prelude.{◌≡◌, ◌≤◌, ◌++◌, [], length, 
 ghost use Rattle.pfr_rewrite.specs.Whole as spec;
 
 use crate::antispoof::antispoof_here;
-use crate::known::Known;
-use crate::replacing::{file_here, macro_here, value_here};
-use crate::tables::tables;
-use crate::targets::target_here;
 use crate::unseen::{element_here, rule_here};
 use pfr_given::Given;
 use pfr_items::Items;
 use pfr_marks::braces::are_closed;
 use pfr_marks::mark::{BEGINNING, Mark, marks};
 use pfr_phrases::change::{Change, Found};
-use pfr_phrases::changing::{change_at, put};
+use pfr_phrases::changing::put;
 use pfr_phrases::context::{Context, Within};
+use pfr_spelling::known::Known;
+use pfr_spelling::replacing::{file_here, macro_here, or_change, value_here};
+use pfr_spelling::tables::tables;
+use pfr_spelling::targets::target_here;
 use std::alloc::{AllocError, Global};
 
 /// How many bytes of macros' values are looked at in a text.
@@ -97,10 +97,8 @@ fn found_here<'a>(
 ) -> Result<Option<Found<'a>>, AllocError>
     ensures { IfOk result (λ found. found ≡ spec.found_here given.now known.now context statement.now marks.now) }
 {
-    if let Some(found) = known_here(alloc, given, known, context, statement, marks)? {
-        return Ok(Some(found));
-    }
-    Ok(change_at(context, marks))
+    let found = known_here(alloc, given, known, context, statement, marks)?;
+    Ok(or_change(found, context, marks))
 }
 
 /// Where a mark stands.

@@ -1,6 +1,0 @@
-use Rattle.std.proofs.Common.{◌≡◌, ◌≤◌, ◌+◌, drop}
-use Rattle.pfr_rewrite.specs.Tables as spec
-use Rattle.pfr_rewrite.proofs.tables.alike.Given as goal
-
-abbrev pub invariant-loop-table : goal.invariant-loop-table
-invariant-loop-table l = (l.count + spec.alike (drop l.table-index l.tables) l.plain ≡ spec.alike l.tables l.plain) × (l.count ≤ l.table-index)

@@ -1,6 +1,0 @@
-use Rattle.std.proofs.Common.{◌≡◌, [], drop}
-use Rattle.pfr_rewrite.specs.Tables as spec
-use Rattle.pfr_rewrite.proofs.tables.tables.Given as goal
-
-abbrev pub invariant-loop-at : goal.invariant-loop-at
-invariant-loop-at l = spec.tables_from l.found (drop l.at l.marks) ≡ spec.tables_from [] l.marks

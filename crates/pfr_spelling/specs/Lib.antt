@@ -1,0 +1,5 @@
+pub mod Known
+pub mod Macros
+pub mod Replacing
+pub mod Tables
+pub mod Targets
