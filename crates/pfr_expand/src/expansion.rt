@@ -341,5 +341,6 @@ pub fn expand(
     ensures { Gives (spec.expanded statements.now interface.now) result }
 {
     let work = work_of(alloc, statements.statements.as_slice(), *interface)?;
-    Ok(work.flat)
+    let ruleset = work.flat.indexed(alloc)?;
+    Ok(ruleset)
 }

@@ -2,13 +2,14 @@
 ghost use Rattle.std.specs.Prelude.{◌≡◌, ◌≤◌, ◌+◌, ◌++◌, length, OnOk};
 ghost use Rattle.pfr_flat.specs.Translations as spec;
 
-use pfr_items::Items;
-use pfr_ruleset::{Comparison, FlatTranslation, PacketMatch, PortMatch, RangeOperator};
+use pfr_ruleset::{
+    Comparison, FlatTranslation, PacketMatch, PortMatch, RangeOperator, TranslationRules,
+};
 use std::alloc::AllocError;
 
 /// Puts a translation rule for each match behind the others, numbered on from this number.
 pub fn put_translations<T: Copy>(
-    out: &mut Items<FlatTranslation<T>>,
+    out: &mut TranslationRules<T>,
     number: usize,
     passes: bool,
     target: Option<T>,

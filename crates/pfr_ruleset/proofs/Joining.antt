@@ -1,14 +1,13 @@
 -- Rules and anchors behind others, and where walks end among them.
-use Rattle.std.proofs.Common.{◌≡◌, ◌≢◌, ◌∙◌, ◌<◌, ◌≤◌, ◌+◌, ◌-◌, ◌&&◌, ◌==◌, ℕ, zero, suc, Bool, true, false, if◌then◌else◌, inl, inr, List, [], ◌∷◌, ◌++◌, length, map, fold, min, Option, Some, None, get_or, ap, sym, refl, arith}
+use Rattle.std.proofs.Common.{◌≡◌, ◌∙◌, ◌<◌, ◌≤◌, ◌+◌, ◌-◌, ◌&&◌, ◌==◌, ℕ, zero, suc, Bool, true, false, if◌then◌else◌, inl, inr, List, [], ◌∷◌, ◌++◌, length, map, fold, min, get_or, ap, sym, refl, arith}
 use Rattle.std.specs.List.{All, slice_get}
 use Rattle.std.proofs.lemmas.Bool.{cases_lt, eqb-true}
-use Rattle.std.proofs.lemmas.List.{length-append, length-map, get_or_append_left, get_or-append_right}
+use Rattle.std.proofs.lemmas.List.{length-append, get_or_append_left, get_or-append_right}
 use Rattle.std.proofs.lemmas.List.Sums.{fold-append}
 use Rattle.std.proofs.lemmas.List.Elements.{All-nil, All-weaker, All-append, All-cons, All-head, All-tail, All-map}
-use Rattle.std.proofs.lemmas.Option.{slice_get-get_or}
 use Rattle.pfr_ruleset.specs.declared.flat.FlatRule.{FlatRule}
 use Rattle.pfr_ruleset.specs.declared.flat.FlatAnchor.{FlatAnchor}
-use Rattle.pfr_ruleset.specs.Places.{IsPlaced, Follows, AreNested, AreWithin, ArePlaced, moved, own_opening, opening_of, with_opening, opening_at, own_openings, HasOpenings, AreOpened}
+use Rattle.pfr_ruleset.specs.Places.{IsPlaced, Follows, AreNested, AreWithin, ArePlaced, moved, opening_of, with_opening, opening_at, own_openings, HasOpenings, AreOpened}
 
 -- ---- anchors
 

@@ -1,7 +1,8 @@
 -- The entries of a table against those of its map.
-use Rattle.std.proofs.Common.{◌≡◌, ◌||◌, ◌&&◌, ℕ, Bool, true, false, cond, not, List, [], ◌∷◌, map, Option, Some, refl, sym, ap, ◌∙◌, subst, arith}
+use Rattle.std.proofs.Common.{◌≡◌, ◌≢◌, ◌<◌, ◌||◌, ◌&&◌, ℕ, Bool, true, false, cond, not, List, [], ◌∷◌, length, map, Option, Some, None, inl, inr, set, refl, sym, ap, ◌∙◌, subst, arith}
 use Rattle.std.specs.Bool.{beq}
-use Rattle.std.specs.BTreeMap.{insert_entry, is_at}
+use Rattle.std.specs.BTreeMap as tree
+use Rattle.std.specs.BTreeMap.{BTreeMap, insert_entry, is_at}
 use Rattle.std.specs.Cmp.{IsTotalOrder, then_total, on_total, nat_cmp_total}
 use Rattle.std.specs.List.{AllByRecursion}
 use Rattle.std.specs.List.Sorted.{IsStrictlySortedBy}
@@ -9,13 +10,16 @@ use Rattle.std.specs.Map.{keys_of, lookup}
 use Rattle.std.specs.Ordering.{match_ordering, is_eq}
 use Rattle.std.specs.declared.cmp.Ordering.{Ordering}
 use Rattle.std.specs.declared.cmp.Ordering.TheVariants.{Less, Equal, Greater}
+use Rattle.std.proofs.lemmas.Bool.{cases_eq, false≢true}
+use Rattle.std.proofs.lemmas.Grind.{get_or-set_at}
+use Rattle.std.proofs.lemmas.List.{get_or-set_other}
 use Rattle.std.proofs.lemmas.Map.Keys.{sorted_head, sorted_tail}
 use Rattle.std.proofs.lemmas.Map.Lookups.{CmpEqualImpliesEq, exact_pairs, exact_unsigned}
 use Rattle.std.proofs.lemmas.Map.Views.{All-keys-insert_entry}
 use Rattle.std.specs.Ordering.{nat_cmp}
 use Rattle.pfr_net.specs.declared.network.Net.{Net}
 use Rattle.pfr_ruleset.specs.declared.table.Entry.{Entry}
-use Rattle.pfr_ruleset.specs.Keys.{entry_at, key_of, key_cmp, IsKey, AreInOrder, is_other}
+use Rattle.pfr_ruleset.specs.Keys.{entry_at, key_of, key_cmp, IsKey, AreInOrder, is_other, AreKnown}
 use Rattle.pfr_ruleset.specs.Tables.{clashes, with_entry}
 use Rattle.pfr_ruleset.proofs.PrefixLemmas.{prefix-prefix, prefix-min}
 
@@ -73,3 +77,18 @@ pub clashes_found : (es : List ((ℕ × ℕ) × Bool)) (table : List Entry) (e :
     → found ≡ lookup (is_at (key_cmp k)) es → other ≡ is_other found e.is_negated → other ≡ clashes table e
 clashes_found es table e k found other in_order view key is says =
     says ∙ ap (λ found. is_other found e.is_negated) (is ∙ ap (λ k. lookup (is_at (key_cmp k)) es) key) ∙ clashes_is es e in_order.sorted ∙ ap (λ table. clashes table e) view
+
+-- ---- the numbers of bits that are noted
+
+known_at : (o : Ordering) (k q : ℕ × ℕ) (before after : Option Bool) (sign : Bool) → key_cmp k q ≡ o → after ≡ cond (is_eq o) (Some sign) before → k.0 ≢ q.0 → before ≡ None → after ≡ None
+known_at Less k q before after sign is e differs none = e ∙ none
+known_at Equal k q before after sign is e differs none = absurd (differs (ap (λ k. k.0) (key_exact k q is)))
+known_at Greater k q before after sign is e differs none = e ∙ none
+
+pub known_on : (m new : BTreeMap (ℕ × ℕ) Bool) (lengths : List Bool) (k : ℕ × ℕ) (sign : Bool) → AreKnown m lengths → k.0 < length lengths
+    → ((q : ℕ × ℕ) → tree.get key_cmp new q ≡ cond (is_at (key_cmp k) q) (Some sign) (tree.get key_cmp m q)) → AreKnown new (set lengths k.0 true)
+known_on m new lengths k sign known within updates bits base fits none = elim (cases_eq bits k.0) [
+  | inl same ↦ absurd (false≢true (sym none ∙ get_or-set_at lengths k.0 bits true false same within))
+  | inr other ↦ known_at (key_cmp k (bits, base)) k (bits, base) (tree.get key_cmp m (bits, base)) (tree.get key_cmp new (bits, base)) sign refl (updates (bits, base)) (λ e. other (sym e))
+      (known bits base fits (sym (get_or-set_other lengths k.0 bits true false other) ∙ none))
+]

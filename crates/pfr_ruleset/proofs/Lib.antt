@@ -1,7 +1,9 @@
 pub mod ClashLemmas
+pub mod IndexLemmas
 pub mod Joining
 pub mod KeyLemmas
 pub mod MemberLemmas
 pub mod Membership
+pub mod NumberLemmas
 pub mod PrefixLemmas
 pub mod WrittenLemmas

@@ -1,7 +1,9 @@
 -- How a table keeps its entries: each by its bits and its address.
 use Rattle.std.specs.Prelude.{◌≡◌, ◌≤◌, ℕ, min, Bool, false, not, List, Option, Some, None}
 use Rattle.std.specs.Bool.{beq}
-use Rattle.std.specs.List.{All}
+use Rattle.std.specs.BTreeMap as tree
+use Rattle.std.specs.BTreeMap.{BTreeMap}
+use Rattle.std.specs.List.{All, slice_index_or}
 use Rattle.std.specs.List.Sorted.{IsStrictlySortedBy}
 use Rattle.std.specs.Map.{keys_of}
 use Rattle.std.specs.Ordering.{nat_cmp, ordering_then}
@@ -35,3 +37,7 @@ pub record AreInOrder (entries : List ((ℕ × ℕ) × Bool)) : Type 0 where
 abbrev pub is_other : Option Bool → Bool → Bool
 is_other None is_negated = false
 is_other (Some sign) is_negated = not (beq sign is_negated)
+
+-- a number of bits that isn't noted is that of no key
+abbrev pub AreKnown : BTreeMap (ℕ × ℕ) Bool → List Bool → Type 0
+AreKnown map lengths = (bits base : ℕ) → bits ≤ 32 → slice_index_or lengths bits false ≡ false → tree.get key_cmp map (bits, base) ≡ None

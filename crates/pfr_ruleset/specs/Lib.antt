@@ -1,7 +1,12 @@
+pub mod Criteria
+pub mod FilterAids
+pub mod Indexes
 pub mod Keys
 pub mod Membership
 pub mod Options
 pub mod Places
 pub mod Rulesets
+pub mod Shapes
 pub mod Tables
+pub mod TranslationAids
 pub mod Translations

@@ -1,8 +1,13 @@
 //! The filter rules of a ruleset, and the anchors round them.
 ghost use Rattle.std.specs.Prelude.{◌≡◌, ◌≤◌, ◌+◌, ◌++◌, [], length, map, OnOk, IfOk};
+ghost use Rattle.std.specs.Option.{option_copied};
+ghost use Rattle.pfr_ruleset.specs.Criteria.{asked_by};
+ghost use Rattle.pfr_ruleset.specs.FilterAids.{HaveFilterAids, HaveOwnAids};
 ghost use Rattle.pfr_ruleset.specs.Places as spec;
 ghost use Rattle.pfr_ruleset.specs.Places.{AreOpened};
 
+use crate::aids::{FilterAids, MOST_INDEXED};
+use crate::criterion::Asked;
 use crate::flat::{FlatAnchor, FlatRule};
 use pfr_items::Items;
 use std::alloc::{AllocError, Global};
@@ -23,17 +28,20 @@ pub struct FilterRules {
     anchors: Items<FlatAnchor>,
     /// For each place the least one from which on a hit ends a walk there.
     openings: Vec<usize>,
+    /// What a walk over the rules passes over by, once it is made.
+    aids: Option<FilterAids>,
 }
 
 impl Model for FilterRules {
     ghost use Rattle.pfr_ruleset.specs.declared.filter_rules.RuleLists.{RuleLists};
     ghost use Rattle.pfr_ruleset.specs.Places.{ArePlaced, HasOpenings};
+    ghost use Rattle.pfr_ruleset.specs.FilterAids.{HaveFilterAids};
 
     ghost Value = { RuleLists };
 
     ghost view = { λ f. record { rules = f.rules; anchors = f.anchors } };
 
-    ghost invariant = { λ f. ArePlaced f.rules f.anchors × HasOpenings f.rules f.anchors f.openings.items };
+    ghost invariant = { λ f. ArePlaced f.rules f.anchors × HasOpenings f.rules f.anchors f.openings.items × HaveFilterAids f.rules f.openings.items f.aids };
 }
 
 /// Puts anchors so many rules further on behind others.
@@ -93,6 +101,34 @@ fn open_anchors(openings: &mut Vec<usize>, place: usize, size: usize, anchors: &
     }
 }
 
+/// What each of filter rules asks for.
+fn asked_of(alloc: Global, rules: &[FlatRule]) -> Result<Vec<Asked>, AllocError>
+    ensures { IfOk result (λ asked. asked.items ≡ map asked_by rules.now) }
+{
+    let mut asked = Vec::with_capacity(alloc, rules.len())?;
+    for rule in rules {
+        asked.push(rule.asked())?;
+    }
+    Ok(asked)
+}
+
+/// What is kept beside rules with the openings of their places, unless there are too many.
+fn aids_of(
+    alloc: Global,
+    rules: &[FlatRule],
+    openings: &[usize],
+) -> Result<Option<FilterAids>, AllocError>
+    requires { length openings.now ≡ length rules.now }
+    ensures { IfOk result (λ aids. HaveFilterAids rules.now openings.now aids) }
+{
+    if rules.len() > MOST_INDEXED {
+        return Ok(None);
+    }
+    let asked = asked_of(alloc, rules)?;
+    let aids = FilterAids::over(alloc, &asked, openings)?;
+    Ok(Some(aids))
+}
+
 impl FilterRules {
     pub fn new(alloc: Global) -> FilterRules
         ensures { result ≡ record { rules = []; anchors = [] } }
@@ -101,6 +137,7 @@ impl FilterRules {
             rules: Items::new(alloc),
             anchors: Items::new(alloc),
             openings: Vec::new(alloc),
+            aids: None,
         }
     }
 
@@ -117,6 +154,7 @@ impl FilterRules {
             rules: mut all,
             anchors: mut round,
             mut openings,
+            aids: _,
         } = self;
         let place = all.len();
         all.extend_from_slice(rules)?;
@@ -127,6 +165,26 @@ impl FilterRules {
             rules: all,
             anchors: round,
             openings,
+            aids: None,
+        })
+    }
+
+    /// The same rules, with what a walk over them passes over by.
+    pub fn indexed(self, alloc: Global) -> Result<FilterRules, AllocError>
+        ensures { IfOk result (λ made. made ≡ self) }
+    {
+        let FilterRules {
+            rules,
+            anchors,
+            openings,
+            aids: _,
+        } = self;
+        let aids = aids_of(alloc, rules.as_slice(), &openings)?;
+        Ok(FilterRules {
+            rules,
+            anchors,
+            openings,
+            aids,
         })
     }
 
@@ -153,5 +211,13 @@ impl FilterRules {
         ensures { spec.HasOpenings self.now.rules self.now.anchors result.now }
     {
         self.openings.as_slice()
+    }
+
+    /// What is kept beside the rules and the openings of their places, if it has been made.
+    #[inline]
+    pub fn aids(&self) -> Option<&FilterAids>
+        ensures { HaveOwnAids self.now (option_copied result) }
+    {
+        self.aids.as_ref()
     }
 }

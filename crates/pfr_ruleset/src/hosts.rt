@@ -2,7 +2,7 @@
 use pfr_net::{Ipv4Address, Net};
 
 /// Addresses that a packet's is held against.
-#[derive(Clone, Copy)]
+#[derive(Clone, Copy, PartialEq, Eq)]
 pub enum HostSet {
     Any,
     /// No address has a bit below the network's prefix.
@@ -14,7 +14,7 @@ pub enum HostSet {
 }
 
 /// Addresses that a packet's has to be among, or with `!` must not be among.
-#[derive(Clone, Copy)]
+#[derive(Clone, Copy, PartialEq, Eq)]
 pub struct HostCriterion {
     pub is_negated: bool,
     pub hosts: HostSet,

@@ -10,7 +10,7 @@ pub struct Interface {
 }
 
 /// An interface that a packet has to be on, or with `!` must not be on.
-#[derive(Clone, Copy)]
+#[derive(Clone, Copy, PartialEq, Eq)]
 pub struct InterfaceCriterion {
     pub is_negated: bool,
     pub name: IfName,

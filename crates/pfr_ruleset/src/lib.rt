@@ -6,11 +6,14 @@
 //! an address the longest decides by its sign, and where none holds it, the table doesn't.
 #![tactic(auto)]
 
+pub mod aids;
+pub mod criterion;
 pub mod filter_rules;
 pub mod flags;
 pub mod flat;
 pub mod hosts;
 pub mod icmp;
+pub mod index;
 pub mod interface;
 pub mod laws;
 pub mod network;
@@ -18,9 +21,15 @@ pub mod options;
 pub mod policy;
 pub mod port;
 pub mod ruleset;
+pub mod shape;
+pub mod skips;
 pub mod table;
+pub mod translation_aids;
+pub mod translation_rules;
 pub mod translations;
 
+pub use aids::{Aids, FilterAids};
+pub use criterion::{Asked, Criterion};
 pub use filter_rules::{FilterRules, RuleLists, put_anchors};
 pub use flags::FlagSet;
 pub use flat::{
@@ -29,10 +38,15 @@ pub use flat::{
 };
 pub use hosts::{HostCriterion, HostSet};
 pub use icmp::IcmpMatch;
+pub use index::{Index, MOST_SHAPES};
 pub use interface::{Interface, InterfaceCriterion};
 pub use options::Options;
 pub use policy::{Binding, BlockPolicy};
 pub use port::{Comparison, PortMatch, RangeOperator};
 pub use ruleset::Ruleset;
+pub use shape::{Pins, Shape};
+pub use skips::Skips;
 pub use table::{AddressTable, Entry};
+pub use translation_aids::TranslationAids;
+pub use translation_rules::TranslationRules;
 pub use translations::Translations;

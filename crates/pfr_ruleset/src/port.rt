@@ -1,7 +1,7 @@
 //! Ports that a rule asks for.
 
 /// How a port is compared with one that is written.
-#[derive(Clone, Copy)]
+#[derive(Clone, Copy, PartialEq, Eq)]
 pub enum Comparison {
     Equal,
     NotEqual,
@@ -12,7 +12,7 @@ pub enum Comparison {
 }
 
 /// How a port is held against two that are written.
-#[derive(Clone, Copy)]
+#[derive(Clone, Copy, PartialEq, Eq)]
 pub enum RangeOperator {
     /// `x:y`: from the first to the second.
     Inclusive,
@@ -23,7 +23,7 @@ pub enum RangeOperator {
 }
 
 /// The ports that a packet may have.
-#[derive(Clone, Copy)]
+#[derive(Clone, Copy, PartialEq, Eq)]
 pub enum PortMatch {
     Compare(Comparison, u16),
     Range(RangeOperator, u16, u16),

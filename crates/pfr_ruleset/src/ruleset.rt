@@ -1,5 +1,5 @@
 //! The flat ruleset.
-ghost use Rattle.std.specs.Prelude.{◌≡◌, length, min};
+ghost use Rattle.std.specs.Prelude.{◌≡◌, length, min, IfOk};
 ghost use Rattle.pfr_ruleset.specs.Rulesets as spec;
 
 use crate::filter_rules::FilterRules;
@@ -8,7 +8,7 @@ use crate::options::Options;
 use crate::table::AddressTable;
 use crate::translations::Translations;
 use pfr_items::Items;
-use std::alloc::Global;
+use std::alloc::{AllocError, Global};
 
 /// What a ruleset means for one interface.
 #[derive(Drop)]
@@ -35,6 +35,19 @@ impl Ruleset {
             filter: FilterRules::new(alloc),
             translations: Translations::new(alloc),
         }
+    }
+
+    /// The same ruleset, with what walks over its rules pass over by.
+    pub fn indexed(self, alloc: Global) -> Result<Ruleset, AllocError>
+        ensures { IfOk result (λ made. made ≡ self) }
+    {
+        Ok(Ruleset {
+            interface: self.interface,
+            options: self.options,
+            tables: self.tables,
+            filter: self.filter.indexed(alloc)?,
+            translations: self.translations.indexed(alloc)?,
+        })
     }
 
     /// How many filter rules and how many translation rules there are.

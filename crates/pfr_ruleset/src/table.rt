@@ -25,6 +25,8 @@ pub struct Entry {
 pub struct AddressTable {
     /// Whether a network has a `!`, by its bits and its address.
     signs: BTreeMap<(u8, u32), bool>,
+    /// For each number of bits whether a network has it.
+    lengths: [bool; 33],
 }
 
 impl Model for AddressTable {
@@ -33,11 +35,11 @@ impl Model for AddressTable {
 
     ghost Value = { List Entry };
 
-    ghost use Rattle.pfr_ruleset.specs.Keys.{entry_at, AreInOrder};
+    ghost use Rattle.pfr_ruleset.specs.Keys.{entry_at, AreInOrder, AreKnown};
 
     ghost view = { λ t. map entry_at t.signs.entries };
 
-    ghost invariant = { λ t. AreInOrder t.signs.entries };
+    ghost invariant = { λ t. AreInOrder t.signs.entries × AreKnown t.signs t.lengths };
 }
 
 /// The entry of a network by its bits and its address.
@@ -70,6 +72,7 @@ impl AddressTable {
     {
         AddressTable {
             signs: BTreeMap::new(alloc),
+            lengths: [false; 33],
         }
     }
 
@@ -85,6 +88,7 @@ impl AddressTable {
             return Ok(false);
         }
         self.signs.insert(network, entry.is_negated)?;
+        self.lengths[usize::from(network.0)] = true;
         Ok(true)
     }
 
@@ -95,6 +99,9 @@ impl AddressTable {
         let mut bits: u8 = 33;
         while bits > 0 {
             bits -= 1;
+            if !self.lengths[usize::from(bits)] {
+                continue;
+            }
             if let Some(is_negated) = self.signs.get(&(bits, prefix(bits, address.0))) {
                 return !*is_negated;
             }

@@ -1,18 +1,18 @@
 //! Translation rules.
-ghost use Rattle.std.specs.Prelude.{◌≡◌};
+ghost use Rattle.std.specs.Prelude.{◌≡◌, IfOk};
 ghost use Rattle.pfr_ruleset.specs.Translations as spec;
 
-use crate::flat::{FlatTranslation, NatAddress, RdrAddress};
-use pfr_items::Items;
+use crate::flat::{NatAddress, RdrAddress};
+use crate::translation_rules::TranslationRules;
 use pfr_net::Ipv4Address;
-use std::alloc::Global;
+use std::alloc::{AllocError, Global};
 
 /// The translation rules by their kinds. All of them are numbered together, in the order in which they are written.
 #[derive(Drop)]
 pub struct Translations {
-    pub nats: Items<FlatTranslation<NatAddress>>,
-    pub rdrs: Items<FlatTranslation<RdrAddress>>,
-    pub binats: Items<FlatTranslation<Ipv4Address>>,
+    pub nats: TranslationRules<NatAddress>,
+    pub rdrs: TranslationRules<RdrAddress>,
+    pub binats: TranslationRules<Ipv4Address>,
 }
 
 impl Translations {
@@ -21,9 +21,20 @@ impl Translations {
         ensures { result ≡ spec.no_translations }
     {
         Translations {
-            nats: Items::new(alloc),
-            rdrs: Items::new(alloc),
-            binats: Items::new(alloc),
+            nats: TranslationRules::new(alloc),
+            rdrs: TranslationRules::new(alloc),
+            binats: TranslationRules::new(alloc),
         }
+    }
+
+    /// The same rules, with what walks over those of `nat` and `rdr` pass over by. Those of `binat` are asked one by one.
+    pub fn indexed(self, alloc: Global) -> Result<Translations, AllocError>
+        ensures { IfOk result (λ made. made ≡ self) }
+    {
+        Ok(Translations {
+            nats: self.nats.indexed(alloc)?,
+            rdrs: self.rdrs.indexed(alloc)?,
+            binats: self.binats,
+        })
     }
 }

@@ -25,4 +25,4 @@ invariant_of-result c =
     let size : length new ≡ length rules + length more = c.open_anchors.ensures.size ∙ c.in_ok-put_openings.ensures.size ∙ ap (λ n. n + length more) has.size in
     let all : c.extend_from_slice.new.self ≡ rules ++ more = c.in_ok-extend_from_slice.ensures in
     let round : c.put_anchors.new.out ≡ anchors ++ others = c.in_ok-put_anchors.ensures ∙ ap (λ n. anchors ++ map (moved n) c.args.anchors.now) place in
-    rw (all, round) (joined_placed rules more anchors c.args.anchors.now c.self.invariant.0 c.requires, openings_join rules more anchors others old new c.self.invariant.0 has size opened)
+    rw (all, round) (joined_placed rules more anchors c.args.anchors.now c.self.invariant.0 c.requires, openings_join rules more anchors others old new c.self.invariant.0 has size opened, λ aids is. absurd (cc (is)))
