@@ -1,1 +1,3 @@
 pub mod Members
+pub mod PinLemmas
+pub mod SkipLemmas

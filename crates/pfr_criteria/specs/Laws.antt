@@ -1,8 +1,23 @@
 -- What the laws say.
-use Rattle.std.specs.Prelude.{◌≡◌, List, ℕ}
-use Rattle.std.specs.List.{Contains}
+use Rattle.std.specs.Prelude.{◌≡◌, ◌≤◌, ◌<◌, List, ℕ, true, false, map, Some}
+use Rattle.std.specs.List.{Contains, slice_get}
+use Rattle.pfr_net.specs.declared.direction.Direction.{Direction}
+use Rattle.pfr_net.specs.declared.interface.IfName.{IfName}
+use Rattle.pfr_ruleset.specs.Criteria.{asked_by, asked_by_translation, IsSkip}
+use Rattle.pfr_ruleset.specs.Shapes.{covers, pins_of, shape_at, shape_place, key, key_of_rule}
+use Rattle.pfr_ruleset.specs.declared.criterion.Asked.{Asked}
+use Rattle.pfr_ruleset.specs.declared.criterion.Criterion.{Criterion}
+use Rattle.pfr_ruleset.specs.declared.flat.FlatRule.{FlatRule}
+use Rattle.pfr_ruleset.specs.declared.flat.FlatTranslation.{FlatTranslation}
+use Rattle.pfr_ruleset.specs.declared.flat.PacketMatch.{PacketMatch}
+use Rattle.pfr_ruleset.specs.declared.shape.Shape.{Shape}
 use Rattle.pfr_ruleset.specs.declared.table.Entry.{Entry}
+use Rattle.pfr_headers.specs.declared.packet.Packet.{Packet}
+use Rattle.pfr_criteria.specs.Asking.{part_holds}
 use Rattle.pfr_criteria.specs.Hosts.{has}
+use Rattle.pfr_criteria.specs.Packets.{match_holds, rule_holds}
+use Rattle.pfr_criteria.specs.Pins.{pins_in}
+use Rattle.pfr_criteria.specs.Translations.{translation_holds}
 
 -- two tables with the same entries hold the same addresses
 abbrev pub TablesHoldByTheirEntries : Type 0
@@ -12,3 +27,36 @@ TablesHoldByTheirEntries =
     → ((e : Entry) → Contains others e → Contains entries e)
     → (address : ℕ)
     → has entries address ≡ has others address
+
+-- where a filter rule fails at a criterion, each one before its skip fails
+abbrev pub RulesFailUpToSkips : Type 0
+RulesFailUpToSkips =
+    (criterion : Criterion) (rules : List FlatRule) (place next : ℕ) (rule : FlatRule) (name : IfName) (tables : List (List Entry)) (packet : Packet) (direction : Direction)
+    → IsSkip criterion (map asked_by rules) place next
+    → slice_get rules place ≡ Some rule
+    → part_holds criterion (asked_by rule) name tables packet direction ≡ false
+    → (q : ℕ) (other : FlatRule) → place ≤ q → q < next → slice_get rules q ≡ Some other → rule_holds other name tables packet direction ≡ false
+
+-- the same of translation rules; of which direction the packet is doesn't matter to them
+abbrev pub TranslationsFailUpToSkips : Type 0 → Type 0
+TranslationsFailUpToSkips T =
+    (criterion : Criterion) (rules : List (FlatTranslation T)) (place next : ℕ) (rule : FlatTranslation T) (name : IfName) (tables : List (List Entry)) (packet : Packet) (direction : Direction)
+    → IsSkip criterion (map asked_by_translation rules) place next
+    → slice_get rules place ≡ Some rule
+    → part_holds criterion (asked_by_translation rule) name tables packet direction ≡ false
+    → (q : ℕ) (other : FlatTranslation T) → place ≤ q → q < next → slice_get rules q ≡ Some other → translation_holds other name tables packet ≡ false
+
+-- a packet that a rule holds for has what the rule pins
+abbrev pub PinsAgree : Type 0
+PinsAgree =
+    (shape : Shape) (asked : PacketMatch) (name : IfName) (tables : List (List Entry)) (packet : Packet)
+    → covers shape asked ≡ true
+    → match_holds asked name tables packet ≡ true
+    → pins_of shape asked ≡ pins_in shape packet
+
+-- where a rule holds, its key is that of what the packet has of the shape that the rule counts as of
+abbrev pub KeysAgree : Type 0
+KeysAgree =
+    (shapes : List Shape) (size : ℕ) (asked : Asked) (name : IfName) (tables : List (List Entry)) (packet : Packet)
+    → match_holds asked.packet name tables packet ≡ true
+    → (let place = shape_place shapes asked.packet in key_of_rule shapes size asked ≡ key place (pins_in (shape_at shapes place) packet) size)

@@ -1,7 +1,27 @@
 //! Laws of the definitions, each the contract of a function that does nothing.
-ghost use Rattle.pfr_criteria.specs.Laws.{TablesHoldByTheirEntries};
+ghost use Rattle.pfr_criteria.specs.Laws.{KeysAgree, PinsAgree, RulesFailUpToSkips, TablesHoldByTheirEntries, TranslationsFailUpToSkips};
 
 /// Which addresses a table holds rests on which entries it has, and neither on their order nor on how often one is written.
 pub fn tables_hold_by_their_entries()
     ensures { TablesHoldByTheirEntries }
+{}
+
+/// Where a filter rule fails at a criterion, so does each one up to the next that may write something else there.
+pub fn rules_fail_up_to_skips()
+    ensures { RulesFailUpToSkips }
+{}
+
+/// Where a translation rule fails at a criterion, so does each one up to the next that may write something else there.
+pub fn translations_fail_up_to_skips<T>()
+    ensures { TranslationsFailUpToSkips T }
+{}
+
+/// A packet that a rule holds for has what the rule pins.
+pub fn pins_agree()
+    ensures { PinsAgree }
+{}
+
+/// A packet that a rule holds for has the rule's key, by the shape that the rule counts as of.
+pub fn keys_agree()
+    ensures { KeysAgree }
 {}

@@ -8,7 +8,7 @@ use pfr_headers::Packet;
 use pfr_net::{Direction, IfName, Protocol};
 use pfr_ruleset::{AddressTable, FlatAnchor, FlatRule, InterfaceCriterion, PacketMatch};
 
-fn direction_holds(written: Option<Direction>, direction: Direction) -> bool
+pub(crate) fn direction_holds(written: Option<Direction>, direction: Direction) -> bool
     ensures { result ≡ spec.direction_holds written direction }
 {
     match (written, direction) {

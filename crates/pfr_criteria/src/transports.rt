@@ -43,7 +43,7 @@ pub fn port_holds(criterion: PortMatch, port: u16) -> bool
     }
 }
 
-fn source_port(transport: &Transport) -> Option<u16>
+pub(crate) fn source_port(transport: &Transport) -> Option<u16>
     ensures { result ≡ spec.source_port transport.now }
 {
     match transport {
@@ -53,7 +53,7 @@ fn source_port(transport: &Transport) -> Option<u16>
     }
 }
 
-fn destination_port(transport: &Transport) -> Option<u16>
+pub(crate) fn destination_port(transport: &Transport) -> Option<u16>
     ensures { result ≡ spec.destination_port transport.now }
 {
     match transport {
