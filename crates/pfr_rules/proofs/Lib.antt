@@ -1,8 +1,13 @@
 pub mod Agreeing
+pub mod CandidateLemmas
 pub mod AnchorLemmas
+pub mod AskedLemmas
 pub mod BehindLemmas
+pub mod Numbers
 pub mod Places
+pub mod SearchLemmas
 pub mod Stops
+pub mod Stretches
 pub mod Tallies
 pub mod UnvisitedLemmas
 pub mod Walking

@@ -1,5 +1,5 @@
 -- The first and the last place at which a test holds.
-use Rattle.std.proofs.Common.{◌≡◌, ◌<◌, ◌≤◌, ◌||◌, ℕ, zero, suc, Bool, true, false, if◌then◌else◌, inl, inr, Option, Some, None, refl, arith}
+use Rattle.std.proofs.Common.{◌≡◌, ◌<◌, ◌≤◌, ◌&&◌, ◌||◌, ℕ, zero, suc, Bool, true, false, if◌then◌else◌, inl, inr, Option, Some, None, refl, arith}
 use Rattle.std.proofs.lemmas.Bool.{cases_lt}
 use Rattle.pfr_rules.specs.Filter.{last_below, first_below, some_below, or_place}
 
@@ -71,6 +71,11 @@ first_found p n (suc m) none here within = elim (cases_lt n m) [
   | inl below ↦ let rest = first_found p n m none here below in rw rest refl
   | inr above ↦ let e : m ≡ n = omega (arith, above, within) in rw e (rw (none, here) refl)
 ]
+
+pub and_both : (b c : Bool) → (b && c) ≡ true → (b ≡ true) × (c ≡ true)
+and_both true true is = (refl, refl)
+and_both true false is = absurd cc
+and_both false c is = absurd cc
 
 pub or_left : (b c : Bool) → b ≡ true → (b || c) ≡ true
 or_left true c is = refl

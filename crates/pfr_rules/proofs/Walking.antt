@@ -2,7 +2,7 @@
 use Rattle.std.proofs.Common.{◌≡◌, ◌∙◌, ◌<◌, ◌≤◌, ◌+◌, ◌&&◌, ◌||◌, ◌==◌, ◌⊎◌, inl, inr, ℕ, zero, suc, Bool, true, false, not, nat_le, if◌then◌else◌, List, [], ◌∷◌, ◌++◌, length, drop, Option, Some, None, ap, sym, subst, refl, arith}
 use Rattle.std.specs.List.{All, Contains, slice_get, list_any, filter}
 use Rattle.std.proofs.Math.Numerals.{add-one}
-use Rattle.std.proofs.lemmas.Bool.{lt-leb, le-leb, leb-true, leb-false, eqb-true, cases_lt}
+use Rattle.std.proofs.lemmas.Bool.{lt-leb, le-leb, leb-true, eqb-true, cases_lt}
 use Rattle.std.proofs.lemmas.List.{append-nil}
 use Rattle.std.proofs.lemmas.List.Elements.{All-nil, All-cons, All-head, All-tail, All-weaker, All-contains, Contains-append_left, Contains-append_right, Contains-push, filter-append}
 use Rattle.std.proofs.lemmas.Option.{slice_get_within}
@@ -15,7 +15,7 @@ use Rattle.pfr_ruleset.specs.declared.ruleset.Ruleset.{Ruleset}
 use Rattle.pfr_headers.specs.declared.packet.Packet.{Packet}
 use Rattle.pfr_rules.specs.Filter.{last_below, first_below, some_in, ends, is_inside, is_round, hits, is_quick, passes, is_stop, reach_by, begun, anchored as anchored_of, ruled as ruled_of, reach, deciding, visited as visited_of}
 use Rattle.pfr_rules.specs.Numbers.{numbers_below}
-use Rattle.pfr_rules.proofs.Places.{last_within, last_skips, first_none, none_first, first_found, some_found}
+use Rattle.pfr_rules.proofs.Places.{and_both, last_within, last_skips, first_none, none_first, first_found, some_found}
 
 -- an anchor isn't begun, or all behind it
 abbrev pub IsAhead : ℕ → FlatAnchor → Type 0
@@ -45,18 +45,18 @@ drop_head [] k x is = absurd cc
 drop_head (y ∷ xs) zero x is = (let same : y ≡ x = cc in rw same refl)
 drop_head (y ∷ xs) (suc k) x is = (let e : suc k + 1 ≡ suc (k + 1) = omega arith in rw e (drop_head xs k x is))
 
-nested_drop : (xs : List FlatAnchor) (k : ℕ) → AreNested xs → AreNested (drop k xs)
+pub nested_drop : (xs : List FlatAnchor) (k : ℕ) → AreNested xs → AreNested (drop k xs)
 nested_drop xs zero nested = nested
 nested_drop [] (suc k) nested = nested
 nested_drop (x ∷ xs) (suc k) nested = nested_drop xs k nested.1
 
-drop_past : {X : Type 0} (xs : List X) (k : ℕ) → slice_get xs k ≡ None → drop k xs ≡ []
+pub drop_past : {X : Type 0} (xs : List X) (k : ℕ) → slice_get xs k ≡ None → drop k xs ≡ []
 drop_past [] zero is = refl
 drop_past [] (suc k) is = refl
 drop_past (x ∷ xs) zero is = absurd cc
 drop_past (x ∷ xs) (suc k) is = drop_past xs k is
 
-and_false : (b c : Bool) → c ≡ false → (b && c) ≡ false
+pub and_false : (b c : Bool) → c ≡ false → (b && c) ≡ false
 and_false true c is = is
 and_false false c is = refl
 
@@ -78,7 +78,7 @@ lets_all anchored a place q (inl behind) le =
 lets_all anchored a place q (inr holds) le = or_true (not (is_round a q)) (anchored a) holds
 
 -- anchors that begin behind a place say nothing of it
-none_round : (anchored : FlatAnchor → Bool) (place : ℕ) (xs : List FlatAnchor) → All (λ b. place < b.first) xs → is_inside anchored xs place ≡ true
+pub none_round : (anchored : FlatAnchor → Bool) (place : ℕ) (xs : List FlatAnchor) → All (λ b. place < b.first) xs → is_inside anchored xs place ≡ true
 none_round anchored place [] behind = refl
 none_round anchored place (b ∷ xs) behind =
     let first : nat_le b.first place ≡ false = lt-leb b.first place (All-head (λ b. place < b.first) b xs behind) in
@@ -267,11 +267,6 @@ nested_pair (x ∷ xs) (suc i) a b nested at (zero, within, is) before =
     rw (← same) follows.1
 nested_pair (x ∷ xs) (suc i) a b nested at (suc k, within, is) before = nested_pair xs i a b nested.1 at (k, omega (arith, within), is) before
 
-and_both : (b c : Bool) → (b && c) ≡ true → (b ≡ true) × (c ≡ true)
-and_both true true is = (refl, refl)
-and_both true false is = absurd cc
-and_both false c is = absurd cc
-
 quick_fails : (quick at some : Bool) → (at ≡ true → some ≡ false) → (quick && (at && some)) ≡ false
 quick_fails false at some fails = refl
 quick_fails true false some fails = refl
@@ -355,14 +350,6 @@ begun_by a b place false is found = absurd cc
 pub begun_some : (x : Option FlatAnchor) (a : FlatAnchor) (place : ℕ) → begun x place ≡ Some a → (x ≡ Some a) × (a.first ≤ place)
 begun_some None a place is = absurd cc
 begun_some (Some b) a place is = begun_by b a place (nat_le b.first place) refl is
-
-ahead_by : (a : FlatAnchor) (place : ℕ) (test : Bool) → nat_le a.first place ≡ test → (if test then Some a else None) ≡ None → place < a.first
-ahead_by a place true is none = absurd cc
-ahead_by a place false is none = leb-false a.first place is
-
-pub begun_none : (x : Option FlatAnchor) (place : ℕ) → begun x place ≡ None → IsNext place x
-begun_none None place is = refl
-begun_none (Some a) place is = ahead_by a place (nat_le a.first place) refl is
 
 pub placed_at : (rules : List FlatRule) (anchors : List FlatAnchor) (i : ℕ) (a : FlatAnchor) → ArePlaced rules anchors → slice_get anchors i ≡ Some a → IsPlaced (length rules) a
 unfolding AreWithin

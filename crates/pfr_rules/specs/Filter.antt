@@ -47,7 +47,7 @@ is_round anchor place = nat_le anchor.first place && nat_le place anchor.last
 abbrev pub is_inside : (FlatAnchor → Bool) → List FlatAnchor → ℕ → Bool
 is_inside anchored anchors place = list_all (λ a. not (is_round a place) || anchored a) anchors
 
-abbrev pub passes : (FlatRule → Bool) → Option FlatRule → Bool
+abbrev pub passes : {R : Type 0} → (R → Bool) → Option R → Bool
 passes test None = false
 passes test (Some rule) = test rule
 

@@ -1,6 +1,9 @@
+pub mod Candidates
 pub mod Counts
 pub mod Evaluating
 pub mod Filter
 pub mod Laws
 pub mod Numbers
+pub mod Searching
+pub mod Stretches
 pub mod Translating

@@ -7,11 +7,14 @@
 //! [`translate`] answers what it says under "Translation": the first rule of a kind that holds decides.
 #![tactic(auto)]
 
+mod candidates;
 pub mod counts;
 pub mod decision;
 pub mod evaluations;
 pub mod hit;
 pub mod laws;
+mod searching;
+mod stretch;
 mod translating;
 pub mod visits;
 mod walk;

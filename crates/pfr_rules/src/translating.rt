@@ -6,6 +6,7 @@ ghost use Rattle.pfr_rules.specs.Translating as spec;
 ghost use Rattle.pfr_rules.specs.Translating.{Kind};
 
 use crate::hit::{Hit, NewEnd, PortMapping, mapping};
+use crate::searching::first_of;
 use crate::visits::Visits;
 use pfr_criteria::{binat_holds, translation_holds};
 use pfr_headers::Packet;
@@ -144,6 +145,20 @@ fn first_holding<'a, R: TranslationRule>(
     Ok(None)
 }
 
+/// What the first rule that holds makes of a packet.
+fn hit_by_first<R: TranslationRule>(
+    found: Option<&R>,
+    packet: &Packet,
+    direction: Direction,
+) -> Option<Hit>
+    ensures { result ≡ spec.hit_of_first (R.kind.hit packet.now direction) (option_copied found.entry) }
+{
+    match found {
+        Some(rule) => rule.hit(packet, direction),
+        None => None,
+    }
+}
+
 /// What the first rule of a kind that holds makes of a packet.
 fn hit_in<R: TranslationRule>(
     rules: &[R],
@@ -155,10 +170,8 @@ fn hit_in<R: TranslationRule>(
     ensures hit { IfOk result (λ hit. hit ≡ spec.hit_in R.kind flat.now packet.now direction rules.now) }
     ensures visits { OnOk result (visits.new ≡ visits.old ++ spec.asked_in R.kind flat.now packet.now direction rules.now) }
 {
-    match first_holding(rules, flat, packet, direction, visits)? {
-        Some(rule) => Ok(rule.hit(packet, direction)),
-        None => Ok(None),
-    }
+    let found = first_holding(rules, flat, packet, direction, visits)?;
+    Ok(hit_by_first(found, packet, direction))
 }
 
 /// What the kind that is asked behind `binat` makes of a packet: `rdr` for one that comes in, `nat` for one that goes out.
@@ -173,12 +186,12 @@ fn other_hit(
 {
     match direction {
         Direction::In => {
-            let rules = flat.translations.rdrs.as_slice();
-            hit_in(rules, flat, packet, direction, visits)
+            let found = first_of(&flat.translations.rdrs, flat, packet, visits)?;
+            Ok(hit_by_first(found, packet, direction))
         }
         Direction::Out => {
-            let rules = flat.translations.nats.as_slice();
-            hit_in(rules, flat, packet, direction, visits)
+            let found = first_of(&flat.translations.nats, flat, packet, visits)?;
+            Ok(hit_by_first(found, packet, direction))
         }
     }
 }

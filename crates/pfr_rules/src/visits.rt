@@ -1,5 +1,5 @@
 //! The rules that a walk visits.
-ghost use Rattle.std.specs.Prelude.{◌≡◌, ◌<◌, ◌≤◌, ◌+◌, [], ◌∷◌, ◌++◌, fold, OnOk, OnErr, IfOk};
+ghost use Rattle.std.specs.Prelude.{◌≡◌, ◌<◌, ◌≤◌, ◌+◌, ◌-◌, suc, [], ◌∷◌, ◌++◌, fold, OnOk, OnErr, IfOk};
 ghost use Rattle.pfr_rules.specs.Counts.{raised};
 ghost use Rattle.pfr_rules.specs.Evaluating.{Balances, counts_from};
 ghost use Rattle.pfr_rules.specs.Numbers.{follows, numbers_from};
@@ -37,16 +37,16 @@ impl Model for Visits {
 }
 
 impl Run {
-    /// The same with one number more.
-    fn longer(self) -> Run
-        requires few { self.count < 18446744073709551615 }
-        requires fits { self.first + self.count < 18446744073709551616 }
+    /// The same with `more` numbers behind its last one.
+    fn longer(self, more: usize) -> Run
+        requires few { self.count + more ≤ 18446744073709551615 }
+        requires fits { self.first + self.count + more ≤ 18446744073709551616 }
         ensures first { result.first ≡ self.first }
-        ensures count { result.count ≡ self.count + 1 }
+        ensures count { result.count ≡ self.count + more }
     {
         Run {
             first: self.first,
-            count: self.count + 1,
+            count: self.count + more,
         }
     }
 
@@ -93,7 +93,7 @@ impl Visits {
         ensures kept { OnErr result (self.new ≡ self.old) }
     {
         if self.last.is_followed_by(number) {
-            self.last = self.last.longer();
+            self.last = self.last.longer(1);
             return Ok(());
         }
         if self.last.count > 0 {
@@ -104,6 +104,35 @@ impl Visits {
             count: 1,
         };
         Ok(())
+    }
+
+    /// Puts `count` numbers behind the others: `first` and those that follow it. Where memory is refused they are as before.
+    pub fn push_run(&mut self, first: usize, count: usize) -> Result<(), AllocError>
+        requires fits { first + count ≤ 18446744073709551615 }
+        ensures pushed { OnOk result (self.new ≡ self.old ++ numbers_from first count) }
+        ensures kept { OnErr result (self.new ≡ self.old) }
+    {
+        if count == 0 {
+            return Ok(());
+        }
+        if self.last.is_followed_by(first) {
+            self.last = self.last.longer(count);
+            return Ok(());
+        }
+        if self.last.count > 0 {
+            self.before.push(self.last)?;
+        }
+        self.last = Run { first, count };
+        Ok(())
+    }
+
+    /// Puts the numbers from `first` to `last` behind the others.
+    pub(crate) fn push_up_to(&mut self, first: usize, last: usize) -> Result<(), AllocError>
+        requires { first ≤ last }
+        ensures { OnOk result (self.new ≡ self.old ++ numbers_from first (suc (last - first))) }
+    {
+        self.push_run(first, last - first)?;
+        self.push(last)
     }
 
     /// Counts the rules of these numbers once more.

@@ -1,12 +1,14 @@
 //! The walk over the rules.
-ghost use Rattle.std.specs.Prelude.{◌≡◌, ◌<◌, ◌+◌, if◌then◌else◌, length, Some, IfOk};
+ghost use Rattle.std.specs.Prelude.{◌≡◌, ◌<◌, ◌≤◌, ◌+◌, if◌then◌else◌, length, true, Some, IfOk};
 ghost use Rattle.std.specs.List.{slice_get, slice_index_or};
 ghost use Rattle.std.specs.Option.{ForSome, option_copied};
 ghost use Rattle.pfr_rules.specs.Filter as spec;
+ghost use Rattle.pfr_rules.specs.Stretches.{next_first as next_first_of};
 
 use crate::decision::Decision;
+use crate::stretch::{StretchEnd, follow, rule_is, stretch};
 use crate::visits::Visits;
-use pfr_criteria::{anchor_holds, rule_holds};
+use pfr_criteria::anchor_holds;
 use pfr_headers::Packet;
 use pfr_net::{Direction, RuleNumber};
 use pfr_ruleset::{FilterAction, FlatAnchor, FlatRule, Ruleset};
@@ -39,18 +41,6 @@ fn stops(opening: usize, decided: Option<usize>) -> bool
         None => false,
         Some(hit) => opening <= hit,
     }
-}
-
-fn rule_is(flat: &Ruleset, rule: &FlatRule, packet: &Packet, direction: Direction) -> bool
-    ensures { result ≡ spec.ruled flat.now packet.now direction rule.now }
-{
-    rule_holds(
-        rule,
-        &flat.interface.name,
-        flat.tables.as_slice(),
-        packet,
-        direction,
-    )
 }
 
 fn anchor_is(flat: &Ruleset, anchor: &FlatAnchor, packet: &Packet, direction: Direction) -> bool
@@ -97,6 +87,32 @@ fn begun(anchors: &[FlatAnchor], next: usize, place: usize) -> Option<&FlatAncho
     }
 }
 
+/// Where the next anchor begins, or the end.
+#[inline]
+fn next_first(anchors: &[FlatAnchor], next: usize, end: usize) -> usize
+    ensures { result ≡ next_first_of (slice_get anchors.now next) end }
+{
+    match anchors.get(next) {
+        None => end,
+        Some(anchor) => anchor.first.min(end),
+    }
+}
+
+/// Whether a rule holds, which is asked only where it isn't known.
+#[inline]
+fn is_hit_by(
+    flat: &Ruleset,
+    rule: &FlatRule,
+    packet: &Packet,
+    direction: Direction,
+    is_known: bool,
+) -> bool
+    requires known { is_known ≡ true → spec.ruled flat.now packet.now direction rule.now ≡ true }
+    ensures { result ≡ spec.ruled flat.now packet.now direction rule.now }
+{
+    is_known || rule_is(flat, rule, packet, direction)
+}
+
 /// The last hit, which is at this place if its rule hits.
 #[inline]
 fn with_hit(decided: Option<usize>, is_hit: bool, place: usize) -> Option<usize>
@@ -112,7 +128,8 @@ struct Walked {
     visits: Visits,
 }
 
-/// Walks over the rules. An anchor that doesn't hold is passed over with all that stands in it.
+/// Walks over the rules. An anchor that doesn't hold is passed over with all that stands in it. A stretch of rules that don't hold
+/// is visited as one run.
 fn walk(
     alloc: Global,
     flat: &Ruleset,
@@ -126,6 +143,9 @@ fn walk(
     let rules = flat.filter.rules();
     let anchors = flat.filter.anchors();
     let openings = flat.filter.openings();
+    let aids = flat.filter.aids();
+    let mut places = [0; 16];
+    follow(flat, aids, packet, &mut places);
     let mut visits = Visits::new(alloc);
     let mut decided = None;
     let mut place: usize = 0;
@@ -145,13 +165,28 @@ fn walk(
             place = behind(openings, anchor.last);
             continue;
         }
-        visits.push(place)?;
-        let is_hit = rule_is(flat, &rules[place], packet, direction);
-        decided = with_hit(decided, is_hit, place);
-        if ends_at(openings, place, decided) {
+        let limit = next_first(anchors, next, rules.len());
+        let StretchEnd { to, hits } = stretch(
+            flat,
+            aids,
+            packet,
+            direction,
+            &mut places,
+            place,
+            limit,
+        );
+        if to >= limit {
+            visits.push_run(place, to - place)?;
+            place = to;
+            continue;
+        }
+        visits.push_run(place, to + 1 - place)?;
+        let is_hit = is_hit_by(flat, &rules[to], packet, direction, hits);
+        decided = with_hit(decided, is_hit, to);
+        if ends_at(openings, to, decided) {
             return Ok(Walked { decided, visits });
         }
-        place = behind(openings, place);
+        place = behind(openings, to);
     }
     Ok(Walked { decided, visits })
 }

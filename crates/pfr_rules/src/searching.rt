@@ -1,0 +1,206 @@
+//! How the first translation rule of a kind is searched that holds for a packet.
+ghost use Rattle.std.specs.Prelude.{◌≡◌, ◌<◌, ◌≤◌, ◌++◌, suc, length, map, min, take, IfNone, IfOk, IfSome, OnOk};
+ghost use Rattle.std.specs.List.{find, slice_get, slice_index_or};
+ghost use Rattle.std.specs.Option.{option_copied};
+ghost use Rattle.pfr_ruleset.specs.Criteria.{asked_by_translation};
+ghost use Rattle.pfr_ruleset.specs.Indexes.{AreAids};
+ghost use Rattle.pfr_ruleset.specs.TranslationAids.{number_of, HaveAids, IsNumberEnd};
+ghost use Rattle.pfr_rules.specs.Searching.{held};
+ghost use Rattle.pfr_rules.specs.Stretches.{HoldsAt, IsBehind, NoneHolds};
+ghost use Rattle.pfr_rules.specs.Translating.{numbered, up_to_first};
+
+use crate::candidates::{begin_asking, next_asked};
+use crate::visits::Visits;
+use pfr_criteria::{Answer, ask_translation, translation_holds};
+use pfr_headers::Packet;
+use pfr_ruleset::{Aids, FlatTranslation, Ruleset, TranslationAids, TranslationRules};
+use std::alloc::AllocError;
+
+/// What the rule at a place answers: None where it holds, else the next rule that may. Those between don't hold either.
+fn behind_failing<T>(
+    rules: &[FlatTranslation<T>],
+    aids: &Aids,
+    flat: &Ruleset,
+    packet: &Packet,
+    place: usize,
+) -> Option<usize>
+    requires aids { AreAids (map asked_by_translation rules.now) aids.now }
+    requires within { place < length rules.now }
+    requires small { place < 18446744073709551615 }
+    ensures holds { IfNone result (HoldsAt (held flat.now packet.now) rules.now place) }
+    ensures fails { IfSome result (IsBehind (held flat.now packet.now) rules.now place) }
+{
+    match ask_translation(
+        &rules[place],
+        &flat.interface.name,
+        flat.tables.as_slice(),
+        packet,
+    ) {
+        Answer::Holds => None,
+        Answer::Fails => Some(place + 1),
+        Answer::FailsAt(criterion) => Some(aids.skips.next(criterion, place)),
+    }
+}
+
+/// The place of the first rule that holds for a packet, by what is kept beside the rules; the number of rules if none does.
+fn first_by<T>(rules: &[FlatTranslation<T>], aids: &Aids, flat: &Ruleset, packet: &Packet) -> usize
+    requires aids { AreAids (map asked_by_translation rules.now) aids.now }
+    ensures within { result ≤ length rules.now }
+    ensures none { NoneHolds (held flat.now packet.now) rules.now 0 result }
+    ensures holds { result < length rules.now → HoldsAt (held flat.now packet.now) rules.now result }
+{
+    let end = rules.len();
+    let mut places = [0; 16];
+    begin_asking(aids, packet, &mut places);
+    let mut from = 0;
+    while from < end {
+        let to = next_asked(aids, &mut places, from);
+        if to >= end {
+            return end;
+        }
+        match behind_failing(rules, aids, flat, packet, to) {
+            None => return to,
+            Some(next) => from = next,
+        }
+    }
+    end
+}
+
+/// The same where nothing is kept beside the rules: each is asked.
+fn first_of_each<T>(rules: &[FlatTranslation<T>], flat: &Ruleset, packet: &Packet) -> usize
+    ensures within { result ≤ length rules.now }
+    ensures none { NoneHolds (held flat.now packet.now) rules.now 0 result }
+    ensures holds { result < length rules.now → HoldsAt (held flat.now packet.now) rules.now result }
+{
+    let mut place = 0;
+    while place < rules.len() {
+        if translation_holds(
+            &rules[place],
+            &flat.interface.name,
+            flat.tables.as_slice(),
+            packet,
+        ) {
+            return place;
+        }
+        place += 1;
+    }
+    place
+}
+
+/// The place of the first rule that holds for a packet; the number of rules if none does.
+fn first_place<T>(
+    rules: &[FlatTranslation<T>],
+    aids: Option<&TranslationAids>,
+    flat: &Ruleset,
+    packet: &Packet,
+) -> usize
+    requires aids { HaveAids rules.now (option_copied aids) }
+    ensures within { result ≤ length rules.now }
+    ensures none { NoneHolds (held flat.now packet.now) rules.now 0 result }
+    ensures holds { result < length rules.now → HoldsAt (held flat.now packet.now) rules.now result }
+{
+    match aids {
+        None => first_of_each(rules, flat, packet),
+        Some(aids) => first_by(rules, &aids.rules, flat, packet),
+    }
+}
+
+/// How far rules from a place on are numbered one after the other, at most up to `upto`. Its contract alone needs the rules.
+fn run_end<T>(
+    _rules: &[FlatTranslation<T>],
+    aids: Option<&TranslationAids>,
+    from: usize,
+    upto: usize,
+) -> usize
+    requires aids { HaveAids _rules.now (option_copied aids) }
+    requires from { from < upto }
+    requires within { upto ≤ length _rules.now }
+    ensures run { IsNumberEnd (map number_of _rules.now) from result }
+    ensures within { result ≤ upto }
+{
+    match aids {
+        None => from + 1,
+        Some(aids) => aids.number_end(from).min(upto),
+    }
+}
+
+/// The number of the rule at a place.
+#[inline]
+#[tactic(auto, using(crate::proofs::SearchLemmas::number_at))]
+fn number_at<T>(rules: &[FlatTranslation<T>], place: usize) -> usize
+    requires { place < length rules.now }
+    ensures { result ≡ slice_index_or (map number_of rules.now) place 0 }
+{
+    rules[place].number
+}
+
+/// Puts the numbers of the rules before a place behind the visited ones. Those that follow on one another are one run.
+fn visit<T>(
+    rules: &[FlatTranslation<T>],
+    aids: Option<&TranslationAids>,
+    upto: usize,
+    visits: &mut Visits,
+) -> Result<(), AllocError>
+    requires aids { HaveAids rules.now (option_copied aids) }
+    requires within { upto ≤ length rules.now }
+    ensures { OnOk result (visits.new ≡ visits.old ++ take upto (map number_of rules.now)) }
+{
+    let mut from = 0;
+    while from < upto {
+        let end = run_end(rules, aids, from, upto);
+        let first = number_at(rules, from);
+        let last = number_at(rules, end - 1);
+        visits.push_up_to(first, last)?;
+        from = end;
+    }
+    Ok(())
+}
+
+/// The rule at a place, if there is one.
+#[inline]
+fn rule_at<T>(rules: &[FlatTranslation<T>], place: usize) -> Option<&FlatTranslation<T>>
+    ensures { option_copied result ≡ slice_get rules.now place }
+{
+    rules.get(place)
+}
+
+/// How many of `count` rules are asked where the one at a place is the first that holds; all where that is their number.
+#[inline]
+fn asked_up_to(place: usize, count: usize) -> usize
+    requires { place ≤ count }
+    ensures { result ≡ min (suc place) count }
+{
+    if place < count { place + 1 } else { count }
+}
+
+/// The first of these rules that holds for a packet. The numbers of those up to it, or of all where none holds, are put behind the
+/// visited ones.
+fn first_in<'a, T>(
+    rules: &'a [FlatTranslation<T>],
+    aids: Option<&TranslationAids>,
+    flat: &Ruleset,
+    packet: &Packet,
+    visits: &mut Visits,
+) -> Result<Option<&'a FlatTranslation<T>>, AllocError>
+    requires aids { HaveAids rules.now (option_copied aids) }
+    ensures found { IfOk result (λ found. option_copied found ≡ find (held flat.now packet.now) rules.now) }
+    ensures visits { OnOk result (visits.new ≡ visits.old ++ up_to_first (held flat.now packet.now) numbered rules.now) }
+{
+    let place = first_place(rules, aids, flat, packet);
+    let upto = asked_up_to(place, rules.len());
+    visit(rules, aids, upto, visits)?;
+    Ok(rule_at(rules, place))
+}
+
+/// The same of all rules of a kind.
+pub(crate) fn first_of<'a, T>(
+    rules: &'a TranslationRules<T>,
+    flat: &Ruleset,
+    packet: &Packet,
+    visits: &mut Visits,
+) -> Result<Option<&'a FlatTranslation<T>>, AllocError>
+    ensures found { IfOk result (λ found. option_copied found ≡ find (held flat.now packet.now) rules.now) }
+    ensures visits { OnOk result (visits.new ≡ visits.old ++ up_to_first (held flat.now packet.now) numbered rules.now) }
+{
+    first_in(rules.as_slice(), rules.aids(), flat, packet, visits)
+}

@@ -1,0 +1,207 @@
+//! Stretches of rules that don't hold, which a walk visits as one run.
+ghost use Rattle.std.specs.Prelude.{◌≡◌, ◌<◌, ◌≤◌, length, true, map, Some, IfNone, IfSome};
+ghost use Rattle.std.specs.List.{slice_get};
+ghost use Rattle.std.specs.Option.{option_copied};
+ghost use Rattle.pfr_ruleset.specs.Criteria.{asked_by};
+ghost use Rattle.pfr_ruleset.specs.FilterAids.{HaveOwnAids};
+ghost use Rattle.pfr_ruleset.specs.Indexes.{AreAids};
+ghost use Rattle.pfr_rules.specs.Candidates as candidates;
+ghost use Rattle.pfr_rules.specs.Filter.{ruled};
+ghost use Rattle.pfr_rules.specs.Stretches as spec;
+
+use crate::candidates::{begin, next_asked};
+use pfr_criteria::{Answer, ask_rule, rule_holds};
+use pfr_headers::Packet;
+use pfr_net::Direction;
+use pfr_ruleset::{Aids, FilterAids, FlatRule, Ruleset};
+
+/// Where a stretch of rules that don't hold ends.
+pub(crate) struct StretchEnd {
+    /// The place behind the stretch.
+    pub(crate) to: usize,
+    /// Whether the rule there is known to hold.
+    pub(crate) hits: bool,
+}
+
+/// Whether a rule holds for a packet of a direction.
+pub(crate) fn rule_is(
+    flat: &Ruleset,
+    rule: &FlatRule,
+    packet: &Packet,
+    direction: Direction,
+) -> bool
+    ensures { result ≡ ruled flat.now packet.now direction rule.now }
+{
+    rule_holds(
+        rule,
+        &flat.interface.name,
+        flat.tables.as_slice(),
+        packet,
+        direction,
+    )
+}
+
+/// Goes to the first rule of each chain that a packet follows, if there is an index.
+pub(crate) fn follow(
+    flat: &Ruleset,
+    aids: Option<&FilterAids>,
+    packet: &Packet,
+    places: &mut [usize; 16],
+)
+    requires { HaveOwnAids flat.now.filter (option_copied aids) }
+    ensures { candidates.AreFollowedBy (option_copied aids.entry) packet.now 0 places.new }
+{
+    if let Some(aids) = aids {
+        if let Some(index) = &aids.rules.index {
+            begin(index, packet, places);
+        }
+    }
+}
+
+/// What the rule at a place answers: None where it holds, else the next rule that may. Those between don't hold either.
+fn behind_failing(
+    flat: &Ruleset,
+    aids: &Aids,
+    rule: &FlatRule,
+    packet: &Packet,
+    direction: Direction,
+    place: usize,
+) -> Option<usize>
+    requires aids { AreAids (map asked_by flat.now.filter.rules) aids.now }
+    requires within { place < length flat.now.filter.rules }
+    requires small { place < 18446744073709551615 }
+    requires rule { slice_get flat.now.filter.rules place ≡ Some rule.now }
+    ensures holds { IfNone result (spec.HoldsAt (ruled flat.now packet.now direction) flat.now.filter.rules place) }
+    ensures fails { IfSome result (spec.IsBehind (ruled flat.now packet.now direction) flat.now.filter.rules place) }
+{
+    match ask_rule(
+        rule,
+        &flat.interface.name,
+        flat.tables.as_slice(),
+        packet,
+        direction,
+    ) {
+        Answer::Holds => None,
+        Answer::Fails => Some(place + 1),
+        Answer::FailsAt(criterion) => Some(aids.skips.next(criterion, place)),
+    }
+}
+
+/// How far a walk may jump from `place`, at most to `end`, by what is kept beside the rules.
+fn stretch_by(
+    flat: &Ruleset,
+    aids: &Aids,
+    packet: &Packet,
+    direction: Direction,
+    places: &mut [usize; 16],
+    place: usize,
+    end: usize,
+) -> StretchEnd
+    requires aids { AreAids (map asked_by flat.now.filter.rules) aids.now }
+    requires followed { candidates.AreFollowedIn aids.now.index packet.now place places.old }
+    requires end { end ≤ length flat.now.filter.rules }
+    requires from { place ≤ end }
+    ensures from { place ≤ result.to }
+    ensures within { result.to ≤ end }
+    ensures fails { spec.NoneHolds (ruled flat.now packet.now direction) flat.now.filter.rules place result.to }
+    ensures hits { result.hits ≡ true → result.to < end × spec.HoldsAt (ruled flat.now packet.now direction) flat.now.filter.rules result.to }
+    ensures followed { candidates.AreFollowedIn aids.now.index packet.now result.to places.new }
+{
+    let rules = flat.filter.rules();
+    let mut from = place;
+    while from < end {
+        let to = next_asked(aids, places, from);
+        if to >= end {
+            return StretchEnd {
+                to: end,
+                hits: false,
+            };
+        }
+        match behind_failing(flat, aids, &rules[to], packet, direction, to) {
+            None => return StretchEnd { to, hits: true },
+            Some(next) => from = next.min(end),
+        }
+    }
+    StretchEnd {
+        to: end,
+        hits: false,
+    }
+}
+
+/// How far a walk may jump from a place and not look at its last hit, at most to `limit`.
+#[inline]
+fn open_end(aids: &FilterAids, openings: &[usize], place: usize, limit: usize) -> usize
+    requires ends { spec.AreEndsFor openings.now aids.now }
+    requires place { place < limit }
+    requires limit { limit ≤ length openings.now }
+    ensures from { place ≤ result }
+    ensures within { result ≤ limit }
+    ensures opens { spec.NoneOpens openings.now place result }
+{
+    if openings[place] < place {
+        return place;
+    }
+    aids.open_end(place).min(limit)
+}
+
+/// How far a walk may jump from `place`, at most to `limit`, where nothing is kept beside the rules: each is asked.
+fn stretch_of_each(
+    flat: &Ruleset,
+    packet: &Packet,
+    direction: Direction,
+    place: usize,
+    limit: usize,
+) -> StretchEnd
+    requires limit { limit ≤ length flat.now.filter.rules }
+    requires from { place ≤ limit }
+    ensures from { place ≤ result.to }
+    ensures within { result.to ≤ limit }
+    ensures fails { spec.NoneHolds (ruled flat.now packet.now direction) flat.now.filter.rules place result.to }
+    ensures stops { spec.NoneStops flat.now.filter place result.to }
+    ensures hits { result.hits ≡ true → result.to < limit × spec.HoldsAt (ruled flat.now packet.now direction) flat.now.filter.rules result.to }
+{
+    let rules = flat.filter.rules();
+    let openings = flat.filter.openings();
+    let mut to = place;
+    while to < limit {
+        if openings[to] < to {
+            return StretchEnd { to, hits: false };
+        }
+        if rule_is(flat, &rules[to], packet, direction) {
+            return StretchEnd { to, hits: true };
+        }
+        to += 1;
+    }
+    StretchEnd { to, hits: false }
+}
+
+/// How far a walk may jump from `place`, at most to `limit`: none of the rules that it jumps over holds, and at none of them an
+/// earlier hit ends the walk. The packet goes on along its chains.
+pub(crate) fn stretch(
+    flat: &Ruleset,
+    aids: Option<&FilterAids>,
+    packet: &Packet,
+    direction: Direction,
+    places: &mut [usize; 16],
+    place: usize,
+    limit: usize,
+) -> StretchEnd
+    requires aids { HaveOwnAids flat.now.filter (option_copied aids) }
+    requires followed { candidates.AreFollowedBy (option_copied aids) packet.now place places.old }
+    requires limit { limit ≤ length flat.now.filter.rules }
+    requires from { place < limit }
+    ensures from { place ≤ result.to }
+    ensures within { result.to ≤ limit }
+    ensures fails { spec.NoneHolds (ruled flat.now packet.now direction) flat.now.filter.rules place result.to }
+    ensures stops { spec.NoneStops flat.now.filter place result.to }
+    ensures hits { result.hits ≡ true → result.to < limit × spec.HoldsAt (ruled flat.now packet.now direction) flat.now.filter.rules result.to }
+    ensures followed { candidates.AreFollowedBy (option_copied aids.entry) packet.now result.to places.new }
+{
+    match aids {
+        None => stretch_of_each(flat, packet, direction, place, limit),
+        Some(aids) => {
+            let end = open_end(aids, flat.filter.openings(), place, limit);
+            stretch_by(flat, &aids.rules, packet, direction, places, place, end)
+        }
+    }
+}
