@@ -1,8 +1,8 @@
-use Rattle.std.proofs.Common.{IsTrue, rules}
+use Rattle.std.proofs.Common.{IsTrue}
 use Rattle.std.proofs.lemmas.Result.{IfErr-weaker, IfOk-weaker}
 use Rattle.pfr_out.specs.declared.report.Report.{Report}
 use Rattle.pfr_out.specs.declared.report.Stop.{Stop}
-use Rattle.pfr_out.proofs.RunLemmas.{opening_untold, past_is_late, past_untold, refused_opening, stop_is_late}
+use Rattle.pfr_out.proofs.RunLemmas.{opening_fails, opening_untold, past_is_late, past_untold, refused_opening, stop_is_late}
 use Rattle.pfr_out.proofs.run.replay_job.Goals as goal
 
 pub returns-clause-ok : goal.returns-clause-ok
@@ -30,7 +30,7 @@ pub returns-in-Err-clause-late : goal.returns-in-Err-clause-late
 returns-in-Err-clause-late g c = rw c.stop_for.ensures (stop_is_late c.in-Err.refusal 0)
 
 pub returns-in-Err-clause-failure : goal.returns-in-Err-clause-failure
-returns-in-Err-clause-failure g c = search rules
+returns-in-Err-clause-failure g c = rw c.stop_for.ensures (opening_fails c.in-Err.refusal _ _ _ c.in-Err.ensures.failed)
 
 pub returns-in-Err-clause-refused : goal.returns-in-Err-clause-refused
 returns-in-Err-clause-refused g c = rw c.stop_for.ensures (opening_untold c.in-Err.refusal _ _)
