@@ -7,8 +7,8 @@ from collections import Counter
 import captures.cases
 import captures.frame_cases
 import steps.cases
-from runs import (cases, devices, filter_cases, filter_rows, lines, message_cases, message_rows, model, random_cases,
-                  rows, same_files)
+from runs import (cases, devices, filter_cases, filter_rows, lines, long_rulesets, message_cases, message_rows, model,
+                  random_cases, rows, same_files)
 from runs.case import EXAMPLES, INSIDE, PACKETS, Case, capture_of
 from runs.comparison import a_line
 from runs.model import FILE, NONE, OUTPUTS, PEER, Outcome
@@ -25,7 +25,7 @@ def written_cases():
 
 def modelled_cases():
     """The cases that the model answers."""
-    for module in (cases, captures.frame_cases, filter_cases):
+    for module in (cases, captures.frame_cases, filter_cases, long_rulesets):
         yield from module.all_cases()
     yield from (row.case for row in filter_rows.rows())
     yield from (rows.case_of(expected.run) for expected in steps.cases.cases())

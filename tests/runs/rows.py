@@ -1,10 +1,10 @@
 """Runs of the program whose texts are written by hand: those of steps.rows, and captures by where they end."""
 
 import steps.rows
-from captures.packets import SYN, capture_header, record, tcp
+from captures.packets import SYN, capture_header, record, tcp, udp
 from expansions.model import dotted
 from messages.rows import SYN_HEADER, SYN_PEERS
-from runs.case import EMPTIED, INSIDE, Case, Written, refused
+from runs.case import EMPTIED, INSIDE, Case, Written, capture_of, refused
 
 # a network of the inside that holds no packet's source, if a run has none at all
 NOBODY = "255.255.255.255"
@@ -84,7 +84,24 @@ def length_rows():
                   {"out": b"committed 1, cut\n", "err": b"", "status": 2, **one_syn(whole)})
 
 
+def long_rows():
+    """A thousand rules of a port each: none holds for a packet, or one in the middle does. Rules that a walk passes
+    over are visited as well."""
+    rule = b"block in quick proto udp from any to any port %d\n"
+    rules = b"".join(rule % port for port in range(1, 1001)) + b"pass in\n"
+    for port, line, last, total in ((2000, b"1 0 in pass rule r=1000 t=- s=1\n", 1000, b"total 1 1 0 0 0\n"),
+                                    (500, b"1 0 in block rule r=499 t=- s=-\n", 499, b"total 1 0 1 0 0\n")):
+        capture = capture_of([udp("198.51.100.7", 9, "192.0.2.1", port, b"")])
+        before = b"".join(b"filter %d 1 0 0\n" % number for number in range(last))
+        behind = b"".join(b"filter %d 0 0 0\n" % number for number in range(last + 1, 1001))
+        counters = before + b"filter %d 1 1 28\n" % last + behind
+        yield Written(Case(f"a thousand rules and port {port}", rules, INSIDE, capture), {
+            "out": b"committed 1\n", "err": b"", "status": 0, "verdicts": line, "counters": counters + total,
+            "packets": capture if port == 2000 else capture[:24]})
+
+
 def rows():
+    yield from long_rows()
     yield from map(step_row, steps.rows.rows())
     for row in steps.rows.ends():
         yield ending(*row)
