@@ -1,13 +1,15 @@
 #!/usr/bin/env python3
-"""Measures the program beside tcpdump as rulesets grow and prints a table.
+"""Measures the program as rulesets grow, beside tcpdump and beside another build of the program, and prints a table.
 
-    rules.py [PROGRAM] [--rules N ..] [--unchecked]
+    rules.py [PROGRAM] [--beside OTHER] [--kinds KIND ..] [--rules N ..] [--unchecked]
 
 No rule but the last matches a packet, so each packet is asked about all of them.
 """
 
 import argparse
+import ipaddress
 import os
+import random
 import shutil
 import struct
 import subprocess
@@ -19,15 +21,15 @@ from pathlib import Path
 sys.dont_write_bytecode = True
 
 from make_capture import write_capture
-from run import PROGRAM, RUNS, count_records, print_row, replay_command, tcpdump_command
+from run import PROGRAM, RUNS, count_records, peak_memory, print_row, replay_command, tcpdump_command
 
 # found where make_capture says
 from captures.packets import LINKTYPE_ETHERNET
 
-COUNTS = [1, 10, 100, 1000, 10000]
-MOST_PACKETS = 10**5
-# packets times rules; past this the capture gets shorter, so that a row ends in reasonable time
-MOST_QUESTIONS = 10**8
+# the kinds of rulesets, and how many rules each is measured with
+KINDS = {"ports": (10, 100, 1000, 10000), "pairs": (10, 100, 1000, 10000), "mixed": (10, 1000), "networks": (10, 1000),
+         "tables": (10, 10000), "lists": (65536,)}
+PACKETS = 200000
 CHECKED_PACKETS = 1000
 # the bytes of both addresses and the type
 ETHERNET_HEADER = 14
@@ -51,34 +53,85 @@ def ports_in(capture):
     return ports
 
 
+def free_ports(capture):
+    """The ports that no packet of a capture has."""
+    return sorted(set(range(1, 65536)) - ports_in(capture))
+
+
+def transport(place):
+    return ("udp", "tcp")[place % 2]
+
+
+def vain_ports(count, capture):
+    """Rules of a port each, in order, with their terms of tcpdump's language."""
+    for place, port in zip(range(count), free_ports(capture)):
+        protocol = transport(place)
+        yield f"block quick proto {protocol} from any to any port {port}", f"{protocol} dst port {port}"
+
+
 def vain_pairs(count, capture):
-    """So many rules, each with its term of tcpdump's language, no two alike, that no packet of the capture matches:
-    each asks for another port that doesn't occur, and every second pair of them for a network besides."""
-    free = sorted(set(range(1, 65536)) - ports_in(capture))
-    for place, port in zip(range(count), free):
-        protocol = ("udp", "tcp")[place % 2]
+    """The same, of which every second pair asks for a network besides."""
+    for place, (rule, term) in enumerate(vain_ports(count, capture)):
         network = f"172.{16 + place // 256 % 16}.{place % 256}.0/24"
         if place % 4 < 2:
-            yield f"block quick proto {protocol} from any to any port {port}", f"{protocol} dst port {port}"
+            yield rule, term
         else:
-            yield (f"block quick proto {protocol} from {network} to any port {port}",
-                   f"(src net {network} and {protocol} dst port {port})")
+            yield rule.replace("from any", f"from {network}"), f"(src net {network} and {term})"
+
+
+def vain_mixed(count, capture):
+    """Rules that ask for directions, protocols, addresses, networks, ports and ranges of them."""
+    chance, ports = random.Random(count), free_ports(capture)
+    for place in range(count):
+        host = f"172.{chance.randrange(16, 32)}.{chance.randrange(256)}.{chance.randrange(256)}"
+        network = f"{host}/{chance.choice([16, 20, 24, 28])}"
+        port = ports[place % len(ports)]
+        yield chance.choice([
+            f"block in quick proto tcp from {network} to any",
+            f"block out quick proto udp from any to {network} port {port}",
+            f"block in quick from {host} to any",
+            f"block quick proto {transport(place)} from {host} to any port {port}",
+            f"block quick proto tcp from any to {host} port {port}", f"block out quick from any to {network}",
+            f"block in quick proto udp from {network} to any port {port}:{port}",
+            f"pass quick proto {transport(place)} from any port {port} to {host}"]), None
+
+
+def vain_networks(count, capture):
+    """Rules of a network each, of eight lengths."""
+    chance = random.Random(count)
+    for place in range(count):
+        address = f"172.{chance.randrange(256)}.{chance.randrange(256)}.{chance.randrange(256)}"
+        network = ipaddress.ip_network(f"{address}/{(10, 12, 16, 18, 20, 22, 24, 28)[place % 8]}", strict=False)
+        yield f"block quick from {network} to any", f"src net {network}"
+
+
+def vain_rules(kind, count, capture):
+    """The lines of a ruleset of one kind but the last, and the terms of tcpdump's filter, None if there is none."""
+    if kind == "tables":
+        entries = ", ".join(f"172.{place // 65536 + 16}.{place // 256 % 256}.{place % 256}" for place in range(count))
+        return [f"table <vain> {{ {entries} }}", "block quick from <vain> to any"], None
+    if kind == "lists":
+        hosts = ", ".join(f"172.16.{place // 256}.{place % 256}" for place in range(count // 64))
+        ports = ", ".join(map(str, free_ports(capture)[:64]))
+        return [f"block quick proto tcp from {{ {hosts} }} to any port {{ {ports} }}"], None
+    make = {"ports": vain_ports, "pairs": vain_pairs, "mixed": vain_mixed, "networks": vain_networks}[kind]
+    rules, terms = zip(*make(count, capture))
+    return list(rules), None if None in terms else terms
 
 
 class Contest:
-    """A ruleset and a filter of one length, and the commands that are measured on a capture."""
+    """A ruleset and a filter of one kind and length, and the commands that are measured on a capture."""
 
-    def __init__(self, folder, program, count):
-        self.count = count
-        self.packets = min(MOST_PACKETS, MOST_QUESTIONS // count)
+    def __init__(self, folder, kind, count):
         self.folder = folder
-        self.program = program
-        self.capture = self.written_capture("capture.pcap", self.packets)
-        pairs = list(vain_pairs(count - 1, self.capture.read_bytes()))
-        self.rules, self.filter = folder / "rules", folder / "filter"
-        self.rules.write_text("".join(f"{rule}\n" for rule, _ in pairs) + "pass all no state\n")
-        terms = " or ".join(term for _, term in pairs)
-        self.filter.write_text(f"ip and not ({terms})\n" if terms else "ip\n")
+        self.capture = self.written_capture("capture.pcap", PACKETS)
+        self.empty = self.written_capture("empty.pcap", 0)
+        lines, terms = vain_rules(kind, count, self.capture.read_bytes())
+        self.rules, self.filter = folder / "rules", None
+        self.rules.write_text("".join(f"{line}\n" for line in lines) + "pass all no state\n")
+        if terms and shutil.which("tcpdump"):
+            self.filter = folder / "filter"
+            self.filter.write_text(f"ip and not ({' or '.join(terms)})\n")
 
     def written_capture(self, name, packets):
         path = self.folder / name
@@ -86,40 +139,40 @@ class Contest:
             write_capture(packets, file)
         return path
 
-    def replay(self, capture, verdicts=os.devnull):
-        return replay_command(self.program, capture, self.rules, verdicts=verdicts)
+    def replay(self, program, capture, verdicts=os.devnull):
+        return replay_command(program, capture, self.rules, verdicts=verdicts)
 
     def tcpdump(self, capture, passed=os.devnull):
         return tcpdump_command(capture, passed, "-F", self.filter)
 
-    def best_seconds(self):
-        """The best times of the program and of tcpdump, of each the whole run and the run on a capture without
-        packets, all in turn. One that is given up isn't run again, and has its reason for a time."""
-        empty = self.written_capture("empty.pcap", 0)
-        runs = [make(capture) for make in (self.replay, self.tcpdump) for capture in (self.capture, empty)]
+    def best_seconds(self, programs):
+        """The best times of each program, and of tcpdump if it has a filter: the whole run and the run on a capture
+        without packets, all in turn. One that is given up isn't run again, and has its reason for a time."""
+        makers = [lambda capture, program=program: self.replay(program, capture) for program in programs]
+        makers += [self.tcpdump] if self.filter else []
+        runs = [make(capture) for make in makers for capture in (self.capture, self.empty)]
         best = [PATIENCE] * len(runs)
         for _ in range(RUNS):
             for place, command in enumerate(runs):
                 # what is given up on a capture needn't be tried on none
                 if not any(isinstance(found, str) for found in best[place // 2 * 2:place + 1]):
                     best[place] = better(best[place], command)
-        return best[:2], best[2:]
+        return [best[place:place + 2] for place in range(0, len(best), 2)]
 
-    def check_program(self, few):
+    def check_program(self, program, few):
         """The last rule decides on each packet of a short capture."""
         lines = self.folder / "lines"
-        seconds(self.replay(few, lines))
-        found = lines.read_bytes()
-        decided = f" pass rule r={self.count - 1} t=- s=-\n".encode()
-        if found.count(decided) != CHECKED_PACKETS or found.count(b"\n") != CHECKED_PACKETS:
-            sys.exit(f"the last of {self.count} rules doesn't decide on each packet")
+        seconds(self.replay(program, few, lines))
+        rules = {line.split()[5] for line in lines.read_text().splitlines() if line.split()[3] == "pass"}
+        if len(rules) != 1 or lines.read_bytes().count(b" pass rule ") != CHECKED_PACKETS:
+            sys.exit("the last rule doesn't decide on each packet")
 
     def check_tcpdump(self, few):
         """The filter passes each packet of a short capture."""
         passed = self.folder / "passed.pcap"
         seconds(self.tcpdump(few, passed))
         if count_records(passed.read_bytes()) != CHECKED_PACKETS:
-            sys.exit(f"tcpdump's filter of {self.count - 1} terms doesn't pass each packet")
+            sys.exit("tcpdump's filter doesn't pass each packet")
 
 
 def seconds(command):
@@ -144,47 +197,56 @@ def better(best, command):
         return str(why)
 
 
-def speeds(whole, idle, packets, count):
-    """Packets a second, the milliseconds without packets, and the nanoseconds that each packet then takes for each
-    rule, as words; or why there are none."""
-    for found in (whole, idle):
-        if isinstance(found, str):
-            return [found, "-", "-"]
-    spent = max(whole - idle, 0)
-    return [f"{packets / whole:.0f}", f"{idle * 1e3:.1f}", f"{spent * 1e9 / (packets * count):.2f}"]
+def a_million(times):
+    """The seconds that a million packets take beyond a run without packets, None if it was given up."""
+    whole, idle = times
+    return None if isinstance(whole, str) or isinstance(idle, str) else (whole - idle) * 10**6 / PACKETS
 
 
-def row(folder, program, count, is_checked):
-    """The measures of rulesets of one length, as words."""
-    contest = Contest(folder, program, count)
-    ours, theirs = contest.best_seconds()
-    is_run, is_filtered = (not isinstance(whole, str) for whole, _ in (ours, theirs))
-    few = contest.written_capture("few.pcap", CHECKED_PACKETS)
-    if is_checked and is_run:
-        contest.check_program(few)
-    if is_filtered:
-        contest.check_tcpdump(few)
-    ratio = f"{theirs[0] / ours[0]:.2f}" if is_run and is_filtered else "-"
-    return [f"{count}", f"{contest.packets}", *speeds(*ours, contest.packets, count),
-            *speeds(*theirs, contest.packets, count), ratio]
+def figure(number, digits=2):
+    return "-" if number is None else f"{number:.{digits}f}"
+
+
+def row(contest, programs, kind, count, fewest):
+    """The measures of a ruleset, as words, and the seconds of a million packets by the first program."""
+    times = contest.best_seconds(programs)
+    ours = a_million(times[0])
+    others = [figure(a_million(found)) for found in times[1:len(programs)]]
+    tcpdump = figure(a_million(times[-1])) if contest.filter else "-"
+    start = times[0][1] if isinstance(times[0][1], str) else f"{times[0][1] * 1e3:.1f}"
+    as_few = figure(ours / fewest if ours and fewest else None)
+    peak = peak_memory(contest.replay(programs[0], contest.empty))
+    return [kind, f"{count}", figure(ours), as_few, *others, tcpdump, start, peak], ours
 
 
 def main():
-    parser = argparse.ArgumentParser(description="Measures the program beside tcpdump as rulesets grow.")
-    parser.add_argument("--rules", type=int, nargs="+", default=COUNTS)
+    parser = argparse.ArgumentParser(description="Measures the program as rulesets grow.")
+    parser.add_argument("--beside", type=Path, nargs="*", default=[], help="other builds of the program")
+    parser.add_argument("--kinds", nargs="+", choices=KINDS, default=list(KINDS))
+    parser.add_argument("--rules", type=int, nargs="+", help="in place of the numbers that each kind has")
     parser.add_argument("--unchecked", action="store_true", help="the program may print what it likes")
     parser.add_argument("program", nargs="?", type=Path, default=PROGRAM)
     words = parser.parse_args()
-    if not words.program.is_file():
-        sys.exit(f"{words.program} isn't there: build the program first")
-    if shutil.which("tcpdump") is None:
-        sys.exit("tcpdump isn't there: apt-get update && apt-get install -y tcpdump")
-    print_row(["rules", "packets", "pfreplay packets/s", "start ms", "ns a rule",
-               "tcpdump packets/s", "start ms", "ns a rule", "pfreplay / tcpdump"])
-    print_row(["---:"] * 9)
+    programs = [program.resolve() for program in (words.program, *words.beside)]
+    for program in programs:
+        if not program.is_file():
+            sys.exit(f"{program} isn't there: build the program first")
+    print_row(["kind", "rules", "s a million packets", "x fewest", *(f"{program.name}, s" for program in programs[1:]),
+               "tcpdump, s", "start ms", "start MB"])
+    print_row(["---"] + ["---:"] * (6 + len(programs)))
     with tempfile.TemporaryDirectory() as folder:
-        for count in words.rules:
-            print_row(row(Path(folder), words.program.resolve(), count, not words.unchecked))
+        for kind in words.kinds:
+            fewest = None
+            for count in words.rules or KINDS[kind]:
+                contest = Contest(Path(folder), kind, count)
+                cells, ours = row(contest, programs, kind, count, fewest)
+                fewest = fewest or ours
+                few = contest.written_capture("few.pcap", CHECKED_PACKETS)
+                if not words.unchecked:
+                    contest.check_program(programs[0], few)
+                if contest.filter:
+                    contest.check_tcpdump(few)
+                print_row(cells)
 
 
 if __name__ == "__main__":
