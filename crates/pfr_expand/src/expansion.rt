@@ -340,7 +340,7 @@ pub fn expand(
 ) -> Result<Ruleset, ConfError>
     ensures { Gives (spec.expanded statements.now interface.now) result }
 {
-    let work = work_of(alloc, statements.statements.as_slice(), *interface)?;
-    let ruleset = work.flat.indexed(alloc)?;
+    let mut ruleset = work_of(alloc, statements.statements.as_slice(), *interface)?.flat;
+    ruleset.index(alloc)?;
     Ok(ruleset)
 }

@@ -1,6 +1,6 @@
 -- What two rules write in common at one criterion.
 use Rattle.std.specs.Prelude.{◌≡◌, ◌<◌, ◌≤◌, ℕ, List, length, Some, None}
-use Rattle.std.specs.List.{slice_get, slice_index_or}
+use Rattle.std.specs.List.{slice_get}
 use Rattle.pfr_ruleset.specs.declared.criterion.Criterion.{Criterion}
 use Rattle.pfr_ruleset.specs.declared.criterion.Criterion.TheVariants as criterion
 use Rattle.pfr_ruleset.specs.declared.criterion.Asked.{Asked}
@@ -30,13 +30,9 @@ abbrev pub SameUpTo : Criterion → List Asked → ℕ → ℕ → Type 0
 SameUpTo criterion asked place next =
     (k : ℕ) (a b : Asked) → place ≤ k → k < next → slice_get asked place ≡ Some a → slice_get asked k ≡ Some b → SameAt criterion a b
 
--- a place behind a rule's, up to which all rules write the same at a criterion
+-- the next rule behind a place that writes something else at a criterion, or the number of rules
 pub record IsSkip (criterion : Criterion) (asked : List Asked) (place next : ℕ) : Type 0 where
   pub ahead : place < next
   pub within : next ≤ length asked
   pub same : SameUpTo criterion asked place next
-
--- a skip of each place
-pub record AreSkips (criterion : Criterion) (asked : List Asked) (skips : List ℕ) : Type 0 where
-  pub size : length skips ≡ length asked
-  pub each : (place : ℕ) → place < length asked → IsSkip criterion asked place (slice_index_or skips place 0)
+  pub other : (a b : Asked) → slice_get asked place ≡ Some a → slice_get asked next ≡ Some b → SameAt criterion a b → ⊥

@@ -1,36 +1,13 @@
 -- What is kept beside rules, so that a walk over them passes over those that don't hold.
-use Rattle.std.specs.Prelude.{◌≡◌, ◌<◌, ◌≤◌, ℕ, suc, Bool, false, List, length, map, Option, Some}
-use Rattle.std.specs.List.{slice_get, slice_index_or}
+use Rattle.std.specs.Prelude.{◌≡◌, ◌<◌, ◌≤◌, ℕ, Bool, false, List, length, map, Option}
+use Rattle.std.specs.List.{slice_index_or}
 use Rattle.std.specs.Option.{ForSome}
 use Rattle.pfr_ruleset.specs.declared.criterion.Asked.{Asked}
-use Rattle.pfr_ruleset.specs.declared.criterion.Criterion.{Criterion}
-use Rattle.pfr_ruleset.specs.declared.criterion.Criterion.TheVariants as criterion
 use Rattle.pfr_ruleset.specs.declared.index.Index.{Index}
-use Rattle.pfr_ruleset.specs.declared.skips.Skips.{Skips}
 use Rattle.pfr_ruleset.specs.declared.aids.Aids.{Aids}
 use Rattle.pfr_ruleset.specs.declared.aids.FilterAids.{FilterAids}
-use Rattle.pfr_ruleset.specs.Criteria.{SameAt, AreSkips}
+use Rattle.pfr_ruleset.specs.Skipping.{HaveSkips}
 use Rattle.pfr_ruleset.specs.Shapes.{key_of_rule}
-
--- ---- skips
-
--- whether a rule writes what the one before it writes
-pub record AreBeginnings (criterion : Criterion) (asked : List Asked) (begins : List Bool) : Type 0 where
-  pub size : length begins ≡ length asked
-  pub same : (place : ℕ) (a b : Asked) → slice_get asked place ≡ Some a → slice_get asked (suc place) ≡ Some b → slice_index_or begins (suc place) false ≡ false → SameAt criterion a b
-
-abbrev pub skips_by : Criterion → Skips → List ℕ
-skips_by criterion.Interface skips = skips.interface.items
-skips_by criterion.Direction skips = skips.direction.items
-skips_by criterion.Protocol skips = skips.protocol.items
-skips_by criterion.Source skips = skips.source.items
-skips_by criterion.SourcePort skips = skips.source_port.items
-skips_by criterion.Destination skips = skips.destination.items
-skips_by criterion.DestinationPort skips = skips.destination_port.items
-
--- the skips of rules by each criterion
-abbrev pub HaveSkips : List Asked → Skips → Type 0
-HaveSkips asked skips = (criterion : Criterion) → AreSkips criterion asked (skips_by criterion skips)
 
 -- ---- the index
 

@@ -7,6 +7,7 @@ pub mod Options
 pub mod Places
 pub mod Rulesets
 pub mod Shapes
+pub mod Skipping
 pub mod Tables
 pub mod TranslationAids
 pub mod Translations

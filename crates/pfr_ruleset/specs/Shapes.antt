@@ -107,10 +107,18 @@ shape_at shapes place = slice_index_or shapes place no_shape
 abbrev pub mixed : ℕ → ℕ → ℕ
 mixed sum value = (sum + value) % 2 ^ 64 * 11400714819323198485 % 2 ^ 64
 
+-- a number of 32 bits as one below a bound
+abbrev pub scaled : ℕ → ℕ → ℕ
+scaled number size = number * size / 2 ^ 32
+
+-- the sum of pins of the shape at a place, of which the upper half is used
+unfoldable pub mixed_pins : ℕ → Pins → ℕ
+mixed_pins place pins =
+    mixed (mixed (mixed (mixed (mixed (mixed (mixed 0 place) pins.protocol) pins.icmp) pins.source) pins.source_port) pins.destination) pins.destination_port
+
 -- the key of pins of the shape at a place, below a bound
 unfoldable pub key : ℕ → Pins → ℕ → ℕ
-key place pins size =
-    mixed (mixed (mixed (mixed (mixed (mixed (mixed 0 place) pins.protocol) pins.icmp) pins.source) pins.source_port) pins.destination) pins.destination_port / 2 ^ 32 % size
+key place pins size = scaled (mixed_pins place pins / 2 ^ 32) size
 
 -- the key of a rule
 unfoldable pub key_of_rule : List Shape → ℕ → Asked → ℕ

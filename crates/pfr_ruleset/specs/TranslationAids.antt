@@ -35,3 +35,7 @@ pub record AreTranslationAids {T : Type 0} (rules : List (FlatTranslation T)) (a
 -- what is kept beside rules, if there is anything, is right
 abbrev pub HaveAids : {T : Type 0} → List (FlatTranslation T) → Option TranslationAids → Type 0
 HaveAids rules aids = ForSome aids (AreTranslationAids rules)
+
+-- how far numbers follow on one another is known, if anything is kept
+abbrev pub HaveNumberEnds : List ℕ → Option TranslationAids → Type 0
+HaveNumberEnds numbers aids = ForSome aids (λ aids. AreNumberEnds numbers aids.number_ends.items)

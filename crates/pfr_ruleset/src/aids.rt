@@ -66,6 +66,16 @@ fn closings(alloc: Global, openings: &[usize]) -> Result<Vec<bool>, AllocError>
     Ok(begins)
 }
 
+/// For each place the next one at which a hit before it may end a walk.
+fn open_ends_of(alloc: Global, openings: &[usize]) -> Result<Vec<u32>, AllocError>
+    requires few { length openings.now ≤ 4294967295 }
+    ensures { IfOk result (λ ends. spec.AreOpenEnds openings.now ends.items) }
+{
+    let closings = closings(alloc, openings)?;
+    let open_ends = run_ends(alloc, &closings)?;
+    Ok(open_ends)
+}
+
 impl FilterAids {
     /// What is kept beside filter rules, each of which asks for this, with the openings of their places.
     pub(crate) fn over(
@@ -77,9 +87,8 @@ impl FilterAids {
         requires size { length openings.now ≡ length asked.now }
         ensures { IfOk result (λ aids. spec.AreFilterAids asked.now openings.now aids) }
     {
+        let open_ends = open_ends_of(alloc, openings)?;
         let rules = Aids::over(alloc, asked)?;
-        let closings = closings(alloc, openings)?;
-        let open_ends = run_ends(alloc, &closings)?;
         Ok(FilterAids { rules, open_ends })
     }
 

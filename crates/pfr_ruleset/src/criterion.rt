@@ -1,5 +1,5 @@
 //! The criteria by which rules are compared with those behind them.
-ghost use Rattle.std.specs.Prelude.{◌≡◌, true};
+ghost use Rattle.std.specs.Prelude.{◌≡◌, ◌↔◌, true};
 ghost use Rattle.pfr_ruleset.specs.Criteria as spec;
 
 use crate::flat::{FlatRule, FlatTranslation, PacketMatch};
@@ -52,13 +52,13 @@ impl<T> FlatTranslation<T> {
 }
 
 fn is_same_interface(a: &Option<InterfaceCriterion>, b: &Option<InterfaceCriterion>) -> bool
-    ensures { result ≡ true → a.now ≡ b.now }
+    ensures { result ≡ true ↔ a.now ≡ b.now }
 {
     a == b
 }
 
 fn is_same_direction(a: Option<Direction>, b: Option<Direction>) -> bool
-    ensures { result ≡ true → a ≡ b }
+    ensures { result ≡ true ↔ a ≡ b }
 {
     match (a, b) {
         (None, None) => true,
@@ -69,26 +69,26 @@ fn is_same_direction(a: Option<Direction>, b: Option<Direction>) -> bool
 }
 
 fn is_same_protocol(a: Option<Protocol>, b: Option<Protocol>) -> bool
-    ensures { result ≡ true → a ≡ b }
+    ensures { result ≡ true ↔ a ≡ b }
 {
     a == b
 }
 
 fn are_same_hosts(a: &HostCriterion, b: &HostCriterion) -> bool
-    ensures { result ≡ true → a.now ≡ b.now }
+    ensures { result ≡ true ↔ a.now ≡ b.now }
 {
     a == b
 }
 
 fn are_same_ports(a: &Option<PortMatch>, b: &Option<PortMatch>) -> bool
-    ensures { result ≡ true → a.now ≡ b.now }
+    ensures { result ≡ true ↔ a.now ≡ b.now }
 {
     a == b
 }
 
-/// Whether two rules are known to write the same at a criterion.
+/// Whether two rules write the same at a criterion.
 pub(crate) fn writes_same(criterion: Criterion, a: &Asked, b: &Asked) -> bool
-    ensures { result ≡ true → spec.SameAt criterion a.now b.now }
+    ensures { result ≡ true ↔ spec.SameAt criterion a.now b.now }
 {
     match criterion {
         Criterion::Interface => is_same_interface(&a.packet.interface, &b.packet.interface),

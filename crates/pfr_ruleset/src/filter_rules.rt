@@ -2,7 +2,8 @@
 ghost use Rattle.std.specs.Prelude.{◌≡◌, ◌≤◌, ◌+◌, ◌++◌, [], length, map, OnOk, IfOk};
 ghost use Rattle.std.specs.Option.{option_copied};
 ghost use Rattle.pfr_ruleset.specs.Criteria.{asked_by};
-ghost use Rattle.pfr_ruleset.specs.FilterAids.{HaveFilterAids, HaveOwnAids};
+ghost use Rattle.pfr_ruleset.specs.FilterAids.{HaveOwnAids};
+ghost use Rattle.pfr_ruleset.specs.Indexes.{AreFilterAids};
 ghost use Rattle.pfr_ruleset.specs.Places as spec;
 ghost use Rattle.pfr_ruleset.specs.Places.{AreOpened};
 
@@ -112,21 +113,15 @@ fn asked_of(alloc: Global, rules: &[FlatRule]) -> Result<Vec<Asked>, AllocError>
     Ok(asked)
 }
 
-/// What is kept beside rules with the openings of their places, unless there are too many.
-fn aids_of(
-    alloc: Global,
-    rules: &[FlatRule],
-    openings: &[usize],
-) -> Result<Option<FilterAids>, AllocError>
-    requires { length openings.now ≡ length rules.now }
-    ensures { IfOk result (λ aids. HaveFilterAids rules.now openings.now aids) }
+/// What is kept beside rules with the openings of their places.
+fn aids_of(alloc: Global, rules: &[FlatRule], openings: &[usize]) -> Result<FilterAids, AllocError>
+    requires few { length rules.now ≤ 4294967295 }
+    requires size { length openings.now ≡ length rules.now }
+    ensures { IfOk result (λ aids. AreFilterAids (map asked_by rules.now) openings.now aids) }
 {
-    if rules.len() > MOST_INDEXED {
-        return Ok(None);
-    }
     let asked = asked_of(alloc, rules)?;
     let aids = FilterAids::over(alloc, &asked, openings)?;
-    Ok(Some(aids))
+    Ok(aids)
 }
 
 impl FilterRules {
@@ -169,23 +164,14 @@ impl FilterRules {
         })
     }
 
-    /// The same rules, with what a walk over them passes over by.
-    pub fn indexed(self, alloc: Global) -> Result<FilterRules, AllocError>
-        ensures { IfOk result (λ made. made ≡ self) }
+    /// Makes what a walk over the rules passes over by. The rules stay as they are.
+    pub fn index(&mut self, alloc: Global) -> Result<(), AllocError>
+        ensures { self.new ≡ self.old }
     {
-        let FilterRules {
-            rules,
-            anchors,
-            openings,
-            aids: _,
-        } = self;
-        let aids = aids_of(alloc, rules.as_slice(), &openings)?;
-        Ok(FilterRules {
-            rules,
-            anchors,
-            openings,
-            aids,
-        })
+        if self.rules.len() <= MOST_INDEXED {
+            self.aids = Some(aids_of(alloc, self.rules.as_slice(), &self.openings)?);
+        }
+        Ok(())
     }
 
     /// The rules, in the order of the text. A rule's number is its place.

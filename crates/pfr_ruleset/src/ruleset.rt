@@ -1,5 +1,5 @@
 //! The flat ruleset.
-ghost use Rattle.std.specs.Prelude.{◌≡◌, length, min, IfOk};
+ghost use Rattle.std.specs.Prelude.{◌≡◌, length, min};
 ghost use Rattle.pfr_ruleset.specs.Rulesets as spec;
 
 use crate::filter_rules::FilterRules;
@@ -37,17 +37,12 @@ impl Ruleset {
         }
     }
 
-    /// The same ruleset, with what walks over its rules pass over by.
-    pub fn indexed(self, alloc: Global) -> Result<Ruleset, AllocError>
-        ensures { IfOk result (λ made. made ≡ self) }
+    /// Makes what walks over the rules pass over by. The ruleset says what it said.
+    pub fn index(&mut self, alloc: Global) -> Result<(), AllocError>
+        ensures { self.new ≡ self.old }
     {
-        Ok(Ruleset {
-            interface: self.interface,
-            options: self.options,
-            tables: self.tables,
-            filter: self.filter.indexed(alloc)?,
-            translations: self.translations.indexed(alloc)?,
-        })
+        self.filter.index(alloc)?;
+        self.translations.index(alloc)
     }
 
     /// How many filter rules and how many translation rules there are.

@@ -154,6 +154,31 @@ fn mixed(sum: u64, value: u64) -> u64
     sum.wrapping_add(value).wrapping_mul(11400714819323198485)
 }
 
+/// A number of 32 bits as one below `size`: as far from 0 as the number is, measured by its greatest value.
+#[inline]
+fn scaled(number: u32, size: u32) -> u32
+    requires { 0 < size }
+    ensures value { result ≡ spec.scaled number size }
+    ensures below { result < size }
+{
+    (u64::from(number) * u64::from(size) >> 32) as u32
+}
+
+/// The sum of pins of the shape at a place.
+#[inline]
+#[tactic(auto, unfolding(crate::specs::Shapes::mixed_pins))]
+fn mixed_pins(place: usize, pins: Pins) -> u64
+    ensures { result ≡ spec.mixed_pins place pins }
+{
+    let sum = mixed(0, place as u64);
+    let sum = mixed(sum, u64::from(pins.protocol));
+    let sum = mixed(sum, u64::from(pins.icmp));
+    let sum = mixed(sum, u64::from(pins.source));
+    let sum = mixed(sum, u64::from(pins.source_port));
+    let sum = mixed(sum, u64::from(pins.destination));
+    mixed(sum, u64::from(pins.destination_port))
+}
+
 /// The key of pins of the shape at a place, below `size`.
 #[inline]
 #[tactic(auto, unfolding(crate::specs::Shapes::key))]
@@ -162,14 +187,7 @@ pub(crate) fn key(place: usize, pins: Pins, size: u32) -> u32
     ensures key { result ≡ spec.key place pins size }
     ensures below { result < size }
 {
-    let sum = mixed(0, place as u64);
-    let sum = mixed(sum, u64::from(pins.protocol));
-    let sum = mixed(sum, u64::from(pins.icmp));
-    let sum = mixed(sum, u64::from(pins.source));
-    let sum = mixed(sum, u64::from(pins.source_port));
-    let sum = mixed(sum, u64::from(pins.destination));
-    let sum = mixed(sum, u64::from(pins.destination_port));
-    ((sum >> 32) % u64::from(size)) as u32
+    scaled((mixed_pins(place, pins) >> 32) as u32, size)
 }
 
 impl Shape {

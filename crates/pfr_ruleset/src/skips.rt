@@ -1,43 +1,132 @@
 //! For each rule and each criterion the next rule that may hold where this one fails.
-ghost use Rattle.std.specs.Prelude.{◌≡◌, ◌<◌, ◌≤◌, ℕ, List, length, not, Some, IfOk, OnOk};
+ghost use Rattle.std.specs.Prelude.{◌≡◌, ◌↔◌, ◌<◌, ◌≤◌, ◌+◌, ℕ, List, length, true, Some, IfOk};
+ghost use Rattle.std.specs.List.{slice_get};
+ghost use Rattle.std.specs.Option.{option_copied};
 ghost use Rattle.pfr_ruleset.specs.declared.criterion.Asked as TheAsked;
 ghost use Rattle.pfr_ruleset.specs.Criteria as criteria;
-ghost use Rattle.pfr_ruleset.specs.Indexes as spec;
+ghost use Rattle.pfr_ruleset.specs.Skipping as spec;
 
 use crate::criterion::{Asked, Criterion, writes_same};
-use pfr_chains::run_ends;
 use std::alloc::{AllocError, Global};
 
-/// For each criterion and each place the next one whose rule writes something else there, or the number of rules.
+/// For each criterion the next rule behind one that writes something else there, or the number of rules.
+#[derive(Clone, Copy)]
+pub struct RuleSkips {
+    interface: u32,
+    direction: u32,
+    protocol: u32,
+    source: u32,
+    source_port: u32,
+    destination: u32,
+    destination_port: u32,
+}
+
+/// The skips of each rule of a list.
 #[derive(Drop)]
 pub struct Skips {
-    interface: Vec<u32>,
-    direction: Vec<u32>,
-    protocol: Vec<u32>,
-    source: Vec<u32>,
-    source_port: Vec<u32>,
-    destination: Vec<u32>,
-    destination_port: Vec<u32>,
+    rules: Vec<RuleSkips>,
 }
 
-/// Where rules write something else at a criterion than the ones before them.
-fn beginnings(alloc: Global, criterion: Criterion, asked: &[Asked]) -> Result<Vec<bool>, AllocError>
-    ensures { IfOk result (λ begins. spec.AreBeginnings criterion asked.now begins.items) }
-{
-    let mut begins = vec![in alloc; true; asked.len()]?;
-    for place in 1..asked.len() {
-        begins[place] = !writes_same(criterion, &asked[place - 1], &asked[place]);
+impl RuleSkips {
+    /// The same place at each criterion.
+    fn all(place: u32) -> RuleSkips {
+        RuleSkips {
+            interface: place,
+            direction: place,
+            protocol: place,
+            source: place,
+            source_port: place,
+            destination: place,
+            destination_port: place,
+        }
     }
-    Ok(begins)
+
+    #[inline]
+    fn at(&self, criterion: Criterion) -> u32
+        ensures { result ≡ spec.skip_at criterion self.now }
+    {
+        match criterion {
+            Criterion::Interface => self.interface,
+            Criterion::Direction => self.direction,
+            Criterion::Protocol => self.protocol,
+            Criterion::Source => self.source,
+            Criterion::SourcePort => self.source_port,
+            Criterion::Destination => self.destination,
+            Criterion::DestinationPort => self.destination_port,
+        }
+    }
 }
 
-fn skips_by(alloc: Global, criterion: Criterion, asked: &[Asked]) -> Result<Vec<u32>, AllocError>
-    requires few { length asked.now ≤ 4294967295 }
-    ensures { IfOk result (λ skips. criteria.AreSkips criterion asked.now skips.items) }
+/// What the rule at a place asks for, if there is one.
+fn rule_at(asked: &[Asked], place: usize) -> Option<&Asked>
+    ensures { option_copied result ≡ slice_get asked.now place }
 {
-    let begins = beginnings(alloc, criterion, asked)?;
-    let skips = run_ends(alloc, &begins)?;
-    Ok(skips)
+    asked.get(place)
+}
+
+/// Whether the next rule, if there is one, writes the same at a criterion.
+fn goes_on(criterion: Criterion, here: &Asked, next: Option<&Asked>) -> bool
+    ensures { result ≡ true ↔ spec.GoesOn criterion here.now (option_copied next.entry) }
+{
+    match next {
+        Some(next) => writes_same(criterion, here, next),
+        None => false,
+    }
+}
+
+/// The skip of the rule at a place: that of the next rule if it writes the same, and else the next rule.
+fn skip(
+    asked: &[Asked],
+    here: &Asked,
+    place: usize,
+    criterion: Criterion,
+    behind: &RuleSkips,
+) -> u32
+    requires few { length asked.now ≤ 4294967295 }
+    requires within { place < length asked.now }
+    requires here { slice_get asked.now place ≡ Some here.now }
+    requires behind { place + 1 < length asked.now → spec.HasSkips asked.now (place + 1) behind.now }
+    ensures { criteria.IsSkip criterion asked.now place result }
+{
+    let next = place + 1;
+    if goes_on(criterion, here, rule_at(asked, next)) {
+        return behind.at(criterion);
+    }
+    next as u32
+}
+
+/// The skips of the rule at a place by those of the next rule.
+fn skips_before(asked: &[Asked], here: &Asked, place: usize, behind: &RuleSkips) -> RuleSkips
+    requires few { length asked.now ≤ 4294967295 }
+    requires within { place < length asked.now }
+    requires here { slice_get asked.now place ≡ Some here.now }
+    requires behind { place + 1 < length asked.now → spec.HasSkips asked.now (place + 1) behind.now }
+    ensures { spec.HasSkips asked.now place result }
+{
+    RuleSkips {
+        interface: skip(asked, here, place, Criterion::Interface, behind),
+        direction: skip(asked, here, place, Criterion::Direction, behind),
+        protocol: skip(asked, here, place, Criterion::Protocol, behind),
+        source: skip(asked, here, place, Criterion::Source, behind),
+        source_port: skip(asked, here, place, Criterion::SourcePort, behind),
+        destination: skip(asked, here, place, Criterion::Destination, behind),
+        destination_port: skip(asked, here, place, Criterion::DestinationPort, behind),
+    }
+}
+
+/// Writes the skips of each rule, from the last one on.
+fn write_skips(asked: &[Asked], skips: &mut [RuleSkips])
+    requires few { length asked.now ≤ 4294967295 }
+    requires size { length skips.old ≡ length asked.now }
+    ensures { spec.HaveSkipsFrom 0 asked.now skips.new }
+{
+    let mut behind = RuleSkips::all(0);
+    let mut place = asked.len();
+    while place > 0 {
+        place -= 1;
+        behind = skips_before(asked, &asked[place], place, &behind);
+        skips[place] = behind;
+    }
 }
 
 impl Skips {
@@ -46,30 +135,9 @@ impl Skips {
         requires few { length asked.now ≤ 4294967295 }
         ensures { IfOk result (λ skips. spec.HaveSkips asked.now skips) }
     {
-        Ok(Skips {
-            interface: skips_by(alloc, Criterion::Interface, asked)?,
-            direction: skips_by(alloc, Criterion::Direction, asked)?,
-            protocol: skips_by(alloc, Criterion::Protocol, asked)?,
-            source: skips_by(alloc, Criterion::Source, asked)?,
-            source_port: skips_by(alloc, Criterion::SourcePort, asked)?,
-            destination: skips_by(alloc, Criterion::Destination, asked)?,
-            destination_port: skips_by(alloc, Criterion::DestinationPort, asked)?,
-        })
-    }
-
-    #[inline]
-    fn table(&self, criterion: Criterion) -> &[u32]
-        ensures { result.now ≡ spec.skips_by criterion self.now }
-    {
-        match criterion {
-            Criterion::Interface => &self.interface,
-            Criterion::Direction => &self.direction,
-            Criterion::Protocol => &self.protocol,
-            Criterion::Source => &self.source,
-            Criterion::SourcePort => &self.source_port,
-            Criterion::Destination => &self.destination,
-            Criterion::DestinationPort => &self.destination_port,
-        }
+        let mut rules = vec![in alloc; RuleSkips::all(0); asked.len()]?;
+        write_skips(asked, &mut rules);
+        Ok(Skips { rules })
     }
 
     /// The next rule that is to be asked where the one at `place` fails at a criterion. Those between fail there too.
@@ -77,8 +145,8 @@ impl Skips {
     pub fn next(&self, criterion: Criterion, place: usize) -> usize
         ensures { (asked : List TheAsked.Asked) → spec.HaveSkips asked self.now → place < length asked → criteria.IsSkip criterion asked place result }
     {
-        match self.table(criterion).get(place) {
-            Some(next) => *next as usize,
+        match self.rules.get(place) {
+            Some(skips) => skips.at(criterion) as usize,
             None => place.saturating_add(1),
         }
     }

@@ -1,7 +1,7 @@
 //! What is kept beside translation rules, so that a walk over them passes over those that don't hold.
-ghost use Rattle.std.specs.Prelude.{◌≡◌, ◌<◌, ◌≤◌, length, map, IfOk};
-ghost use Rattle.std.specs.List.{slice_index_or};
+ghost use Rattle.std.specs.Prelude.{◌≡◌, ◌<◌, ◌≤◌, ℕ, List, length, map, IfOk};
 ghost use Rattle.pfr_ruleset.specs.Criteria.{asked_by_translation};
+ghost use Rattle.pfr_ruleset.specs.Indexes.{AreAids};
 ghost use Rattle.pfr_ruleset.specs.TranslationAids as spec;
 
 use crate::aids::Aids;
@@ -16,6 +16,16 @@ pub struct TranslationAids {
     pub rules: Aids,
     /// For each place the next one whose rule isn't numbered one behind the rule before it, or the number of rules.
     number_ends: Vec<u32>,
+}
+
+/// What is kept beside translation rules as beside filter rules.
+fn aids_of<T>(alloc: Global, rules: &[FlatTranslation<T>]) -> Result<Aids, AllocError>
+    requires few { length rules.now ≤ 4294967295 }
+    ensures { IfOk result (λ aids. AreAids (map asked_by_translation rules.now) aids) }
+{
+    let asked = asked_of(alloc, rules)?;
+    let aids = Aids::over(alloc, &asked)?;
+    Ok(aids)
 }
 
 /// What each of translation rules asks for.
@@ -57,11 +67,12 @@ fn number_breaks(alloc: Global, numbers: &[usize]) -> Result<Vec<bool>, AllocErr
     Ok(breaks)
 }
 
-fn number_ends(alloc: Global, numbers: &[usize]) -> Result<Vec<u32>, AllocError>
-    requires few { length numbers.now ≤ 4294967295 }
-    ensures { IfOk result (λ ends. spec.AreNumberEnds numbers.now ends.items) }
+fn number_ends_of<T>(alloc: Global, rules: &[FlatTranslation<T>]) -> Result<Vec<u32>, AllocError>
+    requires few { length rules.now ≤ 4294967295 }
+    ensures { IfOk result (λ ends. spec.AreNumberEnds (map spec.number_of rules.now) ends.items) }
 {
-    let breaks = number_breaks(alloc, numbers)?;
+    let numbers = numbers_of(alloc, rules)?;
+    let breaks = number_breaks(alloc, &numbers)?;
     let ends = run_ends(alloc, &breaks)?;
     Ok(ends)
 }
@@ -75,22 +86,19 @@ impl TranslationAids {
         requires few { length rules.now ≤ 4294967295 }
         ensures { IfOk result (λ aids. spec.AreTranslationAids rules.now aids) }
     {
-        let asked = asked_of(alloc, rules)?;
-        let aids = Aids::over(alloc, &asked)?;
-        let numbers = numbers_of(alloc, rules)?;
-        let number_ends = number_ends(alloc, &numbers)?;
-        Ok(TranslationAids {
-            rules: aids,
-            number_ends,
-        })
+        let number_ends = number_ends_of(alloc, rules)?;
+        let rules = aids_of(alloc, rules)?;
+        Ok(TranslationAids { rules, number_ends })
     }
 
-    /// How far the rules from a place on are numbered one after the other.
+    /// The next rule behind a place that isn't numbered one behind the rule before it, or the number of rules.
     #[inline]
     pub fn number_end(&self, place: usize) -> usize
-        requires { place < length self.now.number_ends.items }
-        ensures { result ≡ slice_index_or self.now.number_ends.items place 0 }
+        ensures { (numbers : List ℕ) → spec.AreNumberEnds numbers self.now.number_ends.items → place < length numbers → spec.IsNumberEnd numbers place result }
     {
-        self.number_ends[place] as usize
+        match self.number_ends.get(place) {
+            Some(end) => *end as usize,
+            None => place.saturating_add(1),
+        }
     }
 }

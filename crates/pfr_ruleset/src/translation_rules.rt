@@ -73,19 +73,14 @@ impl<T: Drop> TranslationRules<T> {
     }
 }
 
-impl<T: Drop> TranslationRules<T> {
-    /// The same rules, with what a walk over them passes over by.
-    pub fn indexed(self, alloc: Global) -> Result<TranslationRules<T>, AllocError>
-        ensures { IfOk result (λ made. made ≡ self) }
+impl<T> TranslationRules<T> {
+    /// Makes what a walk over the rules passes over by. The rules stay as they are.
+    pub fn index(&mut self, alloc: Global) -> Result<(), AllocError>
+        ensures { self.new ≡ self.old }
     {
-        let TranslationRules { rules, aids: _ } = self;
-        if rules.len() > MOST_INDEXED {
-            return Ok(TranslationRules { rules, aids: None });
+        if self.rules.len() <= MOST_INDEXED {
+            self.aids = Some(TranslationAids::over(alloc, self.rules.as_slice())?);
         }
-        let aids = TranslationAids::over(alloc, rules.as_slice())?;
-        Ok(TranslationRules {
-            rules,
-            aids: Some(aids),
-        })
+        Ok(())
     }
 }

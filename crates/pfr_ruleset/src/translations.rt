@@ -27,14 +27,11 @@ impl Translations {
         }
     }
 
-    /// The same rules, with what walks over those of `nat` and `rdr` pass over by. Those of `binat` are asked one by one.
-    pub fn indexed(self, alloc: Global) -> Result<Translations, AllocError>
-        ensures { IfOk result (λ made. made ≡ self) }
+    /// Makes what walks over the rules of `nat` and `rdr` pass over by. Those of `binat` are asked one by one.
+    pub fn index(&mut self, alloc: Global) -> Result<(), AllocError>
+        ensures { self.new ≡ self.old }
     {
-        Ok(Translations {
-            nats: self.nats.indexed(alloc)?,
-            rdrs: self.rdrs.indexed(alloc)?,
-            binats: self.binats,
-        })
+        self.nats.index(alloc)?;
+        self.rdrs.index(alloc)
     }
 }
