@@ -27,7 +27,8 @@ use Rattle.pfr_criteria.specs.Asking.{part_holds}
 use Rattle.pfr_criteria.specs.Packets.{match_holds}
 use Rattle.pfr_criteria.proofs.SkipLemmas.{rule_matches, skip_fails, translation_skip_fails}
 use Rattle.pfr_criteria.proofs.PinLemmas.{keys_agree}
-use Rattle.pfr_rules.specs.Candidates.{key_in, AreFollowedBy, AreFollowedIn, FindsAsked, NoneIsCandidate}
+use Rattle.pfr_rules.specs.declared.candidates.Trail.{Trail}
+use Rattle.pfr_rules.specs.Candidates.{key_in, IsFollowingBy, IsFollowingIn, FindsAsked, NoneIsCandidate}
 use Rattle.pfr_rules.specs.Filter.{passes, ruled}
 use Rattle.pfr_rules.specs.Searching.{held}
 use Rattle.pfr_rules.specs.Stretches.{NoneHolds, IsBehind, AreEndsFor}
@@ -83,11 +84,11 @@ key_at asked shapes size rules k rule at =
     ∙ ap (option_map (key_of_rule shapes size)) (slice_get-map asked rules k ∙ ap (option_map asked) at)
 
 -- the next rule that is asked, and what is known of those before it
-pub record IsAsked {R : Type 0} (test : R → Bool) (rules : List R) (packet : Packet) (index : Option Index) (from to : ℕ) (places : List ℕ) : Type 0 where
+pub record IsAsked {R : Type 0} (test : R → Bool) (rules : List R) (packet : Packet) (index : Option Index) (from to : ℕ) (trail : Trail) : Type 0 where
   pub ahead : from ≤ to
   pub within : to ≤ length rules
   pub fails : NoneHolds test rules from to
-  pub followed : AreFollowedIn index packet from places
+  pub followed : IsFollowingIn index packet from trail
 
 -- rules of some kind, by what they ask and whether they hold
 module _ {R : Type 0} (asked : R → Asked) (test : R → Bool) (rules : List R) (name : IfName) (tables : List (List Entry)) (packet : Packet) (matches : Matches asked test name tables packet) where
@@ -103,7 +104,7 @@ module _ {R : Type 0} (asked : R → Asked) (test : R → Bool) (rules : List R)
     | inr fails ↦ fails
   ]
 
-  pub is_asked_of : (index : Option Index) (from to : ℕ) (before after : List ℕ) → length (map asked rules) ≡ length rules → from ≤ length rules → MayBeIndex (map asked rules) index → AreFollowedIn index packet from before
+  pub is_asked_of : (index : Option Index) (from to : ℕ) (before after : Trail) → length (map asked rules) ≡ length rules → from ≤ length rules → MayBeIndex (map asked rules) index → IsFollowingIn index packet from before
       → FindsAsked index from before to after → IsAsked test rules packet index from to after
   is_asked_of None from to before after size within may followed found = record {
     ahead = omega (arith, found);
@@ -121,25 +122,25 @@ module _ {R : Type 0} (asked : R → Asked) (test : R → Bool) (rules : List R)
         followed = candidate.followed;
       }
 
-pub is_asked : (flat : Ruleset) (packet : Packet) (direction : Direction) (index : Option Index) (from to : ℕ) (before after : List ℕ) → length (map asked_by flat.filter.rules) ≡ length flat.filter.rules → from ≤ length flat.filter.rules
-    → MayBeIndex (map asked_by flat.filter.rules) index → AreFollowedIn index packet from before → FindsAsked index from before to after → IsAsked (ruled flat packet direction) flat.filter.rules packet index from to after
+pub is_asked : (flat : Ruleset) (packet : Packet) (direction : Direction) (index : Option Index) (from to : ℕ) (before after : Trail) → length (map asked_by flat.filter.rules) ≡ length flat.filter.rules → from ≤ length flat.filter.rules
+    → MayBeIndex (map asked_by flat.filter.rules) index → IsFollowingIn index packet from before → FindsAsked index from before to after → IsAsked (ruled flat packet direction) flat.filter.rules packet index from to after
 is_asked flat packet direction =
     is_asked_of asked_by (ruled flat packet direction) flat.filter.rules flat.interface.name flat.tables packet (λ rule holds. rule_matches rule flat.interface.name flat.tables packet direction holds)
 
-pub translation_is_asked : {T : Type 0} → (flat : Ruleset) (packet : Packet) (rules : List (FlatTranslation T)) (index : Option Index) (from to : ℕ) (before after : List ℕ) → length (map asked_by_translation rules) ≡ length rules → from ≤ length rules
-    → MayBeIndex (map asked_by_translation rules) index → AreFollowedIn index packet from before → FindsAsked index from before to after → IsAsked (held flat packet) rules packet index from to after
+pub translation_is_asked : {T : Type 0} → (flat : Ruleset) (packet : Packet) (rules : List (FlatTranslation T)) (index : Option Index) (from to : ℕ) (before after : Trail) → length (map asked_by_translation rules) ≡ length rules → from ≤ length rules
+    → MayBeIndex (map asked_by_translation rules) index → IsFollowingIn index packet from before → FindsAsked index from before to after → IsAsked (held flat packet) rules packet index from to after
 translation_is_asked flat packet rules =
     is_asked_of asked_by_translation (held flat packet) rules flat.interface.name flat.tables packet (λ rule holds. holds)
 
 -- ---- stretches
 
-pub followed_in_on : (index : Option Index) (packet : Packet) (from to : ℕ) (places : List ℕ) → from ≤ to → AreFollowedIn index packet from places → AreFollowedIn index packet to places
-followed_in_on None packet from to places later followed = tt
-followed_in_on (Some index) packet from to places later followed = followed_on index packet from to places later followed
+pub followed_in_on : (index : Option Index) (packet : Packet) (from to : ℕ) (trail : Trail) → from ≤ to → IsFollowingIn index packet from trail → IsFollowingIn index packet to trail
+followed_in_on None packet from to trail later followed = tt
+followed_in_on (Some index) packet from to trail later followed = followed_on index packet from to trail later followed
 
-pub followed_by_on : (aids : Option FilterAids) (packet : Packet) (from to : ℕ) (places : List ℕ) → from ≤ to → AreFollowedBy aids packet from places → AreFollowedBy aids packet to places
-followed_by_on None packet from to places later followed = tt
-followed_by_on (Some aids) packet from to places later followed = followed_in_on aids.rules.index packet from to places later followed
+pub followed_by_on : (aids : Option FilterAids) (packet : Packet) (from to : ℕ) (trail : Trail) → from ≤ to → IsFollowingBy aids packet from trail → IsFollowingBy aids packet to trail
+followed_by_on None packet from to trail later followed = tt
+followed_by_on (Some aids) packet from to trail later followed = followed_in_on aids.rules.index packet from to trail later followed
 
 -- how far walks may go is known by the openings of the same rules, whatever list has them
 pub ends_for : (lists : RuleLists) (own openings : List ℕ) (aids : FilterAids) → HasOpenings lists.rules lists.anchors own → HasOpenings lists.rules lists.anchors openings → AreOpenEnds own aids.open_ends.items → AreEndsFor openings aids

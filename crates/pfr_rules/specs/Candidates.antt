@@ -7,6 +7,7 @@ use Rattle.pfr_ruleset.specs.declared.index.Index.{Index}
 use Rattle.pfr_ruleset.specs.Shapes.{key, shape_at}
 use Rattle.pfr_headers.specs.declared.packet.Packet.{Packet}
 use Rattle.pfr_criteria.specs.Pins.{pins_in}
+use Rattle.pfr_rules.specs.declared.candidates.Trail.{Trail}
 
 -- the key of what a packet has of the shape at a place
 abbrev pub key_in : Index → Packet → ℕ → ℕ
@@ -30,25 +31,33 @@ NoneHasKey index packet from to shape = (k : ℕ) → from ≤ k → k < to → 
 abbrev pub NoneIsCandidate : Index → Packet → ℕ → ℕ → Type 0
 NoneIsCandidate index packet from to = (shape : ℕ) → shape ≤ length index.shapes → NoneHasKey index packet from to shape
 
+-- the packet follows its chains from a place on; no rule before `pinned` is on a chain of a shape
+pub record IsFollowing (index : Index) (packet : Packet) (from : ℕ) (trail : Trail) : Type 0 where
+  pub chains : AreFollowed index packet from trail.places
+  pub low : ℕ
+  pub before : low ≤ from
+  pub within : trail.pinned ≤ length index.chains
+  pub pinned : (shape : ℕ) → shape < length index.shapes → NoneHasKey index packet low trail.pinned shape
+
 -- without an index all rules are candidates
-abbrev pub AreFollowedIn : Option Index → Packet → ℕ → List ℕ → Type 0
-AreFollowedIn None packet from places = ⊤
-AreFollowedIn (Some index) packet from places = AreFollowed index packet from places
+abbrev pub IsFollowingIn : Option Index → Packet → ℕ → Trail → Type 0
+IsFollowingIn None packet from trail = ⊤
+IsFollowingIn (Some index) packet from trail = IsFollowing index packet from trail
 
-abbrev pub AreFollowedBy : Option FilterAids → Packet → ℕ → List ℕ → Type 0
-AreFollowedBy None packet from places = ⊤
-AreFollowedBy (Some aids) packet from places = AreFollowedIn aids.rules.index packet from places
+abbrev pub IsFollowingBy : Option FilterAids → Packet → ℕ → Trail → Type 0
+IsFollowingBy None packet from trail = ⊤
+IsFollowingBy (Some aids) packet from trail = IsFollowingIn aids.rules.index packet from trail
 
--- the first candidate at or behind a place, and where the packet stands on each chain then
-pub record IsCandidate (index : Index) (packet : Packet) (from candidate : ℕ) (places : List ℕ) : Type 0 where
+-- the first candidate at or behind a place, and where the packet is then
+pub record IsCandidate (index : Index) (packet : Packet) (from candidate : ℕ) (trail : Trail) : Type 0 where
   pub ahead : from ≤ candidate
   pub within : candidate ≤ length index.chains
   pub none : NoneIsCandidate index packet from candidate
-  pub followed : AreFollowed index packet from places
+  pub followed : IsFollowing index packet from trail
 
 -- whoever follows a packet's chains from a place on finds the next candidate
-abbrev pub FindsCandidate : Index → ℕ → List ℕ → ℕ → List ℕ → Type 0
-FindsCandidate index from before candidate after = (packet : Packet) → AreFollowed index packet from before → IsCandidate index packet from candidate after
+abbrev pub FindsCandidate : Index → ℕ → Trail → ℕ → Trail → Type 0
+FindsCandidate index from before candidate after = (packet : Packet) → IsFollowing index packet from before → IsCandidate index packet from candidate after
 
 -- a place up to which an index may be asked
 abbrev pub IsIndexFit : Option Index → ℕ → Type 0
@@ -61,6 +70,28 @@ IsIndexRight None = ⊤
 IsIndexRight (Some index) = (length index.shapes ≤ 15) × (0 < index.size)
 
 -- the same as `FindsCandidate`, where without an index the place itself is a candidate
-abbrev pub FindsAsked : Option Index → ℕ → List ℕ → ℕ → List ℕ → Type 0
+abbrev pub FindsAsked : Option Index → ℕ → Trail → ℕ → Trail → Type 0
 FindsAsked None from before candidate after = candidate ≡ from
 FindsAsked (Some index) from before candidate after = FindsCandidate index from before candidate after
+
+-- ---- while the chains are gone along
+
+-- the first of them have been begun, and the least of their first rules is known
+pub record IsBegun (bound : ℕ) (index : Index) (packet : Packet) (least : ℕ) (places : List ℕ) : Type 0 where
+  pub within : least ≤ length index.chains
+  pub none : (shape : ℕ) → shape < bound → NoneHasKey index packet 0 least shape
+  pub followed : (shape : ℕ) → shape < bound → IsFollowed index packet 0 shape (slice_index_or places shape 0)
+
+-- the first of them have been gone along, and the least of their places is known
+pub record IsPassed (bound : ℕ) (index : Index) (packet : Packet) (from least : ℕ) (places : List ℕ) : Type 0 where
+  pub ahead : from ≤ least
+  pub within : least ≤ length index.chains
+  pub none : (shape : ℕ) → shape < bound → NoneHasKey index packet from least shape
+  pub followed : AreFollowed index packet from places
+
+abbrev pub PassesBelow : ℕ → Index → ℕ → List ℕ → ℕ → List ℕ → Type 0
+PassesBelow bound index from before least places = (packet : Packet) → AreFollowed index packet from before → IsPassed bound index packet from least places
+
+-- no rule before `from` is known to be on a chain of a shape any more
+abbrev pub IsBroughtUp : Index → ℕ → Trail → Trail → Type 0
+IsBroughtUp index from before after = (packet : Packet) → IsFollowing index packet from before → IsFollowing index packet from after × (from ≤ after.pinned)

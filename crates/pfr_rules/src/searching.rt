@@ -1,10 +1,10 @@
 //! How the first translation rule of a kind is searched that holds for a packet.
-ghost use Rattle.std.specs.Prelude.{◌≡◌, ◌<◌, ◌≤◌, ◌++◌, suc, length, map, min, take, IfNone, IfOk, IfSome, OnOk};
+ghost use Rattle.std.specs.Prelude.{◌≡◌, ◌<◌, ◌≤◌, ◌++◌, ℕ, List, suc, length, map, min, take, IfNone, IfOk, IfSome, OnOk};
 ghost use Rattle.std.specs.List.{find, slice_get, slice_index_or};
 ghost use Rattle.std.specs.Option.{option_copied};
 ghost use Rattle.pfr_ruleset.specs.Criteria.{asked_by_translation};
 ghost use Rattle.pfr_ruleset.specs.Indexes.{AreAids};
-ghost use Rattle.pfr_ruleset.specs.TranslationAids.{number_of, HaveAids, IsNumberEnd};
+ghost use Rattle.pfr_ruleset.specs.TranslationAids.{number_of, HaveAids, HaveNumberEnds, IsNumberEnd};
 ghost use Rattle.pfr_rules.specs.Searching.{held};
 ghost use Rattle.pfr_rules.specs.Stretches.{HoldsAt, IsBehind, NoneHolds};
 ghost use Rattle.pfr_rules.specs.Translating.{numbered, up_to_first};
@@ -42,22 +42,30 @@ fn behind_failing<T>(
     }
 }
 
-/// The place of the first rule that holds for a packet, by what is kept beside the rules; the number of rules if none does.
-fn first_by<T>(rules: &[FlatTranslation<T>], aids: &Aids, flat: &Ruleset, packet: &Packet) -> usize
+/// The place of the first rule that holds for a packet, by what is kept beside the rules; the number of rules if none does. Each
+/// rule that is asked is noted.
+fn first_by<T>(
+    rules: &[FlatTranslation<T>],
+    aids: &Aids,
+    flat: &Ruleset,
+    packet: &Packet,
+    visits: &mut Visits,
+) -> usize
     requires aids { AreAids (map asked_by_translation rules.now) aids.now }
     ensures within { result ≤ length rules.now }
     ensures none { NoneHolds (held flat.now packet.now) rules.now 0 result }
     ensures holds { result < length rules.now → HoldsAt (held flat.now packet.now) rules.now result }
+    ensures visits { visits.new ≡ visits.old }
 {
     let end = rules.len();
-    let mut places = [0; 16];
-    begin_asking(aids, packet, &mut places);
+    let mut trail = begin_asking(aids, packet);
     let mut from = 0;
     while from < end {
-        let to = next_asked(aids, &mut places, from);
+        let to = next_asked(aids, &mut trail, from);
         if to >= end {
             return end;
         }
+        visits.ask(1);
         match behind_failing(rules, aids, flat, packet, to) {
             None => return to,
             Some(next) => from = next,
@@ -67,13 +75,20 @@ fn first_by<T>(rules: &[FlatTranslation<T>], aids: &Aids, flat: &Ruleset, packet
 }
 
 /// The same where nothing is kept beside the rules: each is asked.
-fn first_of_each<T>(rules: &[FlatTranslation<T>], flat: &Ruleset, packet: &Packet) -> usize
+fn first_of_each<T>(
+    rules: &[FlatTranslation<T>],
+    flat: &Ruleset,
+    packet: &Packet,
+    visits: &mut Visits,
+) -> usize
     ensures within { result ≤ length rules.now }
     ensures none { NoneHolds (held flat.now packet.now) rules.now 0 result }
     ensures holds { result < length rules.now → HoldsAt (held flat.now packet.now) rules.now result }
+    ensures visits { visits.new ≡ visits.old }
 {
     let mut place = 0;
     while place < rules.len() {
+        visits.ask(1);
         if translation_holds(
             &rules[place],
             &flat.interface.name,
@@ -87,36 +102,31 @@ fn first_of_each<T>(rules: &[FlatTranslation<T>], flat: &Ruleset, packet: &Packe
     place
 }
 
-/// The place of the first rule that holds for a packet; the number of rules if none does.
+/// The place of the first rule that holds for a packet; the number of rules if none does. Each rule that is asked is noted.
 fn first_place<T>(
     rules: &[FlatTranslation<T>],
     aids: Option<&TranslationAids>,
     flat: &Ruleset,
     packet: &Packet,
+    visits: &mut Visits,
 ) -> usize
     requires aids { HaveAids rules.now (option_copied aids) }
     ensures within { result ≤ length rules.now }
     ensures none { NoneHolds (held flat.now packet.now) rules.now 0 result }
     ensures holds { result < length rules.now → HoldsAt (held flat.now packet.now) rules.now result }
+    ensures visits { visits.new ≡ visits.old }
 {
     match aids {
-        None => first_of_each(rules, flat, packet),
-        Some(aids) => first_by(rules, &aids.rules, flat, packet),
+        None => first_of_each(rules, flat, packet, visits),
+        Some(aids) => first_by(rules, &aids.rules, flat, packet, visits),
     }
 }
 
-/// How far rules from a place on are numbered one after the other, at most up to `upto`. Its contract alone needs the rules.
-fn run_end<T>(
-    _rules: &[FlatTranslation<T>],
-    aids: Option<&TranslationAids>,
-    from: usize,
-    upto: usize,
-) -> usize
-    requires aids { HaveAids _rules.now (option_copied aids) }
-    requires from { from < upto }
-    requires within { upto ≤ length _rules.now }
-    ensures run { IsNumberEnd (map number_of _rules.now) from result }
+/// How far the numbers of rules follow on one another from a place on, at most up to `upto`.
+fn run_end(aids: Option<&TranslationAids>, from: usize, upto: usize) -> usize
+    requires { from < upto }
     ensures within { result ≤ upto }
+    ensures run { (numbers : List ℕ) → HaveNumberEnds numbers (option_copied aids.entry) → upto ≤ length numbers → IsNumberEnd numbers from result }
 {
     match aids {
         None => from + 1,
@@ -147,7 +157,7 @@ fn visit<T>(
 {
     let mut from = 0;
     while from < upto {
-        let end = run_end(rules, aids, from, upto);
+        let end = run_end(aids, from, upto);
         let first = number_at(rules, from);
         let last = number_at(rules, end - 1);
         visits.push_up_to(first, last)?;
@@ -186,7 +196,7 @@ fn first_in<'a, T>(
     ensures found { IfOk result (λ found. option_copied found ≡ find (held flat.now packet.now) rules.now) }
     ensures visits { OnOk result (visits.new ≡ visits.old ++ up_to_first (held flat.now packet.now) numbered rules.now) }
 {
-    let place = first_place(rules, aids, flat, packet);
+    let place = first_place(rules, aids, flat, packet, visits);
     let upto = asked_up_to(place, rules.len());
     visit(rules, aids, upto, visits)?;
     Ok(rule_at(rules, place))

@@ -9,7 +9,7 @@ ghost use Rattle.pfr_rules.specs.Candidates as candidates;
 ghost use Rattle.pfr_rules.specs.Filter.{ruled};
 ghost use Rattle.pfr_rules.specs.Stretches as spec;
 
-use crate::candidates::{begin, next_asked};
+use crate::candidates::{Trail, begin_asking, next_asked};
 use pfr_criteria::{Answer, ask_rule, rule_holds};
 use pfr_headers::Packet;
 use pfr_net::Direction;
@@ -21,6 +21,8 @@ pub(crate) struct StretchEnd {
     pub(crate) to: usize,
     /// Whether the rule there is known to hold.
     pub(crate) hits: bool,
+    /// How many rules have been asked.
+    pub(crate) asked: u64,
 }
 
 /// Whether a rule holds for a packet of a direction.
@@ -41,20 +43,14 @@ pub(crate) fn rule_is(
     )
 }
 
-/// Goes to the first rule of each chain that a packet follows, if there is an index.
-pub(crate) fn follow(
-    flat: &Ruleset,
-    aids: Option<&FilterAids>,
-    packet: &Packet,
-    places: &mut [usize; 16],
-)
+/// A packet at the first rule of each chain that it follows, if there is an index.
+pub(crate) fn follow(flat: &Ruleset, aids: Option<&FilterAids>, packet: &Packet) -> Trail
     requires { HaveOwnAids flat.now.filter (option_copied aids) }
-    ensures { candidates.AreFollowedBy (option_copied aids.entry) packet.now 0 places.new }
+    ensures { candidates.IsFollowingBy (option_copied aids.entry) packet.now 0 result }
 {
-    if let Some(aids) = aids {
-        if let Some(index) = &aids.rules.index {
-            begin(index, packet, places);
-        }
+    match aids {
+        Some(aids) => begin_asking(&aids.rules, packet),
+        None => Trail::new(),
     }
 }
 
@@ -93,38 +89,48 @@ fn stretch_by(
     aids: &Aids,
     packet: &Packet,
     direction: Direction,
-    places: &mut [usize; 16],
+    trail: &mut Trail,
     place: usize,
     end: usize,
 ) -> StretchEnd
     requires aids { AreAids (map asked_by flat.now.filter.rules) aids.now }
-    requires followed { candidates.AreFollowedIn aids.now.index packet.now place places.old }
+    requires followed { candidates.IsFollowingIn aids.now.index packet.now place trail.old }
     requires end { end ≤ length flat.now.filter.rules }
     requires from { place ≤ end }
     ensures from { place ≤ result.to }
     ensures within { result.to ≤ end }
     ensures fails { spec.NoneHolds (ruled flat.now packet.now direction) flat.now.filter.rules place result.to }
     ensures hits { result.hits ≡ true → result.to < end × spec.HoldsAt (ruled flat.now packet.now direction) flat.now.filter.rules result.to }
-    ensures followed { candidates.AreFollowedIn aids.now.index packet.now result.to places.new }
+    ensures followed { candidates.IsFollowingIn aids.now.index packet.now result.to trail.new }
 {
     let rules = flat.filter.rules();
+    let mut asked: u64 = 0;
     let mut from = place;
     while from < end {
-        let to = next_asked(aids, places, from);
+        let to = next_asked(aids, trail, from);
         if to >= end {
             return StretchEnd {
                 to: end,
                 hits: false,
+                asked,
             };
         }
+        asked = asked.saturating_add(1);
         match behind_failing(flat, aids, &rules[to], packet, direction, to) {
-            None => return StretchEnd { to, hits: true },
+            None => {
+                return StretchEnd {
+                    to,
+                    hits: true,
+                    asked,
+                };
+            }
             Some(next) => from = next.min(end),
         }
     }
     StretchEnd {
         to: end,
         hits: false,
+        asked,
     }
 }
 
@@ -142,6 +148,18 @@ fn open_end(aids: &FilterAids, openings: &[usize], place: usize, limit: usize) -
         return place;
     }
     aids.open_end(place).min(limit)
+}
+
+/// The end of a stretch from a place on, each of whose rules has been asked.
+fn end_of_each(place: usize, to: usize, hits: bool) -> StretchEnd
+    ensures to { result.to ≡ to }
+    ensures hits { result.hits ≡ hits }
+{
+    StretchEnd {
+        to,
+        hits,
+        asked: to.saturating_sub(place) as u64,
+    }
 }
 
 /// How far a walk may jump from `place`, at most to `limit`, where nothing is kept beside the rules: each is asked.
@@ -165,14 +183,14 @@ fn stretch_of_each(
     let mut to = place;
     while to < limit {
         if openings[to] < to {
-            return StretchEnd { to, hits: false };
+            return end_of_each(place, to, false);
         }
         if rule_is(flat, &rules[to], packet, direction) {
-            return StretchEnd { to, hits: true };
+            return end_of_each(place, to, true);
         }
         to += 1;
     }
-    StretchEnd { to, hits: false }
+    end_of_each(place, to, false)
 }
 
 /// How far a walk may jump from `place`, at most to `limit`: none of the rules that it jumps over holds, and at none of them an
@@ -182,12 +200,12 @@ pub(crate) fn stretch(
     aids: Option<&FilterAids>,
     packet: &Packet,
     direction: Direction,
-    places: &mut [usize; 16],
+    trail: &mut Trail,
     place: usize,
     limit: usize,
 ) -> StretchEnd
     requires aids { HaveOwnAids flat.now.filter (option_copied aids) }
-    requires followed { candidates.AreFollowedBy (option_copied aids) packet.now place places.old }
+    requires followed { candidates.IsFollowingBy (option_copied aids) packet.now place trail.old }
     requires limit { limit ≤ length flat.now.filter.rules }
     requires from { place < limit }
     ensures from { place ≤ result.to }
@@ -195,13 +213,13 @@ pub(crate) fn stretch(
     ensures fails { spec.NoneHolds (ruled flat.now packet.now direction) flat.now.filter.rules place result.to }
     ensures stops { spec.NoneStops flat.now.filter place result.to }
     ensures hits { result.hits ≡ true → result.to < limit × spec.HoldsAt (ruled flat.now packet.now direction) flat.now.filter.rules result.to }
-    ensures followed { candidates.AreFollowedBy (option_copied aids.entry) packet.now result.to places.new }
+    ensures followed { candidates.IsFollowingBy (option_copied aids.entry) packet.now result.to trail.new }
 {
     match aids {
         None => stretch_of_each(flat, packet, direction, place, limit),
         Some(aids) => {
             let end = open_end(aids, flat.filter.openings(), place, limit);
-            stretch_by(flat, &aids.rules, packet, direction, places, place, end)
+            stretch_by(flat, &aids.rules, packet, direction, trail, place, end)
         }
     }
 }

@@ -8,7 +8,7 @@ ghost use Rattle.pfr_rules.specs.Translating.{Kind};
 use crate::hit::{Hit, NewEnd, PortMapping, mapping};
 use crate::searching::first_of;
 use crate::visits::Visits;
-use pfr_criteria::{binat_holds, translation_holds};
+use pfr_criteria::binat_holds;
 use pfr_headers::Packet;
 use pfr_net::{Direction, Ipv4Address, RuleNumber};
 use pfr_ruleset::{FlatTranslation, HostSet, NatAddress, RdrAddress, Ruleset};
@@ -18,13 +18,6 @@ use std::alloc::{AllocError, Global};
 trait TranslationRule {
     /// How it is asked.
     ghost kind: { Kind Self };
-
-    fn number(&self) -> usize
-        ensures { result ≡ kind.number self.now };
-
-    /// Whether it holds for a packet.
-    fn holds(&self, flat: &Ruleset, packet: &Packet, direction: Direction) -> bool
-        ensures { result ≡ kind.holds flat.now packet.now direction self.now };
 
     /// What it makes of a packet that it holds for. None behind `no`.
     fn hit(&self, packet: &Packet, direction: Direction) -> Option<Hit>
@@ -48,14 +41,6 @@ impl TranslationRule for FlatTranslation<NatAddress> {
 
     ghost kind = { spec.nats };
 
-    fn number(&self) -> usize {
-        self.number
-    }
-
-    fn holds(&self, flat: &Ruleset, packet: &Packet, _direction: Direction) -> bool {
-        translation_holds(self, &flat.interface.name, flat.tables.as_slice(), packet)
-    }
-
     fn hit(&self, _packet: &Packet, _direction: Direction) -> Option<Hit> {
         Some(hit_by(self.number, self.passes, NewEnd::Picked(self.target?)))
     }
@@ -65,14 +50,6 @@ impl TranslationRule for FlatTranslation<RdrAddress> {
     ghost use Rattle.pfr_rules.specs.Translating as spec;
 
     ghost kind = { spec.rdrs };
-
-    fn number(&self) -> usize {
-        self.number
-    }
-
-    fn holds(&self, flat: &Ruleset, packet: &Packet, _direction: Direction) -> bool {
-        translation_holds(self, &flat.interface.name, flat.tables.as_slice(), packet)
-    }
 
     fn hit(&self, _packet: &Packet, _direction: Direction) -> Option<Hit> {
         let RdrAddress { address, port } = self.target?;
@@ -97,20 +74,6 @@ impl TranslationRule for FlatTranslation<Ipv4Address> {
 
     ghost kind = { spec.binats };
 
-    fn number(&self) -> usize {
-        self.number
-    }
-
-    fn holds(&self, flat: &Ruleset, packet: &Packet, direction: Direction) -> bool {
-        binat_holds(
-            self,
-            &flat.interface.name,
-            flat.tables.as_slice(),
-            packet,
-            direction,
-        )
-    }
-
     fn hit(&self, packet: &Packet, direction: Direction) -> Option<Hit> {
         let target = self.target?;
         let address = match direction {
@@ -125,20 +88,27 @@ impl TranslationRule for FlatTranslation<Ipv4Address> {
     }
 }
 
-/// The first rule of a kind that holds for a packet. The numbers of those that are asked are put behind the visited ones.
-fn first_holding<'a, R: TranslationRule>(
-    rules: &'a [R],
+/// The first `binat` rule that holds for a packet. The numbers of those that are asked are put behind the visited ones.
+fn first_binat<'a>(
+    rules: &'a [FlatTranslation<Ipv4Address>],
     flat: &Ruleset,
     packet: &Packet,
     direction: Direction,
     visits: &mut Visits,
-) -> Result<Option<&'a R>, AllocError>
-    ensures found { IfOk result (λ found. option_copied found ≡ find (R.kind.holds flat.now packet.now direction) rules.now) }
-    ensures visits { OnOk result (visits.new ≡ visits.old ++ spec.asked_in R.kind flat.now packet.now direction rules.now) }
+) -> Result<Option<&'a FlatTranslation<Ipv4Address>>, AllocError>
+    ensures found { IfOk result (λ found. option_copied found ≡ find (spec.binat_holds flat.now packet.now direction) rules.now) }
+    ensures visits { OnOk result (visits.new ≡ visits.old ++ spec.asked_in spec.binats flat.now packet.now direction rules.now) }
 {
     for rule in rules {
-        visits.push(rule.number())?;
-        if rule.holds(flat, packet, direction) {
+        visits.ask(1);
+        visits.push(rule.number)?;
+        if binat_holds(
+            rule,
+            &flat.interface.name,
+            flat.tables.as_slice(),
+            packet,
+            direction,
+        ) {
             return Ok(Some(rule));
         }
     }
@@ -159,18 +129,18 @@ fn hit_by_first<R: TranslationRule>(
     }
 }
 
-/// What the first rule of a kind that holds makes of a packet.
-fn hit_in<R: TranslationRule>(
-    rules: &[R],
+/// What the first `binat` rule that holds makes of a packet.
+fn binat_of(
     flat: &Ruleset,
     packet: &Packet,
     direction: Direction,
     visits: &mut Visits,
 ) -> Result<Option<Hit>, AllocError>
-    ensures hit { IfOk result (λ hit. hit ≡ spec.hit_in R.kind flat.now packet.now direction rules.now) }
-    ensures visits { OnOk result (visits.new ≡ visits.old ++ spec.asked_in R.kind flat.now packet.now direction rules.now) }
+    ensures hit { IfOk result (λ hit. hit ≡ spec.binat_of flat.now packet.now direction) }
+    ensures visits { OnOk result (visits.new ≡ visits.old ++ spec.asked_in spec.binats flat.now packet.now direction flat.now.translations.binats) }
 {
-    let found = first_holding(rules, flat, packet, direction, visits)?;
+    let binats = flat.translations.binats.as_slice();
+    let found = first_binat(binats, flat, packet, direction, visits)?;
     Ok(hit_by_first(found, packet, direction))
 }
 
@@ -210,8 +180,7 @@ pub fn translate(
     ensures visits { IfOk result (λ answer. answer.1 ≡ spec.translations_visited flat.now packet.now direction) }
 {
     let mut visits = Visits::new(alloc);
-    let binats = flat.translations.binats.as_slice();
-    let mut hit = hit_in(binats, flat, packet, direction, &mut visits)?;
+    let mut hit = binat_of(flat, packet, direction, &mut visits)?;
     if hit.is_none() {
         hit = other_hit(flat, packet, direction, &mut visits)?;
     }

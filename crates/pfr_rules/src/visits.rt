@@ -24,6 +24,8 @@ struct Run {
 pub struct Visits {
     before: Vec<Run>,
     last: Run,
+    /// How many of the rules the walk has asked. The others are visited, but known not to hold.
+    asked: u64,
 }
 
 impl Model for Visits {
@@ -84,7 +86,16 @@ impl Visits {
         Visits {
             before: Vec::new(alloc),
             last: Run { first: 0, count: 0 },
+            asked: 0,
         }
+    }
+
+    /// Notes that `count` more rules have been asked.
+    #[inline]
+    pub(crate) fn ask(&mut self, count: u64)
+        ensures { self.new ≡ self.old }
+    {
+        self.asked = self.asked.saturating_add(count);
     }
 
     /// Puts a number behind the others. Where memory is refused they are as before.
@@ -106,12 +117,14 @@ impl Visits {
         Ok(())
     }
 
-    /// Puts `count` numbers behind the others: `first` and those that follow it. Where memory is refused they are as before.
-    pub fn push_run(&mut self, first: usize, count: usize) -> Result<(), AllocError>
+    /// Puts `count` numbers behind the others: `first` and those that follow it. `asked` of the rules have been asked. Where memory
+    /// is refused the numbers are as before.
+    pub fn push_run(&mut self, first: usize, count: usize, asked: u64) -> Result<(), AllocError>
         requires fits { first + count ≤ 18446744073709551615 }
         ensures pushed { OnOk result (self.new ≡ self.old ++ numbers_from first count) }
         ensures kept { OnErr result (self.new ≡ self.old) }
     {
+        self.asked = self.asked.saturating_add(asked);
         if count == 0 {
             return Ok(());
         }
@@ -131,7 +144,7 @@ impl Visits {
         requires { first ≤ last }
         ensures { OnOk result (self.new ≡ self.old ++ numbers_from first (suc (last - first))) }
     {
-        self.push_run(first, last - first)?;
+        self.push_run(first, last - first, 0)?;
         self.push(last)
     }
 
@@ -148,14 +161,10 @@ impl Visits {
         self.last.count_in(tallies);
     }
 
-    /// How many numbers there are, at most 2^64 - 1. Nothing rests on it: it tells what a walk costs.
-    pub fn len(&self) -> u64 {
-        let mut count = self.last.count as u64;
-        let before = self.before.as_slice();
-        for run in before {
-            count = count.saturating_add(run.count as u64);
-        }
-        count
+    /// How many rules have been asked, at most 2^64 - 1. Nothing rests on it: it tells what a walk costs.
+    #[inline]
+    pub fn asked(&self) -> u64 {
+        self.asked
     }
 
     /// A copy of the numbers.

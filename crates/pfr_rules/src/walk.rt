@@ -144,8 +144,7 @@ fn walk(
     let anchors = flat.filter.anchors();
     let openings = flat.filter.openings();
     let aids = flat.filter.aids();
-    let mut places = [0; 16];
-    follow(flat, aids, packet, &mut places);
+    let mut trail = follow(flat, aids, packet);
     let mut visits = Visits::new(alloc);
     let mut decided = None;
     let mut place: usize = 0;
@@ -166,21 +165,15 @@ fn walk(
             continue;
         }
         let limit = next_first(anchors, next, rules.len());
-        let StretchEnd { to, hits } = stretch(
-            flat,
-            aids,
-            packet,
-            direction,
-            &mut places,
-            place,
-            limit,
+        let StretchEnd { to, hits, asked } = stretch(
+            flat, aids, packet, direction, &mut trail, place, limit,
         );
         if to >= limit {
-            visits.push_run(place, to - place)?;
+            visits.push_run(place, to - place, asked)?;
             place = to;
             continue;
         }
-        visits.push_run(place, to + 1 - place)?;
+        visits.push_run(place, to + 1 - place, asked)?;
         let is_hit = is_hit_by(flat, &rules[to], packet, direction, hits);
         decided = with_hit(decided, is_hit, to);
         if ends_at(openings, to, decided) {

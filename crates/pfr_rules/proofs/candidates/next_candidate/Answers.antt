@@ -1,14 +1,17 @@
-use Rattle.std.proofs.Common.{◌≡◌, ◌≤◌, ◌<◌, length, ap, arith}
-use Rattle.std.proofs.lemmas.List.{length-set}
-use Rattle.pfr_rules.proofs.CandidateLemmas.{passed_on}
+use Rattle.std.proofs.Common.{◌≡◌, ◌<◌, ◌≤◌, ℕ, length, set, ap, subst, sym, rules, arith}
+use Rattle.std.specs.List.{slice_index_or}
+use Rattle.pfr_chains.specs.Chains.{IsNext}
+use Rattle.pfr_rules.specs.Candidates.{IsCandidate}
+use Rattle.pfr_rules.proofs.CandidateLemmas.{unpinned_on}
 use Rattle.pfr_rules.proofs.candidates.next_candidate.Goals as goal
 
-pub loop-shape-preserved : goal.loop-shape-preserved
-loop-shape-preserved c = (
-  rw length-set c.loop-shape.invariant.0,
-  λ packet followed.
-      let count : length c.shapes.result.now ≡ length c.args.index.now.shapes = ap length c.shapes.ensures in
-      let one : c.loop-shape.shape ≤ length c.args.index.now.shapes = omega (arith, c.loop-shape-test.true, count) in
-      let within : c.loop-shape.shape < length c.loop-shape.places = omega (arith, one, c.requires.few, c.loop-shape.invariant.0) in
-      rw c.min-least.ensures (passed_on c.loop-shape.shape c.args.index.now packet c.args.from c.loop-shape.least c.behind-place.result c.loop-shape.places one within c.behind-place.ensures (c.loop-shape.invariant.1 packet followed)),
-)
+pub returns : goal.returns
+returns c = λ packet followed.
+    let index = c.args.index.now in
+    let trail = c.bring_up.new.trail in
+    let up = c.bring_up.ensures packet followed in
+    let last : length c.shapes-last.result.now ≡ length index.shapes = ap length c.shapes-last.ensures in
+    let room : length trail.places ≡ 16 = search rules in
+    let moves = subst (λ (last : ℕ). (key low : ℕ) → low ≤ c.args.from → IsNext index.chains key low (slice_index_or trail.places last 0) → IsNext index.chains key c.args.from c.behind-unpinned.result) last c.behind-unpinned.ensures in
+    let found = unpinned_on index packet c.args.from up.0.low trail.pinned c.behind-unpinned.result trail.places (omega (arith, room, c.requires.few)) up.0.before up.1 up.0.within moves up.0.pinned up.0.chains in
+    rw (c.min.ensures, last) found

@@ -1,4 +1,4 @@
-use Rattle.std.proofs.Common.{◌≤◌, ◌-◌, length}
+use Rattle.std.proofs.Common.{◌≡◌, ◌≤◌, ◌-◌, length}
 use Rattle.pfr_rules.specs.Searching.{held}
 use Rattle.pfr_rules.specs.Stretches.{NoneHolds}
 use Rattle.pfr_rules.proofs.searching.first_of_each.Given as goal
@@ -7,6 +7,7 @@ abbrev pub invariant-loop-place : goal.invariant-loop-place
 invariant-loop-place g l = record {
   within : l.place ≤ length l.rules;
   fails : NoneHolds (held l.flat l.packet) l.rules 0 l.place;
+  visits : l.visits ≡ l.fn.visits;
 }
 
 abbrev pub decreases-loop-place : goal.decreases-loop-place

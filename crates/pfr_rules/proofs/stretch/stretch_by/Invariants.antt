@@ -1,5 +1,5 @@
 use Rattle.std.proofs.Common.{◌≤◌, ◌-◌}
-use Rattle.pfr_rules.specs.Candidates.{AreFollowedIn}
+use Rattle.pfr_rules.specs.Candidates.{IsFollowingIn}
 use Rattle.pfr_rules.specs.Filter.{ruled}
 use Rattle.pfr_rules.specs.Stretches.{NoneHolds}
 use Rattle.pfr_rules.proofs.stretch.stretch_by.Given as goal
@@ -9,7 +9,7 @@ invariant-loop-from l = record {
   from : l.place ≤ l.from;
   within : l.from ≤ l.end;
   fails : NoneHolds (ruled l.flat l.packet l.direction) l.flat.filter.rules l.place l.from;
-  followed : AreFollowedIn l.aids.index l.packet l.from l.places;
+  followed : IsFollowingIn l.aids.index l.packet l.from l.trail;
 }
 
 abbrev pub decreases-loop-from : goal.decreases-loop-from

@@ -95,7 +95,7 @@ loop-place-preserved-in-Some c =
     let v = jump (anchored c.args.flat.now c.args.packet.now c.args.direction) (ruled c.args.flat.now c.args.packet.now c.args.direction) c.args.flat.now.filter c.loop-place.place c.loop-place.next c.loop-place.decided c.loop-place.visits c.in-Some.anchor.now c.loop-place.invariant.0 (nested_of c.args.flat.now.filter.rules c.args.flat.now.filter.anchors placed) at found.1 c.if-anchor-place.false (sym c.anchor_is.ensures ∙ c.if-anchor_is.false) within.1 in
     let stop = stop_is (hits (anchored c.args.flat.now c.args.packet.now c.args.direction) (ruled c.args.flat.now c.args.packet.now c.args.direction) c.args.flat.now.filter) c.args.flat.now.filter c.openings-openings.result.now c.in-Some.anchor.now.last c.loop-place.decided c.openings-openings.ensures within.1 c.ends_at.ensures.small v.decides in (
       rw c.behind-place.ensures (so_next (anchored c.args.flat.now c.args.packet.now c.args.direction) (ruled c.args.flat.now c.args.packet.now c.args.direction) c.args.flat.now.filter c.in-Some.anchor.now.last (c.loop-place.next + 1) c.loop-place.decided c.loop-place.visits v (sym stop ∙ sym c.ends_at.ensures.value ∙ c.if-ends_at.false)),
-      followed_by_on (option_copied c.aids-aids.result) c.args.packet.now c.loop-place.place c.behind-place.result c.loop-place.places (omega (arith, c.if-anchor-place.false, c.behind-place.ensures)) c.loop-place.invariant.1,
+      followed_by_on (option_copied c.aids-aids.result) c.args.packet.now c.loop-place.place c.behind-place.result c.loop-place.trail (omega (arith, c.if-anchor-place.false, c.behind-place.ensures)) c.loop-place.invariant.1,
     )
 
 pub loop-place-preserved-then-to-limit : goal.loop-place-preserved-then-to-limit
@@ -170,7 +170,7 @@ loop-place-preserved c =
     let v = visit_behind (anchored c.args.flat.now c.args.packet.now c.args.direction) (ruled c.args.flat.now c.args.packet.now c.args.direction) c.args.flat.now.filter c.openings-openings.result.now c.loop-place.place c.loop-place.next c.stretch-to.result.to c.loop-place.decided c.loop-place.visits (slice_get c.anchors-anchors.result.now c.loop-place.next) c.loop-place.invariant.0 placed c.openings-openings.ensures next c.stretch-to.ensures.from upto (let small = c.ends_at-in-loop-place.ensures.small in omega (arith, small)) c.stretch-to.ensures.fails c.stretch-to.ensures.stops c.with_hit-decided.result c.push_run-in-loop-place.new.self _ c.is_hit_by-is_hit.result less (rw (← c.rules-rules.ensures) rule) c.is_hit_by-is_hit.ensures c.with_hit-decided.ensures c.in_ok-push_run-2.ensures.pushed in
     let stop = stop_is (hits (anchored c.args.flat.now c.args.packet.now c.args.direction) (ruled c.args.flat.now c.args.packet.now c.args.direction) c.args.flat.now.filter) c.args.flat.now.filter c.openings-openings.result.now c.stretch-to.result.to c.with_hit-decided.result c.openings-openings.ensures v.within c.ends_at-in-loop-place.ensures.small v.decides in (
       rw c.behind-place-in-loop-place.ensures (so_next (anchored c.args.flat.now c.args.packet.now c.args.direction) (ruled c.args.flat.now c.args.packet.now c.args.direction) c.args.flat.now.filter c.stretch-to.result.to c.loop-place.next c.with_hit-decided.result c.push_run-in-loop-place.new.self v (sym stop ∙ sym c.ends_at-in-loop-place.ensures.value ∙ c.if-ends_at-2.false)),
-      followed_by_on (option_copied c.aids-aids.result) c.args.packet.now c.stretch-to.result.to c.behind-place-in-loop-place.result c.stretch-to.new.places (omega (arith, c.behind-place-in-loop-place.ensures)) c.stretch-to.ensures.followed,
+      followed_by_on (option_copied c.aids-aids.result) c.args.packet.now c.stretch-to.result.to c.behind-place-in-loop-place.result c.stretch-to.new.trail (omega (arith, c.behind-place-in-loop-place.ensures)) c.stretch-to.ensures.followed,
     )
 
 pub returns-clause-decided : goal.returns-clause-decided
