@@ -17,12 +17,13 @@ from runs.model import FILE, NONE
 # behind the tests, as some benches have the names of modules there
 sys.path.append(str(building.ROOT / "bench"))
 
-from rules import vain_pairs
+from rules import vain_ranges
 
 # packets: three batches of 256 and a part of one, and fewer
 COUNT, SHORT = 780, 600
-# rules that hold for no packet: enough for evaluating ahead to pay, more than a page of counters, and many
-FEW, SOME, MANY = 150, 300, 1000
+# rules that hold for no packet, of which each is asked those of its protocol, half of them: enough for evaluating ahead to
+# pay, more than a page of counters, and many
+FEW, SOME, MANY = 400, 600, 2000
 PAYLOAD = bytes(100)
 # packets a second
 PACE = 100
@@ -45,7 +46,7 @@ def kind(name, rules, packets, vain=0, form=FILE, longest=""):
     """A run of these packets with `vain` rules that hold for none of them, and these rules after those."""
     capture = capture_header() + records(packets)
     plain = Case(name, rules.encode(), INSIDE, capture)
-    before = "".join(f"{rule}\n" for rule, _ in vain_pairs(vain, capture))
+    before = "".join(f"{rule}\n" for rule, _ in vain_ranges(vain, capture))
     return Kind(plain._replace(rules=before.encode() + plain.rules), plain, form, longest)
 
 

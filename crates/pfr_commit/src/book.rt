@@ -41,8 +41,8 @@ pub struct Book {
     /// How many packets it has taken, and how many of them it has evaluated itself.
     pub(crate) count: u64,
     pub(crate) own: u64,
-    /// How many rules these packets were asked about. Nothing rests on it.
-    visited: u64,
+    /// How many rules were asked about these packets. Nothing rests on it.
+    asked: u64,
     pub(crate) clock: Clock,
     pub(crate) table: Table,
     pub(crate) counters: Counters,
@@ -68,10 +68,10 @@ fn later(clock: Clock, seconds: u32) -> Clock
     Clock(clock.0.max(seconds))
 }
 
-/// How many rules a packet was asked about.
-fn visits_of(outcome: &Outcome) -> u64 {
-    let translation = outcome.visited.translation.len();
-    outcome.visited.filter.len().saturating_add(translation)
+/// How many rules were asked about a packet.
+fn asked_for(outcome: &Outcome) -> u64 {
+    let translation = outcome.visited.translation.asked();
+    outcome.visited.filter.asked().saturating_add(translation)
 }
 
 impl Book {
@@ -101,7 +101,7 @@ impl Book {
             job,
             count: 0,
             own: 0,
-            visited: 0,
+            asked: 0,
             clock: Clock(0),
             table: Table::new(alloc, limit),
             counters,
@@ -124,10 +124,10 @@ impl Book {
         self.own
     }
 
-    /// How many rules the packets that it has taken were asked about in all, those of the filter and of translation, at most
-    /// 2^64 - 1. Nothing rests on it: it tells what the packets cost.
-    pub fn visited(&self) -> u64 {
-        self.visited
+    /// How many rules were asked about the packets that it has taken in all, those of the filter and of translation, at most
+    /// 2^64 - 1. Rules that are visited but known not to hold aren't counted. Nothing rests on it: it tells what the packets cost.
+    pub fn asked(&self) -> u64 {
+        self.asked
     }
 
     /// How many packets it has taken.
@@ -276,7 +276,7 @@ impl Book {
         let closed = &mut self.telling.closed;
         out.put(number, clock, packet, outcome, purge, closed)?;
         self.counters.count(view, outcome);
-        self.visited = self.visited.saturating_add(visits_of(outcome));
+        self.asked = self.asked.saturating_add(asked_for(outcome));
         self.count = number;
         self.clock = clock;
         Ok(())

@@ -66,7 +66,7 @@ fn commit_oldest<J: OfRun + Send + Sync, K: Naming + Send + Sync, R: Wait, G: Ga
     let groups = speculations(alloc, groups)?;
     let mut piece = course.room.piece(alloc);
     piece.changes = Some(course.no_changes(alloc)?);
-    let (own, visited) = (book.own(), book.visited());
+    let (own, asked) = (book.own(), book.asked());
     let packets = batch.packets.as_slice();
     book.commit_batch_of_job(packets, groups, gate, &mut piece)?;
     let Some(changes) = piece.changes.take() else {
@@ -78,7 +78,7 @@ fn commit_oldest<J: OfRun + Send + Sync, K: Naming + Send + Sync, R: Wait, G: Ga
         evaluated_ahead: batch.most.min(count),
         rerun: book.own().saturating_sub(own),
         changes: changes.len() as u64,
-        visited_rules: book.visited().saturating_sub(visited),
+        asked_rules: book.asked().saturating_sub(asked),
     };
     course.note(&piece, report);
     Ok(Committed {

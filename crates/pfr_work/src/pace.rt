@@ -58,8 +58,8 @@ pub struct BatchReport {
     pub rerun: u64,
     /// How many changes of the table they made.
     pub changes: u64,
-    /// How many rules they were asked about, in all.
-    pub visited_rules: u64,
+    /// How many rules were asked about them, in all. A rule that is passed over costs nothing, and isn't counted.
+    pub asked_rules: u64,
 }
 
 /// Says of each batch how many of its packets workers evaluate ahead, and how many workers do.
@@ -182,7 +182,7 @@ impl Pace {
     /// Estimates how many rules a packet is asked about, if enough packets have come since that was done last.
     fn estimate(&mut self, batch: BatchReport) {
         self.seen_packets = self.seen_packets.saturating_add(batch.packets);
-        self.seen_rules = self.seen_rules.saturating_add(batch.visited_rules);
+        self.seen_rules = self.seen_rules.saturating_add(batch.asked_rules);
         if self.seen_packets >= LOOKS {
             self.asked = self.seen_rules / self.seen_packets;
             self.seen_packets = 0;

@@ -11,7 +11,7 @@ fn held(packets: u64, ahead: u64, asked: u64, changes: u64) -> BatchReport {
         evaluated_ahead: ahead,
         rerun: packets.saturating_sub(ahead),
         changes,
-        visited_rules: packets.saturating_mul(asked),
+        asked_rules: packets.saturating_mul(asked),
     }
 }
 
@@ -22,7 +22,7 @@ fn rerun(packets: u64, ahead: u64, asked: u64, changes: u64) -> BatchReport {
         evaluated_ahead: ahead,
         rerun: packets,
         changes,
-        visited_rules: packets.saturating_mul(asked),
+        asked_rules: packets.saturating_mul(asked),
     }
 }
 
@@ -89,7 +89,7 @@ fn a_batch_pays_by_the_results_that_hold(rt: HostRuntime) -> Result<(), Fail> {
             evaluated_ahead: 256,
             rerun: 256u64.saturating_sub(holding),
             changes: 0,
-            visited_rules: 51_200,
+            asked_rules: 51_200,
         };
         assert!(rt; after(1000, 2, batch).rests() != pays, "{holding} hold");
     }
