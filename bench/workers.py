@@ -5,8 +5,9 @@
     workers.py [PROGRAM] --long [N ..]
 
 The packets of the capture `stateless` are decided by a rule that makes no state, each of those of `making` makes a
-state, and those of `matching` match the states of a few connections. No rule but the last matches a packet, so each
-packet that has no state is asked about all of them. Those of `early` are decided by the first rule. A row is of so many
+state, and those of `matching` match the states of a few connections. No rule but the last matches a packet. The others
+ask for ranges of ports, by which no rule is passed over, so each packet that has no state is asked about each rule of
+its protocol, half of them. Those of `early` are decided by the first rule. A row is of so many
 rules and packets in a batch. Of each number of workers it has the speed as a multiple of that without, and in brackets
 the time of processors as a multiple. Behind them are the peaks of memory without workers and with the last number of
 them.
@@ -29,7 +30,7 @@ sys.dont_write_bytecode = True
 from flows import outcomes
 from make_capture import write_capture
 from make_flows import write_flows
-from rules import vain_pairs
+from rules import vain_ranges
 from run import (OUTPUTS, PROGRAM, RUNS, peak_memory, peak_word, print_row, replay_command, seconds, seconds_and_peak,
                  used)
 
@@ -86,7 +87,7 @@ class Contest:
         self.capture, self.packets, self.count, self.batch = capture, packets, count, batch
         self.rules = folder / "rules"
         first = [kind.first] if kind.first else []
-        vain = [rule for rule, _ in vain_pairs(count - 1 - len(first), capture.read_bytes())]
+        vain = [rule for rule, _ in vain_ranges(count - 1 - len(first), capture.read_bytes())]
         self.rules.write_text("\n".join([f"set limit states {packets}", *first, *vain, f"{kind.rules}\n"]))
 
     def on(self, capture, packets):
