@@ -5,10 +5,10 @@
     workers.py [PROGRAM] --long [N ..]
 
 The packets of the capture `stateless` are decided by a rule that makes no state, each of those of `making` makes a
-state, and those of `matching` match the states of a few connections. No rule but the last matches a packet. The others
-ask for ranges of ports, by which no rule is passed over, so each packet that has no state is asked about each rule of
-its protocol, half of them. Those of `early` are decided by the first rule. A row is of so many
-rules and packets in a batch. Of each number of workers it has the speed as a multiple of that without, and in brackets
+state, and those of `matching` match the states of a few connections. No rule but the last matches a packet. The
+others ask for ranges of ports, by which no rule is passed over, so each packet that has no state is asked about each
+rule of its protocol, half of them. Those of `early` are decided by the first rule. A row has one number of rules and
+one of packets in a batch. Of each number of workers it has the speed as a multiple of that without, and in brackets
 the time of processors as a multiple. Behind them are the peaks of memory without workers and with the last number of
 them.
 
@@ -47,7 +47,7 @@ MOST_LONG_QUESTIONS = 10**9
 
 
 class Kind(NamedTuple):
-    """A kind of captures: the rules that decide on its packets, what writes so many of them, and how many of these are
+    """A kind of captures: the rules that decide on its packets, what writes a number of them, and how many of these are
     decided by the rules, where that is known. The others match a state. A rule may stand before all others."""
     rules: str
     write: Callable
@@ -55,7 +55,7 @@ class Kind(NamedTuple):
     first: Optional[str] = None
 
     def written(self, folder, packets):
-        """A capture of so many packets in a folder."""
+        """A capture of `packets` packets in a folder."""
         path = folder / f"{packets} packets.pcap"
         with open(path, "wb") as file:
             self.write(packets, file)
@@ -211,7 +211,7 @@ def main():
     parser.add_argument("--batches", type=int, nargs="+", default=BATCHES, help="the packets of a batch")
     parser.add_argument("--workers", type=int, nargs="+", default=WORKERS, help="beside 0, which is always measured")
     parser.add_argument("--long", type=int, nargs="*", metavar="N",
-                        help="prints the table of captures that grow to so many packets, alone")
+                        help="prints the table of captures of N packets, alone")
     parser.add_argument("program", nargs="?", type=Path, default=PROGRAM)
     words = parser.parse_args()
     if not words.program.is_file():
