@@ -4,3 +4,4 @@ pub mod Places
 pub mod PlainLemmas
 pub mod RuleLemmas
 pub mod RulesetLemmas
+pub mod TranslationLemmas

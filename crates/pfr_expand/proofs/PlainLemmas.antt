@@ -226,7 +226,7 @@ module _ {A : Type 0} (item : Parser A) (list_in : ListMeanings → ListMeaning 
         refl,
       ))
 
-chosen : {A : Type 0} (P : A → Type 0) (xs : List A) (i : ℕ) (x : A) → All P xs → slice_get xs i ≡ Some x → P x
+pub chosen : {A : Type 0} (P : A → Type 0) (xs : List A) (i : ℕ) (x : A) → All P xs → slice_get xs i ≡ Some x → P x
 chosen P xs i x all is = subst P (get_or_from_slice_get xs i x x is) (all i x (slice_get_within xs i x is))
 
 ports_from : (scope : Scope) (keeps : Bool) (part : Option Part) → All (IsFrom (ports_of part)) (choices_of (items_of (if_written (port_list scope keeps) (ports_in part))))

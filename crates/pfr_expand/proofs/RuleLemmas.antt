@@ -76,7 +76,7 @@ asked_as_written (Some kept) (Some (flags.Of set mask)) = refl
 
 of_rule : (setting : Setting) (rule : FilterRule) (m : PacketMatch) → AsksFrom rule m → IsOfRule rule (record (flat_rule setting rule) { packet = m })
 unfolding flat_rule
-of_rule setting rule m asked = record { action = done_as_written setting.block_policy rule.action; direction = refl; quick = refl; options = refl; state = kept_as_written setting.state_policy rule.action rule.options.state; flags = asked_as_written (state_of setting.state_policy rule.action rule.options.state) rule.options.flags; packet = asked }
+of_rule setting rule m asked = record { action = done_as_written setting.block_policy rule.action; direction = refl; quick = refl; options = refl; line = refl; state = kept_as_written setting.state_policy rule.action rule.options.state; flags = asked_as_written (state_of setting.state_policy rule.action rule.options.state) rule.options.flags; packet = asked }
 
 all_of_rule : (setting : Setting) (rule : FilterRule) (matches : List PacketMatch) → All (AsksFrom rule) matches → All (IsOfRule rule) (map (λ m. record (flat_rule setting rule) { packet = m }) matches)
 all_of_rule setting rule [] asked = All-nil (IsOfRule rule)

@@ -85,7 +85,7 @@ stays_advances work next stays = record { own = []; rules = stays.rules ∙ sym 
 same_work : (work next : Work) (f : Work) → ◌≡◌ {A = Result Work ConfError} (Ok f) (Ok next) → Stays work f → Stays work next
 same_work work next f is stays = (let same : f ≡ next = cc is in subst (Stays work) same stays)
 
-macro_stays : (d : MacroDefinition) (work next : Work) → with_definition d work ≡ Ok next → Stays work next
+pub macro_stays : (d : MacroDefinition) (work next : Work) → with_definition d work ≡ Ok next → Stays work next
 unfolding with_definition
 macro_stays d work next is = by_value (pieces_from work.scope.macros (begun work.scope.macros) d.pieces) is
   where
@@ -96,7 +96,7 @@ macro_stays d work next is = by_value (pieces_from work.scope.macros (begun work
 abbrev filling_of : TableDefinition → Work → Filling
 filling_of d work = filled work.scope (unfilled (clash_of d.name (is_defined work.scope d.name))) d.entries
 
-table_stays : (d : TableDefinition) (work next : Work) → with_table d work ≡ Ok next → Stays work next
+pub table_stays : (d : TableDefinition) (work next : Work) → with_table d work ≡ Ok next → Stays work next
 unfolding with_table
 table_stays d work next is = by_count (nat_lt most_elements (filling_of d work).found.count || nat_lt 65536 (work.entries + (filling_of d work).found.count)) is
   where
@@ -108,7 +108,7 @@ table_stays d work next is = by_count (nat_lt most_elements (filling_of d work).
     by_count true is = absurd (cc is)
     by_count false is = by_fault (filling_of d work).found.fault is
 
-option_stays : (option : SetOption) (work next : Work) → with_set option work ≡ Ok next → Stays work next
+pub option_stays : (option : SetOption) (work next : Work) → with_set option work ≡ Ok next → Stays work next
 unfolding with_set
 option_stays option work next is = by_options (with_option work.scope option work.flat.options) is
   where
@@ -118,35 +118,35 @@ option_stays option work next is = by_options (with_option work.scope option wor
 
 -- ---- translation rules
 
-length_numbered : {A : Type 0} (number : ℕ) (passes : Bool) (to : Option A) (matches : List PacketMatch) → length (numbered number passes to matches) ≡ length matches
-length_numbered number passes to [] = refl
-length_numbered number passes to (m ∷ matches) = ap suc (length_numbered (suc number) passes to matches)
+length_numbered : {A : Type 0} (number line : ℕ) (passes : Bool) (to : Option A) (matches : List PacketMatch) → length (numbered number line passes to matches) ≡ length matches
+length_numbered number line passes to [] = refl
+length_numbered number line passes to (m ∷ matches) = ap suc (length_numbered (suc number) line passes to matches)
 
-rules_count : (number : ℕ) (passes : Bool) (found : Change) (matches : List PacketMatch) (all : Translations) → translation_count (with_rules number passes found matches all) ≡ translation_count all + length matches
-rules_count number passes (change.Nat to) matches all =
-    let own = length_numbered number passes to matches in
-    let long = length-append all.nats (numbered number passes to matches) in
+rules_count : (number line : ℕ) (passes : Bool) (found : Change) (matches : List PacketMatch) (all : Translations) → translation_count (with_rules number line passes found matches all) ≡ translation_count all + length matches
+rules_count number line passes (change.Nat to) matches all =
+    let own = length_numbered number line passes to matches in
+    let long = length-append all.nats (numbered number line passes to matches) in
     omega (arith, own, long)
-rules_count number passes (change.Rdr to) matches all =
-    let own = length_numbered number passes to matches in
-    let long = length-append all.rdrs (numbered number passes to matches) in
+rules_count number line passes (change.Rdr to) matches all =
+    let own = length_numbered number line passes to matches in
+    let long = length-append all.rdrs (numbered number line passes to matches) in
     omega (arith, own, long)
-rules_count number passes (change.Binat to) matches all =
-    let own = length_numbered number passes to matches in
-    let long = length-append all.binats (numbered number passes to matches) in
+rules_count number line passes (change.Binat to) matches all =
+    let own = length_numbered number line passes to matches in
+    let long = length-append all.binats (numbered number line passes to matches) in
     omega (arith, own, long)
 
-change_count : (number : ℕ) (passes : Bool) (c : C.Choices) (found : Result Change ConfError) (all new : Translations) → with_change number passes c found all ≡ Ok new → translation_count new ≡ translation_count all + length (combinations c)
-change_count number passes c (Err e) all new is = absurd (cc is)
-change_count number passes c (Ok found) all new is =
-    let same : with_rules number passes found (combinations c) all ≡ new = cc is in
-    subst (λ (made : Translations). translation_count made ≡ translation_count all + length (combinations c)) same (rules_count number passes found (combinations c) all)
+change_count : (number line : ℕ) (passes : Bool) (c : C.Choices) (found : Result Change ConfError) (all new : Translations) → with_change number line passes c found all ≡ Ok new → translation_count new ≡ translation_count all + length (combinations c)
+change_count number line passes c (Err e) all new is = absurd (cc is)
+change_count number line passes c (Ok found) all new is =
+    let same : with_rules number line passes found (combinations c) all ≡ new = cc is in
+    subst (λ (made : Translations). translation_count made ≡ translation_count all + length (combinations c)) same (rules_count number line passes found (combinations c) all)
 
 choices_count : (scope : Scope) (number : ℕ) (rule : TranslationRule) (found : Result C.Choices ConfError) (all new : Translations) (most : ℕ) → ((c : C.Choices) → found ≡ Ok c → length (combinations c) ≤ most) → with_choices scope number rule found all ≡ Ok new → translation_count new ≤ translation_count all + most
 choices_count scope number rule (Err e) all new most few is = absurd (cc is)
 choices_count scope number rule (Ok c) all new most few is =
     let least = few c refl in
-    let long = change_count number rule.passes c (change_of scope rule c.destination_ports) all new is in
+    let long = change_count number rule.line rule.passes c (change_of scope rule c.destination_ports) all new is in
     omega (arith, least, long)
 
 translation_lists_counted : (scope : Scope) (rule : TranslationRule) → AreCounted (translation_lists scope rule)

@@ -81,6 +81,7 @@ flat_rule setting rule =
       flags = flags_of state rule.options.flags;
       state = state;
       allow_opts = rule.options.allow_opts;
+      line = rule.line;
     }
 
 -- ---- rules

@@ -1,5 +1,5 @@
 -- Words of the laws: of which statements the filter rules of a ruleset are, and how many.
-use Rattle.std.specs.Prelude.{◌≡◌, ◌≢◌, ⊤, ℕ, zero, suc, ◌*◌, List, [], ◌∷◌, ◌++◌, length, All, Contains, false, Option, Some, None, IsSomeAnd, IfSome, ◌+◌, Ok, ◌≤◌}
+use Rattle.std.specs.Prelude.{◌≡◌, ◌≢◌, ⊤, ℕ, zero, suc, ◌*◌, List, [], ◌∷◌, ◌++◌, length, All, Contains, true, false, Option, Some, None, IsSomeAnd, IfSome, ◌+◌, Ok, ◌≤◌}
 use Rattle.pfr_ruleset.specs.declared.port.PortMatch.{PortMatch}
 use Rattle.pfr_ruleset.specs.declared.policy.BlockPolicy.TheVariants.{Drop, Return}
 use Rattle.pfr_ruleset.specs.declared.flat.FilterAction.{FilterAction}
@@ -7,10 +7,14 @@ use Rattle.pfr_ruleset.specs.declared.flat.FilterAction.TheVariants as does
 use Rattle.pfr_ruleset.specs.declared.flat.FlagsCriterion.{FlagsCriterion}
 use Rattle.pfr_ruleset.specs.declared.flat.FlagsCriterion.TheVariants as asks
 use Rattle.pfr_ruleset.specs.declared.flat.FlatRule.{FlatRule}
+use Rattle.pfr_ruleset.specs.declared.flat.FlatTranslation.{FlatTranslation}
+use Rattle.pfr_ruleset.specs.declared.flat.PortChange.TheVariants.{From}
+use Rattle.pfr_ruleset.specs.declared.flat.RdrAddress.{RdrAddress}
 use Rattle.pfr_ruleset.specs.declared.flat.PacketMatch.{PacketMatch}
 use Rattle.pfr_ruleset.specs.declared.flat.StateRule.{StateRule}
 use Rattle.pfr_ruleset.specs.declared.interface.Interface.{Interface}
 use Rattle.pfr_ruleset.specs.declared.ruleset.Ruleset.{Ruleset}
+use Rattle.pfr_ruleset.specs.declared.translations.Translations.{Translations}
 use Rattle.pfr_ruleset.specs.Rulesets.{counts}
 use Rattle.pfr_terms.specs.declared.address.Address.{Address}
 use Rattle.pfr_terms.specs.declared.address.Address.TheVariants as a
@@ -29,8 +33,11 @@ use Rattle.pfr_conf.specs.declared.anchor.FilterStatement.TheOpen.{FilterStateme
 use Rattle.pfr_conf.specs.declared.rule_options.StateKeeping.{StateKeeping}
 use Rattle.pfr_conf.specs.declared.rule_options.StateKeeping.TheVariants.{No, Keep}
 use Rattle.pfr_conf.specs.declared.statement.Statement.{Statement}
-use Rattle.pfr_conf.specs.declared.statement.Statement.TheVariants.{Filter}
+use Rattle.pfr_conf.specs.declared.statement.Statement.TheVariants.{Filter, Translation}
 use Rattle.pfr_conf.specs.declared.statement.Statements.{Statements}
+use Rattle.pfr_conf.specs.declared.translation.TranslationRule.{TranslationRule}
+use Rattle.pfr_conf.specs.declared.translation.TranslationStatement.TheVariants.{Rule}
+use Rattle.pfr_flat.specs.Translations.{fits}
 use Rattle.pfr_expand.specs.Rulesets.{expanded}
 
 -- ---- lists as they are written
@@ -120,6 +127,7 @@ pub record IsOfRule (rule : FilterRule) (flat : FlatRule) : Type 0 where
   pub direction : flat.direction ≡ rule.direction
   pub quick : flat.is_quick ≡ rule.is_quick
   pub options : flat.allow_opts ≡ rule.options.allow_opts
+  pub line : flat.line ≡ rule.line
   pub state : KeepsAsWritten rule.action rule.options.state flat.state
   pub flags : AsksAsWritten rule.options.flags flat.state flat.flags
   pub packet : AsksFrom rule flat.packet
@@ -165,6 +173,28 @@ abbrev pub AreOf : Statement → List FlatRule → Type 0
 AreOf (Filter x) rules = AreOfFilter 16 x rules
 AreOf other rules = rules ≡ []
 
+-- ---- translation rules
+
+-- a flat translation rule of a written one: it has its line, and what it translates isn't filtered just where that says `pass`
+pub record IsOfTranslation {T : Type 0} (rule : TranslationRule) (flat : FlatTranslation T) : Type 0 where
+  pub line : flat.line ≡ rule.line
+  pub passes : flat.passes ≡ rule.passes
+
+-- a flat translation rule is of one of these statements
+abbrev pub IsOfOneOf : {T : Type 0} → List Statement → FlatTranslation T → Type 0
+IsOfOneOf statements flat = (rule : TranslationRule) × Contains statements (Translation (Rule rule)) × IsOfTranslation rule flat
+
+-- the ports that a `rdr` rule moves by one distance are a number, or a range that stays within the ports
+abbrev pub MovesWithinPorts : FlatTranslation RdrAddress → Type 0
+MovesWithinPorts flat = IfSome flat.target (λ target. (first : ℕ) → target.port ≡ From first → fits first flat.packet.destination_port ≡ true)
+
+-- each of the translation rules of all kinds is, and ports that are moved stay ports
+pub record AreOfOnes (statements : List Statement) (translations : Translations) : Type 0 where
+  pub nats : All (IsOfOneOf statements) translations.nats
+  pub rdrs : All (IsOfOneOf statements) translations.rdrs
+  pub binats : All (IsOfOneOf statements) translations.binats
+  pub moved : All MovesWithinPorts translations.rdrs
+
 -- ---- what the laws say
 
 -- the counts of a ruleset are the lengths of its lists
@@ -187,3 +217,10 @@ EveryRuleIsOfOneStatement =
     (statements : Statements) (interface : Interface) (r : Ruleset)
     → expanded statements interface ≡ Ok r
     → AreInTurn AreOf statements.statements r.filter.rules
+
+-- each translation rule is of a statement
+abbrev pub EveryTranslationIsOfAStatement : Type 0
+EveryTranslationIsOfAStatement =
+    (statements : Statements) (interface : Interface) (r : Ruleset)
+    → expanded statements interface ≡ Ok r
+    → AreOfOnes statements.statements r.translations

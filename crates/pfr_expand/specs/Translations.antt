@@ -97,15 +97,15 @@ change_of scope rule ports = change_by scope rule ports rule.target
 -- ---- rules
 
 -- rules with this change, numbered on from this number, behind those of their kind
-abbrev pub with_rules : ℕ → Bool → Change → List PacketMatch → T.Translations → T.Translations
-with_rules number passes (change.Nat target) matches out = record out { nats = out.nats ++ numbered number passes target matches }
-with_rules number passes (change.Rdr target) matches out = record out { rdrs = out.rdrs ++ numbered number passes target matches }
-with_rules number passes (change.Binat target) matches out = record out { binats = out.binats ++ numbered number passes target matches }
+abbrev pub with_rules : ℕ → ℕ → Bool → Change → List PacketMatch → T.Translations → T.Translations
+with_rules number line passes (change.Nat target) matches out = record out { nats = out.nats ++ numbered number line passes target matches }
+with_rules number line passes (change.Rdr target) matches out = record out { rdrs = out.rdrs ++ numbered number line passes target matches }
+with_rules number line passes (change.Binat target) matches out = record out { binats = out.binats ++ numbered number line passes target matches }
 
-abbrev pub with_change : ℕ → Bool → Choices → Result Change ConfError → T.Translations → Result T.Translations ConfError
-with_change number passes choices (Ok found) out = Ok (with_rules number passes found (combinations choices) out)
-with_change number passes choices (Err e) out = Err e
+abbrev pub with_change : ℕ → ℕ → Bool → Choices → Result Change ConfError → T.Translations → Result T.Translations ConfError
+with_change number line passes choices (Ok found) out = Ok (with_rules number line passes found (combinations choices) out)
+with_change number line passes choices (Err e) out = Err e
 
 abbrev pub with_choices : Scope → ℕ → TranslationRule → Result Choices ConfError → T.Translations → Result T.Translations ConfError
-with_choices scope number rule (Ok choices) out = with_change number rule.passes choices (change_of scope rule choices.destination_ports) out
+with_choices scope number rule (Ok choices) out = with_change number rule.line rule.passes choices (change_of scope rule choices.destination_ports) out
 with_choices scope number rule (Err e) out = Err e

@@ -106,6 +106,7 @@ fn flat_rule(setting: Setting, rule: &FilterRule<'_>) -> FlatRule
         flags: flags_of(state, rule.options.flags),
         state,
         allow_opts: rule.options.allow_opts,
+        line: rule.line,
     }
 }
 

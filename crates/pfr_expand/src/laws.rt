@@ -1,5 +1,5 @@
 //! Laws of the definitions, each the contract of a function that does nothing.
-ghost use Rattle.pfr_expand.specs.Laws.{AtMostAllRules, CountsAreLengths, EveryRuleIsOfOneStatement};
+ghost use Rattle.pfr_expand.specs.Laws.{AtMostAllRules, CountsAreLengths, EveryRuleIsOfOneStatement, EveryTranslationIsOfAStatement};
 
 /// A ruleset that statements mean has at most 65536 rules of the filter and of translation together, so their counts
 /// are the lengths of the lists, and no limit of the counts is met.
@@ -10,7 +10,14 @@ pub fn counts_are_lengths()
 
 /// The filter rules of a ruleset are those of its statements, one after the other: of a filter rule, flat rules that do
 /// and ask for what is written, of an anchor, copies of the rules of its body, and of any other statement none. Where the
-/// lists of a rule or an anchor use no macro, there is one flat rule or copy for each combination of their elements.
+/// lists of a rule or an anchor use no macro, there is one flat rule or copy for each combination of their elements. Each
+/// flat rule has the line of its filter rule.
 pub fn every_flat_rule_is_of_one_statement()
     ensures { EveryRuleIsOfOneStatement }
+{}
+
+/// Each translation rule of a ruleset is of a statement that is a translation rule, and has its line. Where a `rdr` rule moves ports
+/// by one distance, all of them stay ports.
+pub fn every_translation_is_of_a_statement()
+    ensures { EveryTranslationIsOfAStatement }
 {}

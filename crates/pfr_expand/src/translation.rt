@@ -179,24 +179,29 @@ fn change_of(
     }
 }
 
-/// Puts a rule for each match behind those of its kind, numbered on from this number.
+/// Puts a rule for each match behind those of its kind, numbered on from `number`.
 fn put(
     out: &mut Translations,
     number: usize,
+    line: usize,
     passes: bool,
     change: Change,
     matches: &[PacketMatch],
 ) -> Result<(), AllocError>
     requires { number ≤ 65536 }
-    ensures { OnOk result (out.new ≡ spec.with_rules number passes change matches.now out.old) }
+    ensures { OnOk result (out.new ≡ spec.with_rules number line passes change matches.now out.old) }
 {
     // a slice's length is a number of the machine, so numbers don't run over
     let _few = matches.len();
     match change {
-        Change::Nat(target) => { put_translations(&mut out.nats, number, passes, target, matches) }
-        Change::Rdr(target) => { put_translations(&mut out.rdrs, number, passes, target, matches) }
+        Change::Nat(target) => {
+            put_translations(&mut out.nats, number, line, passes, target, matches)
+        }
+        Change::Rdr(target) => {
+            put_translations(&mut out.rdrs, number, line, passes, target, matches)
+        }
         Change::Binat(target) => {
-            put_translations(&mut out.binats, number, passes, target, matches)
+            put_translations(&mut out.binats, number, line, passes, target, matches)
         }
     }
 }
@@ -206,15 +211,16 @@ fn put_all(
     out: &mut Translations,
     alloc: Global,
     number: usize,
+    line: usize,
     passes: bool,
     change: Change,
     choices: &Choices,
 ) -> Result<(), AllocError>
     requires { number ≤ 65536 }
-    ensures { OnOk result (out.new ≡ spec.with_rules number passes change (choosing.combinations choices.now) out.old) }
+    ensures { OnOk result (out.new ≡ spec.with_rules number line passes change (choosing.combinations choices.now) out.old) }
 {
     let matches = combinations(alloc, choices)?;
-    put(out, number, passes, change, matches.as_slice())
+    put(out, number, line, passes, change, matches.as_slice())
 }
 
 /// Puts the rules of a rule behind those of its kind, by what may be chosen of its lists.
@@ -230,7 +236,7 @@ fn add_chosen(
     ensures { Adds (spec.with_choices scope.now number rule.now (Ok choices.now) out.old) result out.new }
 {
     let change = change_of(alloc, scope, rule, choices.destination_ports.as_slice())??;
-    put_all(out, alloc, number, rule.passes, change, choices)?;
+    put_all(out, alloc, number, rule.line, rule.passes, change, choices)?;
     Ok(())
 }
 

@@ -7,10 +7,10 @@ use Rattle.pfr_ruleset.specs.declared.port.PortMatch.TheVariants as p
 use Rattle.pfr_ruleset.specs.declared.flat.PacketMatch.{PacketMatch}
 use Rattle.pfr_ruleset.specs.declared.flat.FlatTranslation.{FlatTranslation}
 
--- one rule for each match, numbered on from this number
-abbrev pub numbered : {A : Type 0} → ℕ → Bool → Option A → List PacketMatch → List (FlatTranslation A)
-numbered number passes target [] = []
-numbered number passes target (m ∷ matches) = record { number = number; passes = passes; packet = m; target = target } ∷ numbered (suc number) passes target matches
+-- one rule for each match, numbered on from this number, all with the line of the rule
+abbrev pub numbered : {A : Type 0} → ℕ → ℕ → Bool → Option A → List PacketMatch → List (FlatTranslation A)
+numbered number line passes target [] = []
+numbered number line passes target (m ∷ matches) = record { number = number; line = line; passes = passes; packet = m; target = target } ∷ numbered (suc number) line passes target matches
 
 -- whether ports can be moved so that the first goes to this one: a number, or a range that stays within the ports
 abbrev pub fits : ℕ → Option PortMatch → Bool

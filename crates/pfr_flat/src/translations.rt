@@ -7,21 +7,23 @@ use pfr_ruleset::{
 };
 use std::alloc::AllocError;
 
-/// Puts a translation rule for each match behind the others, numbered on from this number.
+/// Puts a translation rule for each match behind the others, numbered on from `number`. All have the line of the rule.
 pub fn put_translations<T: Copy>(
     out: &mut TranslationRules<T>,
     number: usize,
+    line: usize,
     passes: bool,
     target: Option<T>,
     matches: &[PacketMatch],
 ) -> Result<(), AllocError>
     requires { number + length matches.now ≤ 18446744073709551615 }
-    ensures { OnOk result (out.new ≡ out.old ++ spec.numbered number passes target matches.now) }
+    ensures { OnOk result (out.new ≡ out.old ++ spec.numbered number line passes target matches.now) }
 {
     let mut next = number;
     for packet in matches {
         out.push(FlatTranslation {
             number: next,
+            line,
             passes,
             packet: *packet,
             target,

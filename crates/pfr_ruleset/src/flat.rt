@@ -74,6 +74,8 @@ pub struct FlatRule {
     pub state: Option<StateRule>,
     /// Packets with IP options pass.
     pub allow_opts: bool,
+    /// The line of the rule in the text, from 1 on.
+    pub line: usize,
 }
 
 /// An anchor round the filter rules from the place `first` to the place `last`. Those round one rule come from the
@@ -125,6 +127,8 @@ pub struct RdrAddress {
 pub struct FlatTranslation<T> {
     /// Its place among the translation rules of all kinds.
     pub number: usize,
+    /// The line of the rule in the text, from 1 on.
+    pub line: usize,
     /// What it translates isn't filtered.
     pub passes: bool,
     pub packet: PacketMatch,

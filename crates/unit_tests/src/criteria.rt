@@ -157,6 +157,7 @@ fn a_rule(rt: HostRuntime) -> Result<(), Fail> {
         flags: FlagsCriterion::Default,
         state: None,
         allow_opts: false,
+        line: 1,
     };
     let syn = packet(TcpFlags::SYN);
     assert!(rt; rule_holds(&rule, &name, &tables, &syn, Direction::In));

@@ -4,5 +4,5 @@ use Rattle.pfr_flat.proofs.translations.put_translations.Given as goal
 
 abbrev pub invariant-loop-packet : goal.invariant-loop-packet
 invariant-loop-packet g l =
-    (l.out ++ spec.numbered l.next l.passes l.target (drop l.packet-index l.matches) ≡ l.fn.out ++ spec.numbered l.number l.passes l.target l.matches)
+    (l.out ++ spec.numbered l.next l.line l.passes l.target (drop l.packet-index l.matches) ≡ l.fn.out ++ spec.numbered l.number l.line l.passes l.target l.matches)
     × (l.next ≡ l.number + l.packet-index)

@@ -1,0 +1,242 @@
+-- The translation rules of a ruleset: each is of a statement.
+use Rattle.std.proofs.Common.{◌≡◌, ◌<◌, ◌+◌, ℕ, suc, Bool, true, false, if◌then◌else◌, List, [], ◌∷◌, ◌++◌, length, All, Contains, slice_index_or, Option, Some, None, IfSome, Result, Ok, Err, append_assoc, refl, sym, ap, subst, arith}
+use Rattle.std.proofs.lemmas.Bool.{and_parts}
+use Rattle.std.proofs.lemmas.Option.{slice_get-get_or}
+use Rattle.std.proofs.lemmas.List.Elements.{All-append, All-cons, All-head, All-nil, All-tail, Contains-append_right}
+use Rattle.pfr_ruleset.specs.declared.interface.Interface.{Interface}
+use Rattle.pfr_net.specs.declared.address.Ipv4Address.{Ipv4Address}
+use Rattle.pfr_ruleset.specs.declared.flat.FlatTranslation.{FlatTranslation}
+use Rattle.pfr_ruleset.specs.declared.flat.PortChange.TheVariants.{From}
+use Rattle.pfr_ruleset.specs.declared.flat.RdrAddress.{RdrAddress}
+use Rattle.pfr_ruleset.specs.declared.port.PortMatch.{PortMatch}
+use Rattle.pfr_ruleset.specs.declared.flat.PacketMatch.{PacketMatch}
+use Rattle.pfr_ruleset.specs.Places.{joined}
+use Rattle.pfr_ruleset.specs.declared.ruleset.Ruleset as R
+use Rattle.pfr_ruleset.specs.declared.translations.Translations.{Translations}
+use Rattle.pfr_terms.specs.declared.error.ConfError.{ConfError}
+use Rattle.pfr_conf.specs.declared.anchor.FilterStatement.{FilterStatement}
+use Rattle.pfr_conf.specs.declared.statement.Statement.{Statement}
+use Rattle.pfr_conf.specs.declared.statement.Statement.TheVariants as s
+use Rattle.pfr_conf.specs.declared.statement.Statements as S
+use Rattle.pfr_conf.specs.declared.targets.NatTarget.{NatTarget}
+use Rattle.pfr_conf.specs.declared.targets.RdrTarget.{RdrTarget}
+use Rattle.pfr_conf.specs.declared.targets.RedirectedPort.{RedirectedPort}
+use Rattle.pfr_conf.specs.declared.targets.RedirectedPort.TheVariants as r
+use Rattle.pfr_conf.specs.declared.targets.Target.{Target}
+use Rattle.pfr_conf.specs.declared.targets.Target.TheVariants as target
+use Rattle.pfr_conf.specs.declared.translation.TranslationKind.{TranslationKind}
+use Rattle.pfr_conf.specs.declared.translation.TranslationKind.TheVariants as kind
+use Rattle.pfr_conf.specs.declared.translation.TranslationRule.{TranslationRule}
+use Rattle.pfr_conf.specs.declared.translation.TranslationStatement.{TranslationStatement}
+use Rattle.pfr_conf.specs.declared.translation.TranslationStatement.TheVariants as t
+use Rattle.pfr_elements.specs.declared.scope.Scope.{Scope}
+use Rattle.pfr_elements.specs.Single.{written_single}
+use Rattle.pfr_flat.specs.declared.choices.Choices as C
+use Rattle.pfr_flat.specs.Choices.{combinations}
+use Rattle.pfr_flat.specs.Counts.{counted}
+use Rattle.pfr_flat.specs.Lists.{choices_or_fault}
+use Rattle.pfr_flat.specs.Translations.{all_fit, fits, numbered}
+use Rattle.pfr_flat.proofs.Digits.{choices_at}
+use Rattle.pfr_expand.specs.declared.body.Body.{Body}
+use Rattle.pfr_expand.specs.declared.expansion.Work.{Work}
+use Rattle.pfr_expand.specs.declared.translation.Change.{Change}
+use Rattle.pfr_expand.specs.declared.translation.Change.TheVariants as change
+use Rattle.pfr_expand.specs.Bodies.{empty_body, statement as filter_statement}
+use Rattle.pfr_expand.specs.Laws.{AreOfOnes, IsOfOneOf, MovesWithinPorts}
+use Rattle.pfr_expand.specs.Rulesets.{and_more, expanded, expanded_from, filter_by, filter_if, line_of, ruleset_in, setting_of, started, table_names, translated, translation_by, used_in, with_filter, with_statement, with_translation, with_translations}
+use Rattle.pfr_expand.specs.Translations.{binat_by, change_by, change_of, nat_by, no_change, port_change, port_fault, rdr_by, rdr_if, translation_lists, with_change, with_choices, with_rules}
+use Rattle.pfr_expand.proofs.PlainLemmas.{chosen}
+use Rattle.pfr_expand.proofs.RulesetLemmas.{Stays, macro_stays, option_stays, table_stays}
+
+-- ---- moved ports
+
+-- all of the ports can be moved, where the rule moves them
+abbrev AllFit : Option RdrAddress → List (Option PortMatch) → Type 0
+AllFit to ports = IfSome to (λ target. (first : ℕ) → target.port ≡ From first → all_fit first ports ≡ true)
+
+fit_if : (first : ℕ) (ports : List (Option PortMatch)) (e : ConfError) (fit : Bool) → all_fit first ports ≡ fit → ◌≡◌ {A = Option ConfError} (if fit then None else Some e) None → all_fit first ports ≡ true
+fit_if first ports e true fit_is is = fit_is
+fit_if first ports e false fit_is is = absurd (cc is)
+
+fit_without_fault : (port : Option RedirectedPort) (ports : List (Option PortMatch)) (first : ℕ) → port_fault port ports ≡ None → port_change port ≡ From first → all_fit first ports ≡ true
+fit_without_fault None ports first fault from = absurd (cc from)
+fit_without_fault (Some (r.Fixed port)) ports first fault from = absurd (cc from)
+fit_without_fault (Some (r.From line port)) ports first fault from =
+    let same : port ≡ first = cc from in
+    subst (λ (n : ℕ). all_fit n ports ≡ true) same (fit_if port ports _ (all_fit port ports) refl fault)
+
+rdr_fits : (target : RdrTarget) (address : Ipv4Address) (ports : List (Option PortMatch)) (to : Option RdrAddress) (fault : Option ConfError) → port_fault target.port ports ≡ fault → rdr_if target address fault ≡ Ok (change.Rdr to) → AllFit to ports
+rdr_fits target address ports to (Some e) fault_is is = absurd (cc is)
+rdr_fits target address ports to None fault_is is =
+    let same : Some (record { address = address; port = port_change target.port }) ≡ to = cc is in
+    subst (λ (made : Option RdrAddress). AllFit made ports) same (λ first from. fit_without_fault target.port ports first fault_is from)
+
+change_fits : (scope : Scope) (rule : TranslationRule) (ports : List (Option PortMatch)) (to : Option RdrAddress) → change_of scope rule ports ≡ Ok (change.Rdr to) → AllFit to ports
+unfolding change_of
+change_fits scope rule ports to is = by_target rule.target is
+  where
+    by_kind : (kind : TranslationKind) → ◌≡◌ {A = Result Change ConfError} (Ok (no_change kind)) (Ok (change.Rdr to)) → AllFit to ports
+    by_kind kind.Nat is = absurd (cc is)
+    by_kind kind.Rdr is =
+        let same : None ≡ to = cc is in
+        subst (λ (made : Option RdrAddress). AllFit made ports) same (record {})
+    by_kind kind.Binat is = absurd (cc is)
+
+    by_nat : (target : NatTarget) (found : Result Ipv4Address ConfError) → nat_by target found ≡ Ok (change.Rdr to) → AllFit to ports
+    by_nat target (Ok address) is = absurd (cc is)
+    by_nat target (Err e) is = absurd (cc is)
+
+    by_rdr : (target : RdrTarget) (found : Result Ipv4Address ConfError) → rdr_by target ports found ≡ Ok (change.Rdr to) → AllFit to ports
+    by_rdr target (Ok address) is = rdr_fits target address ports to (port_fault target.port ports) refl is
+    by_rdr target (Err e) is = absurd (cc is)
+
+    by_binat : (found : Result Ipv4Address ConfError) → binat_by found ≡ Ok (change.Rdr to) → AllFit to ports
+    by_binat (Ok address) is = absurd (cc is)
+    by_binat (Err e) is = absurd (cc is)
+
+    by_target : (found : Option Target) → change_by scope rule ports found ≡ Ok (change.Rdr to) → AllFit to ports
+    by_target None is = by_kind rule.kind is
+    by_target (Some (target.Nat nat)) is = by_nat nat (written_single true scope rule.line nat.address) is
+    by_target (Some (target.Rdr rdr)) is = by_rdr rdr (written_single true scope rule.line rdr.address) is
+    by_target (Some (target.Binat host)) is = by_binat (written_single true scope rule.line host) is
+
+all_fits : (first : ℕ) (ports : List (Option PortMatch)) → all_fit first ports ≡ true → All (λ x. fits first x ≡ true) ports
+all_fits first [] is = All-nil (λ x. fits first x ≡ true)
+all_fits first (x ∷ ports) is = All-cons (λ x. fits first x ≡ true) x ports (and_parts _ _ is).0 (all_fits first ports (and_parts _ _ is).1)
+
+-- the ports of each combination are one of the choices
+matches_fit : (first : ℕ) (c : C.Choices) → all_fit first c.destination_ports ≡ true → All (λ m. fits first m.destination_port ≡ true) (combinations c)
+matches_fit first c fit = λ i m below. (
+    let asked : PacketMatch = slice_index_or (combinations c) i m in
+    let at = choices_at c asked i (slice_get-get_or (combinations c) i m below) in
+    chosen (λ x. fits first x ≡ true) c.destination_ports _ asked.destination_port (all_fits first c.destination_ports fit) at.0)
+
+-- ---- one rule
+
+-- what holds of a flat rule by each match holds of all of them
+all_numbered : {A : Type 0} (P : FlatTranslation A → Type 0) (number line : ℕ) (passes : Bool) (to : Option A) (matches : List PacketMatch) → All (λ m. (n : ℕ) → P (record { number = n; line = line; passes = passes; packet = m; target = to })) matches → All P (numbered number line passes to matches)
+all_numbered P number line passes to [] each = All-nil P
+all_numbered P number line passes to (m ∷ matches) each =
+    All-cons P _ _
+    (All-head (λ m. (n : ℕ) → P (record { number = n; line = line; passes = passes; packet = m; target = to })) m matches each number)
+    (all_numbered P (suc number) line passes to matches (All-tail (λ m. (n : ℕ) → P (record { number = n; line = line; passes = passes; packet = m; target = to })) m matches each))
+
+-- the flat rules of a translation rule are of it
+numbered_are_of : {A : Type 0} (statements : List Statement) (rule : TranslationRule) → Contains statements (s.Translation (t.Rule rule)) → (number : ℕ) (to : Option A) (matches : List PacketMatch) → All (IsOfOneOf {T = A} statements) (numbered number rule.line rule.passes to matches)
+numbered_are_of {A = A} statements rule there number to matches = all_numbered (IsOfOneOf {T = A} statements) number rule.line rule.passes to matches (λ k d below n. (rule, there, record { line = refl; passes = refl }))
+
+-- the ports that they move stay ports
+numbered_move : (number line : ℕ) (passes : Bool) (to : Option RdrAddress) (c : C.Choices) → AllFit to c.destination_ports → All MovesWithinPorts (numbered number line passes to (combinations c))
+numbered_move number line passes None c fit = all_numbered MovesWithinPorts number line passes None (combinations c) (λ k d below n. record {})
+numbered_move number line passes (Some target) c fit = all_numbered MovesWithinPorts number line passes (Some target) (combinations c) (λ k d below n first from. matches_fit first c (fit first from) k d below)
+
+rules_are_of : (statements : List Statement) (rule : TranslationRule) → Contains statements (s.Translation (t.Rule rule)) → (number : ℕ) (c : C.Choices) (found : Change) → ((to : Option RdrAddress) → found ≡ change.Rdr to → AllFit to c.destination_ports) → (all : Translations) → AreOfOnes statements all → AreOfOnes statements (with_rules number rule.line rule.passes found (combinations c) all)
+rules_are_of statements rule there number c (change.Nat to) fit all are = record {
+  nats = All-append (IsOfOneOf statements) all.nats _ are.nats (numbered_are_of statements rule there number to (combinations c));
+  rdrs = are.rdrs;
+  binats = are.binats;
+  moved = are.moved;
+}
+rules_are_of statements rule there number c (change.Rdr to) fit all are = record {
+  nats = are.nats;
+  rdrs = All-append (IsOfOneOf statements) all.rdrs _ are.rdrs (numbered_are_of statements rule there number to (combinations c));
+  binats = are.binats;
+  moved = All-append MovesWithinPorts all.rdrs _ are.moved (numbered_move number rule.line rule.passes to c (fit to refl));
+}
+rules_are_of statements rule there number c (change.Binat to) fit all are = record {
+  nats = are.nats;
+  rdrs = are.rdrs;
+  binats = All-append (IsOfOneOf statements) all.binats _ are.binats (numbered_are_of statements rule there number to (combinations c));
+  moved = are.moved;
+}
+
+change_is_of : (statements : List Statement) (rule : TranslationRule) → Contains statements (s.Translation (t.Rule rule)) → (number : ℕ) (c : C.Choices) (found : Result Change ConfError) → ((to : Option RdrAddress) → found ≡ Ok (change.Rdr to) → AllFit to c.destination_ports) → (all new : Translations) → AreOfOnes statements all → with_change number rule.line rule.passes c found all ≡ Ok new → AreOfOnes statements new
+change_is_of statements rule there number c (Err e) fit all new are is = absurd (cc is)
+change_is_of statements rule there number c (Ok found) fit all new are is =
+    let same : with_rules number rule.line rule.passes found (combinations c) all ≡ new = cc is in
+    subst (AreOfOnes statements) same (rules_are_of statements rule there number c found (λ to found_is. fit to (ap Ok found_is)) all are)
+
+choices_are_of : (statements : List Statement) (scope : Scope) (rule : TranslationRule) → Contains statements (s.Translation (t.Rule rule)) → (number : ℕ) (found : Result C.Choices ConfError) (all new : Translations) → AreOfOnes statements all → with_choices scope number rule found all ≡ Ok new → AreOfOnes statements new
+choices_are_of statements scope rule there number (Err e) all new are is = absurd (cc is)
+choices_are_of statements scope rule there number (Ok c) all new are is = change_is_of statements rule there number c (change_of scope rule c.destination_ports) (change_fits scope rule c.destination_ports) all new are is
+
+-- ---- one statement
+
+-- the translation rules are still of statements
+abbrev Remain : List Statement → Work → Work → Type 0
+Remain statements work next = AreOfOnes statements work.flat.translations → AreOfOnes statements next.flat.translations
+
+translation_remains : (statements : List Statement) (rule : TranslationRule) (work next : Work) → Contains statements (s.Translation (t.Rule rule)) → with_translation rule work ≡ Ok next → Remain statements work next
+unfolding with_translation
+translation_remains statements rule work next there is are = by_count (counted (used_in work) rule.line (translation_lists work.scope rule) 0 1) is
+  where
+    by_choices : (count : ℕ) (found : Result Translations ConfError) → with_choices work.scope work.translations rule (choices_or_fault (translation_lists work.scope rule)) work.flat.translations ≡ found → translated work count found ≡ Ok next → AreOfOnes statements next.flat.translations
+    by_choices count (Err e) made_is is = absurd (cc is)
+    by_choices count (Ok all) made_is is =
+        let same : record work { translations = work.translations + count; flat = record work.flat { translations = all } } ≡ next = cc is in
+        subst (λ (w : Work). AreOfOnes statements w.flat.translations) same (choices_are_of statements work.scope rule there work.translations (choices_or_fault (translation_lists work.scope rule)) work.flat.translations all are made_is)
+
+    by_count : (found : Result ℕ ConfError) → translation_by work rule (translation_lists work.scope rule) found ≡ Ok next → AreOfOnes statements next.flat.translations
+    by_count (Err e) is = absurd (cc is)
+    by_count (Ok count) is = by_choices count (with_choices work.scope work.translations rule (choices_or_fault (translation_lists work.scope rule)) work.flat.translations) refl is
+
+translations_remain : (statements : List Statement) (found : TranslationStatement) (work next : Work) → Contains statements (s.Translation found) → with_translations found work ≡ Ok next → Remain statements work next
+translations_remain statements (t.Anchor found name) work next there is are =
+    let same : work ≡ next = cc is in
+    subst (λ (w : Work). AreOfOnes statements w.flat.translations) same are
+translations_remain statements (t.Rule rule) work next there is are = translation_remains statements rule work next there is are
+
+filter_remains : (statements : List Statement) (x : FilterStatement) (work next : Work) → with_filter x work ≡ Ok next → Remain statements work next
+unfolding with_filter
+filter_remains statements x work next is are = by_body (filter_statement 16 work.scope (setting_of work (line_of x)) x empty_body) is
+  where
+    by_fault : (body : Body) (fault : Option ConfError) → filter_if work body fault ≡ Ok next → AreOfOnes statements next.flat.translations
+    by_fault body (Some e) is = absurd (cc is)
+    by_fault body None is =
+        let same : record work { flat = record work.flat { filter = joined work.flat.filter body.rules body.anchors } } ≡ next = cc is in
+        subst (λ (w : Work). AreOfOnes statements w.flat.translations) same are
+
+    by_body : (found : Result Body ConfError) → filter_by work found ≡ Ok next → AreOfOnes statements next.flat.translations
+    by_body (Err e) is = absurd (cc is)
+    by_body (Ok body) is = by_fault body body.fault is
+
+stays_remain : (statements : List Statement) (work next : Work) → Stays work next → Remain statements work next
+stays_remain statements work next stays are = subst (AreOfOnes statements) (sym stays.translations) are
+
+statement_remains : (statements : List Statement) (x : Statement) (work next : Work) → Contains statements x → with_statement x work ≡ Ok next → Remain statements work next
+unfolding with_statement
+statement_remains statements (s.Macro d) work next there is = stays_remain statements work next (macro_stays d work next is)
+statement_remains statements (s.Table d) work next there is = stays_remain statements work next (table_stays d work next is)
+statement_remains statements (s.Option option) work next there is = stays_remain statements work next (option_stays option work next is)
+statement_remains statements (s.Translation found) work next there is = translations_remain statements found work next there is
+statement_remains statements (s.Filter x) work next there is = filter_remains statements x work next is
+
+-- ---- all statements
+
+all_remain : (before xs : List Statement) (work next : Work) → expanded_from work xs ≡ Ok next → Remain (before ++ xs) work next
+all_remain before [] work next is are =
+    let same : work ≡ next = cc is in
+    subst (λ (w : Work). AreOfOnes (before ++ []) w.flat.translations) same are
+all_remain before (x ∷ xs) work next is are = by_first (λ between. all_remain (before ++ x ∷ []) xs between next) (with_statement x work) refl is
+  where
+    here : Contains (before ++ x ∷ xs) x
+    here = Contains-append_right before (x ∷ xs) x (0, omega arith, refl)
+
+    by_first : ((between : Work) → expanded_from between xs ≡ Ok next → Remain ((before ++ x ∷ []) ++ xs) between next) → (found : Result Work ConfError) → with_statement x work ≡ found → and_more found (λ w. expanded_from w xs) ≡ Ok next
+        → AreOfOnes (before ++ x ∷ xs) next.flat.translations
+    by_first others (Err e) first_is is = absurd (cc is)
+    by_first others (Ok between) first_is is =
+        let first : AreOfOnes (before ++ x ∷ xs) between.flat.translations = statement_remains (before ++ x ∷ xs) x work between here first_is are in
+        let same : (before ++ x ∷ []) ++ xs ≡ before ++ x ∷ xs = append_assoc before (x ∷ []) xs in
+        subst (λ (all : List Statement). AreOfOnes all next.flat.translations) same (others between is (subst (λ (all : List Statement). AreOfOnes all between.flat.translations) (sym same) first))
+
+pub all_of_ones : (statements : S.Statements) (interface : Interface) (r : R.Ruleset) → expanded statements interface ≡ Ok r → AreOfOnes statements.statements r.translations
+unfolding expanded
+all_of_ones statements interface r is = by_work (expanded_from (started interface (table_names statements.statements)) statements.statements) refl is
+  where
+    by_work : (found : Result Work ConfError) → expanded_from (started interface (table_names statements.statements)) statements.statements ≡ found → ruleset_in found ≡ Ok r → AreOfOnes statements.statements r.translations
+    by_work (Err e) work_is is = absurd (cc is)
+    by_work (Ok work) work_is is =
+        let same : work.flat ≡ r = cc is in
+        let all = all_remain [] statements.statements (started interface (table_names statements.statements)) work work_is (record { nats = All-nil (IsOfOneOf statements.statements); rdrs = All-nil (IsOfOneOf statements.statements); binats = All-nil (IsOfOneOf statements.statements); moved = All-nil MovesWithinPorts }) in
+        subst (λ (r : R.Ruleset). AreOfOnes statements.statements r.translations) same all
