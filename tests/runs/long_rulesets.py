@@ -31,7 +31,7 @@ from steps.replay import Interface, dashed, ruleset_of, step_of
 from table.states import StateTable
 
 # how many rules the modelled cases have: about as many as there have to be for an index, and many
-LENGTHS = (15, 16, 17, 40, 120, 400)
+LENGTHS = (5, 6, 7, 40, 120, 400)
 CASES = 30
 MOST_RULES = 3000
 PACKETS = 20000

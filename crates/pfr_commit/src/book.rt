@@ -125,7 +125,7 @@ impl Book {
     }
 
     /// How many rules were asked about the packets that it has taken in all, those of the filter and of translation, at most
-    /// 2^64 - 1. Rules that are visited but known not to hold aren't counted. Nothing rests on it: it tells what the packets cost.
+    /// 2^64 - 1. A visited rule that is passed over isn't counted. Nothing depends on it: it tells what the packets cost.
     pub fn asked(&self) -> u64 {
         self.asked
     }

@@ -92,6 +92,6 @@ pub record IsPassed (bound : ℕ) (index : Index) (packet : Packet) (from least 
 abbrev pub PassesBelow : ℕ → Index → ℕ → List ℕ → ℕ → List ℕ → Type 0
 PassesBelow bound index from before least places = (packet : Packet) → AreFollowed index packet from before → IsPassed bound index packet from least places
 
--- no rule before `from` is known to be on a chain of a shape any more
+-- the least place of the pinned chains is at or behind `from`
 abbrev pub IsBroughtUp : Index → ℕ → Trail → Trail → Type 0
 IsBroughtUp index from before after = (packet : Packet) → IsFollowing index packet from before → IsFollowing index packet from after × (from ≤ after.pinned)

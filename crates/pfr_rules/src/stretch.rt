@@ -19,7 +19,7 @@ use pfr_ruleset::{Aids, FilterAids, FlatRule, Ruleset};
 pub(crate) struct StretchEnd {
     /// The place behind the stretch.
     pub(crate) to: usize,
-    /// Whether the rule there is known to hold.
+    /// Whether the rule there has been asked, and holds.
     pub(crate) hits: bool,
     /// How many rules have been asked.
     pub(crate) asked: u64,

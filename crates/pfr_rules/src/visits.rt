@@ -24,7 +24,7 @@ struct Run {
 pub struct Visits {
     before: Vec<Run>,
     last: Run,
-    /// How many of the rules the walk has asked. The others are visited, but known not to hold.
+    /// How many of the rules the walk has asked. The others are visited, and don't hold.
     asked: u64,
 }
 
@@ -161,7 +161,7 @@ impl Visits {
         self.last.count_in(tallies);
     }
 
-    /// How many rules have been asked, at most 2^64 - 1. Nothing rests on it: it tells what a walk costs.
+    /// How many rules have been asked, at most 2^64 - 1. Nothing depends on it: it tells what a walk costs.
     #[inline]
     pub fn asked(&self) -> u64 {
         self.asked

@@ -28,6 +28,10 @@ pub record AreNumberEnds (numbers ends : List ℕ) : Type 0 where
 abbrev pub number_of : {T : Type 0} → FlatTranslation T → ℕ
 number_of rule = rule.number
 
+-- what aids say of how far the numbers follow on one another from a place on
+abbrev pub KnowsNumberEnd : TranslationAids → ℕ → ℕ → Type 0
+KnowsNumberEnd aids place end = (numbers : List ℕ) → AreNumberEnds numbers aids.number_ends.items → place < length numbers → IsNumberEnd numbers place end
+
 pub record AreTranslationAids {T : Type 0} (rules : List (FlatTranslation T)) (aids : TranslationAids) : Type 0 where
   pub asked : AreAids (map asked_by_translation rules) aids.rules
   pub numbers : AreNumberEnds (map number_of rules) aids.number_ends.items

@@ -9,8 +9,9 @@ use crate::skips::Skips;
 use pfr_chains::run_ends;
 use std::alloc::{AllocError, Global};
 
-/// Fewer rules are asked one after the other sooner than an index finds one of them.
-const FEWEST_INDEXED: usize = 16;
+/// Fewer rules than this are asked one after the other in less time than an index takes to find one of them (bench/README.md has
+/// the figures).
+const FEWEST_INDEXED: usize = 6;
 
 /// The most rules beside which anything is kept, as places have 32 bits there.
 pub(crate) const MOST_INDEXED: usize = 4294967295;

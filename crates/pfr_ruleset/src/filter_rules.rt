@@ -45,7 +45,7 @@ impl Model for FilterRules {
     ghost invariant = { λ f. ArePlaced f.rules f.anchors × HasOpenings f.rules f.anchors f.openings.items × HaveFilterAids f.rules f.openings.items f.aids };
 }
 
-/// Puts anchors so many rules further on behind others.
+/// Puts anchors behind others, each `place` rules further on than it says. `size` is the number of rules that they stand round.
 #[tactic(auto, unfolding(crate::specs::Places::AreWithin))]
 pub fn put_anchors(
     out: &mut Items<FlatAnchor>,
@@ -86,7 +86,7 @@ fn put_openings(openings: &mut Vec<usize>, rules: &[FlatRule]) -> Result<(), All
     Ok(())
 }
 
-/// Lowers the openings of the places at which quick anchors end, so many rules further on than they say.
+/// Lowers the openings of the places at which quick anchors end. Each anchor stands `place` rules further on than it says.
 #[tactic(auto, unfolding(crate::specs::Places::AreWithin))]
 fn open_anchors(openings: &mut Vec<usize>, place: usize, size: usize, anchors: &[FlatAnchor])
     requires fits { place + size ≤ length openings.old.items }

@@ -45,7 +45,7 @@ pub use policy::{Binding, BlockPolicy};
 pub use port::{Comparison, PortMatch, RangeOperator};
 pub use ruleset::Ruleset;
 pub use shape::{Pins, Shape};
-pub use skips::{RuleSkips, Skips};
+pub use skips::Skips;
 pub use table::{AddressTable, Entry};
 pub use translation_aids::TranslationAids;
 pub use translation_rules::TranslationRules;

@@ -1,5 +1,5 @@
 //! What is kept beside translation rules, so that a walk over them passes over those that don't hold.
-ghost use Rattle.std.specs.Prelude.{◌≡◌, ◌<◌, ◌≤◌, ℕ, List, length, map, IfOk};
+ghost use Rattle.std.specs.Prelude.{◌≡◌, ◌≤◌, length, map, IfOk};
 ghost use Rattle.pfr_ruleset.specs.Criteria.{asked_by_translation};
 ghost use Rattle.pfr_ruleset.specs.Indexes.{AreAids};
 ghost use Rattle.pfr_ruleset.specs.TranslationAids as spec;
@@ -94,7 +94,7 @@ impl TranslationAids {
     /// The next rule behind a place that isn't numbered one behind the rule before it, or the number of rules.
     #[inline]
     pub fn number_end(&self, place: usize) -> usize
-        ensures { (numbers : List ℕ) → spec.AreNumberEnds numbers self.now.number_ends.items → place < length numbers → spec.IsNumberEnd numbers place result }
+        ensures { spec.KnowsNumberEnd self.now place result }
     {
         match self.number_ends.get(place) {
             Some(end) => *end as usize,

@@ -124,7 +124,8 @@ pub(crate) struct Run<'a> {
 }
 
 /// What a run over a feed left: whether it went well, its outputs, how many packets came back, how many states the book has and how
-/// many are shown, how many batches it has claims of, the most batches that were held, and how many packets the committer evaluated.
+/// many are shown, how many batches it has claims of, the most batches that were held, how many packets the committer evaluated, and how
+/// many rules were asked.
 #[derive(Drop)]
 pub(crate) struct Left {
     pub(crate) is_ok: bool,
@@ -135,6 +136,7 @@ pub(crate) struct Left {
     pub(crate) batches: usize,
     pub(crate) most_held: u64,
     pub(crate) own: u64,
+    pub(crate) asked_rules: u64,
 }
 
 /// Runs over a feed, under the names that are picked.
@@ -171,6 +173,7 @@ fn streamed<
         batches,
         most_held,
         own: book.own(),
+        asked_rules: book.asked(),
     }
 }
 

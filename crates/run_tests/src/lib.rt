@@ -31,3 +31,5 @@ mod streams;
 mod told;
 #[cfg(test)]
 mod turns;
+#[cfg(test)]
+mod walks;
