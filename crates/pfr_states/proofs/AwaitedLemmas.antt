@@ -1,6 +1,6 @@
--- Which state is due first, by the deadlines by which states wait.
-use Rattle.std.proofs.Common.{◌≡◌, ◌≤◌, ◌&&◌, ◌∙◌, ◌⊎◌, ℕ, true, false, not, nat_le, nat_lt, fold, List, [], ◌∷◌, Option, Some, None, sym, refl, ap, subst, inl, inr, arith}
-use Rattle.std.specs.List.{All, AllByRecursion, Contains, FoldsTo}
+-- Which state is due first, and whether one of a rule is due, by the deadlines by which states wait.
+use Rattle.std.proofs.Common.{◌≡◌, ◌≤◌, ◌&&◌, ◌||◌, ◌∙◌, ◌⊎◌, ℕ, Bool, true, false, not, nat_le, nat_lt, fold, List, [], ◌∷◌, Option, Some, None, sym, refl, ap, subst, inl, inr, arith}
+use Rattle.std.specs.List.{All, AllByRecursion, Contains, FoldsTo, filter, list_any}
 use Rattle.std.specs.List.Sorted.{IsPermutation}
 use Rattle.std.proofs.lemmas.Bool.{and_parts, both_ways, cases_Bool, eq-eqb, eqb-true, le-ltb, leb-false, leb-true, lt-ltb, le-leb, ltb-false, ltb-true, not-true}
 use Rattle.std.proofs.lemmas.List.Elements.{All-contains}
@@ -12,18 +12,18 @@ use Rattle.pfr_track.specs.declared.state.StateNumber.{StateNumber}
 use Rattle.pfr_track.specs.declared.time.Clock.{Clock}
 use Rattle.pfr_track.specs.declared.time.Deadline.{Deadline}
 use Rattle.pfr_states.specs.declared.stored.Stored.{Stored}
-use Rattle.pfr_states.specs.Awaited.{AreAwaited, IsAwaited, due_by, due_if_kept, first_by as first_by_waits, is_kept_at, is_kept_by, kept_by, sooner, wait_of, waits_by}
+use Rattle.pfr_states.specs.Awaited.{AreAwaited, IsAwaited, due_by, due_if_kept, first_by as first_by_waits, is_kept_at, is_kept_by, is_some_of_rule, kept_by, sooner, wait_of, waits_by}
 use Rattle.pfr_states.specs.Keyed.{held, states_of}
 use Rattle.pfr_states.specs.Laws.{AnswersDue, IsFirstDue}
-use Rattle.pfr_states.specs.States.{due, earlier, first_of, lives, rise}
+use Rattle.pfr_states.specs.States.{due, earlier, first_of, is_of_rule, lives, rise}
 use Rattle.pfr_deadlines.specs.Waits.{IsBefore, IsFrom, IsPutOff, Wait, come_at}
 use Rattle.pfr_deadlines.proofs.OrderLemmas.{not_less, not_under}
 use Rattle.pfr_states.proofs.DueLemmas.{Before, due_first, answers, not_before}
-use Rattle.pfr_states.proofs.FindLemmas.{found_there}
+use Rattle.pfr_states.proofs.FindLemmas.{found_there, none_any, some_any}
 use Rattle.pfr_states.proofs.IndexedLemmas.{kept}
 use Rattle.pfr_states.proofs.KeyedLemmas.{Held, from_states, in_states, in_with, itself}
 use Rattle.pfr_states.proofs.KeyedChanges.{in_value, in_without, with}
-use Rattle.pfr_states.proofs.Membership.{here, in_cons, in_none, there, to_filter}
+use Rattle.pfr_states.proofs.Membership.{from_filter, here, in_cons, in_none, none_of, some_of, there, to_filter}
 use Rattle.pfr_states.proofs.QuestionLemmas.{first_by, none_by, none_is_due}
 
 pub each : {X : Type 0} (P : X → Type 0) (xs : List X) → AllByRecursion P xs → (x : X) → Contains xs x → P x
@@ -172,6 +172,51 @@ pub gone_through : {B : Type 0} (R : B → Wait → B → Type 0) (seen : B → 
 gone_through R seen clock all steps start last [] so = ap seen (sym so)
 gone_through R seen clock all steps start last (wait ∷ waits) so =
     gone_through R seen clock all steps so.0 last waits so.2 ∙ ap (λ (first : Option State). fold (λ first wait. sooner first (due_by clock all wait)) first waits) (steps start wait so.0 so.1)
+
+-- ---- whether one of a rule is due
+
+of_state : (rule : ℕ) (r : Option State) → is_some_of_rule rule r ≡ true → (s : State) × (r ≡ Some s) × (is_of_rule rule s ≡ true)
+of_state rule None some = absurd cc
+of_state rule (Some s) some = (s, refl, some)
+
+pub rule_is_due : (rule : ℕ) (clock : Clock) (all : List Held) (waits : List Wait) → AreAwaited waits all → have_own_places all ≡ true
+    → list_any (λ wait. is_some_of_rule rule (due_by clock all wait)) (come_at clock waits) ≡ list_any (λ state. not (lives clock state)) (filter (is_of_rule rule) (states_of all))
+rule_is_due rule clock all waits awaited own = elim (cases_Bool (list_any of_wait (come_at clock waits))) [
+  | inl some ↦
+      let wait = some_of of_wait (come_at clock waits) some in
+      let state = of_state rule (due_by clock all wait.0) wait.2 in
+      let gone = due_from clock all wait.0 state.0 state.1 in
+      some ∙ sym (some_any gone_by (filter (is_of_rule rule) (states_of all)) state.0 (to_filter (is_of_rule rule) (states_of all) state.0 gone.0 state.2) (ap not gone.1))
+  | inr none ↦ none ∙ sym (none_any gone_by (filter (is_of_rule rule) (states_of all)) (λ s h. elim (cases_Bool (lives clock s)) [
+    | inl alive ↦ ap not alive
+    | inr gone ↦
+        let parts = from_filter (is_of_rule rule) (states_of all) s h in
+        let q = from_states all s parts.0 in
+        let it_goes = ap (lives clock) q.2 ∙ gone in
+        let waits_so : of_wait (wait_of q.0) ≡ true = ap (is_some_of_rule rule) (due_of clock all own q.0 q.1 it_goes) ∙ ap (is_of_rule rule) q.2 ∙ parts.1 in
+        absurd (both_ways (of_wait (wait_of q.0)) (none_of of_wait (come_at clock waits) (wait_of q.0) none (come_too clock all waits awaited q.0 q.1 it_goes)) waits_so)
+  ]))
+] where
+  of_wait : Wait → Bool
+  of_wait wait = is_some_of_rule rule (due_by clock all wait)
+
+  gone_by : State → Bool
+  gone_by state = not (lives clock state)
+
+or_none : (a : Bool) → a ≡ (a || false)
+or_none true = refl
+or_none false = refl
+
+or_more : (a b c : Bool) → ((a || b) || c) ≡ (a || (b || c))
+or_more true b c = refl
+or_more false b c = refl
+
+-- a test of each wait, one after the other, comes to this
+pub any_gone_through : (R : Bool → Wait → Bool → Type 0) (test : Wait → Bool) → ((before : Bool) (wait : Wait) (after : Bool) → R before wait after → after ≡ (before || test wait))
+    → (start last : Bool) (waits : List Wait) → FoldsTo R start waits last → last ≡ (start || list_any test waits)
+any_gone_through R test steps start last [] so = sym so ∙ or_none start
+any_gone_through R test steps start last (wait ∷ waits) so =
+    any_gone_through R test steps so.0 last waits so.2 ∙ ap (λ (before : Bool). before || list_any test waits) (steps start wait so.0 so.1) ∙ or_more start (test wait) (list_any test waits)
 
 -- ---- after a change
 

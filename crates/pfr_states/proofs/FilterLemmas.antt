@@ -60,7 +60,7 @@ table_filter q states limit table = record {
 
 -- ---- room
 
-all_kept : {X : Type 0} (q : X → Bool) (xs : List X) → list_any (λ x. not (q x)) xs ≡ false → length (filter q xs) ≡ length xs
+pub all_kept : {X : Type 0} (q : X → Bool) (xs : List X) → list_any (λ x. not (q x)) xs ≡ false → length (filter q xs) ≡ length xs
 all_kept q [] none = refl
 all_kept q (x ∷ xs) none =
     let parts = or_parts (not (q x)) (list_any (λ x. not (q x)) xs) none in

@@ -1,16 +1,14 @@
--- What changes of places are to the states, and to the indexes of their keys.
+-- What changes of places are to the states, and to what all of them weigh together.
 use Rattle.std.proofs.Common.{◌≡◌, ◌+◌, ◌==◌, ◌∙◌, ◌⊎◌, ℕ, Bool, true, false, if◌then◌else◌, not, nat_lt, List, [], ◌∷◌, map, Option, Some, None, sym, refl, ap, subst, inl, inr, arith}
 use Rattle.std.specs.List.{Contains, filter, find, list_any}
 use Rattle.std.specs.Option.{option_map}
 use Rattle.std.proofs.lemmas.Bool.{and_parts, both_ways, cases_Bool, eq-eqb, eqb-true, ne_eqb, not-true, or_parts}
-use Rattle.pfr_index.specs.Index.{Entry, once}
 use Rattle.pfr_places.specs.Places.{after as after_placed, at, first as first_placed, have_own_places, is_at, is_number as is_of_number, of_number, rise as rise_placed, with_placed, with_value, without as without_placed}
 use Rattle.pfr_places.specs.declared.place.Place.{Place}
 use Rattle.pfr_track.specs.declared.state.State.{State}
 use Rattle.pfr_track.specs.declared.state.StateNumber.{StateNumber}
-use Rattle.pfr_states.specs.declared.change.Side.{Side}
 use Rattle.pfr_states.specs.declared.stored.Stored.{Stored}
-use Rattle.pfr_states.specs.Keyed.{AreNumbered, entry_of, states_of, times_on}
+use Rattle.pfr_states.specs.Keyed.{AreNumbered, states_of, total}
 use Rattle.pfr_states.specs.States.{after, first, is_number, state_of, with_state, with_touched}
 use Rattle.pfr_states.proofs.FindLemmas.{found_none, found_there}
 use Rattle.pfr_states.proofs.Membership.{here, in_cons, in_none, there}
@@ -115,23 +113,23 @@ states_value place value all p numbers in_order own is number =
     ])
 
 -- where a place isn't among others, they stay as they are
-untouched : (side : Side) (place : Place) (value : Stored) (xs : List Held) (e : Entry) → list_any (is_at place) xs ≡ false → times_on side (with_value place value xs) e ≡ times_on side xs e
-untouched side place value [] e none = refl
-untouched side place value (x ∷ xs) e none =
+untouched : (weight : Held → ℕ) (place : Place) (value : Stored) (xs : List Held) → list_any (is_at place) xs ≡ false → total weight (with_value place value xs) ≡ total weight xs
+untouched weight place value [] none = refl
+untouched weight place value (x ∷ xs) none =
     let parts = or_parts (is_at place x) (list_any (is_at place) xs) none in
-    rw (parts.0, untouched side place value xs e parts.1) refl
+    rw (parts.0, untouched weight place value xs parts.1) refl
 
-pub times_value : (side : Side) (place : Place) (value : Stored) (all : List Held) (p : Held) (e : Entry) → have_own_places all ≡ true → at place all ≡ Some p
-    → times_on side (with_value place value all) e + once (entry_of side p) e ≡ once (entry_of side (with p value)) e + times_on side all e
-times_value side place value [] p e own is = absurd cc
-times_value side place value (x ∷ xs) p e own is =
+pub total_value : (weight : Held → ℕ) (place : Place) (value : Stored) (all : List Held) (p : Held) → have_own_places all ≡ true → at place all ≡ Some p
+    → total weight (with_value place value all) + weight p ≡ weight (with p value) + total weight all
+total_value weight place value [] p own is = absurd cc
+total_value weight place value (x ∷ xs) p own is =
     let parts = and_parts (not (list_any (is_at x.place) xs)) (have_own_places xs) own in
     elim (cases_Bool (is_at place x)) [
       | inl it_is ↦
           let same : x ≡ p = ap (λ (r : Option Held). or_self r x) (rw it_is at is) in
           let none : list_any (is_at place) xs ≡ false = subst (λ (n : ℕ). list_any (λ (q : Held). q.place.0 == n) xs ≡ false) (eqb-true x.place.0 place.0 it_is) (not-true (list_any (is_at x.place) xs) parts.0) in
-          rw (it_is, untouched side place value xs e none, ← same) (omega arith)
-      | inr other ↦ rw other (let rest = times_value side place value xs p e parts.1 (rw other at is) in omega arith)
+          rw (it_is, untouched weight place value xs none, ← same) (omega arith)
+      | inr other ↦ rw other (let rest = total_value weight place value xs p parts.1 (rw other at is) in omega arith)
     ] where
       or_self : Option Held → Held → Held
       or_self None x = x

@@ -1,5 +1,5 @@
--- States at their places with the indexes of their keys, after a change.
-use Rattle.std.proofs.Common.{◌≡◌, ◌<◌, ◌≤◌, ◌+◌, ◌-◌, ◌∙◌, ◌&&◌, ◌||◌, ℕ, true, false, not, nat_lt, List, [], ◌∷◌, Option, Some, None, IfSome, sym, refl, ap, subst, inl, inr, arith}
+-- States at their places with the indexes of their keys and the counts of their rules, after a change.
+use Rattle.std.proofs.Common.{◌≡◌, ◌<◌, ◌≤◌, ◌+◌, ◌-◌, ◌∙◌, ◌==◌, ◌&&◌, ◌||◌, ℕ, true, false, not, nat_lt, List, [], ◌∷◌, Option, Some, None, IfSome, sym, refl, ap, subst, inl, inr, arith}
 use Rattle.std.specs.List.{Contains, list_all, list_any}
 use Rattle.std.proofs.lemmas.Bool.{and_from, and_left, and_parts, and_right, cases_Bool, eq-eqb, eqb-true}
 use Rattle.pfr_index.specs.Index.{Entry, once, places as limit, with_entry, without_entry}
@@ -12,19 +12,24 @@ use Rattle.pfr_track.specs.declared.state.StateNumber.{StateNumber}
 use Rattle.pfr_states.specs.declared.change.Side.{Side}
 use Rattle.pfr_states.specs.declared.change.Side.TheVariants.{Wire, Stack}
 use Rattle.pfr_states.specs.declared.stored.Stored.{Stored}
-use Rattle.pfr_states.specs.Indexed.{is_like}
+use Rattle.pfr_states.specs.Indexed.{have_same_keys, is_like, is_same_rule}
 use Rattle.pfr_states.specs.KeyHash.{hash_of}
-use Rattle.pfr_states.specs.Keyed.{AreNumbered, AreKeyed, AreStates, IsLike, entry_of, held, states_of, times_on}
+use Rattle.pfr_states.specs.Keyed.{AreCounted, AreNumbered, AreKeyed, AreStates, IsLike, entry_of, held, states_of, times_on}
 use Rattle.pfr_states.specs.States.{another_shares, is_number, is_same_key, key_on, rise, shares_key}
 use Rattle.pfr_states.proofs.FilterLemmas.{own_filter}
 use Rattle.pfr_states.proofs.FindLemmas.{found_there, none_any}
-use Rattle.pfr_states.proofs.KeyedChanges.{in_value, in_without, states_value, states_with, states_without, times_value, vacant_value, with}
-use Rattle.pfr_states.proofs.KeyedLemmas.{Held, holder, in_states, in_with, times_with, times_without}
+use Rattle.pfr_states.proofs.KeyedChanges.{in_value, in_without, states_value, states_with, states_without, total_value, vacant_value, with}
+use Rattle.pfr_states.proofs.KeyedLemmas.{Held, holder, in_states, in_with, total_with, total_without}
 use Rattle.pfr_states.proofs.LawLemmas.{one_of}
 use Rattle.pfr_states.proofs.Membership.{here, in_cons, in_none, there}
 use Rattle.pfr_states.proofs.OwnKeys.{key_is}
 use Rattle.pfr_states.proofs.PutLemmas.{own_with}
+use Rattle.pfr_states.proofs.RuleLemmas.{rules_same, same_rule}
 use Rattle.pfr_states.proofs.TouchLemmas.{own_touched}
+
+-- how often an entry stands in an index for one of them
+abbrev pub times_of : Side → Entry → Held → ℕ
+times_of side e p = once (entry_of side p) e
 
 abbrev pub entry_by : Hash → Place → Entry
 entry_by hash place = record { hash = hash; place = place }
@@ -42,7 +47,7 @@ states_more {all} are stored place fresh free within in_order places = record {
 }
 
 pub index_more : (side : Side) (all : List Held) (p : Held) (hash : Hash) (before after : Entry → ℕ) → ((e : Entry) → before e ≡ times_on side all e) → hash ≡ hash_of (key_on side p.value.state) → ((e : Entry) → after e ≡ with_entry (entry_by hash p.place) before e) → (e : Entry) → after e ≡ times_on side (with_placed p all) e
-index_more side all p hash before after by is now e = now e ∙ ap (λ (h : Hash). with_entry (entry_by h p.place) before e) is ∙ ap (λ (n : ℕ). once (entry_of side p) e + n) (by e) ∙ sym (times_with side p all e)
+index_more side all p hash before after by is now e = now e ∙ ap (λ (h : Hash). with_entry (entry_by h p.place) before e) is ∙ ap (λ (n : ℕ). once (entry_of side p) e + n) (by e) ∙ sym (total_with (times_of side e) p all)
 
 -- ---- one less
 
@@ -58,7 +63,7 @@ states_less {all} are n in_order places = record {
 pub index_less : (side : Side) (all : List Held) (n : ℕ) (p : Held) (hash : Hash) (place : Place) (before after : Entry → ℕ) → rise_placed all ≡ true → of_number n all ≡ Some p → ((e : Entry) → before e ≡ times_on side all e) → hash ≡ hash_of (key_on side p.value.state) → place ≡ p.place
     → ((e : Entry) → after e ≡ without_entry (entry_by hash place) before e) → (e : Entry) → after e ≡ times_on side (without_placed n all) e
 index_less side all n p hash place before after in_order is by same there now e =
-    now e ∙ ap (λ (h : Hash). without_entry (entry_by h place) before e) same ∙ ap (λ (q : Place). without_entry (entry_by (hash_of (key_on side p.value.state)) q) before e) there ∙ ap (λ (m : ℕ). m - once (entry_of side p) e) (by e ∙ times_without side n all p e in_order is) ∙ less (once (entry_of side p) e) (times_on side (without_placed n all) e) where
+    now e ∙ ap (λ (h : Hash). without_entry (entry_by h place) before e) same ∙ ap (λ (q : Place). without_entry (entry_by (hash_of (key_on side p.value.state)) q) before e) there ∙ ap (λ (m : ℕ). m - once (entry_of side p) e) (by e ∙ total_without (times_of side e) n all p in_order is) ∙ less (once (entry_of side p) e) (times_on side (without_placed n all) e) where
       less : (a b : ℕ) → (a + b) - a ≡ b
       less a b = omega arith
 
@@ -80,7 +85,7 @@ states_other {all} are place stored p is number free in_order_states in_order pl
 pub index_other : (side : Side) (all : List Held) (place : Place) (stored : Stored) (p : Held) (before after : Entry → ℕ) → have_own_places all ≡ true → at place all ≡ Some p → ((e : Entry) → before e ≡ times_on side all e)
     → ((e : Entry) → after e ≡ with_entry (entry_of side (with p stored)) (without_entry (entry_of side p) before) e) → (e : Entry) → after e ≡ times_on side (with_value place stored all) e
 index_other side all place stored p before after places is by now e =
-    let level = times_value side place stored all p e places is in
+    let level = total_value (times_of side e) place stored all p places is in
     let count = by e in
     let there = times_least side all p e (found_there (is_at place) all p is).0 in
     now e ∙ (omega (arith, level, count, there)) where
@@ -95,7 +100,7 @@ index_other side all place stored p before after places is by now e =
 pub index_same : (side : Side) (all : List Held) (place : Place) (stored : Stored) (p : Held) (times : Entry → ℕ) → have_own_places all ≡ true → at place all ≡ Some p → key_on side p.value.state ≡ key_on side stored.state
     → ((e : Entry) → times e ≡ times_on side all e) → (e : Entry) → times e ≡ times_on side (with_value place stored all) e
 index_same side all place stored p times places is keys by e =
-    let level = times_value side place stored all p e places is in
+    let level = total_value (times_of side e) place stored all p places is in
     let same : once (entry_of side p) e ≡ once (entry_of side (with p stored)) e = ap (λ (k : Key). once (entry_by (hash_of k) p.place) e) keys in
     by e ∙ (omega (arith, level, same))
 
@@ -103,10 +108,17 @@ pub likes : (a b : State) → is_like a b ≡ true → IsLike a b
 likes a b like = record {
   number = eqb-true a.number.0 b.number.0 (and_parts _ _ like).0;
   keys = λ side. same side;
+  rule = same_rule a.rules.filter b.rules.filter parts.1;
 } where
+  parts : (have_same_keys a b ≡ true) × (is_same_rule a.rules.filter b.rules.filter ≡ true)
+  parts = and_parts (have_same_keys a b) (is_same_rule a.rules.filter b.rules.filter) (and_parts (a.number.0 == b.number.0) (have_same_keys a b && is_same_rule a.rules.filter b.rules.filter) like).1
+
+  both : (is_same_key a.wire b.wire ≡ true) × (is_same_key a.stack b.stack ≡ true)
+  both = and_parts (is_same_key a.wire b.wire) (is_same_key a.stack b.stack) parts.0
+
   same : (side : Side) → key_on side a ≡ key_on side b
-  same Wire = key_is a.wire b.wire (and_parts (is_same_key a.wire b.wire) (is_same_key a.stack b.stack) (and_parts _ _ like).1).0
-  same Stack = key_is a.stack b.stack (and_parts (is_same_key a.wire b.wire) (is_same_key a.stack b.stack) (and_parts _ _ like).1).1
+  same Wire = key_is a.wire b.wire both.0
+  same Stack = key_is a.stack b.stack both.1
 
 -- a state is like another one: none of another number has its keys
 pub like_free : {all : List Held} → AreStates all → (old s : State) → Contains (states_of all) old → IsLike old s → rise (states_of all) ≡ true → another_shares s (states_of all) ≡ false
@@ -132,12 +144,12 @@ rise_states (x ∷ xs) numbers in_order =
           let parts = and_parts (nat_lt n y.number) (list_all (λ (other : Held). nat_lt n other.number) ys) all in
           and_from (nat_lt n y.value.state.number.0) (list_all (λ (s : State). nat_lt n s.number.0) (states_of ys)) (ap (nat_lt n) (sym (numbers y (here y ys))) ∙ parts.0) (above ys n (λ p h. numbers p (there y ys p h)) parts.1)
 
--- a state of the same number and the same keys at a place
-pub keyed_written : {all : List Held} {wire stack : Entry → ℕ} → AreKeyed all wire stack → (place : Place) (stored : Stored) → IfSome (at place all) (λ p. IsLike p.value.state stored.state)
-    → rise_placed (with_value place stored all) ≡ true → have_own_places (with_value place stored all) ≡ true → AreKeyed (with_value place stored all) wire stack
-keyed_written {all} {wire} {stack} are place stored like in_order places = by (at place all) refl like where
-  by : (r : Option Held) → at place all ≡ r → IfSome r (λ p. IsLike p.value.state stored.state) → AreKeyed (with_value place stored all) wire stack
-  by None none like = subst (λ (xs : List Held). AreKeyed xs wire stack) (sym (vacant_value place stored all none)) are
+-- a state of the same number, the same keys and the same rule at a place
+pub keyed_written : {all : List Held} {wire stack : Entry → ℕ} {counts : List ℕ} → AreKeyed all wire stack counts → (place : Place) (stored : Stored) → IfSome (at place all) (λ p. IsLike p.value.state stored.state)
+    → rise_placed (with_value place stored all) ≡ true → have_own_places (with_value place stored all) ≡ true → AreKeyed (with_value place stored all) wire stack counts
+keyed_written {all} {wire} {stack} {counts} are place stored like in_order places = by (at place all) refl like where
+  by : (r : Option Held) → at place all ≡ r → IfSome r (λ p. IsLike p.value.state stored.state) → AreKeyed (with_value place stored all) wire stack counts
+  by None none like = subst (λ (xs : List Held). AreKeyed xs wire stack counts) (sym (vacant_value place stored all none)) are
   by (Some p) is like =
       let states = are.states in
       let there = found_there (is_at place) all p is in
@@ -146,16 +158,18 @@ keyed_written {all} {wire} {stack} are place stored like in_order places = by (a
         states = states_other states place stored p is like.number (like_free states p.value.state stored.state (in_states all p there.0) like order) order in_order places;
         by_wire = index_same Wire all place stored p wire states.own_places is (like.keys Wire) are.by_wire;
         by_stack = index_same Stack all place stored p stack states.own_places is (like.keys Stack) are.by_stack;
+        by_rule = rules_same counts all are.by_rule place stored p states.own_places is like.rule;
       }
 
 -- a state of the same number at a place, with other keys that are free
-pub keyed_replaced : {all : List Held} {wire stack : Entry → ℕ} → AreKeyed all wire stack → (place : Place) (before stored : Stored) → value_of (at place all) ≡ Some before → before.state.number.0 ≡ stored.state.number.0 → another_shares stored.state (states_of all) ≡ false
-    → rise_placed (with_value place stored all) ≡ true → have_own_places (with_value place stored all) ≡ true → {wire_more stack_more wire_after stack_after : Entry → ℕ}
+pub keyed_replaced : {all : List Held} {wire stack : Entry → ℕ} {counts : List ℕ} → AreKeyed all wire stack counts → (place : Place) (before stored : Stored) → value_of (at place all) ≡ Some before → before.state.number.0 ≡ stored.state.number.0 → another_shares stored.state (states_of all) ≡ false
+    → rise_placed (with_value place stored all) ≡ true → have_own_places (with_value place stored all) ≡ true → {wire_more stack_more wire_after stack_after : Entry → ℕ} {counts_after : List ℕ}
     → ((e : Entry) → wire_more e ≡ wire e) → ((e : Entry) → stack_more e ≡ stack e)
     → ((e : Entry) → wire_after e ≡ with_entry (entry_by (hash_of stored.state.wire) place) (without_entry (entry_by (hash_of before.state.wire) place) wire_more) e)
     → ((e : Entry) → stack_after e ≡ with_entry (entry_by (hash_of stored.state.stack) place) (without_entry (entry_by (hash_of before.state.stack) place) stack_more) e)
-    → AreKeyed (with_value place stored all) wire_after stack_after
-keyed_replaced {all} {wire} {stack} are place before stored has number free in_order places {wire_more} {stack_more} {wire_after} {stack_after} more_wire more_stack now_wire now_stack =
+    → AreCounted counts_after (with_value place stored all)
+    → AreKeyed (with_value place stored all) wire_after stack_after counts_after
+keyed_replaced {all} {wire} {stack} {counts} are place before stored has number free in_order places {wire_more} {stack_more} {wire_after} {stack_after} {counts_after} more_wire more_stack now_wire now_stack counted =
     let it = holder all place before has in
     let p = it.0 in
     let states = are.states in
@@ -163,6 +177,7 @@ keyed_replaced {all} {wire} {stack} are place before stored has number free in_o
     let same_number : p.value.state.number.0 ≡ stored.state.number.0 = ap (λ (v : Stored). v.state.number.0) it.2 ∙ number in
     record {
       states = states_other states place stored p it.1 same_number free (rise_states all states.by_number states.in_order) in_order places;
+      by_rule = counted;
       by_wire = index_other Wire all place stored p wire_more wire_after states.own_places it.1 (λ e. more_wire e ∙ are.by_wire e)
           (subst (λ (q : Place). (e : Entry) → wire_after e ≡ with_entry (entry_by (hash_of stored.state.wire) q) (without_entry (entry_by (hash_of p.value.state.wire) q) wire_more) e) (sym at_place)
           (subst (λ (v : Stored). (e : Entry) → wire_after e ≡ with_entry (entry_by (hash_of stored.state.wire) place) (without_entry (entry_by (hash_of v.state.wire) place) wire_more) e) (sym it.2) now_wire));

@@ -3,7 +3,7 @@ use Rattle.std.proofs.Common.{◌≡◌, ◌<◌, ◌+◌, ◌∙◌, ℕ, Bool,
 use Rattle.std.specs.List.{Contains, find, list_all, list_any}
 use Rattle.std.specs.Option.{option_map}
 use Rattle.std.proofs.lemmas.Bool.{and_parts, both_ways, cases_Bool, eq-eqb, eqb-true, false≢true, ltb-true, ne_eqb, not-true}
-use Rattle.pfr_index.specs.Index.{Entry, is_same, once}
+use Rattle.pfr_index.specs.Index.{Entry, is_same}
 use Rattle.pfr_places.specs.Places.{Placed, at, have_own_places, is_at, is_number as is_of_number, of_number, rise as rise_placed, with_placed, without as without_placed, place_of, value_of}
 use Rattle.pfr_places.specs.declared.place.Place.{Place}
 use Rattle.pfr_track.specs.declared.key.Key.{Key}
@@ -11,7 +11,7 @@ use Rattle.pfr_track.specs.declared.state.State.{State}
 use Rattle.pfr_states.specs.declared.change.Side.{Side}
 use Rattle.pfr_states.specs.declared.stored.Stored.{Stored}
 use Rattle.pfr_states.specs.KeyHash.{hash_of}
-use Rattle.pfr_states.specs.Keyed.{AreNumbered, entry_of, has_key, has_key_at, has_key_by, keyed, states_of, times_on}
+use Rattle.pfr_states.specs.Keyed.{AreNumbered, entry_of, has_key, has_key_at, has_key_by, keyed, states_of, times_on, total}
 use Rattle.pfr_states.specs.States.{have_own_keys, key_on}
 use Rattle.pfr_states.proofs.FindLemmas.{IsOne, found, found_there}
 use Rattle.pfr_states.proofs.Membership.{here, in_cons, in_none, none_of, there}
@@ -217,11 +217,11 @@ module _ (side : Side) (key : Key) (all : List Held) (times : Entry → ℕ) (by
 
 -- ---- one more
 
-pub times_with : (side : Side) (p : Held) (all : List Held) (e : Entry) → times_on side (with_placed p all) e ≡ once (entry_of side p) e + times_on side all e
-times_with side p [] e = refl
-times_with side p (x ∷ xs) e = elim (cases_Bool (nat_lt p.number x.number)) [
+pub total_with : (weight : Held → ℕ) (p : Held) (all : List Held) → total weight (with_placed p all) ≡ weight p + total weight all
+total_with weight p [] = refl
+total_with weight p (x ∷ xs) = elim (cases_Bool (nat_lt p.number x.number)) [
   | inl before ↦ rw before refl
-  | inr behind ↦ rw (behind, times_with side p xs e) (omega arith)
+  | inr behind ↦ rw (behind, total_with weight p xs) (omega arith)
 ]
 
 pub in_with : (p : Held) (all : List Held) (q : Held) → Contains (with_placed p all) q → (p ≡ q) ⊎ Contains all q
@@ -236,16 +236,16 @@ in_with p (x ∷ xs) q h = elim (cases_Bool (nat_lt p.number x.number)) [
 
 -- ---- one less
 
-pub times_without : (side : Side) (n : ℕ) (all : List Held) (p : Held) (e : Entry) → rise_placed all ≡ true → of_number n all ≡ Some p → times_on side all e ≡ once (entry_of side p) e + times_on side (without_placed n all) e
-times_without side n [] p e in_order is = absurd cc
-times_without side n (x ∷ xs) p e in_order is =
+pub total_without : (weight : Held → ℕ) (n : ℕ) (all : List Held) (p : Held) → rise_placed all ≡ true → of_number n all ≡ Some p → total weight all ≡ weight p + total weight (without_placed n all)
+total_without weight n [] p in_order is = absurd cc
+total_without weight n (x ∷ xs) p in_order is =
     let parts = and_parts (list_all (λ (other : Held). nat_lt x.number other.number) xs) (rise_placed xs) in_order in
     elim (cases_Bool (is_of_number n x)) [
       | inl it_is ↦
           let same : x ≡ p = ap (λ (r : Option Held). or_self r x) (rw it_is at is) in
           let others : without_placed n xs ≡ xs = kept_all n xs (λ q h. (let above = ltb-true x.number q.number (above_placed x.number q xs parts.0 h) in let level = eqb-true x.number n it_is in ne_eqb q.number n (λ equal. absurd (omega arith)))) in
           rw (it_is, others, ← same) refl
-      | inr other ↦ rw other (let rest = times_without side n xs p e parts.1 (rw other at is) in rw rest (omega arith))
+      | inr other ↦ rw other (let rest = total_without weight n xs p parts.1 (rw other at is) in rw rest (omega arith))
     ] where
       or_self : Option Held → Held → Held
       or_self None x = x

@@ -15,5 +15,7 @@ pub mod PurgeLemmas
 pub mod PutLemmas
 pub mod QuestionLemmas
 pub mod RefusalLemmas
+pub mod RuleLemmas
 pub mod ShareLemmas
 pub mod TouchLemmas
+pub mod WalkLemmas

@@ -25,6 +25,13 @@ none_of p (x ∷ xs) y none h =
     let parts = or_parts (p x) (list_any p xs) none in
     elim (in_cons x xs y h) [ inl is ↦ ap p (sym is) ∙ parts.0 | inr rest ↦ none_of p xs y parts.1 rest ]
 
+pub some_of : {X : Type 0} (p : X → Bool) (xs : List X) → list_any p xs ≡ true → (a : X) × Contains xs a × (p a ≡ true)
+some_of p [] some = absurd cc
+some_of p (x ∷ xs) some = elim (cases_Bool (p x)) [
+  | inl it_is ↦ (x, here x xs, it_is)
+  | inr other ↦ (let rest = some_of p xs (rw other at some) in (rest.0, there x xs rest.0 rest.1, rest.2))
+]
+
 pub from_filter : {X : Type 0} (p : X → Bool) (xs : List X) (y : X) → Contains (filter p xs) y → Contains xs y × (p y ≡ true)
 from_filter p [] y h = absurd (in_none y h)
 from_filter p (x ∷ xs) y h = elim (cases_Bool (p x)) [

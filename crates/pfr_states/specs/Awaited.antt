@@ -1,11 +1,11 @@
 -- By which deadlines states wait.
-use Rattle.std.specs.Prelude.{◌≤◌, ◌==◌, ◌&&◌, Bool, false, not, if◌then◌else◌, List, fold, Option, Some, None}
+use Rattle.std.specs.Prelude.{ℕ, ◌≤◌, ◌==◌, ◌&&◌, Bool, false, not, if◌then◌else◌, List, fold, Option, Some, None}
 use Rattle.std.specs.List.{Contains}
 use Rattle.pfr_places.specs.Places.{Placed, at, value_of}
 use Rattle.pfr_track.specs.declared.state.State.{State}
 use Rattle.pfr_track.specs.declared.time.Clock.{Clock}
 use Rattle.pfr_states.specs.declared.stored.Stored.{Stored}
-use Rattle.pfr_states.specs.States.{earlier, lives}
+use Rattle.pfr_states.specs.States.{earlier, is_of_rule, lives}
 use Rattle.pfr_deadlines.specs.Waits.{Wait}
 
 -- the deadline by which a state waits, with its number and its place
@@ -46,6 +46,11 @@ due_if_kept clock wait (Some stored) = if waits_by wait stored && not (lives clo
 
 abbrev pub due_by : Clock → List (Placed Stored) → Wait → Option State
 due_by clock all wait = due_if_kept clock wait (value_of (at wait.2 all))
+
+-- a state that the filter rule of this number made
+abbrev pub is_some_of_rule : ℕ → Option State → Bool
+is_some_of_rule rule None = false
+is_some_of_rule rule (Some state) = is_of_rule rule state
 
 -- the first of two, where there are two
 abbrev pub sooner : Option State → Option State → Option State

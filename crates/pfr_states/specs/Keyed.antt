@@ -1,5 +1,5 @@
--- States at their places, and what indexes of their keys hold.
-use Rattle.std.specs.Prelude.{◌≡◌, ◌<◌, ℕ, ◌+◌, Bool, true, false, List, [], ◌∷◌, map, Option, Some, None}
+-- States at their places, what indexes of their keys hold, and how many of them each rule made.
+use Rattle.std.specs.Prelude.{◌≡◌, ◌<◌, ℕ, ◌+◌, Bool, true, false, List, [], ◌∷◌, map, get_or, Option, Some, None}
 use Rattle.std.specs.List.{Contains, find}
 use Rattle.pfr_index.specs.Index.{Entry, once, places}
 use Rattle.pfr_places.specs.Places.{Placed, at, have_own_places, rise}
@@ -10,7 +10,7 @@ use Rattle.pfr_states.specs.declared.change.Side.{Side}
 use Rattle.pfr_states.specs.declared.change.Side.TheVariants.{Wire, Stack}
 use Rattle.pfr_states.specs.declared.stored.Stored.{Stored}
 use Rattle.pfr_states.specs.KeyHash.{hash_of}
-use Rattle.pfr_states.specs.States.{have_own_keys, is_same_key, key_on}
+use Rattle.pfr_states.specs.States.{count_of_rule, have_own_keys, is_same_key, key_on}
 
 abbrev pub states_of : List (Placed Stored) → List State
 states_of all = map (λ placed. placed.value.state) all
@@ -35,19 +35,24 @@ has_key_at side key place all = has_key_by side key (at place all)
 abbrev pub entry_of : Side → Placed Stored → Entry
 entry_of side placed = record { hash = hash_of (key_on side placed.value.state); place = placed.place }
 
+-- what all weigh together
+abbrev pub total : (Placed Stored → ℕ) → List (Placed Stored) → ℕ
+total weight [] = 0
+total weight (placed ∷ all) = weight placed + total weight all
+
 -- how often an index of a side has an entry: once for each state
 abbrev pub times_on : Side → List (Placed Stored) → Entry → ℕ
-times_on side [] entry = 0
-times_on side (placed ∷ all) entry = once (entry_of side placed) entry + times_on side all entry
+times_on side all entry = total (λ placed. once (entry_of side placed) entry) all
 
 -- a state with its own number, at a place
 abbrev pub held : Stored → Place → Placed Stored
 held stored place = record { number = stored.state.number.0; place = place; value = stored }
 
--- a state has the number and the keys of another one
+-- a state has the number, the keys and the filter rule of another one
 pub record IsLike (old new : State) : Type 0 where
   pub number : old.number.0 ≡ new.number.0
   pub keys : (side : Side) → key_on side old ≡ key_on side new
+  pub rule : old.rules.filter ≡ new.rules.filter
 
 -- each stands under its own number
 abbrev pub AreNumbered : List (Placed Stored) → Type 0
@@ -61,8 +66,13 @@ pub record AreStates (all : List (Placed Stored)) : Type 0 where
   pub within : (placed : Placed Stored) → Contains all placed → placed.place.0 < places
   pub own_keys : have_own_keys (states_of all) ≡ true
 
--- indexes have the place of each by its keys, and nothing else
-pub record AreKeyed (all : List (Placed Stored)) (wire stack : Entry → ℕ) : Type 0 where
+-- each rule has the count of the states that it made
+abbrev pub AreCounted : List ℕ → List (Placed Stored) → Type 0
+AreCounted counts all = (rule : ℕ) → get_or counts rule 0 ≡ count_of_rule rule (states_of all)
+
+-- indexes have the place of each by its keys, and nothing else; they are counted by their filter rules
+pub record AreKeyed (all : List (Placed Stored)) (wire stack : Entry → ℕ) (counts : List ℕ) : Type 0 where
   pub states : AreStates all
   pub by_wire : (entry : Entry) → wire entry ≡ times_on Wire all entry
   pub by_stack : (entry : Entry) → stack entry ≡ times_on Stack all entry
+  pub by_rule : AreCounted counts all

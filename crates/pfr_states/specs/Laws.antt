@@ -1,11 +1,11 @@
--- Words of the laws: the answer to which state is due first, and what is left where that one is taken out.
-use Rattle.std.specs.Prelude.{◌≡◌, suc, List, ◌∷◌, length, Option, Some, None, true, false}
-use Rattle.std.specs.List.{Contains}
+-- Words of the laws: the answer to which state is due first, what is left where that one is taken out, and the room of rules.
+use Rattle.std.specs.Prelude.{◌≡◌, ℕ, suc, List, ◌∷◌, ◌++◌, length, Option, Some, None, true, false}
+use Rattle.std.specs.List.{Contains, list_any}
 use Rattle.pfr_track.specs.declared.state.State.{State}
 use Rattle.pfr_track.specs.declared.state.StateNumber.{StateNumber}
 use Rattle.pfr_track.specs.declared.time.Clock.{Clock}
 use Rattle.pfr_states.specs.declared.change.TableChange.TheVariants.{Removed}
-use Rattle.pfr_states.specs.States.{IsTable, StateTable, all_due, due, goes_before, lives, purged, rise, with_change}
+use Rattle.pfr_states.specs.States.{IsTable, StateTable, all_due, due, goes_before, has_rule_room, is_of_rule, lives, purged, rise, with_change}
 
 -- a state that is due, and no other one before it
 pub record IsFirstDue (clock : Clock) (states : List State) (first : State) : Type 0 where
@@ -53,3 +53,19 @@ RemovalLeavesATable =
     (table : StateTable) (number : StateNumber)
     → IsTable table
     → IsTable (record { states = with_change (Removed number) table.states; limit = table.limit })
+
+-- ---- the room of a rule
+
+-- states of other rules change nothing of it
+abbrev pub OtherRulesSayNothing : Type 0
+OtherRulesSayNothing =
+    (rule most : ℕ) (states more : List State)
+    → list_any (is_of_rule rule) more ≡ false
+    → has_rule_room rule most (states ++ more) ≡ has_rule_room rule most states
+
+-- where a rule has room, it has room after a purge
+abbrev pub PurgeLeavesRoom : Type 0
+PurgeLeavesRoom =
+    (rule most : ℕ) (states : List State) (clock : Clock)
+    → has_rule_room rule most states ≡ true
+    → has_rule_room rule most (purged clock states) ≡ true

@@ -3,4 +3,5 @@ pub mod Indexed
 pub mod KeyHash
 pub mod Keyed
 pub mod Laws
+pub mod RuleCounts
 pub mod States

@@ -3,6 +3,7 @@
 use Rattle.std.specs.Prelude.{◌≡◌, ℕ, ◌≤◌, ◌==◌, ◌&&◌, ◌||◌, Bool, true, false, not, nat_lt, if◌then◌else◌, List, [], ◌∷◌, length, map, fold, Option, Some, None}
 use Rattle.std.specs.List.{filter, find, list_all, list_any}
 use Rattle.pfr_net.specs.declared.endpoint.Endpoint.{Endpoint}
+use Rattle.pfr_net.specs.declared.rule_number.RuleNumber.{RuleNumber}
 use Rattle.pfr_track.specs.declared.key.Key.{Key}
 use Rattle.pfr_track.specs.declared.state.State.{State}
 use Rattle.pfr_track.specs.declared.state.StateNumber.{StateNumber}
@@ -85,6 +86,23 @@ state_of number states = find (is_number number) states
 
 abbrev pub has_room : ℕ → List State → Bool
 has_room limit states = nat_lt (length states) limit
+
+-- the rule of this number
+abbrev pub names_rule : ℕ → Option RuleNumber → Bool
+names_rule rule None = false
+names_rule rule (Some named) = named.0 == rule
+
+-- a state that the filter rule of this number made
+abbrev pub is_of_rule : ℕ → State → Bool
+is_of_rule rule state = names_rule rule state.rules.filter
+
+-- how many states the filter rule of this number made
+abbrev pub count_of_rule : ℕ → List State → ℕ
+count_of_rule rule states = length (filter (is_of_rule rule) states)
+
+-- the filter rule of this number has fewer than `most` states
+unfoldable pub has_rule_room : ℕ → ℕ → List State → Bool
+has_rule_room rule most states = nat_lt (count_of_rule rule states) most
 
 -- by deadline, and of one deadline by number
 abbrev pub goes_before : State → State → Bool

@@ -1,12 +1,14 @@
-//! Which of the states that wait by deadlines is due first.
+//! Which of the states that wait by deadlines is due first, and which are of a rule.
 ghost use Rattle.std.specs.Prelude.{◌≡◌};
 ghost use Rattle.std.specs.Option.{option_copied};
 ghost use Rattle.pfr_states.specs.Awaited as awaited;
+ghost use Rattle.pfr_states.specs.RuleCounts.{left_of_rule};
 ghost use Rattle.pfr_states.specs.States as spec;
 
 use crate::keyed::Keyed;
+use crate::rule_counts::names_rule;
 use pfr_deadlines::Wait;
-use pfr_track::{Clock, State};
+use pfr_track::{Clock, RuleNumber, State};
 
 /// The state that waits by just this deadline, where its own has come.
 pub(crate) fn due_by(keyed: &Keyed, wait: Wait, clock: Clock) -> Option<&State>
@@ -18,6 +20,23 @@ pub(crate) fn due_by(keyed: &Keyed, wait: Wait, clock: Clock) -> Option<&State>
     } else {
         None
     }
+}
+
+/// Whether the state that waits by just this deadline is one of a filter rule, and its own has come.
+pub(crate) fn is_rule_due_by(keyed: &Keyed, wait: Wait, rule: RuleNumber, clock: Clock) -> bool
+    ensures { result ≡ awaited.is_some_of_rule rule.0 (awaited.due_by clock keyed.now wait) }
+{
+    match due_by(keyed, wait, clock) {
+        Some(state) => names_rule(rule, state.rules.filter),
+        None => false,
+    }
+}
+
+/// 1 for a state of a filter rule whose deadline hasn't come, and else 0.
+pub(crate) fn left_of_rule(state: &State, rule: RuleNumber, clock: Clock) -> usize
+    ensures { result ≡ left_of_rule rule.0 clock state.now }
+{
+    usize::from(!state.deadline.has_come(clock) && names_rule(rule, state.rules.filter))
 }
 
 /// The one of two states that is due first.

@@ -1,5 +1,5 @@
 //! States in the order of their numbers, which are found by their keys and deadlines as well.
-ghost use Rattle.std.specs.Prelude.{◌≡◌, ◌<◌, ◌&&◌, not, true, false, [], length, Some, None, IfOk, OnOk, OnErr};
+ghost use Rattle.std.specs.Prelude.{◌≡◌, ◌<◌, ◌&&◌, ◌||◌, not, true, false, [], length, Some, None, IfOk, OnOk, OnErr};
 ghost use Rattle.std.specs.List.{Contains, filter, list_any};
 ghost use Rattle.std.specs.Option.{option_copied, option_map};
 ghost use Rattle.pfr_places.specs.Places.{at, value_of};
@@ -10,13 +10,14 @@ ghost use Rattle.pfr_states.specs.States as spec;
 ghost use Rattle.pfr_deadlines.specs.Waits.{Wait};
 
 use crate::change::Side;
-use crate::due::{due_by, sooner};
+use crate::due::{due_by, is_rule_due_by, left_of_rule, sooner};
 use crate::keyed::Keyed;
+use crate::rule_counts::names_rule;
 use crate::stored::{Found, Stored};
 use pfr_deadlines::{Deadlines, Wait};
 use pfr_index::Guess;
 use pfr_places::Place;
-use pfr_track::{Clock, Key, State, StateNumber};
+use pfr_track::{Clock, Key, RuleNumber, State, StateNumber};
 use std::alloc::{AllocError, Global};
 use std::marker::Model;
 
@@ -43,12 +44,33 @@ impl Model for IndexedStates {
     ghost invariant = { λ t. AreAwaited t.deadlines.waits t.keyed };
 }
 
-/// Whether two states have the same number and the same keys.
+/// Whether two rules are the same, or none.
+#[inline]
+fn is_same_rule(first: Option<RuleNumber>, second: Option<RuleNumber>) -> bool
+    ensures { result ≡ index.is_same_rule first second }
+{
+    match first {
+        Some(rule) => names_rule(rule, second),
+        None => second.is_none(),
+    }
+}
+
+/// Whether two states have the same keys.
+#[inline]
+fn have_same_keys(first: &State, second: &State) -> bool
+    ensures { result ≡ index.have_same_keys first.now second.now }
+{
+    first.wire == second.wire && first.stack == second.stack
+}
+
+/// Whether two states have the same number, the same keys and the same filter rule.
 #[inline]
 fn is_like(first: &State, second: &State) -> bool
     ensures { result ≡ index.is_like first.now second.now }
 {
-    first.number == second.number && first.wire == second.wire && first.stack == second.stack
+    first.number == second.number
+        && have_same_keys(first, second)
+        && is_same_rule(first.rules.filter, second.rules.filter)
 }
 
 /// Makes room for one more deadline.
@@ -202,6 +224,61 @@ impl IndexedStates {
         first.copied()
     }
 
+    /// Whether fewer than `most` states of a filter rule are there, without those whose deadline has come.
+    ///
+    /// The count of the rule's states mostly decides. A rule that has just as many asks the deadlines that have come.
+    #[inline]
+    #[tactic(auto, unfolding(crate::specs::States::has_rule_room))]
+    pub(crate) fn rule_room(&self, rule: RuleNumber, most: u32, clock: Clock) -> bool
+        ensures { result ≡ spec.has_rule_room rule.0 most (spec.purged clock self.now) }
+    {
+        let most = most as usize;
+        let count = self.keyed.count_of_rule(rule);
+        if count < most {
+            return true;
+        }
+        if !self.is_rule_due(rule, clock) {
+            return false;
+        }
+        if count == most {
+            return true;
+        }
+        self.count_left(rule, clock) < most
+    }
+
+    /// Whether the deadline of a filter rule's state has come, by a look at all deadlines that have come.
+    fn is_rule_due(&self, rule: RuleNumber, clock: Clock) -> bool
+        ensures { result ≡ list_any (λ state. not (spec.lives clock state)) (filter (spec.is_of_rule rule.0) self.now) }
+    {
+        // no two places are one
+        let _ = self.keyed.len();
+        let keyed = &self.keyed;
+        self.deadlines.fold_come(
+            clock,
+            false,
+            |is_due, wait| -> bool
+                ensures { result ≡ (is_due || awaited.is_some_of_rule rule.0 (awaited.due_by clock keyed.entry.now wait)) }
+            { is_due || is_rule_due_by(keyed, wait, rule, clock) },
+        )
+    }
+
+    /// How many states of a filter rule are there, without those whose deadline has come, by a look at all states. A rule
+    /// has more states than it may only if a caller names another limit than before.
+    #[cold]
+    fn count_left(&self, rule: RuleNumber, clock: Clock) -> usize
+        ensures { result ≡ spec.count_of_rule rule.0 (spec.purged clock self.now) }
+    {
+        // the numbers rise, and the states are counted
+        let _ = self.keyed.len();
+        let mut count = 0;
+        let mut next = self.first();
+        while let Some(state) = next {
+            count += left_of_rule(&state, rule, clock);
+            next = self.after(state.number);
+        }
+        count
+    }
+
     /// Settles the first deadline where it has come and isn't a state's own: one by which no state waits goes, and a state
     /// whose own has moved waits by that. It says whether it has.
     fn settle_first(&mut self, clock: Clock) -> bool
@@ -343,8 +420,8 @@ impl IndexedStates {
         }
     }
 
-    /// Writes a state over the one at a place where that has its number and its keys, and says whether it did. Where memory is
-    /// refused nothing changes.
+    /// Writes a state over the one at a place where that has its number, its keys and its filter rule, and says whether it did.
+    /// Where memory is refused nothing changes.
     #[inline]
     pub(crate) fn renew(&mut self, state: &State, place: Place) -> Result<bool, AllocError>
         ensures done { IfOk result (λ is_done. is_done ≡ true → self.new ≡ spec.with_touched state.now self.old) }

@@ -1,4 +1,4 @@
-//! States at their places, which are found by their keys and by their numbers.
+//! States at their places, which are found by their keys and by their numbers, and counted by their filter rules.
 ghost use Rattle.std.specs.Prelude.{◌≡◌, ◌<◌, ◌∷◌, [], length, None, Some, true, false, IfOk, IfSome, OnOk, OnErr};
 ghost use Rattle.std.specs.List.{list_any};
 ghost use Rattle.std.specs.Option.{option_copied};
@@ -11,11 +11,12 @@ ghost use Rattle.pfr_states.specs.States as states;
 
 use crate::change::Side;
 use crate::key_hash::hash_of;
+use crate::rule_counts::RuleCounts;
 use crate::stored::Stored;
 use pfr_deadlines::Wait;
 use pfr_index::{Guess, Index};
 use pfr_places::{Place, Places};
-use pfr_track::{Key, State, StateNumber};
+use pfr_track::{Key, RuleNumber, State, StateNumber};
 use std::alloc::{AllocError, Global};
 use std::marker::Model;
 
@@ -26,6 +27,7 @@ pub(crate) struct Keyed {
     places: Places<Stored>,
     wire: Index,
     stack: Index,
+    counts: RuleCounts,
 }
 
 impl Model for Keyed {
@@ -38,7 +40,7 @@ impl Model for Keyed {
 
     ghost view = { λ k. k.places };
 
-    ghost invariant = { λ k. AreKeyed k.places k.wire.times k.stack.times };
+    ghost invariant = { λ k. AreKeyed k.places k.wire.times k.stack.times k.counts };
 }
 
 /// The key of a state on a side.
@@ -63,10 +65,11 @@ fn has_key(places: &Places<Stored>, place: Place, side: Side, key: &Key) -> bool
     }
 }
 
-/// Whatever places are asked: their numbers rise, and no two are one.
+/// Whatever places are asked: their numbers rise, no two are one, and they are counted.
 fn are_places(places: &Places<Stored>)
     ensures in_order { slab.rise places.now ≡ true }
     ensures own_places { slab.have_own_places places.now ≡ true }
+    ensures few { length places.now < 18446744073709551616 }
 {
     let _ = places.len();
 }
@@ -90,6 +93,7 @@ impl Keyed {
             places: Places::new(alloc),
             wire: Index::new(alloc),
             stack: Index::new(alloc),
+            counts: RuleCounts::new(alloc),
         }
     }
 
@@ -108,9 +112,18 @@ impl Keyed {
     #[inline]
     pub(crate) fn len(&self) -> usize
         ensures count { result ≡ length self.now }
+        ensures few { length self.now < 18446744073709551616 }
         ensures states { spec.AreStates self.now }
     {
         self.places.len()
+    }
+
+    /// How many of them a filter rule made.
+    #[inline]
+    pub(crate) fn count_of_rule(&self, rule: RuleNumber) -> usize
+        ensures { result ≡ states.count_of_rule rule.0 (spec.states_of self.now) }
+    {
+        self.counts.get(rule)
     }
 
     /// What stands at a place.
@@ -237,6 +250,7 @@ impl Keyed {
     {
         self.wire.reserve()?;
         self.stack.reserve()?;
+        self.counts.reserve(state.rules.filter)?;
         let place = self.places.insert(
             state.number.0,
             Stored {
@@ -248,10 +262,11 @@ impl Keyed {
         are_places(&self.places);
         self.wire.insert(hash_of(&state.wire), place);
         self.stack.insert(hash_of(&state.stack), place);
+        self.counts.add(state.rules.filter);
         Ok(place)
     }
 
-    /// Writes over the state at a place another one of its number and its keys.
+    /// Writes over the state at a place another one of its number, its keys and its filter rule.
     #[inline]
     pub(crate) fn write(&mut self, place: Place, stored: Stored)
         requires { IfSome (slab.at place self.old) (λ placed. spec.IsLike placed.value.state stored.state) }
@@ -278,12 +293,14 @@ impl Keyed {
     {
         self.wire.reserve()?;
         self.stack.reserve()?;
+        self.counts.reserve(stored.state.rules.filter)?;
         let (from, to) = (&before.state, &stored.state);
         move_place(&mut self.wire, &from.wire, &to.wire, place);
         move_place(&mut self.stack, &from.stack, &to.stack, place);
         self.places.set(place, stored);
         // whatever places are asked, they are in order
         are_places(&self.places);
+        self.counts.move_one(from.rules.filter, to.rules.filter);
         Ok(())
     }
 
@@ -300,8 +317,10 @@ impl Keyed {
         };
         let wire = hash_of(&stored.state.wire);
         let stack = hash_of(&stored.state.stack);
+        let rule = stored.state.rules.filter;
         self.wire.remove(wire, place);
         self.stack.remove(stack, place);
+        self.counts.remove(rule);
         self.places.remove(number.0);
         // whatever places are asked, they are in order
         are_places(&self.places);

@@ -3,7 +3,7 @@ ghost use Rattle.std.specs.Prelude.{◌≡◌, ◌≤◌, List, [], None, true};
 ghost use Rattle.std.specs.List.{Contains};
 ghost use Rattle.pfr_track.specs.declared.state.State.{State};
 ghost use Rattle.pfr_track.specs.declared.time.Clock.{Clock};
-ghost use Rattle.pfr_states.specs.Laws.{AnswersDue, DueGoesFirst, OneStateLess, PurgeLeavesTheSame, RemovalLeavesATable};
+ghost use Rattle.pfr_states.specs.Laws.{AnswersDue, DueGoesFirst, OneStateLess, OtherRulesSayNothing, PurgeLeavesRoom, PurgeLeavesTheSame, RemovalLeavesATable};
 ghost use Rattle.pfr_states.specs.States.{IsTable, StateTable, all_due, due, purged, shares_key};
 
 /// States that were taken out at a clock are taken out at a later one as well: to purge at both is to purge at the later.
@@ -34,4 +34,10 @@ pub fn a_purge_goes_state_by_state()
     ensures fewer { OneStateLess }
     // where nothing is due, nothing is left to take out
     ensures over { (states : List State) (clock : Clock) → due clock states ≡ None → (all_due clock states ≡ []) × (purged clock states ≡ states) }
+{}
+
+/// The states of other rules say nothing of a rule's room, and a purge leaves a rule its room.
+pub fn room_of_a_rule_is_its_own()
+    ensures others { OtherRulesSayNothing }
+    ensures purged { PurgeLeavesRoom }
 {}

@@ -11,7 +11,7 @@ use crate::indexed::IndexedStates;
 use crate::stored::Found;
 use pfr_index::Guess;
 use pfr_places::Place;
-use pfr_track::{Clock, Key, State, StateNumber};
+use pfr_track::{Clock, Key, RuleNumber, State, StateNumber};
 use std::alloc::Global;
 use std::marker::Model;
 
@@ -108,6 +108,14 @@ impl Table {
         ensures { result ≡ spec.has_room self.now.limit (spec.purged clock self.now.states) }
     {
         self.len() < self.limit || self.states.due(clock).is_some()
+    }
+
+    /// Whether fewer than `most` states of a filter rule are there, without those whose deadline has come.
+    #[inline]
+    pub fn rule_room(&self, rule: RuleNumber, most: u32, clock: Clock) -> bool
+        ensures { result ≡ spec.has_rule_room rule.0 most (spec.purged clock self.now.states) }
+    {
+        self.states.rule_room(rule, most, clock)
     }
 
     /// Of the states whose deadline has come the one with the least deadline; of those the one with the least number.
