@@ -1,3 +1,4 @@
+pub mod BoundLemmas
 pub mod HeldLemmas
 pub mod MapLemmas
 pub mod RowLemmas

@@ -1,5 +1,6 @@
 //! What messages change of the states that are held.
 ghost use Rattle.std.specs.Prelude.{◌≡◌, false, fold, OnOk, OnErr};
+ghost use Rattle.pfr_standby.specs.Bound as bound;
 ghost use Rattle.pfr_standby.specs.Standby as spec;
 
 use crate::kept::Kept;
@@ -43,6 +44,17 @@ pub(crate) fn insert_all(
         }
     }
     Ok(())
+}
+
+/// The greatest of a number and those of insertions.
+pub(crate) fn greatest_of(number: u64, insertions: &[Insertion]) -> u64
+    ensures { result ≡ bound.greatest_of number insertions.now }
+{
+    let mut greatest = number;
+    for insertion in insertions {
+        greatest = greatest.max(insertion.number.0);
+    }
+    greatest
 }
 
 /// Moves the state of an update on, if it is held.
