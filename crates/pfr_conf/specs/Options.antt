@@ -1,5 +1,5 @@
 -- Options: what may stand behind `set`.
-use Rattle.std.specs.Prelude.{ℕ, ◌+◌, ◌-◌, ◌*◌, ◌==◌, ◌&&◌, not, min, nat_le, if◌then◌else◌, List, [], ◌∷◌, ◌++◌, map, length, drop, slice_index, Option, Some, None, Err, codes}
+use Rattle.std.specs.Prelude.{ℕ, ◌+◌, ◌-◌, ◌*◌, ◌==◌, ◌&&◌, not, min, nat_le, if◌then◌else◌, List, [], ◌∷◌, ◌++◌, length, drop, slice_index, Option, Some, None, Err, codes}
 use Rattle.pfr_net.specs.Notation.{number}
 use Rattle.pfr_ruleset.specs.declared.policy.BlockPolicy.{BlockPolicy}
 use Rattle.pfr_ruleset.specs.declared.policy.Binding.{Binding}
@@ -17,12 +17,20 @@ use Rattle.pfr_conf.specs.declared.options.SetOption.{SetOption}
 use Rattle.pfr_conf.specs.declared.options.SetOption.TheVariants as o
 use Rattle.pfr_conf.specs.declared.options.OptionWord.{OptionWord}
 use Rattle.pfr_conf.specs.declared.options.OptionWord.TheVariants as word
-use Rattle.pfr_conf.specs.declared.options.TheConstants.{OPTIONS}
 use Rattle.pfr_conf.specs.Policies.{block_policy, binding}
 use Rattle.pfr_conf.specs.Settings.{timeout_setting, limit_setting}
 
+-- the words that name an option (pf.conf(5), "Options")
+abbrev pub words_of_options : List (List ℕ × OptionWord)
+words_of_options =
+    (codes "skip", word.Skip) ∷ (codes "timeout", word.Timeout) ∷ (codes "limit", word.Limit)
+    ∷ (codes "block-policy", word.BlockPolicy) ∷ (codes "state-policy", word.StatePolicy)
+    ∷ (codes "hostid", word.HostId) ∷ (codes "optimization", word.Optimization)
+    ∷ (codes "require-order", word.WithoutEffect) ∷ (codes "loginterface", word.WithoutEffect)
+    ∷ (codes "debug", word.WithoutEffect) ∷ (codes "ruleset-optimization", word.WithoutEffect) ∷ []
+
 unfoldable pub option_named : List ℕ → Option OptionWord
-option_named word = entry_of (map (λ e. (e.0.now, e.1)) OPTIONS) word
+option_named text = entry_of words_of_options text
 
 -- an option that is left out, as `set WORD`
 unfoldable pub set_left_out : List ℕ → Input → ConfError

@@ -1,20 +1,40 @@
 -- Timeouts and limits, as `set` writes them.
-use Rattle.std.specs.Prelude.{ℕ, ◌||◌, if◌then◌else◌, List, map, Option, Some, None, Err, codes}
+use Rattle.std.specs.Prelude.{ℕ, ◌||◌, if◌then◌else◌, List, [], ◌∷◌, Option, Some, None, Err, codes}
+use Rattle.pfr_net.specs.declared.timeout.Timeout.TheVariants as t
 use Rattle.pfr_words.specs.Names.{entry_of}
 use Rattle.pfr_terms.specs.declared.error.ConfError.{ConfError}
 use Rattle.pfr_terms.specs.Input.{Input, Parser, ◌>>=◌, pure, refuse, refusal, left_out, taken, number_in, plain_ahead, sees_word}
 use Rattle.pfr_conf.specs.declared.settings.TimeoutName.{TimeoutName}
+use Rattle.pfr_conf.specs.declared.settings.TimeoutName.TheVariants.{OfStates, Interval, Fragment, SourceTracking}
 use Rattle.pfr_conf.specs.declared.settings.TimeoutSetting.{TimeoutSetting}
 use Rattle.pfr_conf.specs.declared.settings.Limit.{Limit}
 use Rattle.pfr_conf.specs.declared.settings.Limit.TheVariants as l
 use Rattle.pfr_conf.specs.declared.settings.LimitSetting.{LimitSetting}
-use Rattle.pfr_conf.specs.declared.settings.TheConstants.{TIMEOUTS, LIMITS}
+
+-- the names of timeouts, and what each sets (pf.conf(5), "set timeout")
+abbrev pub names_of_timeouts : List (List ℕ × TimeoutName)
+names_of_timeouts =
+    (codes "tcp.first", OfStates t.TcpFirst) ∷ (codes "tcp.opening", OfStates t.TcpOpening)
+    ∷ (codes "tcp.established", OfStates t.TcpEstablished) ∷ (codes "tcp.closing", OfStates t.TcpClosing)
+    ∷ (codes "tcp.finwait", OfStates t.TcpFinWait) ∷ (codes "tcp.closed", OfStates t.TcpClosed)
+    ∷ (codes "udp.first", OfStates t.UdpFirst) ∷ (codes "udp.single", OfStates t.UdpSingle)
+    ∷ (codes "udp.multiple", OfStates t.UdpMultiple)
+    ∷ (codes "icmp.first", OfStates t.IcmpFirst) ∷ (codes "icmp.error", OfStates t.IcmpError)
+    ∷ (codes "other.first", OfStates t.OtherFirst) ∷ (codes "other.single", OfStates t.OtherSingle)
+    ∷ (codes "other.multiple", OfStates t.OtherMultiple)
+    ∷ (codes "interval", Interval) ∷ (codes "frag", Fragment) ∷ (codes "src.track", SourceTracking) ∷ []
+
+-- the names of limits (pf.conf(5), "set limit")
+abbrev pub names_of_limits : List (List ℕ × Limit)
+names_of_limits =
+    (codes "states", l.States) ∷ (codes "frags", l.Fragments) ∷ (codes "src-nodes", l.SourceNodes)
+    ∷ (codes "table-entries", l.TableEntries) ∷ (codes "tables", l.Tables) ∷ []
 
 unfoldable pub timeout_named : List ℕ → Option TimeoutName
-timeout_named word = entry_of (map (λ e. (e.0.now, e.1)) TIMEOUTS) word
+timeout_named word = entry_of names_of_timeouts word
 
 unfoldable pub limit_named : List ℕ → Option Limit
-limit_named word = entry_of (map (λ e. (e.0.now, e.1)) LIMITS) word
+limit_named word = entry_of names_of_limits word
 
 abbrev pub timeout_in : Option (List ℕ) → Option TimeoutName
 timeout_in None = None

@@ -1,12 +1,11 @@
 -- A ruleset text as statements.
-use Rattle.std.specs.Prelude.{◌≡◌, ◌≢◌, ℕ, Bool, true, false, not, if◌then◌else◌, List, [], ◌∷◌, ◌++◌, map, Option, Some, None, Result, Ok, Err, codes}
+use Rattle.std.specs.Prelude.{◌≡◌, ◌≢◌, ℕ, Bool, true, false, not, if◌then◌else◌, List, [], ◌∷◌, ◌++◌, Option, Some, None, Result, Ok, Err, codes}
 use Rattle.pfr_words.specs.declared.word.Word.{Word}
 use Rattle.pfr_words.specs.Words.{words}
 use Rattle.pfr_words.specs.Names.{is_among}
 use Rattle.pfr_terms.specs.declared.error.ConfError.{ConfError}
 use Rattle.pfr_terms.specs.declared.error.ConfErrorKind.TheVariants.{OutOfOrder, Memory}
 use Rattle.pfr_terms.specs.Input.{Input, Outcome, Parser, ◌>>=◌, pure, faulty, loop, start, taken, is_done, line_ahead, plain_ahead, sees_word, eat_word}
-use Rattle.pfr_conf.specs.declared.statement.TheConstants.{FILTER_WORDS, TRANSLATION_WORDS}
 use Rattle.pfr_conf.specs.declared.statement.Section.{Section}
 use Rattle.pfr_conf.specs.declared.statement.Section.TheVariants as section
 use Rattle.pfr_conf.specs.declared.statement.Statement.{Statement}
@@ -31,13 +30,23 @@ may_translate section.Options = true
 may_translate section.Translation = true
 may_translate section.Filter = false
 
+-- the words that begin a filter rule or an anchor
+abbrev pub words_of_filters : List (List ℕ)
+words_of_filters = codes "pass" ∷ codes "block" ∷ codes "anchor" ∷ []
+
+-- the words that begin a translation rule, or an anchor of such
+abbrev pub words_of_translations : List (List ℕ)
+words_of_translations =
+    codes "nat" ∷ codes "rdr" ∷ codes "binat" ∷ codes "no"
+    ∷ codes "nat-anchor" ∷ codes "rdr-anchor" ∷ codes "binat-anchor" ∷ []
+
 unfoldable pub begins_filter : Option (List ℕ) → Bool
 begins_filter None = false
-begins_filter (Some word) = is_among (map (λ w. w.now) FILTER_WORDS) word
+begins_filter (Some word) = is_among words_of_filters word
 
 unfoldable pub begins_translation : Option (List ℕ) → Bool
 begins_translation None = false
-begins_translation (Some word) = is_among (map (λ w. w.now) TRANSLATION_WORDS) word
+begins_translation (Some word) = is_among words_of_translations word
 
 -- how far the ruleset has come, and its statements up to there
 abbrev pub Lines : Type 0

@@ -1,5 +1,5 @@
 -- Translation rules.
-use Rattle.std.specs.Prelude.{ℕ, Bool, true, false, if◌then◌else◌, List, [], ◌∷◌, map, Option, Some, None, codes}
+use Rattle.std.specs.Prelude.{ℕ, Bool, true, false, if◌then◌else◌, List, [], ◌∷◌, Option, Some, None, codes}
 use Rattle.pfr_words.specs.declared.sign.Sign.TheVariants as s
 use Rattle.pfr_words.specs.Names.{entry_of}
 use Rattle.pfr_terms.specs.declared.name.Written.{Written}
@@ -15,7 +15,6 @@ use Rattle.pfr_terms.specs.Hosts.{ports, part_behind, interfaces, protocols, cri
 use Rattle.pfr_conf.specs.declared.targets.Target as T
 use Rattle.pfr_conf.specs.declared.translation.TranslationKind.{TranslationKind}
 use Rattle.pfr_conf.specs.declared.translation.TranslationKind.TheVariants.{Nat, Rdr, Binat}
-use Rattle.pfr_conf.specs.declared.translation.TheConstants.{KINDS, ANCHOR_KINDS}
 use Rattle.pfr_conf.specs.declared.translation.TranslationRule.{TranslationRule}
 use Rattle.pfr_conf.specs.declared.translation.TranslationStatement.{TranslationStatement}
 use Rattle.pfr_conf.specs.declared.translation.TranslationStatement.TheVariants.{Rule, Anchor}
@@ -23,13 +22,21 @@ use Rattle.pfr_conf.specs.Names.{some_name}
 use Rattle.pfr_conf.specs.Filters.{logged}
 use Rattle.pfr_conf.specs.Targets.{single_host, target}
 
+-- the words that begin a translation rule
+abbrev pub words_of_kinds : List (List ℕ × TranslationKind)
+words_of_kinds = (codes "nat", Nat) ∷ (codes "rdr", Rdr) ∷ (codes "binat", Binat) ∷ []
+
+-- the words that begin an anchor of such rules
+abbrev pub words_of_anchor_kinds : List (List ℕ × TranslationKind)
+words_of_anchor_kinds = (codes "nat-anchor", Nat) ∷ (codes "rdr-anchor", Rdr) ∷ (codes "binat-anchor", Binat) ∷ []
+
 unfoldable pub kind_in : Option (List ℕ) → Option TranslationKind
 kind_in None = None
-kind_in (Some word) = entry_of (map (λ e. (e.0.now, e.1)) KINDS) word
+kind_in (Some word) = entry_of words_of_kinds word
 
 unfoldable pub anchor_kind_in : Option (List ℕ) → Option TranslationKind
 anchor_kind_in None = None
-anchor_kind_in (Some word) = entry_of (map (λ e. (e.0.now, e.1)) ANCHOR_KINDS) word
+anchor_kind_in (Some word) = entry_of words_of_anchor_kinds word
 
 unfoldable pub kind : Parser (Option TranslationKind)
 kind = λ i. eaten (kind_in (plain_ahead i)) i

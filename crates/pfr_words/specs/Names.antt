@@ -1,9 +1,9 @@
 -- The words that a ruleset text gives a meaning, and what may be a name of one's own.
-use Rattle.std.specs.Prelude.{ℕ, ◌==◌, ◌&&◌, ◌||◌, Bool, true, false, not, nat_le, if◌then◌else◌, List, [], ◌∷◌, length, map, Option, Some, None}
+use Rattle.std.specs.Prelude.{ℕ, ◌==◌, ◌&&◌, ◌||◌, Bool, true, false, not, nat_le, if◌then◌else◌, List, [], ◌∷◌, length, Option, Some, None}
 use Rattle.std.specs.Option.{is_some}
 use Rattle.std.specs.Char.{is_ascii_alphanumeric}
 use Rattle.std.specs.Str.{bytes_eq}
-use Rattle.pfr_words.specs.declared.names.TheConstants.{GRAMMAR_WORDS, LEFT_OUT_WORDS, PROTOCOLS, SERVICES, ICMP_TYPES}
+use Rattle.pfr_words.specs.Tables.{words_of_grammar, words_left_out, protocol_numbers, service_ports, icmp_type_numbers}
 
 abbrev pub is_among : List (List ℕ) → List ℕ → Bool
 is_among [] word = false
@@ -15,20 +15,20 @@ entry_of (e ∷ entries) word = if bytes_eq e.0 word then Some e.1 else entry_of
 
 -- a word of pf.conf(5)'s grammar
 unfoldable pub is_grammar_word : List ℕ → Bool
-is_grammar_word word = is_among (map (λ w. w.now) GRAMMAR_WORDS) word
+is_grammar_word word = is_among words_of_grammar word
 
 -- a word of pf.conf(5) for what this profile leaves out
 unfoldable pub is_left_out : List ℕ → Bool
-is_left_out word = is_among (map (λ w. w.now) LEFT_OUT_WORDS) word
+is_left_out word = is_among words_left_out word
 
 unfoldable pub protocol_named : List ℕ → Option ℕ
-protocol_named word = entry_of (map (λ e. (e.0.now, e.1)) PROTOCOLS) word
+protocol_named word = entry_of protocol_numbers word
 
 unfoldable pub service_named : List ℕ → Option ℕ
-service_named word = entry_of (map (λ e. (e.0.now, e.1)) SERVICES) word
+service_named word = entry_of service_ports word
 
 unfoldable pub icmp_type_named : List ℕ → Option ℕ
-icmp_type_named word = entry_of (map (λ e. (e.0.now, e.1)) ICMP_TYPES) word
+icmp_type_named word = entry_of icmp_type_numbers word
 
 unfoldable pub is_reserved : List ℕ → Bool
 is_reserved word =
