@@ -1,5 +1,5 @@
 -- What packets leave in the lines and the counters.
-use Rattle.std.proofs.Common.{◌≡◌, ◌≤◌, ◌<◌, ◌+◌, ◌-◌, ◌^◌, ◌++◌, ◌∷◌, ◌&&◌, ◌==◌, ◌⊎◌, inl, inr, ℕ, suc, max, List, [], length, map, get_or, replicate, Option, Some, None, cond, refl, sym, ap, ◌∙◌, arith}
+use Rattle.std.proofs.Common.{◌≡◌, ◌≤◌, ◌<◌, ◌+◌, ◌-◌, ◌^◌, ◌++◌, ◌∷◌, ◌&&◌, ◌==◌, ◌⊎◌, inl, inr, ℕ, suc, max, List, [], length, map, fold, get_or, replicate, Option, Some, None, cond, refl, sym, ap, ◌∙◌, arith}
 use Rattle.std.specs.List.{All, Any, count_by, flat_map, range_with_len, sum_by}
 use Rattle.std.proofs.lemmas.Bool.{cases_Bool, cases_lt, eqb-true, eq-eqb, false≢true}
 use Rattle.std.proofs.lemmas.List.{append_assoc, append-nil, get_or-replicate, get_or-set_other, get_or-set_same, length-replicate, length-set}
@@ -10,7 +10,7 @@ use Rattle.pfr_ruleset.specs.Rulesets.{counts}
 use Rattle.pfr_headers.specs.declared.packet.View.{View}
 use Rattle.pfr_headers.specs.declared.packet.View.TheVariants.{Ipv4, Skip, Short}
 use Rattle.pfr_headers.specs.View.{view_of}
-use Rattle.pfr_rules.specs.Counts.{added}
+use Rattle.pfr_rules.specs.Counts.{added, raised}
 use Rattle.pfr_packet.specs.declared.outcome.Outcome.{Outcome}
 use Rattle.pfr_packet.specs.declared.verdict.Reason.{Reason}
 use Rattle.pfr_packet.specs.declared.verdict.Reason.TheVariants as reason
@@ -21,7 +21,7 @@ use Rattle.pfr_commit.specs.declared.counters.Counters.{Counters}
 use Rattle.pfr_commit.specs.declared.counters.Totals.{Totals}
 use Rattle.pfr_commit.specs.Counters.{added_to, counted, counts_for_rules, length_of, no_totals, with_named, with_verdict}
 use Rattle.pfr_commit.specs.Lines.{verdict_line}
-use Rattle.pfr_commit.specs.Runs.{RuleKind, Taken, bytes_for, capped, comes_to, counters_of, counts_for, is_rule, is_same_verdict, named_by, next_taken, number_of, reason_counts, taken_after, taken_in, total_length_of, total_of}
+use Rattle.pfr_commit.specs.Runs.{RuleKind, Taken, bytes_for, capped, comes_to, counters_of, counts_for, is_rule, is_same_verdict, named_by, next_taken, number_of, reason_counts, taken_after, taken_in, total_length_of, total_of, visited_of, visits_to}
 use Rattle.pfr_commit.specs.Runs.RuleKind.{filter_rule, translation_rule}
 use Rattle.pfr_commit.specs.World.{Frame, World, after, opening, packet_text, with_outcome, world_after, world_of}
 use Rattle.pfr_commit.proofs.WorldLemmas.{world_count}
@@ -250,6 +250,40 @@ rule_bytes_after kind k job world (frame ∷ frames) below few =
     let more = sum_by-cons (bytes_for kind k) p (taken_after job (after job world frame) frames) in
     omega (arith, next, rest, more)
 
+-- ---- visits
+
+length_raised : (visits counts : List ℕ) → length (fold raised counts visits) ≡ length counts
+length_raised [] counts = refl
+length_raised (n ∷ visits) counts = length_raised visits (raised counts n) ∙ length_added (Some (record { 0 = n })) 1 counts
+
+-- as many more as there are visits
+raised_at : (visits counts : List ℕ) (k : ℕ) → k < length counts → get_or counts k 0 ≤ 2 ^ 64 - 1 → get_or (fold raised counts visits) k 0 ≡ capped (get_or counts k 0 + count_by (λ visited. visited == k) visits)
+raised_at [] counts k below few = omega arith
+raised_at (n ∷ visits) counts k below few =
+    let long : length (raised counts n) ≡ length counts = length_added (Some (record { 0 = n })) 1 counts in
+    let next : get_or (raised counts n) k 0 ≡ capped (get_or counts k 0 + cond (n == k) 1 0) = added_at (Some (record { 0 = n })) 1 k counts below few in
+    let rest = raised_at visits (raised counts n) k (omega (arith, long, below)) (omega (arith, next)) in
+    let more = sum_by-cons (λ (visited : ℕ). cond (visited == k) 1 0) n visits in
+    omega (arith, next, rest, more)
+
+evaluations_next : (kind : RuleKind) (job : RunJob) (world : World) (frame : Frame) → (counters_of kind (after job world frame).counters).evaluations ≡ fold raised (counters_of kind world.counters).evaluations (visited_of kind (next_taken job world frame).outcome)
+unfolding after with_outcome counted
+evaluations_next filter_rule job world frame = elim (cases_Bool (counts_for_rules (next_taken job world frame).outcome.reason)) [ inl it ↦ rw it refl | inr not_it ↦ rw not_it refl ]
+evaluations_next translation_rule job world frame = elim (cases_Bool (counts_for_rules (next_taken job world frame).outcome.reason)) [ inl it ↦ rw it refl | inr not_it ↦ rw not_it refl ]
+
+pub rule_evaluations_after : (kind : RuleKind) (k : ℕ) (job : RunJob) (world : World) (frames : List Frame) → k < length (counters_of kind world.counters).evaluations → get_or (counters_of kind world.counters).evaluations k 0 ≤ 2 ^ 64 - 1
+    → get_or (counters_of kind (world_after job world frames).counters).evaluations k 0 ≡ capped (get_or (counters_of kind world.counters).evaluations k 0 + sum_by (visits_to kind k) (taken_after job world frames))
+unfolding world_after
+rule_evaluations_after kind k job world [] below few = omega arith
+rule_evaluations_after kind k job world (frame ∷ frames) below few =
+    let p = next_taken job world frame in
+    let long : length (counters_of kind (after job world frame).counters).evaluations ≡ length (counters_of kind world.counters).evaluations = ap length (evaluations_next kind job world frame) ∙ length_raised (visited_of kind p.outcome) (counters_of kind world.counters).evaluations in
+    let next : get_or (counters_of kind (after job world frame).counters).evaluations k 0 ≡ capped (get_or (counters_of kind world.counters).evaluations k 0 + visits_to kind k p) =
+    ap (λ (counts : List ℕ). get_or counts k 0) (evaluations_next kind job world frame) ∙ raised_at (visited_of kind p.outcome) (counters_of kind world.counters).evaluations k below few in
+    let rest = rule_evaluations_after kind k job (after job world frame) frames (omega (arith, long)) (omega (arith, next)) in
+    let more = sum_by-cons (visits_to kind k) p (taken_after job (after job world frame) frames) in
+    omega (arith, next, rest, more)
+
 -- ---- a run
 
 total_none : (verdict : Verdict) → total_of verdict no_totals ≡ 0
@@ -306,6 +340,21 @@ bytes_of_run job frames kind rule below =
     let none : get_or (counters_of kind (opening job).counters).bytes rule 0 ≡ 0 = ap (λ (counts : List ℕ). get_or counts rule 0) is ∙ get_or-replicate {A = ℕ} (number_of kind job) rule 0 0 below in
     let long : length (counters_of kind (opening job).counters).bytes ≡ number_of kind job = ap length is ∙ length-replicate {A = ℕ} (number_of kind job) 0 in
     let all = rule_bytes_after kind rule job (opening job) frames (omega (arith, long, below)) (omega (arith, none)) in
+    omega (arith, none, all)
+
+uncounted_evaluations : (kind : RuleKind) (job : RunJob) → (counters_of kind (opening job).counters).evaluations ≡ replicate (number_of kind job) 0
+unfolding opening
+uncounted_evaluations filter_rule job = refl
+uncounted_evaluations translation_rule job = refl
+
+pub evaluations_of_run : (job : RunJob) (frames : List Frame) (kind : RuleKind) (rule : ℕ) → rule < number_of kind job
+    → get_or (counters_of kind (world_of job frames).counters).evaluations rule 0 ≡ capped (sum_by (visits_to kind rule) (taken_in job frames))
+unfolding world_of
+evaluations_of_run job frames kind rule below =
+    let is = uncounted_evaluations kind job in
+    let none : get_or (counters_of kind (opening job).counters).evaluations rule 0 ≡ 0 = ap (λ (counts : List ℕ). get_or counts rule 0) is ∙ get_or-replicate {A = ℕ} (number_of kind job) rule 0 0 below in
+    let long : length (counters_of kind (opening job).counters).evaluations ≡ number_of kind job = ap length is ∙ length-replicate {A = ℕ} (number_of kind job) 0 in
+    let all = rule_evaluations_after kind rule job (opening job) frames (omega (arith, long, below)) (omega (arith, none)) in
     omega (arith, none, all)
 
 pub clock_of_run : (job : RunJob) (frame : Frame) (frames : List Frame) → Any (λ other. other.seconds ≡ (world_of job (frame ∷ frames)).clock.0) (frame ∷ frames)

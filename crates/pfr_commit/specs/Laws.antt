@@ -11,7 +11,7 @@ use Rattle.pfr_sync.specs.Messages.{messages_of}
 use Rattle.pfr_telling.specs.Standby.{is_told_of}
 use Rattle.pfr_commit.specs.World.{Frame, Texts, World, joined, last_message, online, origin_of, packet_text, world_after, world_of}
 use Rattle.pfr_commit.specs.Lines.{verdict_line}
-use Rattle.pfr_commit.specs.Runs.{taken_in, capped, comes_to, total_of, counts_for, bytes_for, counters_of, number_of, IsMadeAmong, RuleKind}
+use Rattle.pfr_commit.specs.Runs.{taken_in, capped, comes_to, total_of, counts_for, bytes_for, counters_of, number_of, visits_to, IsMadeAmong, RuleKind}
 
 -- packets that are taken in two parts leave what they leave together
 abbrev pub TwoPartsAreTheWhole : Type 0
@@ -78,6 +78,13 @@ BytesOfARule =
     (job : RunJob) (frames : List Frame) (kind : RuleKind) (rule : ℕ)
     → rule < number_of kind job
     → get_or (counters_of kind (world_of job frames).counters).bytes rule 0 ≡ capped (sum_by (bytes_for kind rule) (taken_in job frames))
+
+-- its evaluations are the visits of the walks of all packets
+abbrev pub EvaluationsOfARule : Type 0
+EvaluationsOfARule =
+    (job : RunJob) (frames : List Frame) (kind : RuleKind) (rule : ℕ)
+    → rule < number_of kind job
+    → get_or (counters_of kind (world_of job frames).counters).evaluations rule 0 ≡ capped (sum_by (visits_to kind rule) (taken_in job frames))
 
 -- each state was made by a packet of the run that passed
 abbrev pub StatesAreOfPackets : Type 0

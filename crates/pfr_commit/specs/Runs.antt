@@ -1,6 +1,6 @@
 -- The packets of a run one by one, and what each of them came to.
 use Rattle.std.specs.Prelude.{◌≡◌, ℕ, ◌+◌, ◌-◌, ◌^◌, ◌==◌, ◌&&◌, ◌||◌, min, Bool, true, false, if◌then◌else◌, List, [], ◌∷◌, Option, Some, None, codes}
-use Rattle.std.specs.List.{Contains}
+use Rattle.std.specs.List.{Contains, count_by}
 use Rattle.std.specs.Str.{bytes_eq}
 use Rattle.pfr_net.specs.declared.rule_number.RuleNumber.{RuleNumber}
 use Rattle.pfr_ruleset.specs.Rulesets.{counts}
@@ -120,3 +120,12 @@ total_length_of _ = 0
 -- the bytes that it counts for the rule
 abbrev pub bytes_for : RuleKind → ℕ → Taken → ℕ
 bytes_for kind rule packet = if counts_for kind rule packet then total_length_of (view_of packet.frame.link packet.frame.bytes) else 0
+
+-- the rules of a kind that a packet's walk visited
+abbrev pub visited_of : RuleKind → Outcome → List ℕ
+visited_of filter_rule outcome = outcome.visited.filter
+visited_of translation_rule outcome = outcome.visited.translation
+
+-- how often the walk visited a rule of a kind
+abbrev pub visits_to : RuleKind → ℕ → Taken → ℕ
+visits_to kind rule packet = count_by (λ visited. visited == rule) (visited_of kind packet.outcome)

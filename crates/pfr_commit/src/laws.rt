@@ -4,7 +4,7 @@ ghost use Rattle.std.specs.List.{All, range_with_len};
 ghost use Rattle.pfr_states.specs.States.{IsTable};
 ghost use Rattle.pfr_packet.specs.Job.{RunJob};
 ghost use Rattle.pfr_commit.specs.Holding.{AStandbyHoldsEachState};
-ghost use Rattle.pfr_commit.specs.Laws.{AStandbyHoldsTheStates, BytesOfARule, ChangesMakeTheTable, ClockIsOfARecord, EachHasItsLine, EachHasItsRecord, PacketsOfARule, StatesAreOfPackets, TotalsAreTheCount, TheLastMessageIsTheRest, TotalsCountVerdicts, TwoPartsAreTheWhole, WhatIsWrittenStays};
+ghost use Rattle.pfr_commit.specs.Laws.{AStandbyHoldsTheStates, BytesOfARule, ChangesMakeTheTable, ClockIsOfARecord, EachHasItsLine, EachHasItsRecord, EvaluationsOfARule, PacketsOfARule, StatesAreOfPackets, TotalsAreTheCount, TheLastMessageIsTheRest, TotalsCountVerdicts, TwoPartsAreTheWhole, WhatIsWrittenStays};
 ghost use Rattle.pfr_commit.specs.Machine.{EveryRun};
 ghost use Rattle.pfr_commit.specs.Runs.{taken_in};
 ghost use Rattle.pfr_commit.specs.World.{Frame, world_of};
@@ -46,10 +46,11 @@ pub fn totals_are_the_count()
 {}
 
 /// The packets and bytes of a rule, of the filter or of translation, are those of the packets whose line names the rule for a reason
-/// that counts.
+/// that counts. Its evaluations are the visits of the walks of all packets over the rules of its kind.
 pub fn rules_are_counted_by_their_lines()
     ensures packets { PacketsOfARule }
     ensures bytes { BytesOfARule }
+    ensures evaluations { EvaluationsOfARule }
 {}
 
 /// Each state was made by a packet of the run that passed: it has that packet's number, and was made at its clock.

@@ -1,3 +1,4 @@
+pub mod BinatLemmas
 pub mod Members
 pub mod PinLemmas
 pub mod SkipLemmas

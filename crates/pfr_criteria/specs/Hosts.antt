@@ -1,7 +1,6 @@
 -- Which addresses a criterion holds (pf.conf(5), "Parameters", "Tables").
-use Rattle.std.specs.Prelude.{ℕ, ◌==◌, ◌&&◌, ◌||◌, Bool, true, false, not, nat_le, if◌then◌else◌, List, Option, Some, None}
+use Rattle.std.specs.Prelude.{ℕ, ◌&&◌, ◌||◌, Bool, true, false, not, nat_le, if◌then◌else◌, List, Option, Some, None}
 use Rattle.std.specs.List.{slice_get, list_any, list_all}
-use Rattle.pfr_net.specs.declared.network.Net.{Net}
 use Rattle.pfr_net.specs.Networks as networks
 use Rattle.pfr_ruleset.specs.declared.table.Entry.{Entry}
 use Rattle.pfr_ruleset.specs.Tables.{bits_of, holds}

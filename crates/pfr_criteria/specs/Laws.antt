@@ -1,7 +1,9 @@
 -- What the laws say.
-use Rattle.std.specs.Prelude.{◌≡◌, ◌≤◌, ◌<◌, List, ℕ, true, false, map, Some}
+use Rattle.std.specs.Prelude.{◌≡◌, ◌↔◌, ◌≤◌, ◌<◌, List, ℕ, true, false, map, None, Some}
 use Rattle.std.specs.List.{Contains, slice_get}
+use Rattle.pfr_net.specs.declared.address.Ipv4Address.{Ipv4Address}
 use Rattle.pfr_net.specs.declared.direction.Direction.{Direction}
+use Rattle.pfr_net.specs.declared.direction.Direction.TheVariants.{In, Out}
 use Rattle.pfr_net.specs.declared.interface.IfName.{IfName}
 use Rattle.pfr_ruleset.specs.Criteria.{asked_by, asked_by_translation, IsSkip}
 use Rattle.pfr_ruleset.specs.Shapes.{covers, pins_of, shape_at, shape_place, key, key_of_rule}
@@ -17,7 +19,8 @@ use Rattle.pfr_criteria.specs.Asking.{part_holds}
 use Rattle.pfr_criteria.specs.Hosts.{has}
 use Rattle.pfr_criteria.specs.Packets.{match_holds, rule_holds}
 use Rattle.pfr_criteria.specs.Pins.{pins_in}
-use Rattle.pfr_criteria.specs.Translations.{translation_holds}
+use Rattle.pfr_criteria.specs.Translations.{binat_holds, single, translation_holds}
+use Rattle.pfr_criteria.specs.Transports.{destination_port, source_port}
 
 -- two tables with the same entries hold the same addresses
 abbrev pub TablesHoldByTheirEntries : Type 0
@@ -60,3 +63,27 @@ KeysAgree =
     (shapes : List Shape) (size : ℕ) (asked : Asked) (name : IfName) (tables : List (List Entry)) (packet : Packet)
     → match_holds asked.packet name tables packet ≡ true
     → (let place = shape_place shapes asked.packet in key_of_rule shapes size asked ≡ key place (pins_in (shape_at shapes place) packet) size)
+
+-- ---- binat
+
+-- a packet that answers another one, which was sent on with this source
+pub record IsAnswer (packet : Packet) (source : Ipv4Address) (answer : Packet) : Type 0 where
+  pub protocol : answer.protocol ≡ packet.protocol
+  pub from : answer.source ≡ packet.destination
+  pub to : answer.destination ≡ source
+  pub from_port : source_port answer.transport ≡ destination_port packet.transport
+  pub to_port : destination_port answer.transport ≡ source_port packet.transport
+
+-- a `binat` rule from one address to another one, as a text may write it
+pub record IsBinat (rule : FlatTranslation Ipv4Address) (address target : Ipv4Address) : Type 0 where
+  pub from : rule.packet.source ≡ single address
+  pub to : rule.target ≡ Some target
+  pub no_type : rule.packet.icmp ≡ None
+
+-- it holds for a packet that goes out just where that comes from the address and the rule holds for the answer to the target
+abbrev pub BinatHoldsBothWays : Type 0
+BinatHoldsBothWays =
+    (rule : FlatTranslation Ipv4Address) (address target : Ipv4Address) (name : IfName) (tables : List (List Entry)) (packet answer : Packet)
+    → IsBinat rule address target
+    → IsAnswer packet target answer
+    → (binat_holds rule name tables packet Out ≡ true) ↔ ((packet.source ≡ address) × (binat_holds rule name tables answer In ≡ true))

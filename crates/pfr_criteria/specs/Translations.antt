@@ -1,5 +1,5 @@
 -- When a translation rule holds for a packet (pf.conf(5), "Translation").
-use Rattle.std.specs.Prelude.{ℕ, Bool, false, List, Option, Some, None}
+use Rattle.std.specs.Prelude.{Bool, false, List, Option, Some, None}
 use Rattle.pfr_net.specs.declared.address.Ipv4Address.{Ipv4Address}
 use Rattle.pfr_net.specs.declared.direction.Direction.{Direction}
 use Rattle.pfr_net.specs.declared.direction.Direction.TheVariants.{In, Out}

@@ -13,7 +13,6 @@ use Rattle.pfr_ruleset.specs.declared.flat.FlagsCriterion.TheVariants as asked
 use Rattle.pfr_headers.specs.declared.transport.Transport.{Transport}
 use Rattle.pfr_headers.specs.declared.transport.Transport.TheVariants as t
 use Rattle.pfr_headers.specs.declared.tcp.TcpFlags.{TcpFlags}
-use Rattle.pfr_headers.specs.declared.icmp.IcmpHeader.{IcmpHeader}
 
 -- ---- ports
 

@@ -1,5 +1,5 @@
 //! Laws of the definitions, each the contract of a function that does nothing.
-ghost use Rattle.pfr_criteria.specs.Laws.{KeysAgree, PinsAgree, RulesFailUpToSkips, TablesHoldByTheirEntries, TranslationsFailUpToSkips};
+ghost use Rattle.pfr_criteria.specs.Laws.{BinatHoldsBothWays, KeysAgree, PinsAgree, RulesFailUpToSkips, TablesHoldByTheirEntries, TranslationsFailUpToSkips};
 
 /// Which addresses a table holds rests on which entries it has, and neither on their order nor on how often one is written.
 pub fn tables_hold_by_their_entries()
@@ -24,4 +24,10 @@ pub fn pins_agree()
 /// A packet that a rule holds for has the rule's key, by the shape that the rule counts as of.
 pub fn keys_agree()
     ensures { KeysAgree }
+{}
+
+/// A `binat` rule from one address to another one holds for a packet that goes out just where that comes from the first address, and
+/// the rule holds for the answer that comes in to the second.
+pub fn binat_holds_both_ways()
+    ensures { BinatHoldsBothWays }
 {}

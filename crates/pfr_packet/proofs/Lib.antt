@@ -6,6 +6,7 @@ pub mod Local
 pub mod Members
 pub mod OpeningLemmas
 pub mod PickLemmas
+pub mod RuleLemmas
 pub mod SameLemmas
 pub mod TryLemmas
 pub mod WayLemmas

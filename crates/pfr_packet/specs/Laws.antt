@@ -1,5 +1,5 @@
 -- Words of the laws: what becomes of the one state that a packet makes, touches or ends.
-use Rattle.std.specs.Prelude.{◌≡◌, ◌⊎◌, ◌↔◌, ◌<◌, ◌≤◌, ◌==◌, ◌+◌, if◌then◌else◌, ℕ, Bool, true, false, List, [], ◌∷◌, ◌++◌, Option, Some, None}
+use Rattle.std.specs.Prelude.{◌≡◌, ◌⊎◌, ◌↔◌, ◌<◌, ◌≤◌, ◌==◌, ◌+◌, if◌then◌else◌, ℕ, Bool, true, false, not, List, [], ◌∷◌, ◌++◌, Option, Some, None}
 use Rattle.std.specs.List.{Contains, slice_get, All}
 use Rattle.pfr_net.specs.declared.rule_number.RuleNumber.{RuleNumber}
 use Rattle.pfr_ruleset.specs.declared.flat.FlatRule.{FlatRule}
@@ -16,6 +16,7 @@ use Rattle.pfr_headers.specs.View.{has_options}
 use Rattle.pfr_rules.specs.Translating.{up_to_first}
 use Rattle.pfr_track.specs.declared.state.State.{State}
 use Rattle.pfr_track.specs.declared.state.StateNumber.{StateNumber}
+use Rattle.pfr_track.specs.declared.state.StateRules.{StateRules}
 use Rattle.pfr_track.specs.declared.time.Clock.{Clock}
 use Rattle.pfr_track.specs.declared.key.Key.{Key}
 use Rattle.pfr_states.specs.declared.change.Side.TheVariants.{Wire}
@@ -124,6 +125,25 @@ HasLeave rules states outcome =
     ((number : RuleNumber) × (rule : FlatRule) × (slice_get rules number.0 ≡ Some rule) × (outcome.rule ≡ Some number) × (rule.allow_opts ≡ true))
     ⊎ ((state : State) × Contains states state × (outcome.state ≡ Some state.number) × (state.rules.allows_options ≡ true))
 
+-- ---- what a state says of its rules
+
+-- a rule says that a standby isn't told of its states
+abbrev pub says_no_sync : FlatRule → Bool
+says_no_sync rule = elim rule.state [ None ↦ false | Some kept ↦ kept.no_sync ]
+
+-- a standby is told of the state unless the filter rule says `no-sync`, and it lets IP options pass just where that rule says
+-- `allow-opts`; without a filter rule a standby is told, and no IP options pass
+abbrev pub SaysAsItsRule : List FlatRule → Option RuleNumber → StateRules → Type 0
+SaysAsItsRule rules None said = (said.is_synchronised ≡ true) × (said.allows_options ≡ false)
+SaysAsItsRule rules (Some number) said =
+    (rule : FlatRule) → slice_get rules number.0 ≡ Some rule → (said.is_synchronised ≡ not (says_no_sync rule)) × (said.allows_options ≡ rule.allow_opts)
+
+-- the rules of a state that a packet makes are those on the packet's line
+pub record AreRulesOf (rules : List FlatRule) (outcome : Outcome) (said : StateRules) : Type 0 where
+  pub filter : said.filter ≡ outcome.rule
+  pub translation : said.translation ≡ outcome.translation
+  pub conduct : SaysAsItsRule rules outcome.rule said
+
 -- ---- picks
 
 -- how often a number is in a list
@@ -155,6 +175,13 @@ ChangesAreOfTheNamed =
     (job : RunJob) (number : ℕ) (clock : Clock) (view : View) (table : StateTable) (change : TableChange)
     → (step_of job number clock view table).change ≡ Some change
     → IsOwnChange number clock (purged clock table.states) (step_of job number clock view table) change
+
+-- a state that a packet makes is by the rules on its line
+abbrev pub MadeByTheRulesNamed : Type 0
+MadeByTheRulesNamed =
+    (job : RunJob) (number : ℕ) (clock : Clock) (view : View) (table : StateTable) (state : State)
+    → (step_of job number clock view table).change ≡ Some (Made state)
+    → AreRulesOf job.rules.filter.rules (step_of job number clock view table) state.rules
 
 -- what is written into a packet's bytes is made for that packet
 abbrev pub WrittenIsOfThePacket : Type 0

@@ -1,5 +1,5 @@
 //! Laws of the definitions, each the contract of a function that does nothing.
-ghost use Rattle.pfr_packet.specs.Laws.{BlockedIsNotWritten, BlockedOnlyRemoves, ChangesAreOfTheNamed, EachPortOnce, FirstFreeIsPicked, LimitBlocksWhereReached, NoChangeIsRefused, NoRuleBehindAState, NoneWhereAllAreTaken, OpensNoConnection, OptionsPassByLeave, PassedOverChangesNothing, SameAnswersGiveTheSame, WrittenIsOfThePacket};
+ghost use Rattle.pfr_packet.specs.Laws.{BlockedIsNotWritten, BlockedOnlyRemoves, ChangesAreOfTheNamed, EachPortOnce, FirstFreeIsPicked, LimitBlocksWhereReached, MadeByTheRulesNamed, NoChangeIsRefused, NoRuleBehindAState, NoneWhereAllAreTaken, OpensNoConnection, OptionsPassByLeave, PassedOverChangesNothing, SameAnswersGiveTheSame, WrittenIsOfThePacket};
 ghost use Rattle.pfr_packet.specs.Steps.{asked_of, step_of};
 
 use pfr_states::laws::one_state_answers_a_key;
@@ -31,6 +31,12 @@ pub fn every_change_is_of_the_named_state()
     // a touched state keeps its number, its keys and its rules
     what_a_packet_leaves();
 }
+
+/// The rules of a state that a packet makes are those on the packet's line, also behind a translation. A standby is told of the state
+/// unless its filter rule says `no-sync`, and it lets IP options pass just where that rule says `allow-opts`.
+pub fn states_are_made_by_the_rules_named()
+    ensures { MadeByTheRulesNamed }
+{}
 
 /// What is written into a packet's bytes is made for that packet.
 pub fn what_is_written_is_of_the_packet()

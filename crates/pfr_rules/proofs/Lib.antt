@@ -9,5 +9,6 @@ pub mod SearchLemmas
 pub mod Stops
 pub mod Stretches
 pub mod Tallies
+pub mod TranslationLemmas
 pub mod UnvisitedLemmas
 pub mod Walking

@@ -1,14 +1,25 @@
 -- Words of the laws: rulesets that are the same up to a place, or but for one rule or one anchor; packets that go the same
 -- way, and rules that they pass by.
-use Rattle.std.specs.Prelude.{◌≡◌, ◌≢◌, ◌≤◌, ℕ, min, Bool, false, nat_le, List, ◌∷◌, ◌++◌, length, map, Some, true}
+use Rattle.std.specs.Prelude.{◌≡◌, ◌≢◌, ◌≤◌, ◌+◌, ◌-◌, ℕ, min, Bool, false, nat_le, List, ◌∷◌, ◌++◌, length, map, IsSomeAnd, Some, true}
 use Rattle.std.specs.List.{Contains, slice_get, filter}
+use Rattle.pfr_net.specs.declared.address.Ipv4Address.{Ipv4Address}
 use Rattle.pfr_net.specs.declared.direction.Direction.{Direction}
+use Rattle.pfr_net.specs.declared.direction.Direction.TheVariants.{In, Out}
 use Rattle.pfr_ruleset.specs.declared.flat.FlatAnchor.{FlatAnchor}
 use Rattle.pfr_ruleset.specs.declared.ruleset.Ruleset.{Ruleset}
 use Rattle.pfr_ruleset.specs.declared.flat.FlatRule.{FlatRule}
+use Rattle.pfr_ruleset.specs.declared.flat.FlatTranslation.{FlatTranslation}
+use Rattle.pfr_ruleset.specs.declared.flat.PortChange.TheVariants.{From}
+use Rattle.pfr_ruleset.specs.declared.port.Comparison.TheVariants.{Equal}
+use Rattle.pfr_ruleset.specs.declared.port.PortMatch.TheVariants.{Compare, Range}
+use Rattle.pfr_ruleset.specs.declared.port.RangeOperator.TheVariants.{Inclusive}
 use Rattle.pfr_headers.specs.declared.packet.Packet.{Packet}
+use Rattle.pfr_criteria.specs.Laws.{IsBinat}
 use Rattle.pfr_criteria.specs.Packets.{anchor_holds}
+use Rattle.pfr_rules.specs.declared.hit.NewEnd.TheVariants.{Mapped}
+use Rattle.pfr_rules.specs.declared.hit.PortMapping.TheVariants.{Kept}
 use Rattle.pfr_rules.specs.Filter.{hit, deciding, visited}
+use Rattle.pfr_rules.specs.Translating.{binat_hit, mapped, mapping}
 
 -- ---- rulesets that are the same up to a place
 
@@ -137,3 +148,30 @@ AnchorLetsNothingIn =
     → anchor.first ≤ place
     → place ≤ anchor.last
     → PassesBy flat packet direction place
+
+-- ---- translation
+
+-- a packet that a `binat` rule holds for gets the target as its source, and what comes in by the rule gets that source back
+abbrev pub BinatGivesTheSourceBack : Type 0
+BinatGivesTheSourceBack =
+    (rule : FlatTranslation Ipv4Address) (address target : Ipv4Address) (packet answer : Packet)
+    → IsBinat rule address target
+    → packet.source ≡ address
+    → IsSomeAnd (binat_hit packet Out rule) (λ hit. hit.new_end ≡ Mapped target Kept)
+    × IsSomeAnd (binat_hit answer In rule) (λ hit. hit.new_end ≡ Mapped packet.source Kept)
+
+-- of `port low:high -> port first:*` each port lies as far from the first one as it lay from `low`, if all stay ports
+abbrev pub MovedPortsKeepTheirDistance : Type 0
+MovedPortsKeepTheirDistance =
+    (first low high port : ℕ)
+    → first + (high - low) ≤ 65535
+    → low ≤ port
+    → port ≤ high
+    → mapped (mapping (Some (Range Inclusive low high)) (From first)) (record { 0 = port }) ≡ record { 0 = first + (port - low) }
+
+-- `port low -> port first:*` makes the one port the first one
+abbrev pub OnePortBecomesTheFirst : Type 0
+OnePortBecomesTheFirst =
+    (first port : ℕ)
+    → first ≤ 65535
+    → mapped (mapping (Some (Compare Equal port)) (From first)) (record { 0 = port }) ≡ record { 0 = first }

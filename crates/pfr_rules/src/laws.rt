@@ -1,5 +1,5 @@
 //! Laws of the definitions, each the contract of a function that does nothing.
-ghost use Rattle.pfr_rules.specs.Laws.{AnchorAsksForItsOwn, AnchorLetsNothingIn, BehindAQuickHit, QuickWithoutAHit, WhatIsNotVisited};
+ghost use Rattle.pfr_rules.specs.Laws.{AnchorAsksForItsOwn, AnchorLetsNothingIn, BehindAQuickHit, BinatGivesTheSourceBack, MovedPortsKeepTheirDistance, OnePortBecomesTheFirst, QuickWithoutAHit, WhatIsNotVisited};
 
 /// What stands behind a quick rule that hits says nothing of the packet: rules and anchors may be put there or taken out,
 /// also at the end of an anchor that the quick rule stands in.
@@ -26,4 +26,17 @@ pub fn an_anchor_asks_for_its_own_rules_alone()
 /// An anchor that doesn't hold lets a packet pass by all its rules, the first and the last as well.
 pub fn an_anchor_that_does_not_hold_lets_nothing_in()
     ensures { AnchorLetsNothingIn }
+{}
+
+/// A packet that goes out by a `binat` rule gets the rule's target as its source, with the port that it had. What comes in by the rule
+/// gets that source back as its destination.
+pub fn binat_gives_the_source_back()
+    ensures { BinatGivesTheSourceBack }
+{}
+
+/// A `rdr` rule with `port low:high -> port first:*` moves each port by one distance, if all stay ports, as they do in each ruleset
+/// that a text means. Of one port it makes the first one.
+pub fn moved_ports_keep_their_distance()
+    ensures range { MovedPortsKeepTheirDistance }
+    ensures one { OnePortBecomesTheFirst }
 {}

@@ -1,6 +1,7 @@
 pub mod CountLemmas
 pub mod EditLemmas
 pub mod EntryLemmas
+pub mod FieldLemmas
 pub mod FileLemmas
 pub mod GatherLemmas
 pub mod HoldingLemmas

@@ -1,19 +1,32 @@
 -- The statements of the laws.
-use Rattle.std.specs.Prelude.{◌≡◌, ◌≤◌, ◌<◌, ℕ, ◌+◌, ◌^◌, ◌==◌, ◌&&◌, Bool, true, false, not, if◌then◌else◌, List, [], ◌∷◌, ◌++◌, length, map, fold, Option, Some, None, Ok, option_map, ⊤}
+use Rattle.std.specs.Prelude.{◌≡◌, ◌≤◌, ◌<◌, ℕ, ◌+◌, ◌-◌, ◌^◌, min, ◌==◌, ◌&&◌, Bool, true, false, not, if◌then◌else◌, List, [], ◌∷◌, ◌++◌, length, map, take, drop, fold, Option, Some, None, Ok, option_map, ⊤}
+use Rattle.std.specs.Int.{to_be_bytes, w8, w16, w32, w64}
 use Rattle.std.specs.List.{All, IsDistinct, filter, flat_map, list_any}
 use Rattle.pfr_net.specs.declared.address.Ipv4Address.{Ipv4Address}
+use Rattle.pfr_net.specs.declared.direction.Direction.{Direction}
+use Rattle.pfr_net.specs.declared.direction.Direction.TheVariants.{In, Out}
+use Rattle.pfr_net.specs.declared.rule_number.RuleNumber.{RuleNumber}
+use Rattle.pfr_net.specs.Timeouts as timeouts
 use Rattle.pfr_headers.specs.declared.packet.Packet.{Packet}
 use Rattle.pfr_headers.specs.declared.packet.View.TheVariants.{Ipv4}
 use Rattle.pfr_headers.specs.declared.transport.Transport.TheVariants.{Other}
 use Rattle.pfr_headers.specs.Checksum.{Verifies, sum_of_words}
 use Rattle.pfr_headers.specs.View.{view_of}
 use Rattle.pfr_messages.specs.Messages.{Content}
+use Rattle.pfr_messages.specs.Records.{deletion, insertion, update}
 use Rattle.pfr_standby.specs.declared.kept.Kept.{Kept}
 use Rattle.pfr_standby.specs.Standby.{Standing, rises, standby_of, state_of}
+use Rattle.pfr_track.specs.declared.key.Key.{Key}
+use Rattle.pfr_track.specs.declared.peers.Peers.{Peers}
+use Rattle.pfr_track.specs.declared.peers.Peers.TheVariants as peers
 use Rattle.pfr_track.specs.declared.state.State.{State}
+use Rattle.pfr_track.specs.declared.tcp.TcpPeer.{TcpPeer}
+use Rattle.pfr_track.specs.declared.time.Clock.{Clock}
+use Rattle.pfr_track.specs.Datagrams as datagram
+use Rattle.pfr_track.specs.Tcp as tcp
 use Rattle.pfr_sync.specs.declared.event.Event.{Event}
 use Rattle.pfr_sync.specs.declared.origin.Origin.{Origin}
-use Rattle.pfr_sync.specs.Events.{MayCome, is_made, is_of, is_removed, maker_of, other_of, parties_of, rule_of}
+use Rattle.pfr_sync.specs.Events.{MayCome, deletion_of, insertion_of, is_made, is_of, is_removed, maker_of, other_of, parties_of, rule_of, update_of}
 use Rattle.pfr_sync.specs.Files.{ip_header}
 use Rattle.pfr_sync.specs.Messages.{last_of, message_of, messages_of, parts_of}
 
@@ -140,3 +153,106 @@ AStandbyHoldsTheStatesLeft =
     (origin : Origin) (events : List Event) → IsHistoryOfStates events
     → (standing : Standing) × (standby_of (messages_of origin events) ≡ Ok standing) × (rises standing ≡ true)
     × ((n : ℕ) → state_of n standing ≡ option_map kept_by (left n events))
+
+-- ---- the bytes of records (docs/FORMATS.md, "Bytes of a message")
+
+-- the bytes of a field: `size` of them from an offset on
+abbrev pub field : ℕ → ℕ → List ℕ → List ℕ
+field offset size bytes = take size (drop offset bytes)
+
+-- a key, 36 bytes from an offset on
+pub record IsKeyAt (offset : ℕ) (key : Key) (bytes : List ℕ) : Type 0 where
+  pub outside_address : field offset 4 bytes ≡ to_be_bytes w32 key.outside.address.0
+  pub inside_address : field (offset + 16) 4 bytes ≡ to_be_bytes w32 key.inside.address.0
+  pub outside_port : field (offset + 32) 2 bytes ≡ to_be_bytes w16 key.outside.port.0
+  pub inside_port : field (offset + 34) 2 bytes ≡ to_be_bytes w16 key.inside.port.0
+
+-- the shift that an end of TCP offered: 0x80 and the shift, of which one above 14 counts as 14 (RFC 7323, section 2.3); 0 for none
+abbrev pub offered : Option ℕ → ℕ
+offered None = 0
+offered (Some shift) = 0x80 + min shift 14
+
+-- an end of TCP, 32 bytes from an offset on
+pub record IsTcpEndAt (offset : ℕ) (end : TcpPeer) (bytes : List ℕ) : Type 0 where
+  pub low : field (offset + 8) 4 bytes ≡ to_be_bytes w32 end.low.0
+  pub high : field (offset + 12) 4 bytes ≡ to_be_bytes w32 end.high.0
+  pub greatest_window : field (offset + 20) 2 bytes ≡ to_be_bytes w16 end.greatest_window
+  pub code : field (offset + 24) 1 bytes ≡ tcp.code_of end.state ∷ []
+  pub scale : field (offset + 25) 1 bytes ≡ offered end.scale ∷ []
+
+-- an end of another protocol, by the code of what it has reached: what only TCP has is 0
+pub record IsCodeAt (offset : ℕ) (reached : ℕ) (bytes : List ℕ) : Type 0 where
+  pub low : field (offset + 8) 4 bytes ≡ to_be_bytes w32 0
+  pub high : field (offset + 12) 4 bytes ≡ to_be_bytes w32 0
+  pub greatest_window : field (offset + 20) 2 bytes ≡ to_be_bytes w16 0
+  pub code : field (offset + 24) 1 bytes ≡ reached ∷ []
+  pub scale : field (offset + 25) 1 bytes ≡ 0 ∷ []
+
+-- the ends of a state: its maker's from the first offset on, the other one from the second on
+abbrev pub AreEndsAt : ℕ → ℕ → Peers → List ℕ → Type 0
+AreEndsAt first second (peers.Tcp maker other) bytes = IsTcpEndAt first maker bytes × IsTcpEndAt second other bytes
+AreEndsAt first second (peers.Udp maker other) bytes =
+    IsCodeAt first (datagram.code_of maker) bytes × IsCodeAt second (datagram.code_of other) bytes
+AreEndsAt first second peers.Icmp bytes = IsCodeAt first 0 bytes × IsCodeAt second 0 bytes
+AreEndsAt first second (peers.Other maker other) bytes =
+    IsCodeAt first (datagram.code_of maker) bytes × IsCodeAt second (datagram.code_of other) bytes
+
+-- the number of a rule: ffffffff for none, and no ruleset has a rule of a greater number
+abbrev pub rule_number : Option RuleNumber → ℕ
+rule_number None = 0xffffffff
+rule_number (Some rule) = min rule.0 0xffffffff
+
+abbrev pub way : Direction → ℕ
+way In = 1
+way Out = 2
+
+-- the seconds from a clock until a state is no more; every timeout fits in 32 bits
+abbrev pub seconds_left : Clock → State → ℕ
+seconds_left clock state = min (state.deadline.0 - clock.0) 0xffffffff
+
+-- the bytes of a state that came to be, told at a clock (INS, 242 bytes): each field at its offset
+pub record IsStateRecord (origin : Origin) (clock : Clock) (state : State) (bytes : List ℕ) : Type 0 where
+  pub number : field 0 8 bytes ≡ to_be_bytes w64 state.number.0
+  pub interface : field 8 16 bytes ≡ origin.interface.bytes
+  pub wire : IsKeyAt 24 state.wire bytes
+  pub stack : IsKeyAt 60 state.stack bytes
+  pub ends : AreEndsAt 96 128 state.peers bytes
+  pub rule : field 176 4 bytes ≡ to_be_bytes w32 (rule_number state.rules.filter)
+  pub translation : field 184 4 bytes ≡ to_be_bytes w32 (rule_number state.rules.translation)
+  pub age : field 188 4 bytes ≡ to_be_bytes w32 (clock.0 - state.made.0)
+  pub remaining : field 192 4 bytes ≡ to_be_bytes w32 (seconds_left clock state)
+  pub packets_forth : field 196 8 bytes ≡ to_be_bytes w64 state.forth.packets
+  pub packets_back : field 204 8 bytes ≡ to_be_bytes w64 state.back.packets
+  pub bytes_forth : field 212 8 bytes ≡ to_be_bytes w64 state.forth.bytes
+  pub bytes_back : field 220 8 bytes ≡ to_be_bytes w64 state.back.bytes
+  pub creator : field 228 4 bytes ≡ to_be_bytes w32 origin.creator
+  pub protocol : field 233 1 bytes ≡ to_be_bytes w8 state.wire.protocol.0
+  pub direction : field 234 1 bytes ≡ way state.direction ∷ []
+  pub timeout : field 239 1 bytes ≡ timeouts.code_of state.timeout ∷ []
+
+-- the bytes of a state that moved on, told at a clock (UPD_C, 84 bytes)
+pub record IsUpdateRecord (origin : Origin) (clock : Clock) (state : State) (bytes : List ℕ) : Type 0 where
+  pub number : field 0 8 bytes ≡ to_be_bytes w64 state.number.0
+  pub ends : AreEndsAt 8 40 state.peers bytes
+  pub creator : field 72 4 bytes ≡ to_be_bytes w32 origin.creator
+  pub remaining : field 76 4 bytes ≡ to_be_bytes w32 (seconds_left clock state)
+  pub timeout : field 80 1 bytes ≡ timeouts.code_of state.timeout ∷ []
+
+-- the bytes of a state that is gone (DEL_C, 12 bytes)
+pub record IsDeletionRecord (origin : Origin) (state : State) (bytes : List ℕ) : Type 0 where
+  pub number : field 0 8 bytes ≡ to_be_bytes w64 state.number.0
+  pub creator : field 8 4 bytes ≡ to_be_bytes w32 origin.creator
+
+-- the records that are made of a state have these bytes; an interface's name has 16 bytes with its zeros
+abbrev pub InsertionsNameTheState : Type 0
+InsertionsNameTheState =
+    (origin : Origin) (clock : Clock) (state : State) → length origin.interface.bytes ≡ 16
+    → IsStateRecord origin clock state (insertion.spelling (insertion_of origin clock state))
+
+abbrev pub UpdatesNameTheState : Type 0
+UpdatesNameTheState =
+    (origin : Origin) (clock : Clock) (state : State) → IsUpdateRecord origin clock state (update.spelling (update_of origin clock state))
+
+abbrev pub DeletionsNameTheState : Type 0
+DeletionsNameTheState =
+    (origin : Origin) (state : State) → IsDeletionRecord origin state (deletion.spelling (deletion_of origin state))

@@ -2,7 +2,7 @@
 ghost use Rattle.std.specs.Prelude.{◌≡◌, length, ℕ};
 ghost use Rattle.pfr_net.specs.declared.address.Ipv4Address.{Ipv4Address};
 ghost use Rattle.pfr_sync.specs.Files.{ip_header};
-ghost use Rattle.pfr_sync.specs.Laws.{AStandbyHoldsTheStatesLeft, AStandbyHoldsWhatIsLeft, AStateIsToldOfOnce, ClosedMessagesStay, FileHeaderVerifies, FileMessageIsAPacket};
+ghost use Rattle.pfr_sync.specs.Laws.{AStandbyHoldsTheStatesLeft, AStandbyHoldsWhatIsLeft, AStateIsToldOfOnce, ClosedMessagesStay, DeletionsNameTheState, FileHeaderVerifies, FileMessageIsAPacket, InsertionsNameTheState, UpdatesNameTheState};
 
 pub use pfr_messages::laws::{one_spelling, readable};
 
@@ -39,4 +39,12 @@ pub fn a_standby_holds_what_is_left()
 /// leave, each with its keys, protocol, direction, rule, ends and timeout, and with no others.
 pub fn standby_holds()
     ensures { AStandbyHoldsTheStatesLeft }
+{}
+
+/// A record of a run's messages names the state's own number, keys, ends, rules, traffic, age, remaining seconds, protocol,
+/// direction and timeout, each at the offset that the table of fields gives.
+pub fn records_name_the_state()
+    ensures insertions { InsertionsNameTheState }
+    ensures updates { UpdatesNameTheState }
+    ensures deletions { DeletionsNameTheState }
 {}
