@@ -176,9 +176,17 @@ with_binding_keeps : {n : ℕ} (found : StateOptions) (binding : Option Binding)
 with_binding_keeps found (Some binding) = search reading
 with_binding_keeps found None = timeout_refusal_keeps
 
+binding_option_keeps : {n : ℕ} (found : StateOptions) → Keeps n (rule_options.binding_option found)
+unfolding rule_options.binding_option
+binding_option_keeps found = search (reading, timeout_refusal_keeps, binding_keeps, with_binding_keeps)
+
+most_option_keeps : {n : ℕ} (found : StateOptions) → Keeps n (rule_options.most_option found)
+unfolding rule_options.most_option
+most_option_keeps found = search (reading, eat_if_keeps, keeps_number_in, binding_option_keeps)
+
 state_option_keeps : {n : ℕ} (found : StateOptions) → Keeps n (rule_options.state_option found)
 unfolding rule_options.state_option
-state_option_keeps found = search (reading, eat_if_keeps, timeout_refusal_keeps, binding_keeps, with_binding_keeps)
+state_option_keeps found = search (reading, eat_if_keeps, most_option_keeps)
 
 state_option_more_keeps : {n : ℕ} (more : StateOptions → Parser StateOptions) → ((found : StateOptions) → Keeps n (more found)) → (found : StateOptions) → Keeps n (rule_options.state_option_more more found)
 state_option_more_keeps more rest found = search (reading, state_option_keeps, rest)

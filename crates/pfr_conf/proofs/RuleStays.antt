@@ -186,9 +186,17 @@ with_binding_stays : {inside : Bool} {count : ℕ} (eaten : StateOptions → Boo
 with_binding_stays eaten found (Some binding) = stays_pure _
 with_binding_stays eaten found None = timeout_refusal_stays
 
+binding_option_stays : {inside sees : Bool} {count : ℕ} {eaten : StateOptions → Bool} (found : StateOptions) → Stays inside inside 0 sees eaten count (rule_options.binding_option found) (rule_options.binding_option found)
+unfolding rule_options.binding_option
+binding_option_stays found = stays_if _ timeout_refusal_stays (stays_by_test_so is_there binding_stays (with_binding_stays _ found))
+
+most_option_stays : {inside sees : Bool} {count : ℕ} {eaten : StateOptions → Bool} (found : StateOptions) → Stays inside inside 0 sees eaten count (rule_options.most_option found) (rule_options.most_option found)
+unfolding rule_options.most_option
+most_option_stays found = found_if _ _ (stays_then (stays_number_in 1 4294967295) (λ most. stays_pure _)) (binding_option_stays found)
+
 state_option_stays : {inside sees : Bool} {count : ℕ} {eaten : StateOptions → Bool} (found : StateOptions) → Stays inside inside 0 sees eaten count (rule_options.state_option found) (rule_options.state_option found)
 unfolding rule_options.state_option
-state_option_stays found = found_if _ _ (stays_pure _) (stays_if _ timeout_refusal_stays (stays_by_test_so is_there binding_stays (with_binding_stays _ found)))
+state_option_stays found = found_if _ _ (stays_pure _) (most_option_stays found)
 
 state_options_stays : {inside sees : Bool} {count : ℕ} → Stays inside inside 0 sees (λ (options : StateOptions). false) count rule_options.state_options rule_options.state_options
 state_options_stays = stays_loop rule_options.state_option_more _ (λ count more other rest found.

@@ -3,7 +3,7 @@ use Rattle.std.specs.Prelude.{ℕ, Bool, true, false, not, if◌then◌else◌, 
 use Rattle.std.specs.Option.{is_none, is_some}
 use Rattle.pfr_ruleset.specs.declared.policy.Binding.{Binding}
 use Rattle.pfr_words.specs.declared.sign.Sign.TheVariants as s
-use Rattle.pfr_terms.specs.Input.{Parser, ◌>>=◌, pure, loop, eat_word, eat_sign, expect_word}
+use Rattle.pfr_terms.specs.Input.{Parser, ◌>>=◌, pure, loop, number_in, eat_word, eat_sign, expect_word}
 use Rattle.pfr_terms.specs.Lists.{written, list}
 use Rattle.pfr_terms.specs.Terms.{flags_match, icmp_match}
 use Rattle.pfr_conf.specs.declared.rule_options.StateOptions.{StateOptions}
@@ -21,15 +21,23 @@ eat_if may_come word = if may_come then eat_word word else pure false
 -- ---- states
 
 abbrev pub with_binding : StateOptions → Option Binding → Parser StateOptions
-with_binding found (Some binding) = pure (record { no_sync = found.no_sync; binding = Some binding })
+with_binding found (Some binding) = pure (record found { binding = Some binding })
 with_binding found None = λ i. Err (timeout_refusal i)
 
 -- no option of a state comes twice, and `if-bound` and `floating` don't come both
+unfoldable pub binding_option : StateOptions → Parser StateOptions
+binding_option found = if is_some found.binding then (λ i. Err (timeout_refusal i)) else (binding >>= with_binding found)
+
+-- `max` says how many states of the rule there may be
+unfoldable pub most_option : StateOptions → Parser StateOptions
+most_option found = do
+  is_most ← eat_if (is_none found.most) (codes "max")
+  if is_most then (do most ← number_in 1 4294967295; pure (record found { most = Some most })) else binding_option found
+
 unfoldable pub state_option : StateOptions → Parser StateOptions
 state_option found = do
   is_no_sync ← eat_if (not found.no_sync) (codes "no-sync")
-  if is_no_sync then pure (record { no_sync = true; binding = found.binding })
-      else if is_some found.binding then (λ i. Err (timeout_refusal i)) else (binding >>= with_binding found)
+  if is_no_sync then pure (record found { no_sync = true }) else most_option found
 
 abbrev pub state_option_more : (StateOptions → Parser StateOptions) → StateOptions → Parser StateOptions
 state_option_more more found = do
@@ -40,7 +48,7 @@ state_option_more more found = do
     more found')
 
 abbrev pub no_state_options : StateOptions
-no_state_options = record { no_sync = false; binding = None }
+no_state_options = record { no_sync = false; most = None; binding = None }
 
 abbrev pub state_options : Parser StateOptions
 state_options = loop state_option_more no_state_options

@@ -20,8 +20,17 @@ use std::alloc::Global;
 pub struct StateOptions {
     /// The state isn't told to others.
     pub no_sync: bool,
+    /// How many states of the rule there may be, from 1 to 4294967295.
+    pub most: Option<u32>,
     pub binding: Option<Binding>,
 }
+
+/// Nothing is written of a state.
+const NO_STATE_OPTIONS: StateOptions = StateOptions {
+    no_sync: false,
+    most: None,
+    binding: None,
+};
 
 /// Whether a rule keeps state.
 #[derive(Clone, Copy)]
@@ -49,6 +58,46 @@ fn eat_if(reader: &mut Reader<'_, '_>, may_come: bool, word: &[u8]) -> bool
     may_come && reader.eat_word(word)
 }
 
+/// The binding of a state, which may come once.
+#[tactic(auto, unfolding(crate::specs::RuleOptions::binding_option))]
+fn binding_option(
+    alloc: Global,
+    reader: &mut Reader<'_, '_>,
+    found: StateOptions,
+) -> Result<StateOptions, ConfError>
+    ensures { Reads (spec.binding_option found reader.old) result reader.new }
+{
+    if found.binding.is_some() {
+        return Err(timeout_refusal(alloc, reader));
+    }
+    match binding_ahead(reader) {
+        Some(binding) => Ok(StateOptions {
+            binding: Some(binding),
+            ..found
+        }),
+        None => Err(timeout_refusal(alloc, reader)),
+    }
+}
+
+/// `max` with its number, which may come once, or the binding of a state.
+#[tactic(auto, unfolding(crate::specs::RuleOptions::most_option))]
+fn most_option(
+    alloc: Global,
+    reader: &mut Reader<'_, '_>,
+    found: StateOptions,
+) -> Result<StateOptions, ConfError>
+    ensures { Reads (spec.most_option found reader.old) result reader.new }
+{
+    if eat_if(reader, found.most.is_none(), b"max") {
+        let most = reader.number(alloc, 1, 4294967295)? as u32;
+        return Ok(StateOptions {
+            most: Some(most),
+            ..found
+        });
+    }
+    binding_option(alloc, reader, found)
+}
+
 /// One more option of a state.
 #[tactic(auto, unfolding(crate::specs::RuleOptions::state_option))]
 fn state_option(
@@ -61,19 +110,10 @@ fn state_option(
     if eat_if(reader, !found.no_sync, b"no-sync") {
         return Ok(StateOptions {
             no_sync: true,
-            binding: found.binding,
+            ..found
         });
     }
-    if found.binding.is_some() {
-        return Err(timeout_refusal(alloc, reader));
-    }
-    match binding_ahead(reader) {
-        Some(binding) => Ok(StateOptions {
-            no_sync: found.no_sync,
-            binding: Some(binding),
-        }),
-        None => Err(timeout_refusal(alloc, reader)),
-    }
+    most_option(alloc, reader, found)
 }
 
 /// The options of a state up to the closing bracket, of which there is at least one.
@@ -81,10 +121,7 @@ fn state_option(
 fn state_options(alloc: Global, reader: &mut Reader<'_, '_>) -> Result<StateOptions, ConfError>
     ensures { Reads (spec.state_options reader.old) result reader.new }
 {
-    let mut found = StateOptions {
-        no_sync: false,
-        binding: None,
-    };
+    let mut found = NO_STATE_OPTIONS;
     for _turn in 0..reader.turns() {
         found = state_option(alloc, reader, found)?;
         if reader.eat_sign(Sign::CloseParenthesis) {
@@ -104,10 +141,7 @@ fn keep_state(alloc: Global, reader: &mut Reader<'_, '_>) -> Result<StateKeeping
     if reader.eat_sign(Sign::OpenParenthesis) {
         return Ok(StateKeeping::Keep(state_options(alloc, reader)?));
     }
-    Ok(StateKeeping::Keep(StateOptions {
-        no_sync: false,
-        binding: None,
-    }))
+    Ok(StateKeeping::Keep(NO_STATE_OPTIONS))
 }
 
 /// `no state` or `keep state ..`, if one comes next.

@@ -62,9 +62,9 @@ bound_as_written policy (Some written) = refl
 
 kept_as_written : (policy : Binding) (action : Action) (keeping : Option StateKeeping) → KeepsAsWritten action keeping (state_of policy action keeping)
 kept_as_written policy (a.Block written) keeping = refl
-kept_as_written policy a.Pass None = refl
+kept_as_written policy a.Pass None = (refl, refl)
 kept_as_written policy a.Pass (Some k.No) = refl
-kept_as_written policy a.Pass (Some (k.Keep options)) = (refl, bound_as_written policy options.binding)
+kept_as_written policy a.Pass (Some (k.Keep options)) = (refl, refl, bound_as_written policy options.binding)
 
 asked_as_written : (state : Option StateRule) (written : Option FlagsMatch) → AsksAsWritten written state (flags_of state written)
 asked_as_written None None = refl

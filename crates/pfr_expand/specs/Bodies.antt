@@ -58,9 +58,9 @@ binding_of policy None = policy
 -- a pass rule keeps state unless it says that it doesn't; a block rule never does
 abbrev pub state_of : Binding → Action → Option StateKeeping → Option StateRule
 state_of policy (a.Block written) keeping = None
-state_of policy a.Pass None = Some (record { binding = policy; no_sync = false })
+state_of policy a.Pass None = Some (record { binding = policy; no_sync = false; most = None })
 state_of policy a.Pass (Some k.No) = None
-state_of policy a.Pass (Some (k.Keep options)) = Some (record { binding = binding_of policy options.binding; no_sync = options.no_sync })
+state_of policy a.Pass (Some (k.Keep options)) = Some (record { binding = binding_of policy options.binding; no_sync = options.no_sync; most = options.most })
 
 -- a rule that keeps state and writes no flags asks for S/SA
 abbrev pub flags_of : Option StateRule → Option FlagsMatch → FlagsCriterion

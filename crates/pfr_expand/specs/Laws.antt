@@ -94,8 +94,8 @@ IsAsWritten (Block None) action = action ≢ does.Pass
 abbrev pub KeepsAsWritten : Action → Option StateKeeping → Option StateRule → Type 0
 KeepsAsWritten (Block written) keeping state = state ≡ None
 KeepsAsWritten Pass (Some No) state = state ≡ None
-KeepsAsWritten Pass None state = IsSomeAnd state (λ kept. kept.no_sync ≡ false)
-KeepsAsWritten Pass (Some (Keep options)) state = IsSomeAnd state (λ kept. (kept.no_sync ≡ options.no_sync) × IfSome options.binding (λ written. kept.binding ≡ written))
+KeepsAsWritten Pass None state = IsSomeAnd state (λ kept. (kept.no_sync ≡ false) × (kept.most ≡ None))
+KeepsAsWritten Pass (Some (Keep options)) state = IsSomeAnd state (λ kept. (kept.no_sync ≡ options.no_sync) × (kept.most ≡ options.most) × IfSome options.binding (λ written. kept.binding ≡ written))
 
 -- the flags that it asks for are those that are written; where none are, S/SA if it keeps state
 abbrev pub AsksAsWritten : Option FlagsMatch → Option StateRule → FlagsCriterion → Type 0

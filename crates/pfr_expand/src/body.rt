@@ -72,11 +72,13 @@ fn state_of(policy: Binding, action: Action, keeping: Option<StateKeeping>) -> O
         (Action::Pass, None) => Some(StateRule {
             binding: policy,
             no_sync: false,
+            most: None,
         }),
         (Action::Pass, Some(StateKeeping::No)) => None,
         (Action::Pass, Some(StateKeeping::Keep(options))) => Some(StateRule {
             binding: options.binding.unwrap_or(policy),
             no_sync: options.no_sync,
+            most: options.most,
         }),
     }
 }

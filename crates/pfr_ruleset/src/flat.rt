@@ -61,6 +61,8 @@ pub struct StateRule {
     pub binding: Binding,
     /// It isn't told to others.
     pub no_sync: bool,
+    /// How many states of the rule there may be, from 1 on. None: as many as there may be in all.
+    pub most: Option<u32>,
 }
 
 /// A filter rule. Its number is its place among them.

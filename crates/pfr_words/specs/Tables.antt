@@ -15,7 +15,7 @@ words_of_grammar =
     ∷ codes "pass" ∷ codes "block" ∷ codes "in" ∷ codes "out" ∷ codes "log" ∷ codes "quick"
     ∷ codes "inet" ∷ codes "proto" ∷ codes "all" ∷ codes "from" ∷ codes "to" ∷ codes "port" ∷ codes "any" ∷ codes "self"
     ∷ codes "flags" ∷ codes "icmp-type" ∷ codes "code"
-    ∷ codes "no" ∷ codes "state" ∷ codes "keep" ∷ codes "no-sync" ∷ codes "allow-opts" ∷ codes "label"
+    ∷ codes "no" ∷ codes "state" ∷ codes "keep" ∷ codes "no-sync" ∷ codes "max" ∷ codes "allow-opts" ∷ codes "label"
     ∷ codes "anchor" ∷ codes "nat-anchor" ∷ codes "rdr-anchor" ∷ codes "binat-anchor"
     ∷ codes "nat" ∷ codes "rdr" ∷ codes "binat" ∷ codes "static-port" ∷ []
 
@@ -26,7 +26,7 @@ words_left_out =
     ∷ codes "route-to" ∷ codes "reply-to" ∷ codes "dup-to" ∷ codes "tag" ∷ codes "tagged"
     ∷ codes "user" ∷ codes "group" ∷ codes "os" ∷ codes "tos" ∷ codes "probability" ∷ codes "fragment"
     ∷ codes "modulate" ∷ codes "synproxy" ∷ codes "sloppy"
-    ∷ codes "max" ∷ codes "max-src-nodes" ∷ codes "max-src-states" ∷ codes "max-src-conn" ∷ codes "max-src-conn-rate"
+    ∷ codes "max-src-nodes" ∷ codes "max-src-states" ∷ codes "max-src-conn" ∷ codes "max-src-conn-rate"
     ∷ codes "overload" ∷ codes "source-track"
     ∷ codes "bitmask" ∷ codes "random" ∷ codes "source-hash" ∷ codes "round-robin" ∷ codes "sticky-address"
     ∷ codes "file" ∷ codes "inet6" ∷ codes "icmp6-type"

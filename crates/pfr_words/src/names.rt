@@ -3,7 +3,7 @@ ghost use Rattle.std.specs.Prelude.{◌≡◌, length, map};
 ghost use Rattle.pfr_words.specs.Names as spec;
 
 /// The words of pf.conf(5)'s grammar.
-pub const GRAMMAR_WORDS: [&[u8]; 61] = [
+pub const GRAMMAR_WORDS: [&[u8]; 62] = [
     b"table",
     b"persist",
     b"const",
@@ -55,6 +55,7 @@ pub const GRAMMAR_WORDS: [&[u8]; 61] = [
     b"state",
     b"keep",
     b"no-sync",
+    b"max",
     b"allow-opts",
     b"label",
     b"anchor",
@@ -68,7 +69,7 @@ pub const GRAMMAR_WORDS: [&[u8]; 61] = [
 ];
 
 /// The words of pf.conf(5) for what this profile leaves out.
-pub const LEFT_OUT_WORDS: [&[u8]; 40] = [
+pub const LEFT_OUT_WORDS: [&[u8]; 39] = [
     b"scrub",
     b"altq",
     b"queue",
@@ -89,7 +90,6 @@ pub const LEFT_OUT_WORDS: [&[u8]; 40] = [
     b"modulate",
     b"synproxy",
     b"sloppy",
-    b"max",
     b"max-src-nodes",
     b"max-src-states",
     b"max-src-conn",
