@@ -1,3 +1,4 @@
+pub mod Answers
 pub mod Awaited
 pub mod Indexed
 pub mod KeyHash

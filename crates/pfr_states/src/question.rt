@@ -1,0 +1,14 @@
+//! What the evaluation of a packet asks of a table of states.
+use crate::change::Side;
+use pfr_track::{Key, RuleNumber};
+
+/// A question to a table of states.
+#[derive(Clone, Copy, Debug, PartialEq, Eq, Hash)]
+pub enum Question {
+    /// Which state has this key on a side.
+    At(Side, Key),
+    /// Whether there is room for one more state.
+    Room,
+    /// Whether there is room for one more state of a filter rule that may have this many.
+    RuleRoom(RuleNumber, u32),
+}
