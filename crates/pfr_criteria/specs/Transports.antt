@@ -10,6 +10,8 @@ use Rattle.pfr_ruleset.specs.declared.port.RangeOperator.TheVariants as r
 use Rattle.pfr_ruleset.specs.declared.icmp.IcmpMatch.{IcmpMatch}
 use Rattle.pfr_ruleset.specs.declared.flat.FlagsCriterion.{FlagsCriterion}
 use Rattle.pfr_ruleset.specs.declared.flat.FlagsCriterion.TheVariants as asked
+use Rattle.pfr_headers.specs.declared.icmp.IcmpMessage.{IcmpMessage}
+use Rattle.pfr_headers.specs.declared.icmp.IcmpMessage.TheVariants as message
 use Rattle.pfr_headers.specs.declared.transport.Transport.{Transport}
 use Rattle.pfr_headers.specs.declared.transport.Transport.TheVariants as t
 use Rattle.pfr_headers.specs.declared.tcp.TcpFlags.{TcpFlags}
@@ -79,3 +81,19 @@ icmp_is criterion rest = false
 unfoldable pub icmp_holds : Option IcmpMatch → Transport → Bool
 icmp_holds None transport = true
 icmp_holds (Some criterion) transport = icmp_is criterion transport
+
+-- ---- connections
+
+-- an echo is of a connection, an error and any other message are of none
+abbrev pub message_opens : IcmpMessage → Bool
+message_opens (message.Echo identifier) = true
+message_opens (message.Error inner) = false
+message_opens message.Other = false
+
+-- the packet can be the first of a connection; a part of a packet can't
+abbrev pub opens_connection : Transport → Bool
+opens_connection t.Fragment = false
+opens_connection (t.Tcp header) = true
+opens_connection (t.Udp header) = true
+opens_connection (t.Icmp header) = message_opens header.message
+opens_connection t.Other = true

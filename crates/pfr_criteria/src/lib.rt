@@ -19,3 +19,4 @@ pub use hosts::host_holds;
 pub use packets::{anchor_holds, is_named, match_holds, rule_holds};
 pub use pins::pins_in;
 pub use translations::{binat_holds, translation_holds};
+pub use transports::opens_connection;

@@ -1,9 +1,9 @@
-//! Ports, TCP flags and ICMP types.
+//! Ports, TCP flags and ICMP types, and which packets open connections.
 ghost use Rattle.std.specs.Prelude.{◌≡◌, ◌<◌, ◌≤◌};
 ghost use Rattle.std.specs.Option.{option_map};
 ghost use Rattle.pfr_criteria.specs.Transports as spec;
 
-use pfr_headers::Transport;
+use pfr_headers::{IcmpMessage, Transport};
 use pfr_ruleset::{Comparison, FlagsCriterion, IcmpMatch, PortMatch, RangeOperator};
 
 /// How a port compares with one that is written.
@@ -132,5 +132,28 @@ pub fn icmp_holds(criterion: Option<IcmpMatch>, transport: &Transport) -> bool
     match criterion {
         None => true,
         Some(criterion) => icmp_is(criterion, transport),
+    }
+}
+
+/// Whether an ICMP message can be the first of a connection, as an echo can.
+#[inline]
+fn message_opens(message: &IcmpMessage) -> bool
+    ensures { result ≡ spec.message_opens message.now }
+{
+    match message {
+        IcmpMessage::Echo(_) => true,
+        IcmpMessage::Error(_) | IcmpMessage::Other => false,
+    }
+}
+
+/// Whether a packet can be the first of a connection. A part of a packet can't, and of ICMP messages echoes alone can.
+#[inline]
+pub fn opens_connection(transport: &Transport) -> bool
+    ensures { result ≡ spec.opens_connection transport.now }
+{
+    match transport {
+        Transport::Fragment => false,
+        Transport::Icmp(header) => message_opens(&header.message),
+        Transport::Tcp(_) | Transport::Udp(_) | Transport::Other => true,
     }
 }

@@ -8,7 +8,7 @@ use Rattle.pfr_ruleset.specs.declared.flat.FlatAnchor.{FlatAnchor}
 use Rattle.pfr_ruleset.specs.declared.ruleset.Ruleset.{Ruleset}
 use Rattle.pfr_headers.specs.declared.packet.Packet.{Packet}
 use Rattle.pfr_criteria.specs.Packets.{anchor_holds}
-use Rattle.pfr_rules.specs.Filter.{last_below, some_in, ends, is_inside, is_round, is_stop, anchored, ruled, hit, passes, deciding, reach, reach_by, visited}
+use Rattle.pfr_rules.specs.Filter.{Rooms, last_below, some_in, ends, is_inside, is_round, is_stop, anchored, matched, hit, passes, deciding, reach, reach_by, visited}
 use Rattle.pfr_rules.specs.Laws.{GoesTheSameWay, IsSameButAnchor, NoneHits, PassesBy, asking_like, quick_or_not}
 use Rattle.pfr_rules.specs.Numbers.{numbers_below}
 use Rattle.pfr_rules.proofs.Agreeing.{AreSameWalks, and_left, and_right, first_kept, inside_same, last_same, none_below, own_same, same_walks, stop_same}
@@ -30,12 +30,12 @@ all_for p a b (x ∷ before) behind same = (let rest = all_for p a b before behi
 not_round : (round x y : Bool) → round ≡ false → (not round || x) ≡ (not round || y)
 not_round round x y is = rw is refl
 
-module _ (flat other : Ruleset) (packet : Packet) (direction : Direction) (a b : FlatAnchor) (s : IsSameButAnchor a b flat other) where
+module _ (flat other : Ruleset) (rooms : Rooms) (packet : Packet) (direction : Direction) (a b : FlatAnchor) (s : IsSameButAnchor a b flat other) where
   abbrev here : ℕ → Bool
-  here = hit flat packet direction
+  here = hit flat rooms packet direction
 
   abbrev there : ℕ → Bool
-  there = hit other packet direction
+  there = hit other rooms packet direction
 
   abbrev inside_here : ℕ → Bool
   inside_here = is_inside (anchored flat packet direction) flat.filter.anchors
@@ -83,42 +83,42 @@ none_in p a none = none_below (λ k. nat_le a.first k && p k) (a.last + 1) (λ k
 ends_nowhere : (p : ℕ → Bool) (k : ℕ) (a : FlatAnchor) → some_in p a ≡ false → ends p k a ≡ false
 ends_nowhere p k a none = and_right a.is_quick (a.last == k && some_in p a) (and_right (a.last == k) (some_in p a) none)
 
-module _ (flat other : Ruleset) (packet : Packet) (direction : Direction) (anchor : FlatAnchor) (quick : Bool) (none : NoneHits anchor flat packet direction) (s : IsSameButAnchor anchor (quick_or_not quick anchor) flat other) where
+module _ (flat other : Ruleset) (rooms : Rooms) (packet : Packet) (direction : Direction) (anchor : FlatAnchor) (quick : Bool) (none : NoneHits anchor flat rooms packet direction) (s : IsSameButAnchor anchor (quick_or_not quick anchor) flat other) where
   insides_quick : (k : ℕ) → is_inside (anchored other packet direction) other.filter.anchors k ≡ is_inside (anchored flat packet direction) flat.filter.anchors k
   unfolding anchor_holds
-  insides_quick k = inside_kept flat other packet direction anchor (quick_or_not quick anchor) s k refl
+  insides_quick k = inside_kept flat other rooms packet direction anchor (quick_or_not quick anchor) s k refl
 
-  hits_quick : (k : ℕ) → hit other packet direction k ≡ hit flat packet direction k
-  hits_quick k = hit_kept flat other packet direction anchor (quick_or_not quick anchor) s k (insides_quick k)
+  hits_quick : (k : ℕ) → hit other rooms packet direction k ≡ hit flat rooms packet direction k
+  hits_quick k = hit_kept flat other rooms packet direction anchor (quick_or_not quick anchor) s k (insides_quick k)
 
-  nowhere : some_in (hit flat packet direction) anchor ≡ false
-  nowhere = none_in (hit flat packet direction) anchor none
+  nowhere : some_in (hit flat rooms packet direction) anchor ≡ false
+  nowhere = none_in (hit flat rooms packet direction) anchor none
 
-  ends_quick : (k : ℕ) → ends (hit flat packet direction) k (quick_or_not quick anchor) ≡ ends (hit flat packet direction) k anchor
-  ends_quick k = ends_nowhere (hit flat packet direction) k (quick_or_not quick anchor) nowhere ∙ sym (ends_nowhere (hit flat packet direction) k anchor nowhere)
+  ends_quick : (k : ℕ) → ends (hit flat rooms packet direction) k (quick_or_not quick anchor) ≡ ends (hit flat rooms packet direction) k anchor
+  ends_quick k = ends_nowhere (hit flat rooms packet direction) k (quick_or_not quick anchor) nowhere ∙ sym (ends_nowhere (hit flat rooms packet direction) k anchor nowhere)
 
-  reached_quick : reach_by (hit other packet direction) other.filter ≡ reach_by (hit flat packet direction) flat.filter
-  reached_quick = reached_kept flat other packet direction anchor (quick_or_not quick anchor) s hits_quick ends_quick
+  reached_quick : reach_by (hit other rooms packet direction) other.filter ≡ reach_by (hit flat rooms packet direction) flat.filter
+  reached_quick = reached_kept flat other rooms packet direction anchor (quick_or_not quick anchor) s hits_quick ends_quick
 
-  walks_quick : AreSameWalks (hit flat packet direction) (hit other packet direction) (is_inside (anchored flat packet direction) flat.filter.anchors) (is_inside (anchored other packet direction) other.filter.anchors) (reach_by (hit flat packet direction) flat.filter) (reach_by (hit other packet direction) other.filter)
-  walks_quick = same_walks (hit flat packet direction) (hit other packet direction) (is_inside (anchored flat packet direction) flat.filter.anchors) (is_inside (anchored other packet direction) other.filter.anchors)
-      (reach_by (hit flat packet direction) flat.filter) (reach_by (hit other packet direction) other.filter) reached_quick (λ k below. hits_quick k) (λ k below. insides_quick k)
+  walks_quick : AreSameWalks (hit flat rooms packet direction) (hit other rooms packet direction) (is_inside (anchored flat packet direction) flat.filter.anchors) (is_inside (anchored other packet direction) other.filter.anchors) (reach_by (hit flat rooms packet direction) flat.filter) (reach_by (hit other rooms packet direction) other.filter)
+  walks_quick = same_walks (hit flat rooms packet direction) (hit other rooms packet direction) (is_inside (anchored flat packet direction) flat.filter.anchors) (is_inside (anchored other packet direction) other.filter.anchors)
+      (reach_by (hit flat rooms packet direction) flat.filter) (reach_by (hit other rooms packet direction) other.filter) reached_quick (λ k below. hits_quick k) (λ k below. insides_quick k)
 
-pub quick_says_nothing : (flat other : Ruleset) (packet : Packet) (direction : Direction) (anchor : FlatAnchor) (quick : Bool) → NoneHits anchor flat packet direction → IsSameButAnchor anchor (quick_or_not quick anchor) flat other
-    → GoesTheSameWay flat other packet direction
+pub quick_says_nothing : (flat other : Ruleset) (rooms : Rooms) (packet : Packet) (direction : Direction) (anchor : FlatAnchor) (quick : Bool) → NoneHits anchor flat rooms packet direction → IsSameButAnchor anchor (quick_or_not quick anchor) flat other
+    → GoesTheSameWay flat other rooms packet direction
 unfolding deciding reach visited
-quick_says_nothing flat other packet direction anchor quick none s = (let both = walks_quick flat other packet direction anchor quick none s in record { decides = both.0; visits = both.1 })
+quick_says_nothing flat other rooms packet direction anchor quick none s = (let both = walks_quick flat other rooms packet direction anchor quick none s in record { decides = both.0; visits = both.1 })
 
 -- ---- an anchor that asks for something else
 
-module _ (flat other : Ruleset) (packet : Packet) (direction : Direction) (anchor asked : FlatAnchor) (none_here : NoneHits anchor flat packet direction) (none_there : NoneHits anchor other packet direction) (s : IsSameButAnchor anchor (asking_like asked anchor) flat other) where
+module _ (flat other : Ruleset) (rooms : Rooms) (packet : Packet) (direction : Direction) (anchor asked : FlatAnchor) (none_here : NoneHits anchor flat rooms packet direction) (none_there : NoneHits anchor other rooms packet direction) (s : IsSameButAnchor anchor (asking_like asked anchor) flat other) where
   -- a place that the anchor doesn't stand round
-  kept_outside : (k : ℕ) → is_round anchor k ≡ false → hit other packet direction k ≡ hit flat packet direction k
-  kept_outside k outside = hit_kept flat other packet direction anchor (asking_like asked anchor) s k
-      (inside_kept flat other packet direction anchor (asking_like asked anchor) s k
+  kept_outside : (k : ℕ) → is_round anchor k ≡ false → hit other rooms packet direction k ≡ hit flat rooms packet direction k
+  kept_outside k outside = hit_kept flat other rooms packet direction anchor (asking_like asked anchor) s k
+      (inside_kept flat other rooms packet direction anchor (asking_like asked anchor) s k
       (not_round (is_round anchor k) (anchored flat packet direction (asking_like asked anchor)) (anchored flat packet direction anchor) outside))
 
-  hits_asked : (k : ℕ) → hit other packet direction k ≡ hit flat packet direction k
+  hits_asked : (k : ℕ) → hit other rooms packet direction k ≡ hit flat rooms packet direction k
   hits_asked k = elim (cases_lt k anchor.first) [
     | inl before ↦ kept_outside k (and_left (nat_le anchor.first k) (nat_le k anchor.last) (lt-leb anchor.first k before))
     | inr from ↦ elim (cases_lt anchor.last k) [
@@ -127,16 +127,16 @@ module _ (flat other : Ruleset) (packet : Packet) (direction : Direction) (ancho
     ]
   ]
 
-  reached_asked : reach_by (hit other packet direction) other.filter ≡ reach_by (hit flat packet direction) flat.filter
-  reached_asked = reached_kept flat other packet direction anchor (asking_like asked anchor) s hits_asked (λ k. refl)
+  reached_asked : reach_by (hit other rooms packet direction) other.filter ≡ reach_by (hit flat rooms packet direction) flat.filter
+  reached_asked = reached_kept flat other rooms packet direction anchor (asking_like asked anchor) s hits_asked (λ k. refl)
 
-  decides_asked : last_below (hit other packet direction) (reach_by (hit other packet direction) other.filter) ≡ last_below (hit flat packet direction) (reach_by (hit flat packet direction) flat.filter)
-  decides_asked = ap (last_below (hit other packet direction)) reached_asked ∙ last_same (reach_by (hit flat packet direction) flat.filter) (hit flat packet direction) (hit other packet direction) (λ k below. hits_asked k)
+  decides_asked : last_below (hit other rooms packet direction) (reach_by (hit other rooms packet direction) other.filter) ≡ last_below (hit flat rooms packet direction) (reach_by (hit flat rooms packet direction) flat.filter)
+  decides_asked = ap (last_below (hit other rooms packet direction)) reached_asked ∙ last_same (reach_by (hit flat rooms packet direction) flat.filter) (hit flat rooms packet direction) (hit other rooms packet direction) (λ k below. hits_asked k)
 
-pub same_decides : (flat other : Ruleset) (packet : Packet) (direction : Direction) (anchor asked : FlatAnchor) → NoneHits anchor flat packet direction → NoneHits anchor other packet direction → IsSameButAnchor anchor (asking_like asked anchor) flat other
-    → deciding other packet direction ≡ deciding flat packet direction
+pub same_decides : (flat other : Ruleset) (rooms : Rooms) (packet : Packet) (direction : Direction) (anchor asked : FlatAnchor) → NoneHits anchor flat rooms packet direction → NoneHits anchor other rooms packet direction → IsSameButAnchor anchor (asking_like asked anchor) flat other
+    → deciding other rooms packet direction ≡ deciding flat rooms packet direction
 unfolding deciding reach
-same_decides flat other packet direction anchor asked none_here none_there s = decides_asked flat other packet direction anchor asked none_here none_there s
+same_decides flat other rooms packet direction anchor asked none_here none_there s = decides_asked flat other rooms packet direction anchor asked none_here none_there s
 
 -- ---- an anchor that doesn't hold
 
@@ -156,15 +156,15 @@ shut_out flat packet direction anchor place among fails from to =
     let round : is_round anchor place ≡ true = rw (above, below) refl in
     all_fails (λ x. not (is_round x place) || anchored flat packet direction x) flat.filter.anchors anchor among (not_in (is_round anchor place) (anchored flat packet direction anchor) round fails)
 
-pub passes_by : (flat : Ruleset) (packet : Packet) (direction : Direction) (anchor : FlatAnchor) (place : ℕ) → Contains flat.filter.anchors anchor → anchor_holds anchor flat.interface.name flat.tables packet direction ≡ false → anchor.first ≤ place → place ≤ anchor.last
-    → PassesBy flat packet direction place
+pub passes_by : (flat : Ruleset) (rooms : Rooms) (packet : Packet) (direction : Direction) (anchor : FlatAnchor) (place : ℕ) → Contains flat.filter.anchors anchor → anchor_holds anchor flat.interface.name flat.tables packet direction ≡ false → anchor.first ≤ place → place ≤ anchor.last
+    → PassesBy flat rooms packet direction place
 unfolding deciding reach visited
-passes_by flat packet direction anchor place among fails from to =
+passes_by flat rooms packet direction anchor place among fails from to =
     let inside = is_inside (anchored flat packet direction) flat.filter.anchors in
-    let reached = reach_by (hit flat packet direction) flat.filter in
+    let reached = reach_by (hit flat rooms packet direction) flat.filter in
     let out : inside place ≡ false = shut_out flat packet direction anchor place among fails from to in
-    let missed : hit flat packet direction place ≡ false = and_left (inside place) (passes (ruled flat packet direction) (slice_get flat.filter.rules place)) out in
+    let missed : hit flat rooms packet direction place ≡ false = and_left (inside place) (passes (matched flat rooms packet direction place) (slice_get flat.filter.rules place)) out in
     record {
-      decides = λ is. (let last = last_within (hit flat packet direction) reached place is in let held = last.1 in absurd (cc (held, missed)));
+      decides = λ is. (let last = last_within (hit flat rooms packet direction) reached place is in let held = last.1 in absurd (cc (held, missed)));
       visits = λ there. (let held : inside place ≡ true = All-contains (λ k. inside k ≡ true) (filter inside (numbers_below reached)) place (filter_passes inside (numbers_below reached)) there in absurd (cc (held, out)));
     }

@@ -9,7 +9,7 @@ use Rattle.pfr_ruleset.specs.declared.flat.FlatAnchor.{FlatAnchor}
 use Rattle.pfr_ruleset.specs.declared.ruleset.Ruleset.{Ruleset}
 use Rattle.pfr_headers.specs.declared.packet.Packet.{Packet}
 use Rattle.pfr_criteria.specs.Packets.{anchor_holds}
-use Rattle.pfr_rules.specs.Filter.{some_in, ends, is_inside, is_quick, is_round, is_stop, anchored, hit, passes, deciding, reach, reach_by, visited}
+use Rattle.pfr_rules.specs.Filter.{Rooms, some_in, ends, is_inside, is_quick, is_round, is_stop, anchored, hit, passes, deciding, reach, reach_by, visited}
 use Rattle.pfr_rules.specs.Laws.{GoesTheSameWay, IsSameUpTo, anchors_up_to, begins_by, cut_at}
 use Rattle.pfr_rules.proofs.Agreeing.{AgreeBelow, AreSameWalks, and_left, and_right, by_place, first_moves, inside_same, none_below, own_same, same_walks, stop_same}
 
@@ -88,12 +88,12 @@ ends_up_to p place k xs before = any_up_to (ends p k) place (λ a is. ends_cut p
 own_stop : (found : Option FlatRule) (rule : FlatRule) (held rest : Bool) → found ≡ Some rule → rule.is_quick ≡ true → held ≡ true → ((passes is_quick found && held) || rest) ≡ true
 own_stop found rule held rest at quick is = rw (at, quick, is) refl
 
-module _ (flat other : Ruleset) (packet : Packet) (direction : Direction) (place : ℕ) (rule : FlatRule) (at : slice_get flat.filter.rules place ≡ Some rule) (quick : rule.is_quick ≡ true) (held : hit flat packet direction place ≡ true) (s : IsSameUpTo place flat other) where
+module _ (flat other : Ruleset) (rooms : Rooms) (packet : Packet) (direction : Direction) (place : ℕ) (rule : FlatRule) (at : slice_get flat.filter.rules place ≡ Some rule) (quick : rule.is_quick ≡ true) (held : hit flat rooms packet direction place ≡ true) (s : IsSameUpTo place flat other) where
   abbrev here : ℕ → Bool
-  here = hit flat packet direction
+  here = hit flat rooms packet direction
 
   abbrev there : ℕ → Bool
-  there = hit other packet direction
+  there = hit other rooms packet direction
 
   abbrev inside_here : ℕ → Bool
   inside_here = is_inside (anchored flat packet direction) flat.filter.anchors
@@ -156,7 +156,7 @@ module _ (flat other : Ruleset) (packet : Packet) (direction : Direction) (place
       same_walks here there inside_here inside_there (reach_by here flat.filter) (reach_by there other.filter) (rw (moved, stop) refl)
       (rw stop (λ k below. hits_kept k (omega (arith, below, upto)))) (rw stop (λ k below. inside_kept k (omega (arith, below, upto))))
 
-pub same_way : (flat other : Ruleset) (packet : Packet) (direction : Direction) (place : ℕ) (rule : FlatRule) → slice_get flat.filter.rules place ≡ Some rule → rule.is_quick ≡ true → hit flat packet direction place ≡ true → IsSameUpTo place flat other
-    → GoesTheSameWay flat other packet direction
+pub same_way : (flat other : Ruleset) (rooms : Rooms) (packet : Packet) (direction : Direction) (place : ℕ) (rule : FlatRule) → slice_get flat.filter.rules place ≡ Some rule → rule.is_quick ≡ true → hit flat rooms packet direction place ≡ true → IsSameUpTo place flat other
+    → GoesTheSameWay flat other rooms packet direction
 unfolding deciding reach visited
-same_way flat other packet direction place rule at quick held s = (let both = walks flat other packet direction place rule at quick held s in record { decides = both.0; visits = both.1 })
+same_way flat other rooms packet direction place rule at quick held s = (let both = walks flat other rooms packet direction place rule at quick held s in record { decides = both.0; visits = both.1 })

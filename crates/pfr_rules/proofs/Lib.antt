@@ -5,6 +5,7 @@ pub mod AskedLemmas
 pub mod BehindLemmas
 pub mod Numbers
 pub mod Places
+pub mod RoomLemmas
 pub mod SearchLemmas
 pub mod Stops
 pub mod Stretches

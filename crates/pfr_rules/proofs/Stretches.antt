@@ -47,9 +47,17 @@ no_stop_by : (p : ℕ → Bool) (place q opening : ℕ) (decided : Option ℕ) �
 no_stop_by p place q opening None is from opens = refl
 no_stop_by p place q opening (Some d) is from opens = (let below = last_within p place d is in lt-leb opening d (omega (arith, below.0, from, opens)))
 
-module _ (anchored : FlatAnchor → Bool) (ruled : FlatRule → Bool) (lists : RuleLists) (openings : List ℕ) (place next to : ℕ) (decided : Option ℕ) (visits : List ℕ) (found : Option FlatAnchor) (s : So anchored ruled lists place next decided visits) (placed : ArePlaced lists.rules lists.anchors) (has : HasOpenings lists.rules lists.anchors openings) (is : slice_get lists.anchors next ≡ found) (from : place ≤ to) (upto : to ≤ next_first found (length lists.rules)) (small : to ≤ 18446744073709551615) (fails : NoneHolds ruled lists.rules place to) (stops : NoneStops lists place to) where
+-- a test that holds of no rule of which another one fails
+abbrev pub IsStricter : (FlatRule → Bool) → (FlatRule → Bool) → Type 0
+IsStricter ruled matched = (rule : FlatRule) → ruled rule ≡ false → matched rule ≡ false
+
+fails_too : (ruled matched : FlatRule → Bool) (found : Option FlatRule) → IsStricter ruled matched → passes ruled found ≡ false → passes matched found ≡ false
+fails_too ruled matched None holds fails = refl
+fails_too ruled matched (Some rule) holds fails = holds rule fails
+
+module _ (anchored : FlatAnchor → Bool) (ruled : FlatRule → Bool) (matched : ℕ → FlatRule → Bool) (holds : (q : ℕ) → IsStricter ruled (matched q)) (lists : RuleLists) (openings : List ℕ) (place next to : ℕ) (decided : Option ℕ) (visits : List ℕ) (found : Option FlatAnchor) (s : So anchored matched lists place next decided visits) (placed : ArePlaced lists.rules lists.anchors) (has : HasOpenings lists.rules lists.anchors openings) (is : slice_get lists.anchors next ≡ found) (from : place ≤ to) (upto : to ≤ next_first found (length lists.rules)) (small : to ≤ 18446744073709551615) (fails : NoneHolds ruled lists.rules place to) (stops : NoneStops lists place to) where
   abbrev hit : ℕ → Bool
-  hit = hits anchored ruled lists
+  hit = hits anchored matched lists
 
   within : to ≤ length lists.rules
   within = (let first = first_within found (length lists.rules) in omega (arith, upto, first))
@@ -64,7 +72,7 @@ module _ (anchored : FlatAnchor → Bool) (ruled : FlatRule → Bool) (lists : R
   inside q above below = s.inside q above ∙ none_round anchored q (drop next lists.anchors) (All-weaker (λ b. to ≤ b.first) (λ b. q < b.first) (λ b p. omega (arith, p, below)) (drop next lists.anchors) behind)
 
   misses : (q : ℕ) → place ≤ q → q < to → hit q ≡ false
-  misses q above below = and_false (is_inside anchored lists.anchors q) (passes ruled (slice_get lists.rules q)) (fails q above below)
+  misses q above below = and_false (is_inside anchored lists.anchors q) (passes (matched q) (slice_get lists.rules q)) (fails_too ruled (matched q) (slice_get lists.rules q) (holds q) (fails q above below))
 
   stop_free : (q : ℕ) → place ≤ q → q < to → is_stop hit lists q ≡ false
   stop_free q above below =
@@ -79,7 +87,7 @@ module _ (anchored : FlatAnchor → Bool) (ruled : FlatRule → Bool) (lists : R
     | inr above ↦ stop_free k (omega (arith, above)) below
   ]
 
-  pub jump_open : So anchored ruled lists to next decided (visits ++ numbers_from place (to - place))
+  pub jump_open : So anchored matched lists to next decided (visits ++ numbers_from place (to - place))
   jump_open =
       let e : place + (to - place) ≡ to = omega (arith, from) in
       let on : filter (is_inside anchored lists.anchors) (numbers_below place) ++ numbers_from place (to - place) ≡ filter (is_inside anchored lists.anchors) (numbers_below (place + (to - place))) = passed_on (is_inside anchored lists.anchors) place (to - place) (λ q above below. inside q above (omega (arith, below, e))) in
@@ -94,7 +102,7 @@ module _ (anchored : FlatAnchor → Bool) (ruled : FlatRule → Bool) (lists : R
       }
 
   -- the rule behind the stretch is visited too
-  pub visit_behind : (new : Option ℕ) (more : List ℕ) (rule : FlatRule) (is_hit : Bool) → to < next_first found (length lists.rules) → slice_get lists.rules to ≡ Some rule → is_hit ≡ ruled rule → new ≡ (if is_hit then Some to else decided) → more ≡ visits ++ numbers_from place (to + 1 - place) → Visited anchored ruled lists to next new more
+  pub visit_behind : (new : Option ℕ) (more : List ℕ) (rule : FlatRule) (is_hit : Bool) → to < next_first found (length lists.rules) → slice_get lists.rules to ≡ Some rule → is_hit ≡ matched to rule → new ≡ (if is_hit then Some to else decided) → more ≡ visits ++ numbers_from place (to + 1 - place) → Visited anchored matched lists to next new more
   visit_behind new more rule is_hit less at holds new_is more_is =
       let more_on : more ≡ (visits ++ numbers_from place (to - place)) ++ to ∷ [] = more_is ∙ rw (one_behind place to from) (sym (append_assoc visits (numbers_from place (to - place)) (to ∷ []))) in
-      visited_rule anchored ruled lists to next decided new (visits ++ numbers_from place (to - place)) more found rule is_hit jump_open placed is (before_first found (length lists.rules) to less) at holds new_is more_on
+      visited_rule anchored matched lists to next decided new (visits ++ numbers_from place (to - place)) more found rule is_hit jump_open placed is (before_first found (length lists.rules) to less) at holds new_is more_on

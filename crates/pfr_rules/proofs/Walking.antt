@@ -13,7 +13,7 @@ use Rattle.pfr_ruleset.specs.declared.filter_rules.RuleLists.{RuleLists}
 use Rattle.pfr_ruleset.specs.Places.{IsPlaced, Follows, AreNested, AreWithin, ArePlaced}
 use Rattle.pfr_ruleset.specs.declared.ruleset.Ruleset.{Ruleset}
 use Rattle.pfr_headers.specs.declared.packet.Packet.{Packet}
-use Rattle.pfr_rules.specs.Filter.{last_below, first_below, some_in, ends, is_inside, is_round, hits, is_quick, passes, is_stop, reach_by, begun, anchored as anchored_of, ruled as ruled_of, reach, deciding, visited as visited_of}
+use Rattle.pfr_rules.specs.Filter.{last_below, first_below, some_in, ends, is_inside, is_round, hits, is_quick, passes, is_stop, reach_by, begun, anchored as anchored_of, Rooms, matched as matched_of, reach, deciding, visited as visited_of}
 use Rattle.pfr_rules.specs.Numbers.{numbers_below}
 use Rattle.pfr_rules.proofs.Places.{and_both, last_within, last_skips, first_none, none_first, first_found, some_found}
 
@@ -22,19 +22,19 @@ abbrev pub IsAhead : ℕ → FlatAnchor → Type 0
 IsAhead place a = (place ≤ a.first) ⊎ (a.last < place)
 
 -- a walk that has come to a place, with the anchors from `next` on before it
-pub record So (anchored : FlatAnchor → Bool) (ruled : FlatRule → Bool) (lists : RuleLists) (place next : ℕ) (decided : Option ℕ) (visits : List ℕ) : Type 0 where
+pub record So (anchored : FlatAnchor → Bool) (matched : ℕ → FlatRule → Bool) (lists : RuleLists) (place next : ℕ) (decided : Option ℕ) (visits : List ℕ) : Type 0 where
   pub within : place ≤ length lists.rules
   pub few : next ≤ length lists.anchors
-  pub no_stop : first_below (is_stop (hits anchored ruled lists) lists) place ≡ None
-  pub decides : decided ≡ last_below (hits anchored ruled lists) place
+  pub no_stop : first_below (is_stop (hits anchored matched lists) lists) place ≡ None
+  pub decides : decided ≡ last_below (hits anchored matched lists) place
   pub visited : visits ≡ filter (is_inside anchored lists.anchors) (numbers_below place)
   pub inside : (q : ℕ) → place ≤ q → is_inside anchored lists.anchors q ≡ is_inside anchored (drop next lists.anchors) q
   pub ahead : All (IsAhead place) (drop next lists.anchors)
 
 -- a walk that ended: all is said of the rules that are reached
-pub record Ended (anchored : FlatAnchor → Bool) (ruled : FlatRule → Bool) (lists : RuleLists) (decided : Option ℕ) (visits : List ℕ) : Type 0 where
-  pub decides : decided ≡ last_below (hits anchored ruled lists) (reach_by (hits anchored ruled lists) lists)
-  pub visited : visits ≡ filter (is_inside anchored lists.anchors) (numbers_below (reach_by (hits anchored ruled lists) lists))
+pub record Ended (anchored : FlatAnchor → Bool) (matched : ℕ → FlatRule → Bool) (lists : RuleLists) (decided : Option ℕ) (visits : List ℕ) : Type 0 where
+  pub decides : decided ≡ last_below (hits anchored matched lists) (reach_by (hits anchored matched lists) lists)
+  pub visited : visits ≡ filter (is_inside anchored lists.anchors) (numbers_below (reach_by (hits anchored matched lists) lists))
   pub within : (place : ℕ) → decided ≡ Some place → place < length lists.rules
 
 -- ---- lists
@@ -110,8 +110,8 @@ none_begun : (xs : List FlatAnchor) → All (IsAhead 0) xs
 none_begun [] = All-nil (IsAhead 0)
 none_begun (a ∷ xs) = All-cons (IsAhead 0) a xs (inl (omega arith)) (none_begun xs)
 
-pub so_start : (anchored : FlatAnchor → Bool) (ruled : FlatRule → Bool) (lists : RuleLists) → So anchored ruled lists 0 0 None []
-so_start anchored ruled lists = record {
+pub so_start : (anchored : FlatAnchor → Bool) (matched : ℕ → FlatRule → Bool) (lists : RuleLists) → So anchored matched lists 0 0 None []
+so_start anchored matched lists = record {
   within = omega arith;
   few = omega arith;
   no_stop = refl;
@@ -121,8 +121,8 @@ so_start anchored ruled lists = record {
   ahead = none_begun lists.anchors;
 }
 
-pub so_past : (anchored : FlatAnchor → Bool) (ruled : FlatRule → Bool) (lists : RuleLists) (place next : ℕ) (decided : Option ℕ) (visits : List ℕ) (a : FlatAnchor) → So anchored ruled lists place next decided visits → slice_get lists.anchors next ≡ Some a → (a.last < place) ⊎ (anchored a ≡ true) → So anchored ruled lists place (next + 1) decided visits
-so_past anchored ruled lists place next decided visits a s is holds =
+pub so_past : (anchored : FlatAnchor → Bool) (matched : ℕ → FlatRule → Bool) (lists : RuleLists) (place next : ℕ) (decided : Option ℕ) (visits : List ℕ) (a : FlatAnchor) → So anchored matched lists place next decided visits → slice_get lists.anchors next ≡ Some a → (a.last < place) ⊎ (anchored a ≡ true) → So anchored matched lists place (next + 1) decided visits
+so_past anchored matched lists place next decided visits a s is holds =
     let head = drop_head lists.anchors next a is in
     let ahead : All (IsAhead place) (a ∷ drop (next + 1) lists.anchors) = subst (λ ys. All (IsAhead place) ys) head s.ahead in
     let below = slice_get_within lists.anchors next a is in
@@ -143,84 +143,84 @@ one_more p place is = (let e = add-one place in rw (e, filter-append p (numbers_
 next_hit : (p : ℕ → Bool) (place : ℕ) → last_below p (place + 1) ≡ (if p place then Some place else last_below p place)
 next_hit p place = (let e = add-one place in rw e refl)
 
-hit_is : (anchored : FlatAnchor → Bool) (ruled : FlatRule → Bool) (lists : RuleLists) (place : ℕ) (rule : FlatRule) → slice_get lists.rules place ≡ Some rule → is_inside anchored lists.anchors place ≡ true → hits anchored ruled lists place ≡ ruled rule
-hit_is anchored ruled lists place rule is inside = rw (is, inside) refl
+hit_is : (anchored : FlatAnchor → Bool) (matched : ℕ → FlatRule → Bool) (lists : RuleLists) (place : ℕ) (rule : FlatRule) → slice_get lists.rules place ≡ Some rule → is_inside anchored lists.anchors place ≡ true → hits anchored matched lists place ≡ matched place rule
+hit_is anchored matched lists place rule is inside = rw (is, inside) refl
 
 no_stop_at : (p : ℕ → Bool) (place : ℕ) → first_below p place ≡ None → p place ≡ false → first_below p (place + 1) ≡ None
 no_stop_at p place none fails = (let e = add-one place in rw (e, none, fails) refl)
 
 -- what is known behind a visited rule, before it is asked whether the walk ends
-pub record Visited (anchored : FlatAnchor → Bool) (ruled : FlatRule → Bool) (lists : RuleLists) (place next : ℕ) (decided : Option ℕ) (visits : List ℕ) : Type 0 where
+pub record Visited (anchored : FlatAnchor → Bool) (matched : ℕ → FlatRule → Bool) (lists : RuleLists) (place next : ℕ) (decided : Option ℕ) (visits : List ℕ) : Type 0 where
   pub within : place < length lists.rules
   pub few : next ≤ length lists.anchors
-  pub no_stop : first_below (is_stop (hits anchored ruled lists) lists) place ≡ None
-  pub decides : decided ≡ last_below (hits anchored ruled lists) (place + 1)
+  pub no_stop : first_below (is_stop (hits anchored matched lists) lists) place ≡ None
+  pub decides : decided ≡ last_below (hits anchored matched lists) (place + 1)
   pub visited : visits ≡ filter (is_inside anchored lists.anchors) (numbers_below (place + 1))
   pub inside : (q : ℕ) → place + 1 ≤ q → is_inside anchored lists.anchors q ≡ is_inside anchored (drop next lists.anchors) q
   pub ahead : All (IsAhead (place + 1)) (drop next lists.anchors)
 
-pub visit : (anchored : FlatAnchor → Bool) (ruled : FlatRule → Bool) (lists : RuleLists) (place next : ℕ) (decided : Option ℕ) (visits : List ℕ) (found : Option FlatAnchor) (rule : FlatRule) → So anchored ruled lists place next decided visits → ArePlaced lists.rules lists.anchors → slice_get lists.anchors next ≡ found → IsNext place found → slice_get lists.rules place ≡ Some rule
-    → Visited anchored ruled lists place next (if ruled rule then Some place else decided) (visits ++ place ∷ [])
+pub visit : (anchored : FlatAnchor → Bool) (matched : ℕ → FlatRule → Bool) (lists : RuleLists) (place next : ℕ) (decided : Option ℕ) (visits : List ℕ) (found : Option FlatAnchor) (rule : FlatRule) → So anchored matched lists place next decided visits → ArePlaced lists.rules lists.anchors → slice_get lists.anchors next ≡ found → IsNext place found → slice_get lists.rules place ≡ Some rule
+    → Visited anchored matched lists place next (if matched place rule then Some place else decided) (visits ++ place ∷ [])
 unfolding AreWithin
-visit anchored ruled lists place next decided visits found rule s placed is ahead at =
+visit anchored matched lists place next decided visits found rule s placed is ahead at =
     let behind = all_behind place lists.anchors next found is ahead placed.1 in
     let inside : is_inside anchored lists.anchors place ≡ true = s.inside place (omega arith) ∙ none_round anchored place (drop next lists.anchors) behind in
-    let hit = hit_is anchored ruled lists place rule at inside in
+    let hit = hit_is anchored matched lists place rule at inside in
     record {
       within = slice_get_within lists.rules place rule at;
       few = s.few;
       no_stop = s.no_stop;
-      decides = rw s.decides (sym (next_hit (hits anchored ruled lists) place ∙ rw hit refl));
+      decides = rw s.decides (sym (next_hit (hits anchored matched lists) place ∙ rw hit refl));
       visited = rw s.visited (sym (one_more (is_inside anchored lists.anchors) place inside));
       inside = λ q le. s.inside q (omega (arith, le));
       ahead = All-weaker (λ b. place < b.first) (IsAhead (place + 1)) (λ b p. inl (omega (arith, p))) (drop next lists.anchors) behind;
     }
 
-pub so_next : (anchored : FlatAnchor → Bool) (ruled : FlatRule → Bool) (lists : RuleLists) (place next : ℕ) (decided : Option ℕ) (visits : List ℕ) → Visited anchored ruled lists place next decided visits → is_stop (hits anchored ruled lists) lists place ≡ false → So anchored ruled lists (place + 1) next decided visits
-so_next anchored ruled lists place next decided visits v on =
+pub so_next : (anchored : FlatAnchor → Bool) (matched : ℕ → FlatRule → Bool) (lists : RuleLists) (place next : ℕ) (decided : Option ℕ) (visits : List ℕ) → Visited anchored matched lists place next decided visits → is_stop (hits anchored matched lists) lists place ≡ false → So anchored matched lists (place + 1) next decided visits
+so_next anchored matched lists place next decided visits v on =
     let within = v.within in
     record {
       within = omega (arith, within);
       few = v.few;
-      no_stop = no_stop_at (is_stop (hits anchored ruled lists) lists) place v.no_stop on;
+      no_stop = no_stop_at (is_stop (hits anchored matched lists) lists) place v.no_stop on;
       decides = v.decides;
       visited = v.visited;
       inside = v.inside;
       ahead = v.ahead;
     }
 
-pub ended_at : (anchored : FlatAnchor → Bool) (ruled : FlatRule → Bool) (lists : RuleLists) (place next : ℕ) (decided : Option ℕ) (visits : List ℕ) → Visited anchored ruled lists place next decided visits → is_stop (hits anchored ruled lists) lists place ≡ true → Ended anchored ruled lists decided visits
-ended_at anchored ruled lists place next decided visits v stop =
-    let first : first_below (is_stop (hits anchored ruled lists) lists) (length lists.rules) ≡ Some place = first_found (is_stop (hits anchored ruled lists) lists) place (length lists.rules) v.no_stop stop v.within in
+pub ended_at : (anchored : FlatAnchor → Bool) (matched : ℕ → FlatRule → Bool) (lists : RuleLists) (place next : ℕ) (decided : Option ℕ) (visits : List ℕ) → Visited anchored matched lists place next decided visits → is_stop (hits anchored matched lists) lists place ≡ true → Ended anchored matched lists decided visits
+ended_at anchored matched lists place next decided visits v stop =
+    let first : first_below (is_stop (hits anchored matched lists) lists) (length lists.rules) ≡ Some place = first_found (is_stop (hits anchored matched lists) lists) place (length lists.rules) v.no_stop stop v.within in
     record {
       decides = rw first v.decides;
       visited = rw first v.visited;
-      within = λ hit is. (let below = last_within (hits anchored ruled lists) (place + 1) hit (sym v.decides ∙ is) in let within = v.within in omega (arith, below.0, within));
+      within = λ hit is. (let below = last_within (hits anchored matched lists) (place + 1) hit (sym v.decides ∙ is) in let within = v.within in omega (arith, below.0, within));
     }
 
-pub ended_all : (anchored : FlatAnchor → Bool) (ruled : FlatRule → Bool) (lists : RuleLists) (place next : ℕ) (decided : Option ℕ) (visits : List ℕ) → So anchored ruled lists place next decided visits → length lists.rules ≤ place → Ended anchored ruled lists decided visits
-ended_all anchored ruled lists place next decided visits s all =
+pub ended_all : (anchored : FlatAnchor → Bool) (matched : ℕ → FlatRule → Bool) (lists : RuleLists) (place next : ℕ) (decided : Option ℕ) (visits : List ℕ) → So anchored matched lists place next decided visits → length lists.rules ≤ place → Ended anchored matched lists decided visits
+ended_all anchored matched lists place next decided visits s all =
     let within = s.within in
     let same : place ≡ length lists.rules = omega (arith, all, within) in
-    let none : first_below (is_stop (hits anchored ruled lists) lists) (length lists.rules) ≡ None = rw (← same) s.no_stop in
+    let none : first_below (is_stop (hits anchored matched lists) lists) (length lists.rules) ≡ None = rw (← same) s.no_stop in
     record {
       decides = rw (none, ← same) s.decides;
       visited = rw (none, ← same) s.visited;
-      within = λ hit is. (let below = last_within (hits anchored ruled lists) place hit (sym s.decides ∙ is) in omega (arith, below.0, within));
+      within = λ hit is. (let below = last_within (hits anchored matched lists) place hit (sym s.decides ∙ is) in omega (arith, below.0, within));
     }
 
 -- ---- an anchor that doesn't hold
 
 -- no rule of it hits
-none_hit : (anchored : FlatAnchor → Bool) (ruled : FlatRule → Bool) (lists : RuleLists) (place next : ℕ) (decided : Option ℕ) (visits : List ℕ) (a : FlatAnchor) → So anchored ruled lists place next decided visits → slice_get lists.anchors next ≡ Some a → a.first ≤ place → anchored a ≡ false
+none_hit : (anchored : FlatAnchor → Bool) (matched : ℕ → FlatRule → Bool) (lists : RuleLists) (place next : ℕ) (decided : Option ℕ) (visits : List ℕ) (a : FlatAnchor) → So anchored matched lists place next decided visits → slice_get lists.anchors next ≡ Some a → a.first ≤ place → anchored a ≡ false
     → (q : ℕ) → place ≤ q → q ≤ a.last → is_inside anchored lists.anchors q ≡ false
-none_hit anchored ruled lists place next decided visits a s is first fails q from upto =
+none_hit anchored matched lists place next decided visits a s is first fails q from upto =
     let head = drop_head lists.anchors next a is in
     let shuts = shut anchored (drop (next + 1) lists.anchors) a q fails (omega (arith, first, from)) upto in
     s.inside q from ∙ rw head shuts
 
-hit_inside : (anchored : FlatAnchor → Bool) (ruled : FlatRule → Bool) (lists : RuleLists) (q : ℕ) → is_inside anchored lists.anchors q ≡ false → hits anchored ruled lists q ≡ false
-hit_inside anchored ruled lists q outside = rw outside refl
+hit_inside : (anchored : FlatAnchor → Bool) (matched : ℕ → FlatRule → Bool) (lists : RuleLists) (q : ℕ) → is_inside anchored lists.anchors q ≡ false → hits anchored matched lists q ≡ false
+hit_inside anchored matched lists q outside = rw outside refl
 
 -- numbers at which the test fails add nothing
 visits_skip : (p : ℕ → Bool) (n m : ℕ) → n ≤ m → ((k : ℕ) → n ≤ k → k < m → p k ≡ false) → filter p (numbers_below m) ≡ filter p (numbers_below n)
@@ -280,12 +280,12 @@ or_fails : (b c : Bool) → b ≡ false → c ≡ false → (b || c) ≡ false
 or_fails b c first second = rw (first, second) refl
 
 -- no walk ends among the rules of an anchor that doesn't hold, but for the last one
-module _ (anchored : FlatAnchor → Bool) (ruled : FlatRule → Bool) (lists : RuleLists) (place next : ℕ) (decided : Option ℕ) (visits : List ℕ) (a : FlatAnchor) (s : So anchored ruled lists place next decided visits) (nested : AreNested lists.anchors) (at : slice_get lists.anchors next ≡ Some a) (first : a.first ≤ place) (last : place ≤ a.last) (fails : anchored a ≡ false) where
+module _ (anchored : FlatAnchor → Bool) (matched : ℕ → FlatRule → Bool) (lists : RuleLists) (place next : ℕ) (decided : Option ℕ) (visits : List ℕ) (a : FlatAnchor) (s : So anchored matched lists place next decided visits) (nested : AreNested lists.anchors) (at : slice_get lists.anchors next ≡ Some a) (first : a.first ≤ place) (last : place ≤ a.last) (fails : anchored a ≡ false) where
   abbrev hit : ℕ → Bool
-  hit = hits anchored ruled lists
+  hit = hits anchored matched lists
 
   none : (q : ℕ) → place ≤ q → q ≤ a.last → hit q ≡ false
-  none q from upto = hit_inside anchored ruled lists q (none_hit anchored ruled lists place next decided visits a s at first fails q from upto)
+  none q from upto = hit_inside anchored matched lists q (none_hit anchored matched lists place next decided visits a s at first fails q from upto)
 
   head : drop next lists.anchors ≡ a ∷ drop (next + 1) lists.anchors
   head = drop_head lists.anchors next a at
@@ -330,13 +330,13 @@ module _ (anchored : FlatAnchor → Bool) (ruled : FlatRule → Bool) (lists : R
   ahead_of b (begun, inl within) = inr (omega (arith, within))
   ahead_of b (begun, inr behind) = inl (omega (arith, behind))
 
-  pub jump : a.last < length lists.rules → Visited anchored ruled lists a.last (next + 1) decided visits
+  pub jump : a.last < length lists.rules → Visited anchored matched lists a.last (next + 1) decided visits
   jump within = record {
     within = within;
     few = (let below = slice_get_within lists.anchors next a at in omega (arith, below));
     no_stop = first_none (is_stop hit lists) a.last no_stop_below;
     decides = s.decides ∙ sym (last_skips hit place (a.last + 1) (omega (arith, last)) (λ k from upto. none k from (omega (arith, upto))));
-    visited = s.visited ∙ sym (visits_skip (is_inside anchored lists.anchors) place (a.last + 1) (omega (arith, last)) (λ k from upto. none_hit anchored ruled lists place next decided visits a s at first fails k from (omega (arith, upto))));
+    visited = s.visited ∙ sym (visits_skip (is_inside anchored lists.anchors) place (a.last + 1) (omega (arith, last)) (λ k from upto. none_hit anchored matched lists place next decided visits a s at first fails k from (omega (arith, upto))));
     inside = λ q le. (let lets_in = lets_all anchored a (a.last + 1) q (inl (omega arith)) le in s.inside q (omega (arith, le, last)) ∙ rw (head, lets_in) refl);
     ahead = All-weaker (Follows a) (IsAhead (a.last + 1)) ahead_of (drop (next + 1) lists.anchors) following;
   }
@@ -361,16 +361,16 @@ nested_of rules anchors placed = placed.1
 
 -- ---- what a walk says of a packet
 
-pub ended_decides : (flat : Ruleset) (packet : Packet) (direction : Direction) (decided : Option ℕ) (visits : List ℕ) → Ended (anchored_of flat packet direction) (ruled_of flat packet direction) flat.filter decided visits → decided ≡ deciding flat packet direction
+pub ended_decides : (flat : Ruleset) (rooms : Rooms) (packet : Packet) (direction : Direction) (decided : Option ℕ) (visits : List ℕ) → Ended (anchored_of flat packet direction) (matched_of flat rooms packet direction) flat.filter decided visits → decided ≡ deciding flat rooms packet direction
 unfolding deciding reach
-ended_decides flat packet direction decided visits e = e.decides
+ended_decides flat rooms packet direction decided visits e = e.decides
 
-pub ended_visits : (flat : Ruleset) (packet : Packet) (direction : Direction) (decided : Option ℕ) (visits : List ℕ) → Ended (anchored_of flat packet direction) (ruled_of flat packet direction) flat.filter decided visits → visits ≡ visited_of flat packet direction
+pub ended_visits : (flat : Ruleset) (rooms : Rooms) (packet : Packet) (direction : Direction) (decided : Option ℕ) (visits : List ℕ) → Ended (anchored_of flat packet direction) (matched_of flat rooms packet direction) flat.filter decided visits → visits ≡ visited_of flat rooms packet direction
 unfolding visited_of reach
-ended_visits flat packet direction decided visits e = e.visited
+ended_visits flat rooms packet direction decided visits e = e.visited
 
 -- a rule that was visited, by what the loop knows of it
-pub visited_rule : (anchored : FlatAnchor → Bool) (ruled : FlatRule → Bool) (lists : RuleLists) (place next : ℕ) (decided new : Option ℕ) (visits more : List ℕ) (found : Option FlatAnchor) (rule : FlatRule) (is_hit : Bool) → So anchored ruled lists place next decided visits → ArePlaced lists.rules lists.anchors → slice_get lists.anchors next ≡ found → IsNext place found → slice_get lists.rules place ≡ Some rule → is_hit ≡ ruled rule → new ≡ (if is_hit then Some place else decided) → more ≡ visits ++ place ∷ []
-    → Visited anchored ruled lists place next new more
-visited_rule anchored ruled lists place next decided new visits more found rule is_hit s placed is ahead at hit new_is more_is =
-    rw (new_is, hit, more_is) (visit anchored ruled lists place next decided visits found rule s placed is ahead at)
+pub visited_rule : (anchored : FlatAnchor → Bool) (matched : ℕ → FlatRule → Bool) (lists : RuleLists) (place next : ℕ) (decided new : Option ℕ) (visits more : List ℕ) (found : Option FlatAnchor) (rule : FlatRule) (is_hit : Bool) → So anchored matched lists place next decided visits → ArePlaced lists.rules lists.anchors → slice_get lists.anchors next ≡ found → IsNext place found → slice_get lists.rules place ≡ Some rule → is_hit ≡ matched place rule → new ≡ (if is_hit then Some place else decided) → more ≡ visits ++ place ∷ []
+    → Visited anchored matched lists place next new more
+visited_rule anchored matched lists place next decided new visits more found rule is_hit s placed is ahead at hit new_is more_is =
+    rw (new_is, hit, more_is) (visit anchored matched lists place next decided visits found rule s placed is ahead at)

@@ -1,19 +1,26 @@
 -- Which rule decides, and which rules are visited on the way (pf.conf(5), "Packet filtering", "Anchors").
 --
 -- All is said by the places of rules in a flat list. A rule hits if all that it writes holds of the packet, and all that the
--- anchors round it write. A stop is the place of a quick rule that hits, or the place of the last rule of a quick anchor in
+-- anchors round it write. One with `max` has to have room too, for a packet that may make a state: there have to be fewer of
+-- its states than it says. A stop is the place of a quick rule that hits, or the place of the last rule of a quick anchor in
 -- which a rule hits. Reached are the rules up to the first stop, all of them where there is none.
-use Rattle.std.specs.Prelude.{ℕ, zero, suc, ◌+◌, ◌==◌, ◌&&◌, ◌||◌, Bool, false, not, nat_le, if◌then◌else◌, List, length, Option, Some, None}
-use Rattle.std.specs.List.{slice_get, list_any, list_all, filter}
+use Rattle.std.specs.Prelude.{ℕ, zero, suc, ◌+◌, ◌==◌, ◌&&◌, ◌||◌, Bool, true, false, not, nat_le, if◌then◌else◌, List, [], ◌∷◌, length, Option, Some, None}
+use Rattle.std.specs.List.{slice_get, list_any, list_all, filter, flat_map}
 use Rattle.pfr_net.specs.declared.direction.Direction.{Direction}
 use Rattle.pfr_ruleset.specs.declared.flat.FilterAction.{FilterAction}
 use Rattle.pfr_ruleset.specs.declared.flat.FilterAction.TheVariants as action
 use Rattle.pfr_ruleset.specs.declared.flat.FlatRule.{FlatRule}
 use Rattle.pfr_ruleset.specs.declared.flat.FlatAnchor.{FlatAnchor}
+use Rattle.pfr_ruleset.specs.declared.flat.StateRule.{StateRule}
 use Rattle.pfr_ruleset.specs.declared.filter_rules.RuleLists.{RuleLists}
 use Rattle.pfr_ruleset.specs.declared.ruleset.Ruleset.{Ruleset}
 use Rattle.pfr_headers.specs.declared.packet.Packet.{Packet}
 use Rattle.pfr_criteria.specs.Packets.{rule_holds, anchor_holds}
+use Rattle.pfr_criteria.specs.Transports.{opens_connection}
+use Rattle.pfr_states.specs.declared.question.Question.{Question}
+use Rattle.pfr_states.specs.declared.question.Question.TheVariants.{RuleRoom}
+use Rattle.pfr_states.specs.Answers.{has_rule_room_in}
+use Rattle.pfr_states.specs.States.{StateTable}
 use Rattle.pfr_rules.specs.declared.decision.Decision.{Decision}
 use Rattle.pfr_rules.specs.Numbers.{numbers_below}
 
@@ -51,9 +58,9 @@ abbrev pub passes : {R : Type 0} → (R → Bool) → Option R → Bool
 passes test None = false
 passes test (Some rule) = test rule
 
--- the rule at a place holds, and all anchors round it
-abbrev pub hits : (FlatAnchor → Bool) → (FlatRule → Bool) → RuleLists → ℕ → Bool
-hits anchored ruled lists place = is_inside anchored lists.anchors place && passes ruled (slice_get lists.rules place)
+-- the rule at a place matches, and all anchors round it hold
+abbrev pub hits : (FlatAnchor → Bool) → (ℕ → FlatRule → Bool) → RuleLists → ℕ → Bool
+hits anchored matched lists place = is_inside anchored lists.anchors place && passes (matched place) (slice_get lists.rules place)
 
 -- ---- stops
 
@@ -89,6 +96,32 @@ up_to (Some stop) all = stop + 1
 abbrev pub reach_by : (ℕ → Bool) → RuleLists → ℕ
 reach_by hit lists = up_to (first_below (is_stop hit lists) (length lists.rules)) (length lists.rules)
 
+-- ---- room
+
+-- whether the rule with a number has room for one more state, where it may have so many
+abbrev pub Rooms : Type 0
+Rooms = ℕ → ℕ → Bool
+
+-- the rooms of a table's states
+abbrev pub rooms_in : StateTable → Rooms
+rooms_in table = λ rule most. has_rule_room_in table rule most
+
+abbrev pub most_of : Option StateRule → Option ℕ
+most_of None = None
+most_of (Some state) = state.most
+
+-- how many states a rule may have, if it says so and the packet may make one
+abbrev pub limit_for : FlatRule → Packet → Option ℕ
+limit_for rule packet = if opens_connection packet.transport then most_of rule.state else None
+
+abbrev pub has_room_by : Rooms → ℕ → Option ℕ → Bool
+has_room_by rooms number None = true
+has_room_by rooms number (Some most) = rooms number most
+
+abbrev pub room_question : ℕ → Option ℕ → List Question
+room_question number None = []
+room_question number (Some most) = RuleRoom (record { 0 = number }) most ∷ []
+
 -- ---- a packet
 
 abbrev pub anchored : Ruleset → Packet → Direction → FlatAnchor → Bool
@@ -97,15 +130,19 @@ anchored flat packet direction anchor = anchor_holds anchor flat.interface.name 
 abbrev pub ruled : Ruleset → Packet → Direction → FlatRule → Bool
 ruled flat packet direction rule = rule_holds rule flat.interface.name flat.tables packet direction
 
-abbrev pub hit : Ruleset → Packet → Direction → ℕ → Bool
-hit flat packet direction = hits (anchored flat packet direction) (ruled flat packet direction) flat.filter
+-- all that the rule with a number writes holds, and it has room
+abbrev pub matched : Ruleset → Rooms → Packet → Direction → ℕ → FlatRule → Bool
+matched flat rooms packet direction number rule = ruled flat packet direction rule && has_room_by rooms number (limit_for rule packet)
 
-unfoldable pub reach : Ruleset → Packet → Direction → ℕ
-reach flat packet direction = reach_by (hit flat packet direction) flat.filter
+abbrev pub hit : Ruleset → Rooms → Packet → Direction → ℕ → Bool
+hit flat rooms packet direction = hits (anchored flat packet direction) (matched flat rooms packet direction) flat.filter
+
+unfoldable pub reach : Ruleset → Rooms → Packet → Direction → ℕ
+reach flat rooms packet direction = reach_by (hit flat rooms packet direction) flat.filter
 
 -- the place of the rule that decides: the last that hits of those that are reached
-unfoldable pub deciding : Ruleset → Packet → Direction → Option ℕ
-deciding flat packet direction = last_below (hit flat packet direction) (reach flat packet direction)
+unfoldable pub deciding : Ruleset → Rooms → Packet → Direction → Option ℕ
+deciding flat rooms packet direction = last_below (hit flat rooms packet direction) (reach flat rooms packet direction)
 
 -- what it decides; a packet that no rule hits passes
 abbrev pub action_of : Option FlatRule → FilterAction
@@ -116,9 +153,23 @@ abbrev pub decision_by : List FlatRule → Option ℕ → Decision
 decision_by rules None = record { rule = None; action = action.Pass }
 decision_by rules (Some place) = record { rule = Some (record { 0 = place }); action = action_of (slice_get rules place) }
 
-abbrev pub decision_of : Ruleset → Packet → Direction → Decision
-decision_of flat packet direction = decision_by flat.filter.rules (deciding flat packet direction)
+abbrev pub decision_of : Ruleset → Rooms → Packet → Direction → Decision
+decision_of flat rooms packet direction = decision_by flat.filter.rules (deciding flat rooms packet direction)
 
 -- the numbers of the rules that are visited: of those that are reached all whose anchors hold
-unfoldable pub visited : Ruleset → Packet → Direction → List ℕ
-visited flat packet direction = filter (is_inside (anchored flat packet direction) flat.filter.anchors) (numbers_below (reach flat packet direction))
+unfoldable pub visited : Ruleset → Rooms → Packet → Direction → List ℕ
+visited flat rooms packet direction = filter (is_inside (anchored flat packet direction) flat.filter.anchors) (numbers_below (reach flat rooms packet direction))
+
+-- ---- what is asked
+
+-- a visited rule is asked whether it has room, if all that it writes holds and it says how many states it may have
+abbrev pub asked_of : Ruleset → Packet → Direction → ℕ → Option FlatRule → List Question
+asked_of flat packet direction number None = []
+asked_of flat packet direction number (Some rule) = if ruled flat packet direction rule then room_question number (limit_for rule packet) else []
+
+abbrev pub asked_at : Ruleset → Packet → Direction → ℕ → List Question
+asked_at flat packet direction place = asked_of flat packet direction place (slice_get flat.filter.rules place)
+
+-- what is asked of all that are visited
+abbrev pub rooms_asked : Ruleset → Rooms → Packet → Direction → List Question
+rooms_asked flat rooms packet direction = flat_map (asked_at flat packet direction) (visited flat rooms packet direction)

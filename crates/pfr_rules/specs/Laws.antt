@@ -1,7 +1,7 @@
 -- Words of the laws: rulesets that are the same up to a place, or but for one rule or one anchor; packets that go the same
 -- way, and rules that they pass by.
-use Rattle.std.specs.Prelude.{◌≡◌, ◌≢◌, ◌≤◌, ◌+◌, ◌-◌, ℕ, min, Bool, false, nat_le, List, ◌∷◌, ◌++◌, length, map, IsSomeAnd, Some, true}
-use Rattle.std.specs.List.{Contains, slice_get, filter}
+use Rattle.std.specs.Prelude.{◌≡◌, ◌≢◌, ◌≤◌, ◌+◌, ◌-◌, ℕ, min, Bool, true, false, nat_le, List, ◌∷◌, ◌++◌, length, map, IsSomeAnd, Some, true}
+use Rattle.std.specs.List.{All, Contains, slice_get, filter}
 use Rattle.pfr_net.specs.declared.address.Ipv4Address.{Ipv4Address}
 use Rattle.pfr_net.specs.declared.direction.Direction.{Direction}
 use Rattle.pfr_net.specs.declared.direction.Direction.TheVariants.{In, Out}
@@ -18,7 +18,9 @@ use Rattle.pfr_criteria.specs.Laws.{IsBinat}
 use Rattle.pfr_criteria.specs.Packets.{anchor_holds}
 use Rattle.pfr_rules.specs.declared.hit.NewEnd.TheVariants.{Mapped}
 use Rattle.pfr_rules.specs.declared.hit.PortMapping.TheVariants.{Kept}
-use Rattle.pfr_rules.specs.Filter.{hit, deciding, visited}
+use Rattle.pfr_states.specs.declared.question.Question.{Question}
+use Rattle.pfr_states.specs.declared.question.Question.TheVariants.{RuleRoom}
+use Rattle.pfr_rules.specs.Filter.{Rooms, hit, deciding, limit_for, passes, rooms_asked, ruled, visited}
 use Rattle.pfr_rules.specs.Translating.{binat_hit, mapped, mapping}
 
 -- ---- rulesets that are the same up to a place
@@ -89,65 +91,99 @@ pub record IsSameButAnchor (anchor changed : FlatAnchor) (flat other : Ruleset) 
 -- ---- packets
 
 -- no rule in an anchor hits
-abbrev pub NoneHits : FlatAnchor → Ruleset → Packet → Direction → Type 0
-NoneHits anchor flat packet direction = (place : ℕ) → anchor.first ≤ place → place ≤ anchor.last → hit flat packet direction place ≡ false
+abbrev pub NoneHits : FlatAnchor → Ruleset → Rooms → Packet → Direction → Type 0
+NoneHits anchor flat rooms packet direction = (place : ℕ) → anchor.first ≤ place → place ≤ anchor.last → hit flat rooms packet direction place ≡ false
 
 -- the rule at a place doesn't decide on a packet, and isn't visited
-pub record PassesBy (flat : Ruleset) (packet : Packet) (direction : Direction) (place : ℕ) : Type 0 where
-  pub decides : deciding flat packet direction ≢ Some place
-  pub visits : Contains (visited flat packet direction) place → ⊥
+pub record PassesBy (flat : Ruleset) (rooms : Rooms) (packet : Packet) (direction : Direction) (place : ℕ) : Type 0 where
+  pub decides : deciding flat rooms packet direction ≢ Some place
+  pub visits : Contains (visited flat rooms packet direction) place → ⊥
 
 -- the same rule decides on a packet, and the same rules are visited
-pub record GoesTheSameWay (flat other : Ruleset) (packet : Packet) (direction : Direction) : Type 0 where
-  pub decides : deciding other packet direction ≡ deciding flat packet direction
-  pub visits : visited other packet direction ≡ visited flat packet direction
+pub record GoesTheSameWay (flat other : Ruleset) (rooms : Rooms) (packet : Packet) (direction : Direction) : Type 0 where
+  pub decides : deciding other rooms packet direction ≡ deciding flat rooms packet direction
+  pub visits : visited other rooms packet direction ≡ visited flat rooms packet direction
+
+-- ---- rooms
+
+-- two rooms answer a question alike; another question than that of a rule's room is no matter of theirs
+abbrev pub SameRoom : Rooms → Rooms → Question → Type 0
+SameRoom rooms other (RuleRoom rule most) = other rule.0 most ≡ rooms rule.0 most
+SameRoom rooms other elsewhere = rooms ≡ rooms
 
 -- ---- what the laws say
 
 -- what stands behind a quick rule that hits says nothing
 abbrev pub BehindAQuickHit : Type 0
 BehindAQuickHit =
-    (flat other : Ruleset) (packet : Packet) (direction : Direction) (place : ℕ) (rule : FlatRule)
+    (flat other : Ruleset) (rooms : Rooms) (packet : Packet) (direction : Direction) (place : ℕ) (rule : FlatRule)
     → slice_get flat.filter.rules place ≡ Some rule
     → rule.is_quick ≡ true
-    → hit flat packet direction place ≡ true
+    → hit flat rooms packet direction place ≡ true
     → IsSameUpTo place flat other
-    → GoesTheSameWay flat other packet direction
+    → GoesTheSameWay flat other rooms packet direction
 
 -- a rule that a packet doesn't visit says nothing of it
 abbrev pub WhatIsNotVisited : Type 0
 WhatIsNotVisited =
-    (flat other : Ruleset) (packet : Packet) (direction : Direction) (place : ℕ)
-    → (Contains (visited flat packet direction) place → ⊥)
+    (flat other : Ruleset) (rooms : Rooms) (packet : Packet) (direction : Direction) (place : ℕ)
+    → (Contains (visited flat rooms packet direction) place → ⊥)
     → IsSameBut place flat other
-    → GoesTheSameWay flat other packet direction
+    → GoesTheSameWay flat other rooms packet direction
 
 -- whether an anchor is quick says nothing where no rule in it hits
 abbrev pub QuickWithoutAHit : Type 0
 QuickWithoutAHit =
-    (flat other : Ruleset) (packet : Packet) (direction : Direction) (anchor : FlatAnchor) (quick : Bool)
-    → NoneHits anchor flat packet direction
+    (flat other : Ruleset) (rooms : Rooms) (packet : Packet) (direction : Direction) (anchor : FlatAnchor) (quick : Bool)
+    → NoneHits anchor flat rooms packet direction
     → IsSameButAnchor anchor (quick_or_not quick anchor) flat other
-    → GoesTheSameWay flat other packet direction
+    → GoesTheSameWay flat other rooms packet direction
 
 -- what an anchor asks for, it asks for the rules in it alone
 abbrev pub AnchorAsksForItsOwn : Type 0
 AnchorAsksForItsOwn =
-    (flat other : Ruleset) (packet : Packet) (direction : Direction) (anchor asked : FlatAnchor)
-    → NoneHits anchor flat packet direction
-    → NoneHits anchor other packet direction
+    (flat other : Ruleset) (rooms : Rooms) (packet : Packet) (direction : Direction) (anchor asked : FlatAnchor)
+    → NoneHits anchor flat rooms packet direction
+    → NoneHits anchor other rooms packet direction
     → IsSameButAnchor anchor (asking_like asked anchor) flat other
-    → deciding other packet direction ≡ deciding flat packet direction
+    → deciding other rooms packet direction ≡ deciding flat rooms packet direction
 
 -- an anchor that doesn't hold lets a packet pass by all its rules
 abbrev pub AnchorLetsNothingIn : Type 0
 AnchorLetsNothingIn =
-    (flat : Ruleset) (packet : Packet) (direction : Direction) (anchor : FlatAnchor) (place : ℕ)
+    (flat : Ruleset) (rooms : Rooms) (packet : Packet) (direction : Direction) (anchor : FlatAnchor) (place : ℕ)
     → Contains flat.filter.anchors anchor
     → anchor_holds anchor flat.interface.name flat.tables packet direction ≡ false
     → anchor.first ≤ place
     → place ≤ anchor.last
-    → PassesBy flat packet direction place
+    → PassesBy flat rooms packet direction place
+
+-- rooms that answer alike what is asked of them make no difference
+abbrev pub WhatIsNotAsked : Type 0
+WhatIsNotAsked =
+    (flat : Ruleset) (rooms other : Rooms) (packet : Packet) (direction : Direction)
+    → All (SameRoom rooms other) (rooms_asked flat rooms packet direction)
+    → (deciding flat other packet direction ≡ deciding flat rooms packet direction) × (visited flat other packet direction ≡ visited flat rooms packet direction)
+
+-- a rule that decides on a packet which may make a state has room for it
+abbrev pub DecidesWithRoom : Type 0
+DecidesWithRoom =
+    (flat : Ruleset) (rooms : Rooms) (packet : Packet) (direction : Direction) (place most : ℕ) (rule : FlatRule)
+    → deciding flat rooms packet direction ≡ Some place
+    → slice_get flat.filter.rules place ≡ Some rule
+    → limit_for rule packet ≡ Some most
+    → rooms place most ≡ true
+
+-- a rule without room lets a packet by as a rule does that asks for something else, and is visited as that one is
+abbrev pub NoRoomLetsBy : Type 0
+NoRoomLetsBy =
+    (flat other : Ruleset) (rooms : Rooms) (packet : Packet) (direction : Direction) (place most : ℕ) (rule : FlatRule)
+    → slice_get flat.filter.rules place ≡ Some rule
+    → limit_for rule packet ≡ Some most
+    → rooms place most ≡ false
+    → IsSameBut place flat other
+    → passes (ruled other packet direction) (slice_get other.filter.rules place) ≡ false
+    → GoesTheSameWay flat other rooms packet direction
 
 -- ---- translation
 

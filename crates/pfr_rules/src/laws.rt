@@ -1,5 +1,5 @@
 //! Laws of the definitions, each the contract of a function that does nothing.
-ghost use Rattle.pfr_rules.specs.Laws.{AnchorAsksForItsOwn, AnchorLetsNothingIn, BehindAQuickHit, BinatGivesTheSourceBack, MovedPortsKeepTheirDistance, OnePortBecomesTheFirst, QuickWithoutAHit, WhatIsNotVisited};
+ghost use Rattle.pfr_rules.specs.Laws.{AnchorAsksForItsOwn, AnchorLetsNothingIn, BehindAQuickHit, BinatGivesTheSourceBack, DecidesWithRoom, MovedPortsKeepTheirDistance, NoRoomLetsBy, OnePortBecomesTheFirst, QuickWithoutAHit, WhatIsNotAsked, WhatIsNotVisited};
 
 /// What stands behind a quick rule that hits says nothing of the packet: rules and anchors may be put there or taken out,
 /// also at the end of an anchor that the quick rule stands in.
@@ -26,6 +26,23 @@ pub fn an_anchor_asks_for_its_own_rules_alone()
 /// An anchor that doesn't hold lets a packet pass by all its rules, the first and the last as well.
 pub fn an_anchor_that_does_not_hold_lets_nothing_in()
     ensures { AnchorLetsNothingIn }
+{}
+
+/// What isn't asked of the rooms of rules says nothing of a packet: if other rooms answer alike what is asked of these, the same
+/// rule decides, and the same rules are visited.
+pub fn what_is_not_asked_says_nothing()
+    ensures { WhatIsNotAsked }
+{}
+
+/// A rule that says how many states it may have has room for one more wherever it decides on a packet that may make one.
+pub fn a_rule_that_decides_has_room()
+    ensures { DecidesWithRoom }
+{}
+
+/// A rule without room for a packet that may make a state lets it by: the packet goes the same way if the rule is another one,
+/// which doesn't hold for it. The rule is visited as that one is.
+pub fn a_rule_without_room_lets_the_packet_by()
+    ensures { NoRoomLetsBy }
 {}
 
 /// A packet that goes out by a `binat` rule gets the rule's target as its source, with the port that it had. What comes in by the rule

@@ -1,8 +1,9 @@
 //! Which rule of a ruleset decides on a packet.
 //!
 //! [`filter`] answers what pf.conf(5) says under "Packet filtering" and "Anchors": the last rule that hits decides, unless a
-//! `quick` rule or anchor ends the walk before. Its contract says so by the places of rules in a flat list, and says which
-//! rules were visited on the way.
+//! `quick` rule or anchor ends the walk before. A rule with `max` hits only where it has room for one more state, which
+//! [`RuleRoom`] answers. The contract says so by the places of rules in a flat list, and says which rules were visited on
+//! the way and of which rules the room was asked.
 //!
 //! [`translate`] answers what it says under "Translation": the first rule of a kind that holds decides.
 #![tactic(auto)]
@@ -13,6 +14,7 @@ pub mod decision;
 pub mod evaluations;
 pub mod hit;
 pub mod laws;
+pub mod room;
 mod searching;
 mod stretch;
 mod translating;
@@ -23,6 +25,7 @@ pub use decision::Decision;
 pub use evaluations::Evaluations;
 pub use hit::{Hit, NewEnd, PortMapping};
 pub use pfr_net::RuleNumber;
+pub use room::RuleRoom;
 pub use translating::translate;
 pub use visits::Visits;
 pub use walk::filter;

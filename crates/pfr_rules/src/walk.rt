@@ -1,12 +1,14 @@
 //! The walk over the rules.
-ghost use Rattle.std.specs.Prelude.{◌≡◌, ◌<◌, ◌≤◌, ◌+◌, if◌then◌else◌, length, true, Some, IfOk};
-ghost use Rattle.std.specs.List.{slice_get, slice_index_or};
+ghost use Rattle.std.specs.Prelude.{◌≡◌, ◌<◌, ◌≤◌, ◌+◌, if◌then◌else◌, length, Some, IfOk, OnOk};
+ghost use Rattle.std.specs.List.{All, slice_get, slice_index_or};
 ghost use Rattle.std.specs.Option.{ForSome, option_copied};
+ghost use Rattle.pfr_states.specs.declared.question.Question.{Question};
 ghost use Rattle.pfr_rules.specs.Filter as spec;
 ghost use Rattle.pfr_rules.specs.Stretches.{next_first as next_first_of};
 
 use crate::decision::Decision;
-use crate::stretch::{StretchEnd, follow, rule_is, stretch};
+use crate::room::{RuleRoom, is_match};
+use crate::stretch::{StretchEnd, follow, stretch};
 use crate::visits::Visits;
 use pfr_criteria::anchor_holds;
 use pfr_headers::Packet;
@@ -98,21 +100,6 @@ fn next_first(anchors: &[FlatAnchor], next: usize, end: usize) -> usize
     }
 }
 
-/// Whether a rule holds, which is asked only where it isn't known.
-#[inline]
-fn is_hit_by(
-    flat: &Ruleset,
-    rule: &FlatRule,
-    packet: &Packet,
-    direction: Direction,
-    is_known: bool,
-) -> bool
-    requires known { is_known ≡ true → spec.ruled flat.now packet.now direction rule.now ≡ true }
-    ensures { result ≡ spec.ruled flat.now packet.now direction rule.now }
-{
-    is_known || rule_is(flat, rule, packet, direction)
-}
-
 /// The last hit, which is at this place if its rule hits.
 #[inline]
 fn with_hit(decided: Option<usize>, is_hit: bool, place: usize) -> Option<usize>
@@ -129,16 +116,20 @@ struct Walked {
 }
 
 /// Walks over the rules. An anchor that doesn't hold is passed over with all that stands in it. A stretch of rules that don't hold
-/// is visited as one run.
-fn walk(
+/// is visited as one run. A rule of which all holds that it writes is asked whether it has room.
+fn walk<R: RuleRoom>(
     alloc: Global,
     flat: &Ruleset,
     packet: &Packet,
     direction: Direction,
+    rooms: &mut R,
 ) -> Result<Walked, AllocError>
-    ensures decided { IfOk result (λ walked. walked.decided ≡ spec.deciding flat.now packet.now direction) }
-    ensures visits { IfOk result (λ walked. walked.visits ≡ spec.visited flat.now packet.now direction) }
+    ensures seen { R.seen rooms.new ≡ R.seen rooms.old }
+    ensures decided { IfOk result (λ walked. walked.decided ≡ spec.deciding flat.now (spec.rooms_in (R.seen rooms.old)) packet.now direction) }
+    ensures visits { IfOk result (λ walked. walked.visits ≡ spec.visited flat.now (spec.rooms_in (R.seen rooms.old)) packet.now direction) }
     ensures within { IfOk result (λ walked. ForSome walked.decided (λ place. place < length flat.now.filter.rules)) }
+    ensures asked { OnOk result (All (R.asked rooms.new) (spec.rooms_asked flat.now (spec.rooms_in (R.seen rooms.old)) packet.now direction)) }
+    ensures kept { (question : Question) → R.asked rooms.old question → R.asked rooms.new question }
 {
     let rules = flat.filter.rules();
     let anchors = flat.filter.anchors();
@@ -174,7 +165,7 @@ fn walk(
             continue;
         }
         visits.push_run(place, to + 1 - place, asked)?;
-        let is_hit = is_hit_by(flat, &rules[to], packet, direction, hits);
+        let is_hit = is_match(flat, &rules[to], to, packet, direction, hits, rooms)?;
         decided = with_hit(decided, is_hit, to);
         if ends_at(openings, to, decided) {
             return Ok(Walked { decided, visits });
@@ -185,16 +176,21 @@ fn walk(
 }
 
 /// Which rule decides on a packet, and which rules are visited: the last that hits, of those up to the first stop. Where none
-/// hits the packet passes.
-pub fn filter(
+/// hits the packet passes. A rule with `max` hits only where `rooms` answers that it has room; of which rules that was asked
+/// is said too.
+pub fn filter<R: RuleRoom>(
     alloc: Global,
     flat: &Ruleset,
     packet: &Packet,
     direction: Direction,
+    rooms: &mut R,
 ) -> Result<(Decision, Visits), AllocError>
-    ensures decision { IfOk result (λ answer. answer.0 ≡ spec.decision_of flat.now packet.now direction) }
-    ensures visits { IfOk result (λ answer. answer.1 ≡ spec.visited flat.now packet.now direction) }
+    ensures seen { R.seen rooms.new ≡ R.seen rooms.old }
+    ensures decision { IfOk result (λ answer. answer.0 ≡ spec.decision_of flat.now (spec.rooms_in (R.seen rooms.old)) packet.now direction) }
+    ensures visits { IfOk result (λ answer. answer.1 ≡ spec.visited flat.now (spec.rooms_in (R.seen rooms.old)) packet.now direction) }
+    ensures asked { OnOk result (All (R.asked rooms.new) (spec.rooms_asked flat.now (spec.rooms_in (R.seen rooms.old)) packet.now direction)) }
+    ensures kept { (question : Question) → R.asked rooms.old question → R.asked rooms.new question }
 {
-    let Walked { decided, visits } = walk(alloc, flat, packet, direction)?;
+    let Walked { decided, visits } = walk(alloc, flat, packet, direction, rooms)?;
     Ok((decision_by(flat.filter.rules(), decided), visits))
 }
