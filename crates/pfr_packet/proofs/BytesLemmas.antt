@@ -8,7 +8,6 @@ use Rattle.pfr_headers.specs.declared.packet.View.{View}
 use Rattle.pfr_headers.specs.declared.packet.View.TheVariants.{Ipv4, Skip, Short}
 use Rattle.pfr_headers.specs.Ways.{direction_of}
 use Rattle.pfr_headers.specs.View.{has_options}
-use Rattle.pfr_rules.specs.Filter.{decision_of, visited}
 use Rattle.pfr_track.specs.declared.key.Key.{Key}
 use Rattle.pfr_track.specs.declared.outcome.Touch.{Touch}
 use Rattle.pfr_track.specs.declared.outcome.Touch.TheVariants as touch
@@ -33,11 +32,12 @@ use Rattle.pfr_packet.specs.Keys.{side_of, subject_of, written_by}
 use Rattle.pfr_packet.specs.Making.{making, with_keys, with_room}
 use Rattle.pfr_packet.specs.Outcomes.{blocked, without_leave}
 use Rattle.pfr_packet.specs.Passages.{judged, judged_kept}
-use Rattle.pfr_packet.specs.Plan.{Plan, done, found_in, has_room_in, outcome_of, purged_at}
+use Rattle.pfr_states.specs.Answers.{found_in, has_room_in, purged_at}
+use Rattle.pfr_packet.specs.Plan.{FilterAnswer, Plan, done, filter_answer, outcome_of}
 use Rattle.pfr_packet.specs.Steps.{by_connection, by_embedded, opened, opening, packet_plan, passed_over, plan, step_of, subject_plan}
 use Rattle.pfr_packet.specs.Verdicts.{lets_pass}
 use Rattle.pfr_packet.proofs.ChangeLemmas.{passing}
-use Rattle.pfr_packet.proofs.OpeningLemmas.{judged_writes_nothing, opening_way}
+use Rattle.pfr_packet.proofs.OpeningLemmas.{answer_in, going_way, judged_writes_nothing, opening_way}
 
 -- what is written is of this packet
 abbrev IsOf : Packet → Option Change → Type 0
@@ -54,11 +54,10 @@ blocked_writes packet false why outcome h = h
 leave_writes : (packet : Packet) (allowed : Bool) (outcome : Outcome) → Writes packet outcome → Writes packet (without_leave packet allowed outcome)
 leave_writes packet allowed outcome h = blocked_writes packet (lets_pass outcome.verdict && (has_options packet && not allowed)) reason.IpOption outcome h
 
-filtered_writes : (rules : Ruleset) (packet : Packet) (direction : Direction) → Writes packet (filtered rules packet direction)
+filtered_writes : (rules : Ruleset) (answer : FilterAnswer) (packet : Packet) (direction : Direction) → Writes packet (filtered rules answer packet direction)
 unfolding filtered
-filtered_writes rules packet direction =
-    leave_writes packet (conduct_of rules.filter.rules (decision_of rules packet direction).rule).allows_options
-    (decided direction (decision_of rules packet direction) (visited rules packet direction)) tt
+filtered_writes rules answer packet direction =
+    leave_writes packet (conduct_of rules.filter.rules answer.decision.rule).allows_options (decided direction answer.decision answer.visits) tt
 
 translated_writes : (packet : Packet) (same : Bool) (change : Change) → change.packet ≡ packet → IsOf packet (cond same None (Some change))
 translated_writes packet true change is = tt
@@ -101,13 +100,14 @@ unwritten_writes packet outcome is = subst (IsOf packet) (sym is) tt
 
 opening_writes : (job : RunJob) (number : ℕ) (clock : Clock) (table : StateTable) (packet : Packet) (direction : Direction) (key : Key) → Writes packet (outcome_of table (opening job number clock packet direction key))
 opening_writes job number clock table packet direction key = opening_way job number clock table packet direction (Writes packet) (record {
-  goes = λ visits passage. opened_writes job number clock table packet direction passage (judged job.rules direction packet passage visits)
-      (unwritten_writes packet (judged job.rules direction packet passage visits) (judged_writes_nothing job.rules direction packet passage visits)) (judged_kept job.rules direction packet passage);
+  goes = λ visits passage. (let answer = answer_in job.rules table direction packet passage in going_way job number clock table packet direction (Writes packet) visits passage
+      (opened_writes job number clock table packet direction passage (judged job.rules answer direction packet passage visits)
+      (unwritten_writes packet (judged job.rules answer direction packet passage visits) (judged_writes_nothing job.rules answer direction packet passage visits)) (judged_kept job.rules answer direction packet passage)));
   has_no_port = λ rule visits. tt;
 }) key
 
 by_embedded_writes : (job : RunJob) (table : StateTable) (packet : Packet) (direction : Direction) (found : Option State) → Writes packet (outcome_of table (by_embedded job packet direction found))
-by_embedded_writes job table packet direction None = filtered_writes job.rules packet direction
+by_embedded_writes job table packet direction None = filtered_writes job.rules (filter_answer job.rules table packet direction) packet direction
 by_embedded_writes job table packet direction (Some state) = passed_writes direction packet state reason.StateError None
 
 by_connection_writes : (job : RunJob) (number : ℕ) (clock : Clock) (table : StateTable) (packet : Packet) (direction : Direction) (key : Key) (found : Option State)
@@ -117,7 +117,7 @@ by_connection_writes job number clock table packet direction key (Some state) = 
 
 subject_writes : (job : RunJob) (number : ℕ) (clock : Clock) (table : StateTable) (packet : Packet) (direction : Direction) (subject : Subject)
     → Writes packet (outcome_of table (subject_plan job number clock packet direction subject))
-subject_writes job number clock table packet direction Alone = filtered_writes job.rules packet direction
+subject_writes job number clock table packet direction Alone = filtered_writes job.rules (filter_answer job.rules table packet direction) packet direction
 subject_writes job number clock table packet direction (Embedded key) = by_embedded_writes job table packet direction (found_in table (side_of direction) key)
 subject_writes job number clock table packet direction (Connection key) = by_connection_writes job number clock table packet direction key (found_in table (side_of direction) key)
 

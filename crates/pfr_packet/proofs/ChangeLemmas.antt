@@ -9,7 +9,6 @@ use Rattle.pfr_headers.specs.declared.packet.View.{View}
 use Rattle.pfr_headers.specs.declared.packet.View.TheVariants.{Ipv4, Skip, Short}
 use Rattle.pfr_headers.specs.Ways.{direction_of}
 use Rattle.pfr_headers.specs.View.{has_options}
-use Rattle.pfr_rules.specs.Filter.{decision_of, visited}
 use Rattle.pfr_track.specs.declared.key.Key.{Key}
 use Rattle.pfr_track.specs.declared.outcome.Touch.{Touch}
 use Rattle.pfr_track.specs.declared.outcome.Touch.TheVariants as touch
@@ -39,12 +38,13 @@ use Rattle.pfr_packet.specs.Laws.{IsOwnChange, only_removes}
 use Rattle.pfr_packet.specs.Making.{making, with_keys, with_room}
 use Rattle.pfr_packet.specs.Outcomes.{blocked, by_state, without_leave}
 use Rattle.pfr_packet.specs.Passages.{judged, judged_kept}
-use Rattle.pfr_packet.specs.Plan.{Plan, done, found_in, has_room_in, outcome_of, purged_at}
+use Rattle.pfr_states.specs.Answers.{found_in, has_room_in, purged_at}
+use Rattle.pfr_packet.specs.Plan.{FilterAnswer, Plan, done, filter_answer, outcome_of}
 use Rattle.pfr_packet.specs.Steps.{by_connection, by_embedded, opened, opening, packet_plan, passed_over, plan, step_of, subject_plan}
 use Rattle.pfr_packet.specs.Verdicts.{lets_pass}
 use Rattle.pfr_packet.proofs.FreeLemmas.{AreApart, made_free, removed_free, touched_free}
 use Rattle.pfr_packet.proofs.Members.{found_there, from_filter}
-use Rattle.pfr_packet.proofs.OpeningLemmas.{judged_changes_nothing, opening_way}
+use Rattle.pfr_packet.proofs.OpeningLemmas.{answer_in, going_way, judged_changes_nothing, opening_way}
 
 -- both keys of a state are free, and there is room for it
 pub record IsFree (table : StateTable) (state : State) : Type 0 where
@@ -79,11 +79,10 @@ blocked_stands number clock table false why outcome h = h
 leave_stands : (number : ℕ) (clock : Clock) (table : StateTable) (packet : Packet) (allowed : Bool) (outcome : Outcome) → Stands number clock table outcome → Stands number clock table (without_leave packet allowed outcome)
 leave_stands number clock table packet allowed outcome h = blocked_stands number clock table (lets_pass outcome.verdict && (has_options packet && not allowed)) reason.IpOption outcome h
 
-filtered_stands : (number : ℕ) (clock : Clock) (table : StateTable) (rules : Ruleset) (packet : Packet) (direction : Direction) → Stands number clock table (filtered rules packet direction)
+filtered_stands : (number : ℕ) (clock : Clock) (table : StateTable) (rules : Ruleset) (answer : FilterAnswer) (packet : Packet) (direction : Direction) → Stands number clock table (filtered rules answer packet direction)
 unfolding filtered
-filtered_stands number clock table rules packet direction =
-    leave_stands number clock table packet (conduct_of rules.filter.rules (decision_of rules packet direction).rule).allows_options
-    (decided direction (decision_of rules packet direction) (visited rules packet direction)) tt
+filtered_stands number clock table rules answer packet direction =
+    leave_stands number clock table packet (conduct_of rules.filter.rules answer.decision.rule).allows_options (decided direction answer.decision answer.visits) tt
 
 -- ---- a state that is found
 
@@ -179,15 +178,16 @@ opened_stands job number clock table packet direction passage outcome h (Some ru
 
 opening_stands : (job : RunJob) (number : ℕ) (clock : Clock) (table : StateTable) (packet : Packet) (direction : Direction) (key : Key) → Stands number clock table (outcome_of table (opening job number clock packet direction key))
 opening_stands job number clock table packet direction key = opening_way job number clock table packet direction (Stands number clock table) (record {
-  goes = λ visits passage. opened_stands job number clock table packet direction passage (judged job.rules direction packet passage visits)
-      (unchanged_stands number clock table (judged job.rules direction packet passage visits) (judged_changes_nothing job.rules direction packet passage visits)) (judged_kept job.rules direction packet passage);
+  goes = λ visits passage. (let answer = answer_in job.rules table direction packet passage in going_way job number clock table packet direction (Stands number clock table) visits passage
+      (opened_stands job number clock table packet direction passage (judged job.rules answer direction packet passage visits)
+      (unchanged_stands number clock table (judged job.rules answer direction packet passage visits) (judged_changes_nothing job.rules answer direction packet passage visits)) (judged_kept job.rules answer direction packet passage)));
   has_no_port = λ rule visits. tt;
 }) key
 
 -- ---- a packet
 
 by_embedded_stands : (job : RunJob) (number : ℕ) (clock : Clock) (table : StateTable) (packet : Packet) (direction : Direction) (found : Option State) → Stands number clock table (outcome_of table (by_embedded job packet direction found))
-by_embedded_stands job number clock table packet direction None = filtered_stands number clock table job.rules packet direction
+by_embedded_stands job number clock table packet direction None = filtered_stands number clock table job.rules (filter_answer job.rules table packet direction) packet direction
 by_embedded_stands job number clock table packet direction (Some state) = embedded_stands number clock table direction packet state
 
 by_connection_stands : Leaves → (job : RunJob) (number : ℕ) (clock : Clock) (table : StateTable) (packet : Packet) (direction : Direction) (key : Key)
@@ -199,7 +199,7 @@ by_connection_stands leaves job number clock table packet direction key (Some st
 
 subject_stands : Leaves → (job : RunJob) (number : ℕ) (clock : Clock) (table : StateTable) (packet : Packet) (direction : Direction) (subject : Subject)
     → Stands number clock table (outcome_of table (subject_plan job number clock packet direction subject))
-subject_stands leaves job number clock table packet direction Alone = filtered_stands number clock table job.rules packet direction
+subject_stands leaves job number clock table packet direction Alone = filtered_stands number clock table job.rules (filter_answer job.rules table packet direction) packet direction
 subject_stands leaves job number clock table packet direction (Embedded key) = by_embedded_stands job number clock table packet direction (found_in table (side_of direction) key)
 subject_stands leaves job number clock table packet direction (Connection key) =
     by_connection_stands leaves job number clock table packet direction key (found_in table (side_of direction) key) refl

@@ -1,15 +1,24 @@
 -- Plans that are gone part by part.
-use Rattle.std.proofs.Common.{◌≡◌, Option, [], ◌∷◌, ◌++◌, refl, sym, ap, ◌∙◌}
+use Rattle.std.proofs.Common.{◌≡◌, ℕ, Bool, true, false, List, Option, [], ◌∷◌, ◌++◌, cond, refl, sym, ap, ◌∙◌}
+use Rattle.std.specs.List.{All}
 use Rattle.std.proofs.lemmas.List.{append_assoc}
 use Rattle.std.proofs.lemmas.List.Elements.{All-append, All-cons, All-nil, All-weaker}
+use Rattle.pfr_net.specs.declared.direction.Direction.{Direction}
+use Rattle.pfr_ruleset.specs.declared.ruleset.Ruleset.{Ruleset}
+use Rattle.pfr_headers.specs.declared.packet.Packet.{Packet}
+use Rattle.pfr_rules.specs.Filter.{rooms_asked, rooms_in}
 use Rattle.pfr_track.specs.declared.key.Key.{Key}
 use Rattle.pfr_track.specs.declared.state.State.{State}
 use Rattle.pfr_states.specs.declared.change.Side.{Side}
 use Rattle.pfr_states.specs.States.{StateTable}
-use Rattle.pfr_packet.specs.declared.answers.Question.{Question}
-use Rattle.pfr_packet.specs.declared.answers.Question.TheVariants.{At}
+use Rattle.pfr_states.specs.declared.question.Question.{Question}
+use Rattle.pfr_states.specs.declared.question.Question.TheVariants.{At}
 use Rattle.pfr_packet.specs.declared.outcome.Outcome.{Outcome}
-use Rattle.pfr_packet.specs.Plan.{Goes, GoesUpTo, Plan, ask_at, found_in, questions_of}
+use Rattle.pfr_states.specs.Answers.{found_in}
+use Rattle.pfr_packet.specs.declared.evaluation.Arrival.{Arrival}
+use Rattle.pfr_packet.specs.declared.passage.Passage.{Passage}
+use Rattle.pfr_packet.specs.Plan.{FilterAnswer, Goes, GoesUpTo, Plan, ask_at, filter_answer, no_answer, questions_of}
+use Rattle.pfr_packet.specs.Steps.{answer_for, asked_for, behind_passage, going_on, going_plan, judged_outcome, kept_rules, opened_plan, unless_passed}
 
 -- what was asked stays asked
 abbrev pub Keeps : (Question → Type 0) → (Question → Type 0) → Type 0
@@ -46,3 +55,23 @@ to_the_end table steps rest outcome asked after gone kept goes = record {
   outcome_is = goes.outcome_is ∙ sym gone.outcome_is;
   asked_all = rw gone.questions_are (All-append after gone.before (questions_of table rest) (All-weaker asked after kept gone.before gone.asked_before) goes.asked_all);
 }
+
+-- ---- what is asked of the filter
+
+-- unless the packet isn't filtered
+pass_goes : (table : StateTable) (rules : Ruleset) (packet : Packet) (direction : Direction) (next : FilterAnswer → Plan) (outcome : Outcome) (asked after : Question → Type 0) (passes : Bool)
+    → All asked (cond passes [] (rooms_asked rules (rooms_in table) packet direction)) → Keeps asked after
+    → Goes table (next (cond passes no_answer (filter_answer rules table packet direction))) outcome after → Goes table (unless_passed rules packet direction passes next) outcome after
+pass_goes table rules packet direction next outcome asked after true all kept goes = goes
+pass_goes table rules packet direction next outcome asked after false all kept goes = record {
+  outcome_is = goes.outcome_is;
+  asked_all = All-append after (rooms_asked rules (rooms_in table) packet direction) (questions_of table (next (filter_answer rules table packet direction))) (All-weaker asked after kept (rooms_asked rules (rooms_in table) packet direction) all) goes.asked_all;
+}
+
+-- a packet goes through by a passage: the filter is asked, unless it isn't filtered, and then the rest
+pub going_goes : (arrival : Arrival) (table : StateTable) (visits : List ℕ) (passage : Passage) (outcome : Outcome) (asked after : Question → Type 0)
+    → All asked (asked_for arrival table passage) → Keeps asked after
+    → Goes table (opened_plan arrival passage (judged_outcome arrival (answer_for arrival table passage) passage visits) (kept_rules arrival (answer_for arrival table passage) passage)) outcome after
+    → Goes table (going_plan arrival visits passage) outcome after
+going_goes arrival table visits passage outcome asked after all kept goes =
+    pass_goes table arrival.job.now.rules (behind_passage arrival passage) arrival.direction (going_on arrival.job.now arrival.number arrival.clock arrival.packet.now arrival.direction visits passage) outcome asked after passage.passes all kept goes

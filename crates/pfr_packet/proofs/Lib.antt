@@ -2,6 +2,7 @@ pub mod BytesLemmas
 pub mod ChangeLemmas
 pub mod FreeLemmas
 pub mod GoingLemmas
+pub mod LimitLemmas
 pub mod Local
 pub mod Members
 pub mod OpeningLemmas

@@ -9,7 +9,6 @@ use Rattle.pfr_headers.specs.View.{has_options}
 use Rattle.pfr_rules.specs.declared.hit.Hit.{Hit}
 use Rattle.pfr_rules.specs.declared.hit.NewEnd.{NewEnd}
 use Rattle.pfr_rules.specs.declared.hit.NewEnd.TheVariants.{Mapped, Picked}
-use Rattle.pfr_rules.specs.Filter.{decision_of, visited}
 use Rattle.pfr_rules.specs.Translating.{hit_of, translations_visited}
 use Rattle.pfr_track.specs.declared.key.Key.{Key}
 use Rattle.pfr_track.specs.declared.state.State.{State}
@@ -25,8 +24,9 @@ use Rattle.pfr_packet.specs.Job.{RunJob}
 use Rattle.pfr_packet.specs.Outcomes.{blocked}
 use Rattle.pfr_packet.specs.Passages.{behind, by_way, exhausted, judged, mapped_end, mapped_passage, nat_passed, picked_passage, unfiltered, untranslated}
 use Rattle.pfr_packet.specs.Picks.{picking, ports_for, tries, wire_with, word_of}
-use Rattle.pfr_packet.specs.Plan.{Plan, found_in, outcome_of}
-use Rattle.pfr_packet.specs.Steps.{by_end, by_hit, by_pick, going, opening}
+use Rattle.pfr_states.specs.Answers.{found_in}
+use Rattle.pfr_packet.specs.Plan.{FilterAnswer, Plan, filter_answer, no_answer, outcome_of}
+use Rattle.pfr_packet.specs.Steps.{by_end, by_hit, by_pick, going, going_on, opening, unless_passed}
 use Rattle.pfr_packet.specs.Verdicts.{lets_pass}
 
 -- ---- what the filter makes of a packet
@@ -37,53 +37,70 @@ either_blocked P true why outcome one other = other
 either_blocked P false why outcome one other = one refl
 
 -- the decision before IP options are looked at
-abbrev pub decision_in : Ruleset → Packet → Direction → Outcome
-decision_in rules packet direction = decided direction (decision_of rules packet direction) (visited rules packet direction)
+abbrev pub decision_in : FilterAnswer → Direction → Outcome
+decision_in answer direction = decided direction answer.decision answer.visits
 
 -- the deciding rule allows IP options
-abbrev pub allowed_in : Ruleset → Packet → Direction → Bool
-allowed_in rules packet direction = (conduct_of rules.filter.rules (decision_of rules packet direction).rule).allows_options
+abbrev pub allowed_in : Ruleset → FilterAnswer → Bool
+allowed_in rules answer = (conduct_of rules.filter.rules answer.decision.rule).allows_options
 
 -- a packet would pass, but has IP options that aren't allowed
 abbrev pub lacks_leave : Outcome → Packet → Bool → Bool
 lacks_leave outcome packet allowed = lets_pass outcome.verdict && (has_options packet && not allowed)
 
-pub filtered_way : (rules : Ruleset) (packet : Packet) (direction : Direction) (P : Outcome → Type 0)
-    → (lacks_leave (decision_in rules packet direction) packet (allowed_in rules packet direction) ≡ false → P (decision_in rules packet direction))
-    → P (blocked reason.IpOption (decision_in rules packet direction)) → P (filtered rules packet direction)
+pub filtered_way : (rules : Ruleset) (answer : FilterAnswer) (packet : Packet) (direction : Direction) (P : Outcome → Type 0)
+    → (lacks_leave (decision_in answer direction) packet (allowed_in rules answer) ≡ false → P (decision_in answer direction))
+    → P (blocked reason.IpOption (decision_in answer direction)) → P (filtered rules answer packet direction)
 unfolding filtered
-filtered_way rules packet direction P one other =
-    either_blocked P (lacks_leave (decision_in rules packet direction) packet (allowed_in rules packet direction)) reason.IpOption (decision_in rules packet direction) one other
+filtered_way rules answer packet direction P one other =
+    either_blocked P (lacks_leave (decision_in answer direction) packet (allowed_in rules answer)) reason.IpOption (decision_in answer direction) one other
 
 -- ---- behind a passage
 
 -- what holds of what becomes of a packet behind a passage
-pub record Judging (rules : Ruleset) (direction : Direction) (packet : Packet) (passage : Passage) (visits : List ℕ) (P : Outcome → Type 0) : Type 0 where
+pub record Judging (rules : Ruleset) (answer : FilterAnswer) (direction : Direction) (packet : Packet) (passage : Passage) (visits : List ℕ) (P : Outcome → Type 0) : Type 0 where
   pub passed : lacks_leave (nat_passed direction passage visits) packet false ≡ false → P (nat_passed direction passage visits)
   pub passed_blocked : P (blocked reason.IpOption (nat_passed direction passage visits))
-  pub decides : lacks_leave (decision_in rules (behind direction passage packet) direction) (behind direction passage packet) (allowed_in rules (behind direction passage packet) direction) ≡ false
-      → P (by_way passage visits (decision_in rules (behind direction passage packet) direction))
-  pub decides_blocked : P (by_way passage visits (blocked reason.IpOption (decision_in rules (behind direction passage packet) direction)))
+  pub decides : lacks_leave (decision_in answer direction) (behind direction passage packet) (allowed_in rules answer) ≡ false
+      → P (by_way passage visits (decision_in answer direction))
+  pub decides_blocked : P (by_way passage visits (blocked reason.IpOption (decision_in answer direction)))
 
-judged_by : (rules : Ruleset) (direction : Direction) (packet : Packet) (passage : Passage) (visits : List ℕ) (P : Outcome → Type 0) → Judging rules direction packet passage visits P
-    → (passes : Bool) → P (cond passes (unfiltered direction packet passage visits) (by_way passage visits (filtered rules (behind direction passage packet) direction)))
-judged_by rules direction packet passage visits P j true =
+judged_by : (rules : Ruleset) (answer : FilterAnswer) (direction : Direction) (packet : Packet) (passage : Passage) (visits : List ℕ) (P : Outcome → Type 0) → Judging rules answer direction packet passage visits P
+    → (passes : Bool) → P (cond passes (unfiltered direction packet passage visits) (by_way passage visits (filtered rules answer (behind direction passage packet) direction)))
+judged_by rules answer direction packet passage visits P j true =
     either_blocked P (lacks_leave (nat_passed direction passage visits) packet false) reason.IpOption (nat_passed direction passage visits) j.passed j.passed_blocked
-judged_by rules direction packet passage visits P j false =
-    filtered_way rules (behind direction passage packet) direction (λ o. P (by_way passage visits o)) j.decides j.decides_blocked
+judged_by rules answer direction packet passage visits P j false =
+    filtered_way rules answer (behind direction passage packet) direction (λ o. P (by_way passage visits o)) j.decides j.decides_blocked
 
-pub judged_way : (rules : Ruleset) (direction : Direction) (packet : Packet) (passage : Passage) (visits : List ℕ) (P : Outcome → Type 0) → Judging rules direction packet passage visits P
-    → P (judged rules direction packet passage visits)
-judged_way rules direction packet passage visits P j = judged_by rules direction packet passage visits P j passage.passes
+pub judged_way : (rules : Ruleset) (answer : FilterAnswer) (direction : Direction) (packet : Packet) (passage : Passage) (visits : List ℕ) (P : Outcome → Type 0) → Judging rules answer direction packet passage visits P
+    → P (judged rules answer direction packet passage visits)
+judged_way rules answer direction packet passage visits P j = judged_by rules answer direction packet passage visits P j passage.passes
 
 -- nothing is changed yet, and nothing written
-pub judged_changes_nothing : (rules : Ruleset) (direction : Direction) (packet : Packet) (passage : Passage) (visits : List ℕ) → (judged rules direction packet passage visits).change ≡ None
-judged_changes_nothing rules direction packet passage visits =
-    judged_way rules direction packet passage visits (λ o. o.change ≡ None) (record { passed = λ free. refl; passed_blocked = refl; decides = λ free. refl; decides_blocked = refl })
+pub judged_changes_nothing : (rules : Ruleset) (answer : FilterAnswer) (direction : Direction) (packet : Packet) (passage : Passage) (visits : List ℕ) → (judged rules answer direction packet passage visits).change ≡ None
+judged_changes_nothing rules answer direction packet passage visits =
+    judged_way rules answer direction packet passage visits (λ o. o.change ≡ None) (record { passed = λ free. refl; passed_blocked = refl; decides = λ free. refl; decides_blocked = refl })
 
-pub judged_writes_nothing : (rules : Ruleset) (direction : Direction) (packet : Packet) (passage : Passage) (visits : List ℕ) → (judged rules direction packet passage visits).bytes ≡ None
-judged_writes_nothing rules direction packet passage visits =
-    judged_way rules direction packet passage visits (λ o. o.bytes ≡ None) (record { passed = λ free. refl; passed_blocked = refl; decides = λ free. refl; decides_blocked = refl })
+pub judged_writes_nothing : (rules : Ruleset) (answer : FilterAnswer) (direction : Direction) (packet : Packet) (passage : Passage) (visits : List ℕ) → (judged rules answer direction packet passage visits).bytes ≡ None
+judged_writes_nothing rules answer direction packet passage visits =
+    judged_way rules answer direction packet passage visits (λ o. o.bytes ≡ None) (record { passed = λ free. refl; passed_blocked = refl; decides = λ free. refl; decides_blocked = refl })
+
+-- ---- the filter's answer behind a passage
+
+-- what the filter answers for a packet behind a passage, which isn't asked where the packet isn't filtered
+abbrev pub answer_in : Ruleset → StateTable → Direction → Packet → Passage → FilterAnswer
+answer_in rules table direction packet passage = cond passage.passes no_answer (filter_answer rules table (behind direction passage packet) direction)
+
+by_pass : (rules : Ruleset) (table : StateTable) (packet : Packet) (direction : Direction) (P : Outcome → Type 0) (next : FilterAnswer → Plan) (passes : Bool)
+    → P (outcome_of table (next (cond passes no_answer (filter_answer rules table packet direction)))) → P (outcome_of table (unless_passed rules packet direction passes next))
+by_pass rules table packet direction P next true h = h
+by_pass rules table packet direction P next false h = h
+
+-- what holds of a packet that goes on by the filter's answer holds of one that goes through by the passage
+pub going_way : (job : RunJob) (number : ℕ) (clock : Clock) (table : StateTable) (packet : Packet) (direction : Direction) (P : Outcome → Type 0) (visits : List ℕ) (passage : Passage)
+    → P (outcome_of table (going_on job number clock packet direction visits passage (answer_in job.rules table direction packet passage))) → P (outcome_of table (going job number clock packet direction visits passage))
+going_way job number clock table packet direction P visits passage h =
+    by_pass job.rules table (behind direction passage packet) direction P (going_on job number clock packet direction visits passage) passage.passes h
 
 -- ---- up to the passage
 

@@ -10,7 +10,6 @@ use Rattle.pfr_headers.specs.declared.packet.View.{View}
 use Rattle.pfr_headers.specs.declared.packet.View.TheVariants.{Ipv4, Skip, Short}
 use Rattle.pfr_headers.specs.View.{has_options}
 use Rattle.pfr_headers.specs.Ways.{direction_of}
-use Rattle.pfr_rules.specs.Filter.{decision_of}
 use Rattle.pfr_track.specs.declared.key.Key.{Key}
 use Rattle.pfr_track.specs.declared.outcome.Touch.{Touch}
 use Rattle.pfr_track.specs.declared.outcome.Touch.TheVariants as touch
@@ -37,15 +36,16 @@ use Rattle.pfr_packet.specs.Laws.{AreRulesOf, SaysAsItsRule, says_no_sync}
 use Rattle.pfr_packet.specs.Making.{making, with_keys, with_room}
 use Rattle.pfr_packet.specs.Outcomes.{by_state}
 use Rattle.pfr_packet.specs.Passages.{behind, by_way, judged, judged_kept, kept_behind, kept_by_way, nat_passed, unfiltered}
-use Rattle.pfr_packet.specs.Plan.{Plan, done, found_in, has_room_in, outcome_of, purged_at}
+use Rattle.pfr_states.specs.Answers.{found_in, has_room_in, purged_at}
+use Rattle.pfr_packet.specs.Plan.{FilterAnswer, Plan, done, filter_answer, outcome_of}
 use Rattle.pfr_packet.specs.Steps.{by_connection, by_embedded, opened, opening, packet_plan, passed_over, plan, step_of, subject_plan}
 use Rattle.pfr_packet.specs.Verdicts.{lets_pass}
-use Rattle.pfr_packet.proofs.OpeningLemmas.{either_blocked, filtered_way, judged_changes_nothing, lacks_leave, opening_way}
+use Rattle.pfr_packet.proofs.OpeningLemmas.{answer_in, either_blocked, going_way, filtered_way, judged_changes_nothing, lacks_leave, opening_way}
 
 -- ---- what a rule keeps
 
 -- what a state says, by the rule that decided and the rule that translates
-record AreSaid (rules : List FlatRule) (rule translated : Option RuleNumber) (said : StateRules) : Type 0 where
+pub record AreSaid (rules : List FlatRule) (rule translated : Option RuleNumber) (said : StateRules) : Type 0 where
   pub filter : said.filter ≡ rule
   pub translation : said.translation ≡ translated
   pub conduct : SaysAsItsRule rules rule said
@@ -88,31 +88,31 @@ said_by rules (Some number) translated said kept_is = said_at rules number trans
 
 -- ---- behind a passage
 
-filtered_rule : (rules : Ruleset) (packet : Packet) (direction : Direction) → (filtered rules packet direction).rule ≡ (decision_of rules packet direction).rule
-filtered_rule rules packet direction = filtered_way rules packet direction (λ o. o.rule ≡ (decision_of rules packet direction).rule) (λ free. refl) refl
+pub filtered_rule : (rules : Ruleset) (answer : FilterAnswer) (packet : Packet) (direction : Direction) → (filtered rules answer packet direction).rule ≡ answer.decision.rule
+filtered_rule rules answer packet direction = filtered_way rules answer packet direction (λ o. o.rule ≡ answer.decision.rule) (λ free. refl) refl
 
 -- behind the filter
-behind_says : (rules : Ruleset) (direction : Direction) (packet : Packet) (passage : Passage) (said : StateRules) → kept_behind rules direction passage packet ≡ Some said
-    → AreSaid rules.filter.rules (filtered rules packet direction).rule passage.translation said
+behind_says : (rules : Ruleset) (answer : FilterAnswer) (direction : Direction) (packet : Packet) (passage : Passage) (said : StateRules) → kept_behind rules answer direction passage packet ≡ Some said
+    → AreSaid rules.filter.rules (filtered rules answer packet direction).rule passage.translation said
 unfolding allows_options kept
-behind_says rules direction packet passage said kept_is =
-    let rule : Option RuleNumber = (decision_of rules packet direction).rule in
-    let same = filtered_rule rules packet direction in
+behind_says rules answer direction packet passage said kept_is =
+    let rule : Option RuleNumber = answer.decision.rule in
+    let same = filtered_rule rules answer packet direction in
     let by_decision : kept_by_way passage.translation rule (conduct_of rules.filter.rules rule).allows_options (conduct_of rules.filter.rules rule).kept ≡ Some said =
     subst (λ (named : Option RuleNumber). kept_by_way passage.translation named (conduct_of rules.filter.rules rule).allows_options (conduct_of rules.filter.rules rule).kept ≡ Some said) same kept_is in
     subst (λ (named : Option RuleNumber). AreSaid rules.filter.rules named passage.translation said) (sym same) (said_by rules.filter.rules rule passage.translation said by_decision)
 
-judged_by_passes : (rules : Ruleset) (direction : Direction) (packet : Packet) (passage : Passage) (visits : List ℕ) (said : StateRules) (passes : Bool)
-    → cond passes (kept_by_way passage.translation None false None) (kept_behind rules direction passage (behind direction passage packet)) ≡ Some said
-    → (let outcome : Outcome = cond passes (unfiltered direction packet passage visits) (by_way passage visits (filtered rules (behind direction passage packet) direction)) in AreSaid rules.filter.rules outcome.rule outcome.translation said)
-judged_by_passes rules direction packet passage visits said true kept_is =
+judged_by_passes : (rules : Ruleset) (answer : FilterAnswer) (direction : Direction) (packet : Packet) (passage : Passage) (visits : List ℕ) (said : StateRules) (passes : Bool)
+    → cond passes (kept_by_way passage.translation None false None) (kept_behind rules answer direction passage (behind direction passage packet)) ≡ Some said
+    → (let outcome : Outcome = cond passes (unfiltered direction packet passage visits) (by_way passage visits (filtered rules answer (behind direction passage packet) direction)) in AreSaid rules.filter.rules outcome.rule outcome.translation said)
+judged_by_passes rules answer direction packet passage visits said true kept_is =
     let by_none = said_by rules.filter.rules None passage.translation said kept_is in
     either_blocked (λ o. AreSaid rules.filter.rules o.rule o.translation said) (lacks_leave (nat_passed direction passage visits) packet false) reason.IpOption (nat_passed direction passage visits) (λ free. by_none) by_none
-judged_by_passes rules direction packet passage visits said false kept_is = behind_says rules direction (behind direction passage packet) passage said kept_is
+judged_by_passes rules answer direction packet passage visits said false kept_is = behind_says rules answer direction (behind direction passage packet) passage said kept_is
 
-judged_says : (rules : Ruleset) (direction : Direction) (packet : Packet) (passage : Passage) (visits : List ℕ) (said : StateRules) → judged_kept rules direction packet passage ≡ Some said
-    → AreSaid rules.filter.rules (judged rules direction packet passage visits).rule (judged rules direction packet passage visits).translation said
-judged_says rules direction packet passage visits said kept_is = judged_by_passes rules direction packet passage visits said passage.passes kept_is
+pub judged_says : (rules : Ruleset) (answer : FilterAnswer) (direction : Direction) (packet : Packet) (passage : Passage) (visits : List ℕ) (said : StateRules) → judged_kept rules answer direction packet passage ≡ Some said
+    → AreSaid rules.filter.rules (judged rules answer direction packet passage visits).rule (judged rules answer direction packet passage visits).translation said
+judged_says rules answer direction packet passage visits said kept_is = judged_by_passes rules answer direction packet passage visits said passage.passes kept_is
 
 -- ---- along the plan
 
@@ -138,34 +138,35 @@ keys_told rules table packet state outcome said None None = room_told rules tabl
 keys_told rules table packet state outcome said None (Some other) = tt
 keys_told rules table packet state outcome said (Some other) _ = tt
 
-opened_told : (job : RunJob) (number : ℕ) (clock : Clock) (table : StateTable) (packet : Packet) (direction : Direction) (visits : List ℕ) (passage : Passage) (said : Option StateRules)
-    → judged_kept job.rules direction packet passage ≡ said
-    → Told job.rules.filter.rules (outcome_of table (opened job number clock packet direction passage (judged job.rules direction packet passage visits) said))
-opened_told job number clock table packet direction visits passage None is =
-    unchanged_told job.rules.filter.rules (judged job.rules direction packet passage visits) (judged_changes_nothing job.rules direction packet passage visits)
-opened_told job number clock table packet direction visits passage (Some said) is = by_verdict (lets_pass outcome.verdict)
+opened_told : (job : RunJob) (answer : FilterAnswer) (number : ℕ) (clock : Clock) (table : StateTable) (packet : Packet) (direction : Direction) (visits : List ℕ) (passage : Passage) (said : Option StateRules)
+    → judged_kept job.rules answer direction packet passage ≡ said
+    → Told job.rules.filter.rules (outcome_of table (opened job number clock packet direction passage (judged job.rules answer direction packet passage visits) said))
+opened_told job answer number clock table packet direction visits passage None is =
+    unchanged_told job.rules.filter.rules (judged job.rules answer direction packet passage visits) (judged_changes_nothing job.rules answer direction packet passage visits)
+opened_told job answer number clock table packet direction visits passage (Some said) is = by_verdict (lets_pass outcome.verdict)
   where
     outcome : Outcome
-    outcome = judged job.rules direction packet passage visits
+    outcome = judged job.rules answer direction packet passage visits
 
     state : State
     state = made (record { 0 = number }) packet direction passage.wire passage.stack said clock (timeouts_of job)
 
     by_verdict : (passes : Bool) → Told job.rules.filter.rules (outcome_of table (cond passes (making packet state outcome) (done outcome)))
     by_verdict true =
-        let are = judged_says job.rules direction packet passage visits said is in
+        let are = judged_says job.rules answer direction packet passage visits said is in
         keys_told job.rules.filter.rules table packet state outcome (record { filter = are.filter; translation = are.translation; conduct = are.conduct })
         (found_in table Wire state.wire) (found_in table Stack state.stack)
-    by_verdict false = unchanged_told job.rules.filter.rules outcome (judged_changes_nothing job.rules direction packet passage visits)
+    by_verdict false = unchanged_told job.rules.filter.rules outcome (judged_changes_nothing job.rules answer direction packet passage visits)
 
 opening_told : (job : RunJob) (number : ℕ) (clock : Clock) (table : StateTable) (packet : Packet) (direction : Direction) (key : Key) → Told job.rules.filter.rules (outcome_of table (opening job number clock packet direction key))
 opening_told job number clock table packet direction key = opening_way job number clock table packet direction (Told job.rules.filter.rules) (record {
-  goes = λ visits passage. opened_told job number clock table packet direction visits passage (judged_kept job.rules direction packet passage) refl;
+  goes = λ visits passage. (let answer = answer_in job.rules table direction packet passage in going_way job number clock table packet direction (Told job.rules.filter.rules) visits passage
+      (opened_told job answer number clock table packet direction visits passage (judged_kept job.rules answer direction packet passage) refl));
   has_no_port = λ rule visits. tt;
 }) key
 
-filtered_told : (list : List FlatRule) (rules : Ruleset) (packet : Packet) (direction : Direction) → Told list (filtered rules packet direction)
-filtered_told list rules packet direction = filtered_way rules packet direction (Told list) (λ free. tt) tt
+filtered_told : (list : List FlatRule) (rules : Ruleset) (answer : FilterAnswer) (packet : Packet) (direction : Direction) → Told list (filtered rules answer packet direction)
+filtered_told list rules answer packet direction = filtered_way rules answer packet direction (Told list) (λ free. tt) tt
 
 passed_told : (rules : List FlatRule) (direction : Direction) (packet : Packet) (state : State) (why : Reason) (change : Option TableChange) → ((outcome : Outcome) → ToldIf rules outcome change) → Told rules (passed direction packet state why change)
 passed_told rules direction packet state why change told =
@@ -178,7 +179,7 @@ tracked_told rules direction packet state touch.Mismatch = tt
 tracked_told rules direction packet state touch.Removed = tt
 
 by_embedded_told : (job : RunJob) (table : StateTable) (packet : Packet) (direction : Direction) (found : Option State) → Told job.rules.filter.rules (outcome_of table (by_embedded job packet direction found))
-by_embedded_told job table packet direction None = filtered_told job.rules.filter.rules job.rules packet direction
+by_embedded_told job table packet direction None = filtered_told job.rules.filter.rules job.rules (filter_answer job.rules table packet direction) packet direction
 by_embedded_told job table packet direction (Some state) = passed_told job.rules.filter.rules direction packet state reason.StateError None (λ outcome. tt)
 
 by_connection_told : (job : RunJob) (number : ℕ) (clock : Clock) (table : StateTable) (packet : Packet) (direction : Direction) (key : Key) (found : Option State)
@@ -188,7 +189,7 @@ by_connection_told job number clock table packet direction key (Some state) = tr
 
 subject_told : (job : RunJob) (number : ℕ) (clock : Clock) (table : StateTable) (packet : Packet) (direction : Direction) (subject : Subject)
     → Told job.rules.filter.rules (outcome_of table (subject_plan job number clock packet direction subject))
-subject_told job number clock table packet direction Alone = filtered_told job.rules.filter.rules job.rules packet direction
+subject_told job number clock table packet direction Alone = filtered_told job.rules.filter.rules job.rules (filter_answer job.rules table packet direction) packet direction
 subject_told job number clock table packet direction (Embedded key) = by_embedded_told job table packet direction (found_in table (side_of direction) key)
 subject_told job number clock table packet direction (Connection key) = by_connection_told job number clock table packet direction key (found_in table (side_of direction) key)
 

@@ -10,10 +10,11 @@ use Rattle.pfr_track.specs.declared.key.Key.{Key}
 use Rattle.pfr_track.specs.declared.state.State.{State}
 use Rattle.pfr_states.specs.declared.change.Side.TheVariants.{Wire}
 use Rattle.pfr_states.specs.States.{StateTable}
-use Rattle.pfr_packet.specs.declared.answers.Question.TheVariants.{At}
+use Rattle.pfr_states.specs.declared.question.Question.TheVariants.{At}
 use Rattle.pfr_packet.specs.Laws.{times}
 use Rattle.pfr_packet.specs.Picks.{cut_of, falling, is_free, is_free_in, picked, picking, rising, try_list}
-use Rattle.pfr_packet.specs.Plan.{Plan, found_in, outcome_of, questions_of}
+use Rattle.pfr_states.specs.Answers.{found_in}
+use Rattle.pfr_packet.specs.Plan.{Plan, outcome_of, questions_of}
 
 -- ---- how often a port is tried
 

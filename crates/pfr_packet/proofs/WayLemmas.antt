@@ -14,8 +14,8 @@ use Rattle.pfr_headers.specs.declared.transport.Transport.{Transport}
 use Rattle.pfr_headers.specs.declared.transport.Transport.TheVariants as transport
 use Rattle.pfr_headers.specs.Ways.{direction_of}
 use Rattle.pfr_headers.specs.View.{has_options}
+use Rattle.pfr_criteria.specs.Transports.{message_opens, opens_connection}
 use Rattle.pfr_rules.specs.declared.decision.Decision.{Decision}
-use Rattle.pfr_rules.specs.Filter.{decision_of}
 use Rattle.pfr_track.specs.declared.key.Key.{Key}
 use Rattle.pfr_track.specs.declared.outcome.Touch.{Touch}
 use Rattle.pfr_track.specs.declared.outcome.Touch.TheVariants as touch
@@ -37,23 +37,28 @@ use Rattle.pfr_packet.specs.Filtering.{conduct_at, conduct_of, filtered, reason_
 use Rattle.pfr_packet.specs.Found.{embedded, tracked}
 use Rattle.pfr_packet.specs.Job.{RunJob, is_skipped, timeouts_of}
 use Rattle.pfr_packet.specs.Keys.{message_subject, side_of, subject_by, subject_of}
-use Rattle.pfr_packet.specs.Laws.{HasLeave, IsUntouched, message_opens, opens_connection}
+use Rattle.pfr_packet.specs.Laws.{HasLeave, IsUntouched}
 use Rattle.pfr_packet.specs.Making.{making, with_keys, with_made, with_room}
 use Rattle.pfr_packet.specs.Outcomes.{blocked, none_visited, without_leave}
 use Rattle.pfr_packet.specs.Passages.{behind, exhausted, judged, judged_kept}
-use Rattle.pfr_packet.specs.Plan.{Plan, done, found_in, has_room_in, outcome_of, purged_at}
+use Rattle.pfr_states.specs.Answers.{found_in, has_room_in, purged_at}
+use Rattle.pfr_packet.specs.Plan.{FilterAnswer, Plan, done, filter_answer, outcome_of}
 use Rattle.pfr_packet.specs.Steps.{asked_of, by_connection, by_embedded, opened, packet_plan, passed_over, plan, step_of, subject_plan}
 use Rattle.pfr_packet.specs.Verdicts.{lets_pass}
 use Rattle.pfr_packet.proofs.ChangeLemmas.{found_in_states, passing}
-use Rattle.pfr_packet.proofs.OpeningLemmas.{behind_options, either_blocked, filtered_way, judged_way, judged_writes_nothing, opening_way}
+use Rattle.pfr_packet.proofs.OpeningLemmas.{answer_in, behind_options, either_blocked, filtered_way, going_way, judged_way, judged_writes_nothing, opening_way}
 
 -- no state is found for the packet
 abbrev pub NoneFound : StateTable → Packet → Direction → Type 0
 NoneFound table packet direction = (key : Key) → ((subject_of direction packet ≡ Embedded key) ⊎ (subject_of direction packet ≡ Connection key)) → found_in table (side_of direction) key ≡ None
 
 -- what becomes of the first packet of a connection behind a passage
-abbrev pub judged_in : RunJob → Packet → Direction → Passage → List ℕ → Outcome
-judged_in job packet direction passage visits = judged job.rules direction packet passage visits
+abbrev pub judged_in : RunJob → StateTable → Packet → Direction → Passage → List ℕ → Outcome
+judged_in job table packet direction passage visits = judged job.rules (answer_in job.rules table direction packet passage) direction packet passage visits
+
+-- what the state says of its rules that it may make
+abbrev pub kept_in : RunJob → StateTable → Packet → Direction → Passage → Option StateRules
+kept_in job table packet direction passage = judged_kept job.rules (answer_in job.rules table direction packet passage) direction packet passage
 
 -- it is the first packet of its connection
 pub record IsFirst (table : StateTable) (packet : Packet) (direction : Direction) : Type 0 where
@@ -63,40 +68,40 @@ pub record IsFirst (table : StateTable) (packet : Packet) (direction : Direction
 
 -- what holds of the outcome, whichever way the packet goes
 pub record Ways (job : RunJob) (table : StateTable) (packet : Packet) (direction : Direction) (P : Outcome → Type 0) : Type 0 where
-  pub by_rules : NoneFound table packet direction → P (filtered job.rules packet direction)
+  pub by_rules : NoneFound table packet direction → P (filtered job.rules (filter_answer job.rules table packet direction) packet direction)
   pub by_error : (key : Key) (state : State) → subject_of direction packet ≡ Embedded key → found_in table (side_of direction) key ≡ Some state → P (embedded direction packet state)
   pub by_state : (key : Key) (state : State) (t : Touch) → subject_of direction packet ≡ Connection key → found_in table (side_of direction) key ≡ Some state → P (tracked direction packet state t)
-  pub goes : (passage : Passage) (visits : List ℕ) → IsFirst table packet direction → P (judged_in job packet direction passage visits)
-  pub makes : (passage : Passage) (visits : List ℕ) (state : State) → IsFirst table packet direction → lets_pass (judged_in job packet direction passage visits).verdict ≡ true
-      → P (with_made packet state (judged_in job packet direction passage visits))
-  pub has_no_place : (passage : Passage) (visits : List ℕ) → IsFirst table packet direction → P (blocked reason.StateInsert (judged_in job packet direction passage visits))
-  pub has_no_room : (passage : Passage) (visits : List ℕ) → IsFirst table packet direction → has_room_in table ≡ false → P (blocked reason.StateLimit (judged_in job packet direction passage visits))
+  pub goes : (passage : Passage) (visits : List ℕ) → IsFirst table packet direction → P (judged_in job table packet direction passage visits)
+  pub makes : (passage : Passage) (visits : List ℕ) (state : State) → IsFirst table packet direction → lets_pass (judged_in job table packet direction passage visits).verdict ≡ true
+      → kept_in job table packet direction passage ≡ Some state.rules → P (with_made packet state (judged_in job table packet direction passage visits))
+  pub has_no_place : (passage : Passage) (visits : List ℕ) → IsFirst table packet direction → P (blocked reason.StateInsert (judged_in job table packet direction passage visits))
+  pub has_no_room : (passage : Passage) (visits : List ℕ) → IsFirst table packet direction → has_room_in table ≡ false → P (blocked reason.StateLimit (judged_in job table packet direction passage visits))
   pub has_no_port : (rule : RuleNumber) (visits : List ℕ) → IsFirst table packet direction → P (exhausted direction rule visits)
 
 room_way : (job : RunJob) (table : StateTable) (packet : Packet) (direction : Direction) (P : Outcome → Type 0) → Ways job table packet direction P → (passage : Passage) (visits : List ℕ) (state : State)
-    → IsFirst table packet direction → lets_pass (judged_in job packet direction passage visits).verdict ≡ true → (room : Bool) → has_room_in table ≡ room
-    → P (outcome_of table (with_room packet state (judged_in job packet direction passage visits) room))
-room_way job table packet direction P w passage visits state first passes true room = w.makes passage visits state first passes
-room_way job table packet direction P w passage visits state first passes false room = w.has_no_room passage visits first room
+    → IsFirst table packet direction → lets_pass (judged_in job table packet direction passage visits).verdict ≡ true → kept_in job table packet direction passage ≡ Some state.rules → (room : Bool) → has_room_in table ≡ room
+    → P (outcome_of table (with_room packet state (judged_in job table packet direction passage visits) room))
+room_way job table packet direction P w passage visits state first passes kept true room = w.makes passage visits state first passes kept
+room_way job table packet direction P w passage visits state first passes kept false room = w.has_no_room passage visits first room
 
 keys_way : (job : RunJob) (table : StateTable) (packet : Packet) (direction : Direction) (P : Outcome → Type 0) → Ways job table packet direction P → (passage : Passage) (visits : List ℕ) (state : State)
-    → IsFirst table packet direction → lets_pass (judged_in job packet direction passage visits).verdict ≡ true → (wire stack : Option State)
-    → P (outcome_of table (with_keys packet state (judged_in job packet direction passage visits) wire stack))
-keys_way job table packet direction P w passage visits state first passes None None = room_way job table packet direction P w passage visits state first passes (has_room_in table) refl
-keys_way job table packet direction P w passage visits state first passes None (Some other) = w.has_no_place passage visits first
-keys_way job table packet direction P w passage visits state first passes (Some other) _ = w.has_no_place passage visits first
+    → IsFirst table packet direction → lets_pass (judged_in job table packet direction passage visits).verdict ≡ true → kept_in job table packet direction passage ≡ Some state.rules → (wire stack : Option State)
+    → P (outcome_of table (with_keys packet state (judged_in job table packet direction passage visits) wire stack))
+keys_way job table packet direction P w passage visits state first passes kept None None = room_way job table packet direction P w passage visits state first passes kept (has_room_in table) refl
+keys_way job table packet direction P w passage visits state first passes kept None (Some other) = w.has_no_place passage visits first
+keys_way job table packet direction P w passage visits state first passes kept (Some other) _ = w.has_no_place passage visits first
 
 passing_way : (job : RunJob) (table : StateTable) (packet : Packet) (direction : Direction) (P : Outcome → Type 0) → Ways job table packet direction P → (passage : Passage) (visits : List ℕ) (state : State)
-    → IsFirst table packet direction → (test : Bool) → lets_pass (judged_in job packet direction passage visits).verdict ≡ test
-    → P (outcome_of table (cond test (making packet state (judged_in job packet direction passage visits)) (done (judged_in job packet direction passage visits))))
-passing_way job table packet direction P w passage visits state first true passes = keys_way job table packet direction P w passage visits state first passes (found_in table Wire state.wire) (found_in table Stack state.stack)
-passing_way job table packet direction P w passage visits state first false passes = w.goes passage visits first
+    → IsFirst table packet direction → kept_in job table packet direction passage ≡ Some state.rules → (test : Bool) → lets_pass (judged_in job table packet direction passage visits).verdict ≡ test
+    → P (outcome_of table (cond test (making packet state (judged_in job table packet direction passage visits)) (done (judged_in job table packet direction passage visits))))
+passing_way job table packet direction P w passage visits state first kept true passes = keys_way job table packet direction P w passage visits state first passes kept (found_in table Wire state.wire) (found_in table Stack state.stack)
+passing_way job table packet direction P w passage visits state first kept false passes = w.goes passage visits first
 
 opened_way : (job : RunJob) (number : ℕ) (clock : Clock) (table : StateTable) (packet : Packet) (direction : Direction) (passage : Passage) (visits : List ℕ) (P : Outcome → Type 0) → Ways job table packet direction P
-    → IsFirst table packet direction → (kept : Option StateRules) → P (outcome_of table (opened job number clock packet direction passage (judged_in job packet direction passage visits) kept))
-opened_way job number clock table packet direction passage visits P w first None = w.goes passage visits first
-opened_way job number clock table packet direction passage visits P w first (Some rules) =
-    passing_way job table packet direction P w passage visits (made (record { 0 = number }) packet direction passage.wire passage.stack rules clock (timeouts_of job)) first (lets_pass (judged_in job packet direction passage visits).verdict) refl
+    → IsFirst table packet direction → (kept : Option StateRules) → kept_in job table packet direction passage ≡ kept → P (outcome_of table (opened job number clock packet direction passage (judged_in job table packet direction passage visits) kept))
+opened_way job number clock table packet direction passage visits P w first None is = w.goes passage visits first
+opened_way job number clock table packet direction passage visits P w first (Some rules) is =
+    passing_way job table packet direction P w passage visits (made (record { 0 = number }) packet direction passage.wire passage.stack rules clock (timeouts_of job)) first is (lets_pass (judged_in job table packet direction passage visits).verdict) refl
 
 -- the subject of a packet is one
 none_at : (table : StateTable) (packet : Packet) (direction : Direction) (subject : Subject) (key : Key) → subject_of direction packet ≡ subject → (subject ≡ Embedded key) ⊎ (subject ≡ Connection key)
@@ -119,7 +124,7 @@ connection_way : (job : RunJob) (number : ℕ) (clock : Clock) (table : StateTab
 connection_way job number clock table packet direction P w key is None none =
     let first : IsFirst table packet direction = record { key = key; subject_is = is; none_found = none_at table packet direction (Connection key) key is (inr refl) none } in
     opening_way job number clock table packet direction P (record {
-      goes = λ visits passage. opened_way job number clock table packet direction passage visits P w first (judged_kept job.rules direction packet passage);
+      goes = λ visits passage. going_way job number clock table packet direction P visits passage (opened_way job number clock table packet direction passage visits P w first (kept_in job table packet direction passage) refl);
       has_no_port = λ rule visits. w.has_no_port rule visits first;
     }) key
 connection_way job number clock table packet direction P w key is (Some state) found = w.by_state key state (touched state packet direction clock (timeouts_of job)) is found
@@ -168,13 +173,14 @@ subject_opens direction packet transport.Other key opens is = cc opens
 pub no_state_of : (job : RunJob) (number : ℕ) (clock : Clock) (packet : Packet) (table : StateTable) → opens_connection packet.transport ≡ false → (step_of job number clock (Ipv4 packet) table).change ≡ None
 no_state_of job number clock packet table opens =
     let direction = direction_of job.inside packet in
-    let by_rules : (filtered job.rules packet direction).change ≡ None = filtered_way job.rules packet direction (λ o. o.change ≡ None) (λ free. refl) refl in
+    let answer = filter_answer job.rules (purged_at clock table) packet direction in
+    let by_rules : (filtered job.rules answer packet direction).change ≡ None = filtered_way job.rules answer packet direction (λ o. o.change ≡ None) (λ free. refl) refl in
     step_way job number clock table packet (λ o. o.change ≡ None) refl (record {
       by_rules = λ none. by_rules;
       by_error = λ key state is found. either_blocked (λ o. o.change ≡ None) _ reason.IpOption (passing direction packet state reason.StateError None) (λ free. refl) refl;
       by_state = λ key state t is found. absurd (subject_opens direction packet packet.transport key opens is);
       goes = λ passage visits first. absurd (subject_opens direction packet packet.transport first.key opens first.subject_is);
-      makes = λ passage visits state first passes. absurd (subject_opens direction packet packet.transport first.key opens first.subject_is);
+      makes = λ passage visits state first passes kept. absurd (subject_opens direction packet packet.transport first.key opens first.subject_is);
       has_no_place = λ passage visits first. refl;
       has_no_room = λ passage visits first full. refl;
       has_no_port = λ rule visits first. refl;
@@ -193,7 +199,7 @@ none_visited_of job number clock packet table key state subject found =
       by_error = λ key state is found. either_blocked P _ reason.IpOption (passing direction packet state reason.StateError None) (λ free. refl) refl;
       by_state = λ key state t is found. tracked_visits direction packet state t;
       goes = λ passage visits first. absurd (contradicts first.none_found);
-      makes = λ passage visits state first passes. absurd (contradicts first.none_found);
+      makes = λ passage visits state first passes kept. absurd (contradicts first.none_found);
       has_no_place = λ passage visits first. absurd (contradicts first.none_found);
       has_no_room = λ passage visits first full. absurd (contradicts first.none_found);
       has_no_port = λ rule visits first. absurd (contradicts first.none_found);
@@ -215,14 +221,16 @@ reason_by decision is = by_rule decision.rule is
     by_rule None is = cc is
     by_rule (Some number) is = cc is
 
-filtered_lacks : (job : RunJob) (table : StateTable) (packet : Packet) (direction : Direction) → LacksRoom table (filtered job.rules packet direction)
-filtered_lacks job table packet direction = filtered_way job.rules packet direction (LacksRoom table) (λ free is. absurd (reason_by (decision_of job.rules packet direction) is)) (λ is. absurd (cc is))
+filtered_lacks : (job : RunJob) (table : StateTable) (packet : Packet) (direction : Direction) → LacksRoom table (filtered job.rules (filter_answer job.rules table packet direction) packet direction)
+filtered_lacks job table packet direction =
+    let answer = filter_answer job.rules table packet direction in
+    filtered_way job.rules answer packet direction (LacksRoom table) (λ free is. absurd (reason_by answer.decision is)) (λ is. absurd (cc is))
 
-judged_lacks : (job : RunJob) (table : StateTable) (packet : Packet) (direction : Direction) (passage : Passage) (visits : List ℕ) → LacksRoom table (judged_in job packet direction passage visits)
-judged_lacks job table packet direction passage visits = judged_way job.rules direction packet passage visits (LacksRoom table) (record {
+judged_lacks : (job : RunJob) (table : StateTable) (packet : Packet) (direction : Direction) (passage : Passage) (visits : List ℕ) → LacksRoom table (judged_in job table packet direction passage visits)
+judged_lacks job table packet direction passage visits = judged_way job.rules (answer_in job.rules table direction packet passage) direction packet passage visits (LacksRoom table) (record {
   passed = λ free is. absurd (cc is);
   passed_blocked = λ is. absurd (cc is);
-  decides = λ free is. absurd (reason_by (decision_of job.rules (behind direction passage packet) direction) is);
+  decides = λ free is. absurd (reason_by (answer_in job.rules table direction packet passage).decision is);
   decides_blocked = λ is. absurd (cc is);
 })
 
@@ -240,7 +248,7 @@ limit_of job number clock packet table =
       by_error = λ key state is found. either_blocked (LacksRoom now) _ reason.IpOption (passing direction packet state reason.StateError None) (λ free is. absurd (cc is)) (λ is. absurd (cc is));
       by_state = λ key state t is found. tracked_lacks now direction packet state t;
       goes = λ passage visits first. judged_lacks job now packet direction passage visits;
-      makes = λ passage visits state first passes. judged_lacks job now packet direction passage visits;
+      makes = λ passage visits state first passes kept. judged_lacks job now packet direction passage visits;
       has_no_place = λ passage visits first is. absurd (cc is);
       has_no_room = λ passage visits first full is. full;
       has_no_port = λ rule visits first is. absurd (cc is);
@@ -259,11 +267,11 @@ pub unwritten_of : (job : RunJob) (number : ℕ) (clock : Clock) (packet : Packe
 unwritten_of job number clock packet table =
     let direction = direction_of job.inside packet in
     step_way job number clock table packet Unwritten (λ stops. absurd (cc stops)) (record {
-      by_rules = λ none. filtered_way job.rules packet direction Unwritten (λ free stops. refl) (λ stops. refl);
+      by_rules = λ none. filtered_way job.rules (filter_answer job.rules (purged_at clock table) packet direction) packet direction Unwritten (λ free stops. refl) (λ stops. refl);
       by_error = λ key state is found. either_blocked Unwritten _ reason.IpOption (passing direction packet state reason.StateError None) (λ free stops. absurd (cc stops)) (λ stops. refl);
       by_state = λ key state t is found. tracked_unwritten direction packet state t;
-      goes = λ passage visits first stops. judged_writes_nothing job.rules direction packet passage visits;
-      makes = λ passage visits state first passes stops. (let both : true ≡ false = sym passes ∙ stops in absurd (cc both));
+      goes = λ passage visits first stops. judged_writes_nothing job.rules (answer_in job.rules (purged_at clock table) direction packet passage) direction packet passage visits;
+      makes = λ passage visits state first passes kept stops. (let both : true ≡ false = sym passes ∙ stops in absurd (cc both));
       has_no_place = λ passage visits first stops. refl;
       has_no_room = λ passage visits first full stops. refl;
       has_no_port = λ rule visits first stops. refl;
@@ -289,9 +297,9 @@ rule_with_leave rules (Some number) is = at_place (slice_get rules number.0) ref
     at_place None got is = absurd (cc is)
     at_place (Some rule) got is = (number, rule, got, refl, is)
 
-filtered_leave : (job : RunJob) (states : List State) (packet : Packet) (direction : Direction) → ByLeave job.rules.filter.rules states packet (filtered job.rules packet direction)
-filtered_leave job states packet direction = filtered_way job.rules packet direction (ByLeave job.rules.filter.rules states packet)
-    (λ free options passes why. inl (rule_with_leave job.rules.filter.rules (decision_of job.rules packet direction).rule (third_false _ _ _ free passes options)))
+filtered_leave : (job : RunJob) (answer : FilterAnswer) (states : List State) (packet : Packet) (direction : Direction) → ByLeave job.rules.filter.rules states packet (filtered job.rules answer packet direction)
+filtered_leave job answer states packet direction = filtered_way job.rules answer packet direction (ByLeave job.rules.filter.rules states packet)
+    (λ free options passes why. inl (rule_with_leave job.rules.filter.rules answer.decision.rule (third_false _ _ _ free passes options)))
     (λ options passes why. absurd (cc passes))
 
 state_leave : (table : StateTable) (rules : List FlatRule) (direction : Direction) (packet : Packet) (state : State) (why : Reason) (change : Option TableChange) → Contains table.states state
@@ -312,13 +320,13 @@ no_options true none is = cc none
 no_options false none is = cc is
 
 -- the rule that decides on a packet behind its translation, where its IP options pass
-judged_rule : (job : RunJob) (packet : Packet) (direction : Direction) (passage : Passage) (visits : List ℕ) → has_options packet ≡ true → lets_pass (judged_in job packet direction passage visits).verdict ≡ true
-    → RuleWithLeave job.rules.filter.rules (judged_in job packet direction passage visits).rule
-judged_rule job packet direction passage visits options lets =
-    judged_way job.rules direction packet passage visits (λ o. lets_pass o.verdict ≡ true → RuleWithLeave job.rules.filter.rules o.rule) (record {
+judged_rule : (job : RunJob) (table : StateTable) (packet : Packet) (direction : Direction) (passage : Passage) (visits : List ℕ) → has_options packet ≡ true → lets_pass (judged_in job table packet direction passage visits).verdict ≡ true
+    → RuleWithLeave job.rules.filter.rules (judged_in job table packet direction passage visits).rule
+judged_rule job table packet direction passage visits options lets =
+    judged_way job.rules (answer_in job.rules table direction packet passage) direction packet passage visits (λ o. lets_pass o.verdict ≡ true → RuleWithLeave job.rules.filter.rules o.rule) (record {
       passed = λ free passes. absurd (no_options (has_options packet) free options);
       passed_blocked = λ passes. absurd (cc passes);
-      decides = λ free passes. rule_with_leave job.rules.filter.rules (decision_of job.rules (behind direction passage packet) direction).rule
+      decides = λ free passes. rule_with_leave job.rules.filter.rules (answer_in job.rules table direction packet passage).decision.rule
           (third_false _ _ _ free passes (behind_options direction passage packet ∙ options));
       decides_blocked = λ passes. absurd (cc passes);
     }) lets
@@ -329,11 +337,11 @@ leave_of job number clock packet table =
     let now = purged_at clock table in
     let rules = job.rules.filter.rules in
     step_way job number clock table packet (ByLeave rules now.states packet) (λ options passes skipped. absurd (skipped refl)) (record {
-      by_rules = λ none. filtered_leave job now.states packet direction;
+      by_rules = λ none. filtered_leave job (filter_answer job.rules now packet direction) now.states packet direction;
       by_error = λ key state is found. state_leave now rules direction packet state reason.StateError None (found_in_states now (side_of direction) key state found);
       by_state = λ key state t is found. tracked_leave now rules direction packet state t (found_in_states now (side_of direction) key state found);
-      goes = λ passage visits first options passes skipped. inl (judged_rule job packet direction passage visits options passes);
-      makes = λ passage visits state first lets options passes skipped. inl (judged_rule job packet direction passage visits options lets);
+      goes = λ passage visits first options passes skipped. inl (judged_rule job now packet direction passage visits options passes);
+      makes = λ passage visits state first lets kept options passes skipped. inl (judged_rule job now packet direction passage visits options lets);
       has_no_place = λ passage visits first options passes skipped. absurd (cc passes);
       has_no_room = λ passage visits first full options passes skipped. absurd (cc passes);
       has_no_port = λ rule visits first options passes skipped. absurd (cc passes);

@@ -10,7 +10,6 @@ use Rattle.pfr_ruleset.specs.declared.flat.StateRule.{StateRule}
 use Rattle.pfr_ruleset.specs.declared.ruleset.Ruleset.{Ruleset}
 use Rattle.pfr_headers.specs.declared.packet.Packet.{Packet}
 use Rattle.pfr_rules.specs.declared.decision.Decision.{Decision}
-use Rattle.pfr_rules.specs.Filter.{decision_of, visited}
 use Rattle.pfr_track.specs.declared.state.StateRules.{StateRules}
 use Rattle.pfr_packet.specs.declared.filtering.Conduct.{Conduct}
 use Rattle.pfr_packet.specs.declared.outcome.Outcome.{Outcome}
@@ -19,6 +18,7 @@ use Rattle.pfr_packet.specs.declared.verdict.Reason.TheVariants as reason
 use Rattle.pfr_packet.specs.declared.verdict.Verdict.{Verdict}
 use Rattle.pfr_packet.specs.declared.verdict.Verdict.TheVariants as verdict
 use Rattle.pfr_packet.specs.Outcomes.{without_leave}
+use Rattle.pfr_packet.specs.Plan.{FilterAnswer}
 
 abbrev pub verdict_of : FilterAction → Verdict
 verdict_of action.Pass = verdict.Pass
@@ -66,16 +66,15 @@ decided direction decision visits = record {
   change = None;
 }
 
--- what the filter makes of a packet: one with IP options that the deciding rule doesn't allow doesn't pass
-unfoldable pub filtered : Ruleset → Packet → Direction → Outcome
-filtered rules packet direction =
-    without_leave packet (conduct_of rules.filter.rules (decision_of rules packet direction).rule).allows_options
-    (decided direction (decision_of rules packet direction) (visited rules packet direction))
+-- what a packet comes to by the filter's answer: one with IP options that the deciding rule doesn't allow doesn't pass
+unfoldable pub filtered : Ruleset → FilterAnswer → Packet → Direction → Outcome
+filtered rules answer packet direction =
+    without_leave packet (conduct_of rules.filter.rules answer.decision.rule).allows_options (decided direction answer.decision answer.visits)
 
 -- the deciding rule allows IP options
-unfoldable pub allows_options : Ruleset → Packet → Direction → Bool
-allows_options rules packet direction = (conduct_of rules.filter.rules (decision_of rules packet direction).rule).allows_options
+unfoldable pub allows_options : Ruleset → FilterAnswer → Bool
+allows_options rules answer = (conduct_of rules.filter.rules answer.decision.rule).allows_options
 
 -- what the state says of its rules that the deciding rule keeps
-unfoldable pub kept : Ruleset → Packet → Direction → Option StateRules
-kept rules packet direction = (conduct_of rules.filter.rules (decision_of rules packet direction).rule).kept
+unfoldable pub kept : Ruleset → FilterAnswer → Option StateRules
+kept rules answer = (conduct_of rules.filter.rules answer.decision.rule).kept

@@ -3,16 +3,14 @@ use Rattle.std.specs.Prelude.{◌≡◌, ◌⊎◌, ◌↔◌, ◌<◌, ◌≤�
 use Rattle.std.specs.List.{Contains, slice_get, All}
 use Rattle.pfr_net.specs.declared.rule_number.RuleNumber.{RuleNumber}
 use Rattle.pfr_ruleset.specs.declared.flat.FlatRule.{FlatRule}
-use Rattle.pfr_headers.specs.declared.icmp.IcmpMessage.{IcmpMessage}
-use Rattle.pfr_headers.specs.declared.icmp.IcmpMessage.TheVariants as message
-use Rattle.pfr_headers.specs.declared.transport.Transport.{Transport}
-use Rattle.pfr_headers.specs.declared.transport.Transport.TheVariants as transport
 use Rattle.pfr_headers.specs.declared.packet.View.{View}
 use Rattle.pfr_headers.specs.declared.change.Change.{Change}
 use Rattle.pfr_headers.specs.declared.packet.View.TheVariants.{Ipv4, Skip}
 use Rattle.pfr_headers.specs.declared.packet.Packet.{Packet}
 use Rattle.pfr_headers.specs.Ways.{direction_of}
 use Rattle.pfr_headers.specs.View.{has_options}
+use Rattle.pfr_criteria.specs.Transports.{opens_connection}
+use Rattle.pfr_rules.specs.Filter.{most_of}
 use Rattle.pfr_rules.specs.Translating.{up_to_first}
 use Rattle.pfr_track.specs.declared.state.State.{State}
 use Rattle.pfr_track.specs.declared.state.StateNumber.{StateNumber}
@@ -22,13 +20,14 @@ use Rattle.pfr_track.specs.declared.key.Key.{Key}
 use Rattle.pfr_states.specs.declared.change.Side.TheVariants.{Wire}
 use Rattle.pfr_states.specs.declared.change.TableChange.{TableChange}
 use Rattle.pfr_states.specs.declared.change.TableChange.TheVariants.{Made, Touched, Removed}
-use Rattle.pfr_states.specs.States.{StateTable, IsTable, purged, refusal}
-use Rattle.pfr_packet.specs.declared.answers.Question.TheVariants.{At}
+use Rattle.pfr_states.specs.States.{StateTable, IsTable, count_of_rule, purged, refusal}
+use Rattle.pfr_states.specs.declared.question.Question.TheVariants.{At}
 use Rattle.pfr_packet.specs.declared.outcome.Outcome.{Outcome}
 use Rattle.pfr_packet.specs.declared.verdict.Verdict.TheVariants.{Pass, Block, Skip}
 use Rattle.pfr_packet.specs.Job.{RunJob, is_skipped}
 use Rattle.pfr_packet.specs.Picks.{is_free_in, picked, picking, try_list}
-use Rattle.pfr_packet.specs.Plan.{Plan, SameAnswer, purged_at, found_in, has_room_in, outcome_of, questions_of}
+use Rattle.pfr_states.specs.Answers.{SameAnswer, purged_at, found_in, has_room_in}
+use Rattle.pfr_packet.specs.Plan.{Plan, outcome_of, questions_of}
 use Rattle.pfr_packet.specs.Steps.{asked_of, step_of}
 use Rattle.pfr_packet.specs.Verdicts.{lets_pass}
 use Rattle.pfr_packet.specs.declared.keys.Subject.TheVariants.{Connection, Embedded}
@@ -101,22 +100,6 @@ pub record IsUntouched (outcome : Outcome) : Type 0 where
   -- no rule of either kind is visited
   pub visited_is : outcome.visited ≡ record { translation = []; filter = [] }
 
--- ---- packets of no connection
-
--- an echo is of a connection, an error and any other message are of none
-abbrev pub message_opens : IcmpMessage → Bool
-message_opens (message.Echo identifier) = true
-message_opens (message.Error inner) = false
-message_opens message.Other = false
-
--- the packet can be the first of a connection; a part of a packet can't
-abbrev pub opens_connection : Transport → Bool
-opens_connection transport.Fragment = false
-opens_connection (transport.Tcp header) = true
-opens_connection (transport.Udp header) = true
-opens_connection (transport.Icmp header) = message_opens header.message
-opens_connection transport.Other = true
-
 -- ---- IP options
 
 -- the rule that the outcome names allows IP options, or the state of the table that it names does
@@ -182,6 +165,16 @@ MadeByTheRulesNamed =
     (job : RunJob) (number : ℕ) (clock : Clock) (view : View) (table : StateTable) (state : State)
     → (step_of job number clock view table).change ≡ Some (Made state)
     → AreRulesOf job.rules.filter.rules (step_of job number clock view table) state.rules
+
+-- a state is made only where its filter rule has room: of one that says how many states it may have there are fewer
+abbrev pub MadeWhereItsRuleHasRoom : Type 0
+MadeWhereItsRuleHasRoom =
+    (job : RunJob) (number : ℕ) (clock : Clock) (view : View) (table : StateTable) (state : State) (by : RuleNumber) (rule : FlatRule) (most : ℕ)
+    → (step_of job number clock view table).change ≡ Some (Made state)
+    → state.rules.filter ≡ Some by
+    → slice_get job.rules.filter.rules by.0 ≡ Some rule
+    → most_of rule.state ≡ Some most
+    → count_of_rule by.0 (purged clock table.states) < most
 
 -- what is written into a packet's bytes is made for that packet
 abbrev pub WrittenIsOfThePacket : Type 0

@@ -23,6 +23,7 @@ use Rattle.pfr_packet.specs.declared.verdict.Verdict.TheVariants.{Pass, Block}
 use Rattle.pfr_packet.specs.Filtering.{allows_options, filtered, kept}
 use Rattle.pfr_packet.specs.Keys.{end_of, endpoint, translated_end}
 use Rattle.pfr_packet.specs.Outcomes.{without_leave}
+use Rattle.pfr_packet.specs.Plan.{FilterAnswer}
 
 -- ---- keys
 
@@ -89,10 +90,11 @@ nat_passed direction passage visits = record {
 abbrev pub unfiltered : Direction → Packet → Passage → List ℕ → Outcome
 unfiltered direction packet passage visits = without_leave packet false (nat_passed direction passage visits)
 
-abbrev pub judged : Ruleset → Direction → Packet → Passage → List ℕ → Outcome
-judged rules direction packet passage visits =
+-- by the filter's answer
+abbrev pub judged : Ruleset → FilterAnswer → Direction → Packet → Passage → List ℕ → Outcome
+judged rules answer direction packet passage visits =
     if passage.passes then unfiltered direction packet passage visits
-    else by_way passage visits (filtered rules (behind direction passage packet) direction)
+    else by_way passage visits (filtered rules answer (behind direction passage packet) direction)
 
 -- no port is free for it
 abbrev pub exhausted : Direction → RuleNumber → List ℕ → Outcome
@@ -117,11 +119,11 @@ kept_by_way None rule allowed rules = rules
 kept_by_way (Some number) rule allowed None = Some (record { filter = rule; translation = Some number; is_synchronised = true; allows_options = allowed })
 kept_by_way (Some number) rule allowed (Some rules) = Some (record rules { translation = Some number })
 
-abbrev pub kept_behind : Ruleset → Direction → Passage → Packet → Option StateRules
-kept_behind rules direction passage packet =
-    kept_by_way passage.translation (filtered rules packet direction).rule (allows_options rules packet direction) (kept rules packet direction)
+abbrev pub kept_behind : Ruleset → FilterAnswer → Direction → Passage → Packet → Option StateRules
+kept_behind rules answer direction passage packet =
+    kept_by_way passage.translation (filtered rules answer packet direction).rule (allows_options rules answer) (kept rules answer)
 
-abbrev pub judged_kept : Ruleset → Direction → Packet → Passage → Option StateRules
-judged_kept rules direction packet passage =
+abbrev pub judged_kept : Ruleset → FilterAnswer → Direction → Packet → Passage → Option StateRules
+judged_kept rules answer direction packet passage =
     if passage.passes then kept_by_way passage.translation None false None
-    else kept_behind rules direction passage (behind direction passage packet)
+    else kept_behind rules answer direction passage (behind direction passage packet)

@@ -16,12 +16,13 @@ use Rattle.pfr_track.specs.declared.key.Key.{Key}
 use Rattle.pfr_track.specs.declared.state.State.{State}
 use Rattle.pfr_states.specs.declared.change.Side.TheVariants.{Wire}
 use Rattle.pfr_states.specs.States.{StateTable}
-use Rattle.pfr_packet.specs.declared.answers.Question.{Question}
+use Rattle.pfr_states.specs.declared.question.Question.{Question}
 use Rattle.pfr_packet.specs.declared.picks.Pick.{Pick}
 use Rattle.pfr_packet.specs.declared.picks.PortsTried.{PortsTried}
 use Rattle.pfr_packet.specs.declared.picks.PortsTried.TheVariants.{One, Among}
 use Rattle.pfr_packet.specs.Keys.{endpoint}
-use Rattle.pfr_packet.specs.Plan.{GoesUpTo, Plan, ask_at, found_in}
+use Rattle.pfr_states.specs.Answers.{found_in}
+use Rattle.pfr_packet.specs.Plan.{GoesUpTo, Plan, ask_at}
 
 -- ---- which ports are tried
 

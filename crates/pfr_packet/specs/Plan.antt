@@ -1,48 +1,62 @@
 -- What the evaluation of a packet asks of the table of states, and what it comes to by the answers.
-use Rattle.std.specs.Prelude.{◌≡◌, Bool, List, [], ◌∷◌, ◌++◌, Option}
+use Rattle.std.specs.Prelude.{◌≡◌, ℕ, Bool, List, [], ◌∷◌, ◌++◌, Option, None}
 use Rattle.std.specs.List.{All}
+use Rattle.pfr_net.specs.declared.direction.Direction.{Direction}
+use Rattle.pfr_ruleset.specs.declared.flat.FilterAction.TheVariants.{Pass}
+use Rattle.pfr_ruleset.specs.declared.ruleset.Ruleset.{Ruleset}
+use Rattle.pfr_headers.specs.declared.packet.Packet.{Packet}
+use Rattle.pfr_rules.specs.declared.decision.Decision.{Decision}
+use Rattle.pfr_rules.specs.Filter.{decision_of, rooms_asked, rooms_in, visited}
 use Rattle.pfr_track.specs.declared.key.Key.{Key}
 use Rattle.pfr_track.specs.declared.state.State.{State}
-use Rattle.pfr_track.specs.declared.time.Clock.{Clock}
 use Rattle.pfr_states.specs.declared.change.Side.{Side}
-use Rattle.pfr_states.specs.States.{StateTable, at, has_room, purged}
-use Rattle.pfr_packet.specs.declared.answers.Question.{Question}
-use Rattle.pfr_packet.specs.declared.answers.Question.TheVariants.{At, Room}
+use Rattle.pfr_states.specs.declared.question.Question.{Question}
+use Rattle.pfr_states.specs.declared.question.Question.TheVariants.{At, Room}
+use Rattle.pfr_states.specs.Answers.{found_in, has_room_in}
+use Rattle.pfr_states.specs.States.{StateTable}
 use Rattle.pfr_packet.specs.declared.outcome.Outcome.{Outcome}
 
--- ---- a table's answers
+-- ---- the filter's answer
 
--- the state with this key on a side
-unfoldable pub found_in : StateTable → Side → Key → Option State
-found_in table side key = at side key table.states
+-- what the filter answers for a packet: which rule decides, and which were visited
+pub record FilterAnswer : Type 0 where
+  pub decision : Decision
+  pub visits : List ℕ
 
--- there is room for one more
-unfoldable pub has_room_in : StateTable → Bool
-has_room_in table = has_room table.limit table.states
+-- where no rule is asked the packet passes
+abbrev pub no_answer : FilterAnswer
+no_answer = record { decision = record { rule = None; action = Pass }; visits = [] }
 
--- a table once the states are gone whose deadline has come
-unfoldable pub purged_at : Clock → StateTable → StateTable
-purged_at clock table = record { states = purged clock table.states; limit = table.limit }
+-- where a table says which rules have room
+abbrev pub filter_answer : Ruleset → StateTable → Packet → Direction → FilterAnswer
+filter_answer rules table packet direction = record {
+  decision = decision_of rules (rooms_in table) packet direction;
+  visits = visited rules (rooms_in table) packet direction;
+}
 
 -- ---- plans
 
--- An evaluation is done with an outcome, or it asks a question and goes on by the answer.
+-- An evaluation is done with an outcome, or it asks a question, or what the filter makes of a packet, and goes on by the answer.
 pub data Plan : Type 0 where
   done : Outcome → Plan
   ask_at : Side → Key → (Option State → Plan) → Plan
   ask_room : (Bool → Plan) → Plan
+  ask_filter : Ruleset → Packet → Direction → (FilterAnswer → Plan) → Plan
 
 -- what it comes to, where a table answers
 abbrev pub outcome_of : StateTable → Plan → Outcome
 outcome_of table (done outcome) = outcome
 outcome_of table (ask_at side key next) = outcome_of table (next (found_in table side key))
 outcome_of table (ask_room next) = outcome_of table (next (has_room_in table))
+outcome_of table (ask_filter rules packet direction next) = outcome_of table (next (filter_answer rules table packet direction))
 
 -- what it asks, where a table answers
 abbrev pub questions_of : StateTable → Plan → List Question
 questions_of table (done outcome) = []
 questions_of table (ask_at side key next) = At side key ∷ questions_of table (next (found_in table side key))
 questions_of table (ask_room next) = Room ∷ questions_of table (next (has_room_in table))
+questions_of table (ask_filter rules packet direction next) =
+    rooms_asked rules (rooms_in table) packet direction ++ questions_of table (next (filter_answer rules table packet direction))
 
 -- what went as a plan says: the outcome is the plan's, and all that the plan asks was asked
 pub record Goes (table : StateTable) (steps : Plan) (outcome : Outcome) (asked : Question → Type 0) : Type 0 where
@@ -56,8 +70,3 @@ pub record GoesUpTo (table : StateTable) (steps rest : Plan) (asked : Question �
   pub outcome_is : outcome_of table steps ≡ outcome_of table rest
   pub questions_are : questions_of table steps ≡ before ++ questions_of table rest
   pub asked_before : All asked before
-
--- two tables give one answer to a question
-abbrev pub SameAnswer : StateTable → StateTable → Question → Type 0
-SameAnswer table other (At side key) = found_in table side key ≡ found_in other side key
-SameAnswer table other Room = has_room_in table ≡ has_room_in other

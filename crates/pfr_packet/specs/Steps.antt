@@ -7,13 +7,14 @@
 --   an ICMP error passes by the state of the packet that it embeds; without one it is filtered, and makes no state
 --   a packet of a state's connection is tracked
 --   any other is translated, where a translation rule says so; it is blocked where no port is free for it
---   behind its translation it is filtered, unless the rule says `pass`
+--   behind its translation it is filtered, unless the rule says `pass`; a rule with `max` is asked whether it has room
 --   where it passes it makes the state that the deciding rule keeps, if there is a place for it; translated it makes one anyhow
 --
 -- Packets with IP options are blocked where they would pass and their rule doesn't allow them, before a state is made.
-use Rattle.std.specs.Prelude.{ℕ, Bool, if◌then◌else◌, List, Option, Some, None}
+use Rattle.std.specs.Prelude.{ℕ, Bool, true, false, if◌then◌else◌, List, [], Option, Some, None}
 use Rattle.pfr_net.specs.declared.direction.Direction.{Direction}
 use Rattle.pfr_ruleset.specs.declared.flat.NatAddress.{NatAddress}
+use Rattle.pfr_ruleset.specs.declared.ruleset.Ruleset.{Ruleset}
 use Rattle.pfr_headers.specs.declared.packet.Packet.{Packet}
 use Rattle.pfr_headers.specs.declared.packet.View.{View}
 use Rattle.pfr_headers.specs.declared.packet.View.TheVariants.{Ipv4, Skip, Short}
@@ -21,6 +22,7 @@ use Rattle.pfr_headers.specs.Ways.{direction_of}
 use Rattle.pfr_rules.specs.declared.hit.Hit.{Hit}
 use Rattle.pfr_rules.specs.declared.hit.NewEnd.{NewEnd}
 use Rattle.pfr_rules.specs.declared.hit.NewEnd.TheVariants.{Mapped, Picked}
+use Rattle.pfr_rules.specs.Filter.{rooms_asked, rooms_in}
 use Rattle.pfr_rules.specs.Translating.{hit_of, translations_visited}
 use Rattle.pfr_track.specs.declared.key.Key.{Key}
 use Rattle.pfr_track.specs.declared.state.State.{State}
@@ -28,7 +30,8 @@ use Rattle.pfr_track.specs.declared.state.StateRules.{StateRules}
 use Rattle.pfr_track.specs.declared.time.Clock.{Clock}
 use Rattle.pfr_track.specs.Tracking.{made, touched}
 use Rattle.pfr_states.specs.States.{StateTable}
-use Rattle.pfr_packet.specs.declared.answers.Question.{Question}
+use Rattle.pfr_states.specs.declared.question.Question.{Question}
+use Rattle.pfr_states.specs.Answers.{purged_at}
 use Rattle.pfr_packet.specs.declared.evaluation.Arrival.{Arrival}
 use Rattle.pfr_packet.specs.declared.keys.Subject.{Subject}
 use Rattle.pfr_packet.specs.declared.keys.Subject.TheVariants.{Alone, Embedded, Connection}
@@ -36,7 +39,7 @@ use Rattle.pfr_packet.specs.declared.passage.Passage.{Passage}
 use Rattle.pfr_packet.specs.declared.outcome.Outcome.{Outcome}
 use Rattle.pfr_packet.specs.declared.verdict.Reason.TheVariants as reason
 use Rattle.pfr_packet.specs.declared.verdict.Verdict.TheVariants as verdict
-use Rattle.pfr_packet.specs.Filtering.{allows_options, filtered, kept}
+use Rattle.pfr_packet.specs.Filtering.{filtered}
 use Rattle.pfr_packet.specs.Found.{embedded, tracked}
 use Rattle.pfr_packet.specs.Job.{RunJob, is_skipped, timeouts_of}
 use Rattle.pfr_packet.specs.Keys.{side_of, subject_of}
@@ -44,18 +47,18 @@ use Rattle.pfr_packet.specs.Making.{making}
 use Rattle.pfr_packet.specs.Outcomes.{unseen}
 use Rattle.pfr_packet.specs.Passages.{behind, exhausted, judged, judged_kept, mapped_end, mapped_passage, picked_passage, untranslated}
 use Rattle.pfr_packet.specs.Picks.{picking, ports_for, tries, wire_with, word_of}
-use Rattle.pfr_packet.specs.Plan.{Plan, done, ask_at, outcome_of, purged_at, questions_of}
+use Rattle.pfr_packet.specs.Plan.{FilterAnswer, Plan, done, ask_at, ask_filter, filter_answer, no_answer, outcome_of, questions_of}
 use Rattle.pfr_packet.specs.Verdicts.{lets_pass}
 
 -- ---- filtered without a state
 
-abbrev pub alone : RunJob → Packet → Direction → Outcome
-alone job packet direction = filtered job.rules packet direction
+abbrev pub alone : RunJob → Packet → Direction → Plan
+alone job packet direction = ask_filter job.rules packet direction (λ answer. done (filtered job.rules answer packet direction))
 
 -- ---- an error, by the packet that it embeds
 
 abbrev pub by_embedded : RunJob → Packet → Direction → Option State → Plan
-by_embedded job packet direction None = done (alone job packet direction)
+by_embedded job packet direction None = alone job packet direction
 by_embedded job packet direction (Some state) = done (embedded direction packet state)
 
 abbrev pub asking_embedded : RunJob → Packet → Direction → Key → Plan
@@ -75,10 +78,20 @@ opened job number clock packet direction passage outcome (Some rules) =
     then making packet (made (record { 0 = number }) packet direction passage.wire passage.stack rules clock (timeouts_of job)) outcome
     else done outcome
 
+-- the filter is asked, unless the packet isn't filtered
+abbrev pub unless_passed : Ruleset → Packet → Direction → Bool → (FilterAnswer → Plan) → Plan
+unless_passed rules packet direction true next = next no_answer
+unless_passed rules packet direction false next = ask_filter rules packet direction next
+
+-- it goes on by the filter's answer
+abbrev pub going_on : RunJob → ℕ → Clock → Packet → Direction → List ℕ → Passage → FilterAnswer → Plan
+going_on job number clock packet direction visits passage answer =
+    opened job number clock packet direction passage (judged job.rules answer direction packet passage visits) (judged_kept job.rules answer direction packet passage)
+
 -- it goes through by a passage; these translation rules were visited
 abbrev pub going : RunJob → ℕ → Clock → Packet → Direction → List ℕ → Passage → Plan
 going job number clock packet direction visits passage =
-    opened job number clock packet direction passage (judged job.rules direction packet passage visits) (judged_kept job.rules direction packet passage)
+    unless_passed job.rules (behind direction passage packet) direction passage.passes (going_on job number clock packet direction visits passage)
 
 -- with a key on the wire that was picked, if one is free
 abbrev pub by_pick : RunJob → ℕ → Clock → Packet → Direction → List ℕ → Key → Hit → Option Key → Plan
@@ -112,7 +125,7 @@ asking_connection job number clock packet direction key = ask_at (side_of direct
 -- ---- an IPv4 packet
 
 abbrev pub subject_plan : RunJob → ℕ → Clock → Packet → Direction → Subject → Plan
-subject_plan job number clock packet direction Alone = done (alone job packet direction)
+subject_plan job number clock packet direction Alone = alone job packet direction
 subject_plan job number clock packet direction (Embedded key) = asking_embedded job packet direction key
 subject_plan job number clock packet direction (Connection key) = asking_connection job number clock packet direction key
 
@@ -124,23 +137,38 @@ packet_plan job number clock packet direction = subject_plan job number clock pa
 abbrev pub embedded_plan : Arrival → Key → Plan
 embedded_plan arrival key = asking_embedded arrival.job.now arrival.packet.now arrival.direction key
 
-abbrev pub judged_outcome : Arrival → Passage → List ℕ → Outcome
-judged_outcome arrival passage visits = judged arrival.job.now.rules arrival.direction arrival.packet.now passage visits
-
-abbrev pub kept_rules : Arrival → Passage → Option StateRules
-kept_rules arrival passage = judged_kept arrival.job.now.rules arrival.direction arrival.packet.now passage
+abbrev pub alone_plan : Arrival → Plan
+alone_plan arrival = alone arrival.job.now arrival.packet.now arrival.direction
 
 abbrev pub behind_passage : Arrival → Passage → Packet
 behind_passage arrival passage = behind arrival.direction passage arrival.packet.now
 
-abbrev pub filtered_behind : Arrival → Passage → Outcome
-filtered_behind arrival passage = filtered arrival.job.now.rules (behind_passage arrival passage) arrival.direction
+-- the filter's answer for the packet behind a passage, over a table
+abbrev pub answer_behind : Arrival → StateTable → Passage → FilterAnswer
+answer_behind arrival table passage = filter_answer arrival.job.now.rules table (behind_passage arrival passage) arrival.direction
 
-abbrev pub leave_behind : Arrival → Passage → Bool
-leave_behind arrival passage = allows_options arrival.job.now.rules (behind_passage arrival passage) arrival.direction
+-- the same, unless the packet isn't filtered
+abbrev pub answer_for : Arrival → StateTable → Passage → FilterAnswer
+answer_for arrival table passage = if passage.passes then no_answer else answer_behind arrival table passage
 
-abbrev pub kept_behind : Arrival → Passage → Option StateRules
-kept_behind arrival passage = kept arrival.job.now.rules (behind_passage arrival passage) arrival.direction
+-- what is asked for it of the rooms of rules
+abbrev pub asked_behind : Arrival → StateTable → Passage → List Question
+asked_behind arrival table passage = rooms_asked arrival.job.now.rules (rooms_in table) (behind_passage arrival passage) arrival.direction
+
+abbrev pub asked_for : Arrival → StateTable → Passage → List Question
+asked_for arrival table passage = if passage.passes then [] else asked_behind arrival table passage
+
+abbrev pub judged_outcome : Arrival → FilterAnswer → Passage → List ℕ → Outcome
+judged_outcome arrival answer passage visits = judged arrival.job.now.rules answer arrival.direction arrival.packet.now passage visits
+
+abbrev pub kept_rules : Arrival → FilterAnswer → Passage → Option StateRules
+kept_rules arrival answer passage = judged_kept arrival.job.now.rules answer arrival.direction arrival.packet.now passage
+
+abbrev pub opened_plan : Arrival → Passage → Outcome → Option StateRules → Plan
+opened_plan arrival passage outcome kept = opened arrival.job.now arrival.number arrival.clock arrival.packet.now arrival.direction passage outcome kept
+
+abbrev pub filtered_behind : Arrival → FilterAnswer → Passage → Outcome
+filtered_behind arrival answer passage = filtered arrival.job.now.rules answer (behind_passage arrival passage) arrival.direction
 
 abbrev pub pick_plan : Arrival → List ℕ → Key → Hit → NatAddress → Plan
 pick_plan arrival visits key hit target = by_end arrival.job.now arrival.number arrival.clock arrival.packet.now arrival.direction visits key hit (Picked target)

@@ -1,6 +1,8 @@
 //! The evaluation of one packet.
 ghost use Rattle.std.specs.Prelude.{◌≡◌, IfOk, OnOk};
-ghost use Rattle.pfr_packet.specs.declared.answers.Question.{Question};
+ghost use Rattle.std.specs.List.{All};
+ghost use Rattle.pfr_states.specs.declared.question.Question.{Question};
+ghost use Rattle.pfr_packet.specs.Filtering.{allows_options, kept};
 ghost use Rattle.pfr_packet.specs.Job.{timeouts_of};
 ghost use Rattle.pfr_packet.specs.Outcomes.{fresh};
 ghost use Rattle.pfr_packet.specs.Passages.{by_way};
@@ -49,12 +51,25 @@ fn name_translation(outcome: &mut Outcome, passage: &Passage, visits: Visits)
 impl Arrival<'_> {
     /// What it comes to by the filter alone.
     #[inline(never)]
-    fn write_filtered(&self, outcome: &mut Outcome) -> Result<(), AllocError>
+    fn write_filtered<A: Answers>(
+        &self,
+        answers: &mut A,
+        outcome: &mut Outcome,
+    ) -> Result<(), AllocError>
         requires { outcome.old ≡ fresh }
-        ensures { OnOk result (outcome.new ≡ spec.alone self.now.job.now self.now.packet.now self.now.direction) }
+        ensures seen { A.seen answers.new ≡ A.seen answers.old }
+        ensures goes { OnOk result (Goes (A.seen answers.old) (spec.alone_plan self.now) outcome.new (A.asked answers.new)) }
+        ensures kept { (question : Question) → A.asked answers.old question → A.asked answers.new question }
     {
         let rules = self.job.rules();
-        filter_into(self.alloc, rules, self.packet, self.direction, outcome)?;
+        filter_into(
+            self.alloc,
+            rules,
+            self.packet,
+            self.direction,
+            answers,
+            outcome,
+        )?;
         Ok(())
     }
 
@@ -76,7 +91,7 @@ impl Arrival<'_> {
                 embed(outcome, self.direction, self.packet, &state);
                 Ok(())
             }
-            None => self.write_filtered(outcome),
+            None => self.write_filtered(answers, outcome),
         }
     }
 
@@ -101,15 +116,19 @@ impl Arrival<'_> {
 
     /// What becomes of it behind a passage, before a state is made for it. These translation rules were visited. It answers what the
     /// state says of its rules, for a packet that passes and may make one.
-    fn judge(
+    fn judge<A: Answers>(
         &self,
         passage: &Passage,
         visits: Visits,
+        answers: &mut A,
         outcome: &mut Outcome,
     ) -> Result<Option<StateRules>, AllocError>
         requires { outcome.old ≡ fresh }
-        ensures outcome { OnOk result (outcome.new ≡ spec.judged_outcome self.now passage.now visits) }
-        ensures kept { IfOk result (λ kept. kept ≡ spec.kept_rules self.now passage.now) }
+        ensures seen { A.seen answers.new ≡ A.seen answers.old }
+        ensures outcome { OnOk result (outcome.new ≡ spec.judged_outcome self.now (spec.answer_for self.now (A.seen answers.old) passage.now) passage.now visits) }
+        ensures rules { IfOk result (λ kept. kept ≡ spec.kept_rules self.now (spec.answer_for self.now (A.seen answers.old) passage.now) passage.now) }
+        ensures asked { OnOk result (All (A.asked answers.new) (spec.asked_for self.now (A.seen answers.old) passage.now)) }
+        ensures kept { (question : Question) → A.asked answers.old question → A.asked answers.new question }
     {
         if passage.passes {
             *outcome = Outcome::unfiltered(
@@ -121,23 +140,76 @@ impl Arrival<'_> {
             );
             return Ok(passage.kept(None, false, None));
         }
-        let conduct = self.filter_behind(passage, outcome)?;
+        let conduct = self.filter_behind(passage, answers, outcome)?;
         let kept = passage.kept(outcome.rule, conduct.allows_options, conduct.kept);
         name_translation(outcome, passage, visits);
         Ok(kept)
     }
 
     /// What the filter makes of it behind a passage. It answers what the rule that decides says beyond its verdict.
-    fn filter_behind(&self, passage: &Passage, outcome: &mut Outcome) -> Result<Conduct, AllocError>
+    fn filter_behind<A: Answers>(
+        &self,
+        passage: &Passage,
+        answers: &mut A,
+        outcome: &mut Outcome,
+    ) -> Result<Conduct, AllocError>
         requires { outcome.old ≡ fresh }
-        ensures outcome { OnOk result (outcome.new ≡ spec.filtered_behind self.now passage.now) }
-        ensures leave { IfOk result (λ conduct. conduct.allows_options ≡ spec.leave_behind self.now passage.now) }
-        ensures kept { IfOk result (λ conduct. conduct.kept ≡ spec.kept_behind self.now passage.now) }
+        ensures seen { A.seen answers.new ≡ A.seen answers.old }
+        ensures outcome { OnOk result (outcome.new ≡ spec.filtered_behind self.now (spec.answer_behind self.now (A.seen answers.old) passage.now) passage.now) }
+        ensures leave { IfOk result (λ conduct. conduct.allows_options ≡ allows_options self.now.job.now.rules (spec.answer_behind self.now (A.seen answers.old) passage.now)) }
+        ensures rules { IfOk result (λ conduct. conduct.kept ≡ kept self.now.job.now.rules (spec.answer_behind self.now (A.seen answers.old) passage.now)) }
+        ensures asked { OnOk result (All (A.asked answers.new) (spec.asked_behind self.now (A.seen answers.old) passage.now)) }
+        ensures kept { (question : Question) → A.asked answers.old question → A.asked answers.new question }
     {
         let rules = self.job.rules();
         match passage.translated(self.direction, self.packet) {
-            None => filter_into(self.alloc, rules, self.packet, self.direction, outcome),
-            Some(packet) => filter_into(self.alloc, rules, &packet, self.direction, outcome),
+            None => filter_into(
+                self.alloc,
+                rules,
+                self.packet,
+                self.direction,
+                answers,
+                outcome,
+            ),
+            Some(packet) => filter_into(
+                self.alloc,
+                rules,
+                &packet,
+                self.direction,
+                answers,
+                outcome,
+            ),
+        }
+    }
+
+    /// What it comes to as the first packet of a connection by what it came to so far, and by what the state says of its rules that
+    /// it may make.
+    fn open<A: Answers>(
+        &self,
+        passage: &Passage,
+        kept: Option<StateRules>,
+        answers: &mut A,
+        outcome: &mut Outcome,
+    ) -> Result<(), AllocError>
+        ensures seen { A.seen answers.new ≡ A.seen answers.old }
+        ensures goes { OnOk result (Goes (A.seen answers.old) (spec.opened_plan self.now passage.now outcome.old kept) outcome.new (A.asked answers.new)) }
+        ensures kept { (question : Question) → A.asked answers.old question → A.asked answers.new question }
+    {
+        match kept {
+            Some(rules) if outcome.verdict.lets_pass() => {
+                let state = make(
+                    StateNumber(self.number),
+                    self.packet,
+                    self.direction,
+                    passage.wire,
+                    passage.stack,
+                    rules,
+                    self.clock,
+                    self.job.timeouts(),
+                );
+                make_state(self.packet, &state, answers, outcome)
+            }
+            _ => Ok(()),
         }
     }
 
@@ -154,22 +226,8 @@ impl Arrival<'_> {
         ensures goes { OnOk result (Goes (A.seen answers.old) (spec.going_plan self.now visits passage.now) outcome.new (A.asked answers.new)) }
         ensures kept { (question : Question) → A.asked answers.old question → A.asked answers.new question }
     {
-        match self.judge(passage, visits, outcome)? {
-            Some(rules) if outcome.verdict.lets_pass() => {
-                let state = make(
-                    StateNumber(self.number),
-                    self.packet,
-                    self.direction,
-                    passage.wire,
-                    passage.stack,
-                    rules,
-                    self.clock,
-                    self.job.timeouts(),
-                );
-                make_state(self.packet, &state, answers, outcome)
-            }
-            _ => Ok(()),
-        }
+        let kept = self.judge(passage, visits, answers, outcome)?;
+        self.open(passage, kept, answers, outcome)
     }
 
     /// What it comes to as the first packet of a connection that gets an address of a `nat` rule, with a port that is free.
@@ -308,7 +366,7 @@ pub fn step_into<A: Answers>(
         direction,
     };
     let key = match subject_of(direction, packet) {
-        Subject::Alone => return arrival.write_filtered(outcome),
+        Subject::Alone => return arrival.write_filtered(answers, outcome),
         Subject::Embedded(key) => return arrival.write_embedded(&key, answers, outcome),
         Subject::Connection(key) => key,
     };

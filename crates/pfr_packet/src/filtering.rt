@@ -1,13 +1,17 @@
 //! What the filter makes of a packet by itself.
 ghost use Rattle.std.specs.Prelude.{◌≡◌, IfOk, OnOk};
+ghost use Rattle.std.specs.List.{All};
+ghost use Rattle.pfr_rules.specs.Filter.{rooms_asked, rooms_in};
+ghost use Rattle.pfr_states.specs.declared.question.Question.{Question};
 ghost use Rattle.pfr_packet.specs.Filtering as spec;
 ghost use Rattle.pfr_packet.specs.Outcomes.{fresh};
+ghost use Rattle.pfr_packet.specs.Plan.{filter_answer};
 
 use crate::outcome::Outcome;
 use crate::verdict::{Reason, Verdict};
 use pfr_headers::Packet;
 use pfr_net::{Direction, RuleNumber};
-use pfr_rules::{Decision, Visits, filter};
+use pfr_rules::{Decision, RuleRoom, Visits, filter};
 use pfr_ruleset::{FilterAction, FlatRule, Ruleset};
 use pfr_track::StateRules;
 use std::alloc::{AllocError, Global};
@@ -90,21 +94,25 @@ fn decide(outcome: &mut Outcome, direction: Direction, decision: Decision, visit
 }
 
 /// What the filter makes of a packet by itself, written over a fresh outcome. One with IP options that are not allowed doesn't pass.
-/// It answers what the rule that decides says beyond its verdict.
+/// It answers what the rule that decides says beyond its verdict. Rules with `max` are asked whether they have room.
 #[tactic(auto, unfolding(crate::specs::Filtering::filtered, crate::specs::Filtering::allows_options, crate::specs::Filtering::kept))]
-pub(crate) fn filter_into(
+pub(crate) fn filter_into<R: RuleRoom>(
     alloc: Global,
     rules: &Ruleset,
     packet: &Packet,
     direction: Direction,
+    rooms: &mut R,
     outcome: &mut Outcome,
 ) -> Result<Conduct, AllocError>
     requires { outcome.old ≡ fresh }
-    ensures outcome { OnOk result (outcome.new ≡ spec.filtered rules.now packet.now direction) }
-    ensures leave { IfOk result (λ conduct. conduct.allows_options ≡ spec.allows_options rules.now packet.now direction) }
-    ensures kept { IfOk result (λ conduct. conduct.kept ≡ spec.kept rules.now packet.now direction) }
+    ensures seen { R.seen rooms.new ≡ R.seen rooms.old }
+    ensures outcome { OnOk result (outcome.new ≡ spec.filtered rules.now (filter_answer rules.now (R.seen rooms.old) packet.now direction) packet.now direction) }
+    ensures leave { IfOk result (λ conduct. conduct.allows_options ≡ spec.allows_options rules.now (filter_answer rules.now (R.seen rooms.old) packet.now direction)) }
+    ensures rules { IfOk result (λ conduct. conduct.kept ≡ spec.kept rules.now (filter_answer rules.now (R.seen rooms.old) packet.now direction)) }
+    ensures asked { OnOk result (All (R.asked rooms.new) (rooms_asked rules.now (rooms_in (R.seen rooms.old)) packet.now direction)) }
+    ensures kept { (question : Question) → R.asked rooms.old question → R.asked rooms.new question }
 {
-    let (decision, visits) = filter(alloc, rules, packet, direction)?;
+    let (decision, visits) = filter(alloc, rules, packet, direction, rooms)?;
     let conduct = conduct_of(rules.filter.rules(), decision.rule);
     decide(outcome, direction, decision, visits);
     outcome.ask_leave(packet, conduct.allows_options);

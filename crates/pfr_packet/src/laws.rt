@@ -1,5 +1,5 @@
 //! Laws of the definitions, each the contract of a function that does nothing.
-ghost use Rattle.pfr_packet.specs.Laws.{BlockedIsNotWritten, BlockedOnlyRemoves, ChangesAreOfTheNamed, EachPortOnce, FirstFreeIsPicked, LimitBlocksWhereReached, MadeByTheRulesNamed, NoChangeIsRefused, NoRuleBehindAState, NoneWhereAllAreTaken, OpensNoConnection, OptionsPassByLeave, PassedOverChangesNothing, SameAnswersGiveTheSame, WrittenIsOfThePacket};
+ghost use Rattle.pfr_packet.specs.Laws.{BlockedIsNotWritten, BlockedOnlyRemoves, ChangesAreOfTheNamed, EachPortOnce, FirstFreeIsPicked, LimitBlocksWhereReached, MadeByTheRulesNamed, MadeWhereItsRuleHasRoom, NoChangeIsRefused, NoRuleBehindAState, NoneWhereAllAreTaken, OpensNoConnection, OptionsPassByLeave, PassedOverChangesNothing, SameAnswersGiveTheSame, WrittenIsOfThePacket};
 ghost use Rattle.pfr_packet.specs.Steps.{asked_of, step_of};
 
 use pfr_states::laws::one_state_answers_a_key;
@@ -36,6 +36,12 @@ pub fn every_change_is_of_the_named_state()
 /// unless its filter rule says `no-sync`, and it lets IP options pass just where that rule says `allow-opts`.
 pub fn states_are_made_by_the_rules_named()
     ensures { MadeByTheRulesNamed }
+{}
+
+/// A packet makes a state only where the state's filter rule has room for it: of a rule with `max` there are fewer states than it
+/// says, once the states are gone whose deadline has come.
+pub fn states_are_made_where_their_rule_has_room()
+    ensures { MadeWhereItsRuleHasRoom }
 {}
 
 /// What is written into a packet's bytes is made for that packet.

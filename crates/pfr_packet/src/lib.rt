@@ -1,7 +1,7 @@
 //! What one packet of a run comes to.
 //!
 //! [`step`] evaluates a packet under a [`Job`], by what a table of states answers. Its definition is a plan: done with an
-//! outcome, or a question to the table and how it goes on by the answer. So what a packet comes to, and all that was asked for
+//! outcome, or a question to the table, or to the filter, and how it goes on by the answer. So what a packet comes to, and all that was asked for
 //! it, are two readings of one definition.
 #![tactic(auto)]
 
@@ -18,8 +18,10 @@ pub mod passage;
 pub mod picks;
 pub mod verdict;
 
-pub use answers::{Answers, Direct, Question, lookup_of};
+pub use answers::{Answers, Direct, lookup_of};
 pub use evaluation::{step, step_into};
 pub use job::Job;
 pub use outcome::{Outcome, VisitedRules};
+pub use pfr_rules::RuleRoom;
+pub use pfr_states::Question;
 pub use verdict::{Reason, Verdict};

@@ -1,6 +1,6 @@
 //! Packets that make a state.
 ghost use Rattle.std.specs.Prelude.{◌≡◌, OnOk};
-ghost use Rattle.pfr_packet.specs.declared.answers.Question.{Question};
+ghost use Rattle.pfr_states.specs.declared.question.Question.{Question};
 ghost use Rattle.pfr_packet.specs.Making as spec;
 ghost use Rattle.pfr_packet.specs.Plan.{Goes};
 

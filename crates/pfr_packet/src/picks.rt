@@ -1,7 +1,7 @@
 //! The ports that connections get from `nat` rules.
 ghost use Rattle.std.specs.Prelude.{◌≡◌, ◌≤◌, ◌<◌, ◌-◌, List, ℕ, Option, IfOk};
 ghost use Rattle.pfr_track.specs.declared.key.Key.{Key};
-ghost use Rattle.pfr_packet.specs.declared.answers.Question.{Question};
+ghost use Rattle.pfr_states.specs.declared.question.Question.{Question};
 ghost use Rattle.pfr_packet.specs.Plan.{GoesUpTo, Plan};
 ghost use Rattle.pfr_packet.specs.Picks as spec;
 

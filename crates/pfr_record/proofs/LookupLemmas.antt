@@ -8,13 +8,13 @@ use Rattle.indexmap.specs.IndexMap.{insert_entry}
 use Rattle.pfr_track.specs.declared.key.Key.{Key}
 use Rattle.pfr_track.specs.declared.state.State.{State}
 use Rattle.pfr_states.specs.declared.change.Side.{Side}
+use Rattle.pfr_states.specs.declared.question.Question.{Question}
+use Rattle.pfr_states.specs.declared.question.Question.TheVariants.{At, Room}
+use Rattle.pfr_states.specs.contracts.question.QuestionPartialEq.TheImpl.{ghosts}
+use Rattle.pfr_states.specs.Answers.{found_in, has_room_in}
 use Rattle.pfr_states.specs.States.{StateTable}
-use Rattle.pfr_packet.specs.declared.answers.Question.{Question}
-use Rattle.pfr_packet.specs.declared.answers.Question.TheVariants.{At, Room}
-use Rattle.pfr_packet.specs.contracts.answers.QuestionPartialEq.TheImpl.{ghosts}
-use Rattle.pfr_packet.specs.Plan.{found_in, has_room_in}
 use Rattle.pfr_record.specs.declared.answer.Answer.{Answer}
-use Rattle.pfr_record.specs.declared.answer.Answer.TheVariants.{Found, HasRoom}
+use Rattle.pfr_record.specs.declared.answer.Answer.TheVariants.{Found, HasRoom, HasRuleRoom}
 use Rattle.pfr_record.specs.Record.{Agrees, Entries, IsKept, Keeps, answer_of, entries_of, missed, room_of}
 use Rattle.pfr_record.proofs.RecordLemmas.{agrees_after, stays_after}
 
@@ -125,10 +125,12 @@ one_agrees table q a h = All-head (λ (e : Question × Answer). answer_of table 
 abbrev found_of : Answer → Option State
 found_of (Found state) = state
 found_of (HasRoom room) = None
+found_of (HasRuleRoom room) = None
 
 abbrev room_said : Answer → Bool
 room_said (Found state) = false
 room_said (HasRoom room) = room
+room_said (HasRuleRoom room) = false
 
 pub agree_missed : (table : StateTable) (spot : Option (Side × Key)) (it : Side × Key) → spot ≡ Some it → found_in table it.0 it.1 ≡ None → Agrees table (missed spot)
 agree_missed table spot it is h = rw is (agree_one table (At it.0 it.1) (Found None) (ap (λ (o : Option State). Found o) h))

@@ -11,9 +11,9 @@ use Rattle.indexmap.specs.IndexMap.{insert_entry}
 use Rattle.indexmap.specs.IndexSet.{insert_key}
 use Rattle.indexmap.proofs.CallerLemmas.{Contains-insert_key}
 use Rattle.indexmap.proofs.SetLemmas.{keys_insert_entry}
+use Rattle.pfr_states.specs.declared.question.Question.{Question}
+use Rattle.pfr_states.specs.contracts.question.QuestionPartialEq.TheImpl.{ghosts}
 use Rattle.pfr_states.specs.States.{StateTable}
-use Rattle.pfr_packet.specs.declared.answers.Question.{Question}
-use Rattle.pfr_packet.specs.contracts.answers.QuestionPartialEq.TheImpl.{ghosts}
 use Rattle.pfr_record.specs.declared.answer.Answer.{Answer}
 use Rattle.pfr_record.specs.Record.{Agrees, Entries, IsKept, answer_of}
 

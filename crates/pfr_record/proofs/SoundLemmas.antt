@@ -5,12 +5,13 @@ use Rattle.std.specs.Map.{keys_of}
 use Rattle.std.proofs.lemmas.List.Elements.{All-map, All-contains, All-weaker}
 use Rattle.pfr_headers.specs.declared.packet.View.{View}
 use Rattle.pfr_track.specs.declared.time.Clock.{Clock}
+use Rattle.pfr_states.specs.declared.question.Question.{Question}
+use Rattle.pfr_states.specs.declared.question.Question.TheVariants.{At, Room, RuleRoom}
+use Rattle.pfr_states.specs.Answers.{SameAnswer, purged_at}
 use Rattle.pfr_states.specs.States.{StateTable}
-use Rattle.pfr_packet.specs.declared.answers.Question.{Question}
-use Rattle.pfr_packet.specs.declared.answers.Question.TheVariants.{At, Room}
 use Rattle.pfr_packet.specs.declared.outcome.Outcome.{Outcome}
 use Rattle.pfr_packet.specs.Job.{RunJob}
-use Rattle.pfr_packet.specs.Plan.{Goes, SameAnswer, purged_at, questions_of}
+use Rattle.pfr_packet.specs.Plan.{Goes, questions_of}
 use Rattle.pfr_packet.specs.Steps.{asked_of, plan, step_of}
 use Rattle.pfr_packet.proofs.Local.{local}
 use Rattle.pfr_record.specs.declared.answer.Answer.{Answer}
@@ -19,6 +20,7 @@ use Rattle.pfr_record.specs.Record.{Agrees, Entries, IsKept, IsSound, answer_of}
 same_answer : (table other : StateTable) (q : Question) → answer_of table q ≡ answer_of other q → SameAnswer table other q
 same_answer table other (At side key) h = cc h
 same_answer table other Room h = cc h
+same_answer table other (RuleRoom rule most) h = cc h
 
 -- two tables that agree with a record answer all that is in it the same
 agree_alike : (table other : StateTable) (entries : Entries) → Agrees table entries → Agrees other entries → (q : Question) → IsKept entries q → SameAnswer table other q

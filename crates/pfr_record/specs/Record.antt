@@ -6,20 +6,21 @@ use Rattle.pfr_headers.specs.declared.packet.View.{View}
 use Rattle.pfr_track.specs.declared.time.Clock.{Clock}
 use Rattle.pfr_track.specs.declared.key.Key.{Key}
 use Rattle.pfr_states.specs.declared.change.Side.{Side}
+use Rattle.pfr_states.specs.declared.question.Question.{Question}
+use Rattle.pfr_states.specs.declared.question.Question.TheVariants.{At, Room, RuleRoom}
+use Rattle.pfr_states.specs.Answers.{found_in, has_room_in, has_rule_room_in, purged_at}
 use Rattle.pfr_states.specs.States.{StateTable}
-use Rattle.pfr_packet.specs.declared.answers.Question.{Question}
-use Rattle.pfr_packet.specs.declared.answers.Question.TheVariants.{At, Room}
 use Rattle.pfr_packet.specs.declared.outcome.Outcome.{Outcome}
 use Rattle.pfr_packet.specs.Job.{RunJob}
-use Rattle.pfr_packet.specs.Plan.{found_in, has_room_in, purged_at}
 use Rattle.pfr_packet.specs.Steps.{asked_of, step_of}
 use Rattle.pfr_record.specs.declared.answer.Answer.{Answer}
-use Rattle.pfr_record.specs.declared.answer.Answer.TheVariants.{Found, HasRoom}
+use Rattle.pfr_record.specs.declared.answer.Answer.TheVariants.{Found, HasRoom, HasRuleRoom}
 
 -- what a table answers
 abbrev pub answer_of : StateTable → Question → Answer
 answer_of table (At side key) = Found (found_in table side key)
 answer_of table Room = HasRoom (has_room_in table)
+answer_of table (RuleRoom rule most) = HasRuleRoom (has_rule_room_in table rule.0 most)
 
 abbrev pub Entries : Type 0
 Entries = List (Question × Answer)

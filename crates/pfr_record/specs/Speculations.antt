@@ -3,9 +3,9 @@ use Rattle.std.specs.Prelude.{◌≡◌, ℕ}
 use Rattle.std.specs.Arc.{arc_value}
 use Rattle.pfr_headers.specs.declared.packet.View.{View}
 use Rattle.pfr_track.specs.declared.time.Clock.{Clock}
+use Rattle.pfr_states.specs.Answers.{purged_at}
 use Rattle.pfr_states.specs.States.{StateTable}
 use Rattle.pfr_packet.specs.Job.{RunJob}
-use Rattle.pfr_packet.specs.Plan.{purged_at}
 use Rattle.pfr_record.specs.declared.speculation.Speculation.{Speculation}
 use Rattle.pfr_record.specs.Record.{Agrees}
 

@@ -12,6 +12,8 @@ pub enum Answer {
     Found(Option<State>),
     /// Whether there was room for one more state.
     HasRoom(bool),
+    /// Whether there was room for one more state of a filter rule.
+    HasRuleRoom(bool),
 }
 
 pub(crate) fn is_same_key(first: &Key, second: &Key) -> bool

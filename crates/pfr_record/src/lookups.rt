@@ -1,17 +1,16 @@
 //! What was asked of a table, and answered.
 ghost use Rattle.std.specs.Prelude.{◌≡◌, ◌↔◌, ◌<◌, true, IsTrue, None, Some, OnOk, [], length};
 ghost use Rattle.std.specs.List.{HoldsAt};
+ghost use Rattle.pfr_states.specs.declared.question.Question.TheVariants.{At, Room};
+ghost use Rattle.pfr_states.specs.Answers.{found_in, has_room_in, purged_at};
 ghost use Rattle.pfr_states.specs.States.{StateTable};
-ghost use Rattle.pfr_packet.specs.declared.answers.Question.TheVariants.{At, Room};
-ghost use Rattle.pfr_packet.specs.Plan.{found_in, has_room_in, purged_at};
 ghost use Rattle.pfr_record.specs.declared.answer.Answer.TheVariants.{Found, HasRoom};
 ghost use Rattle.pfr_record.specs.Record.{Agrees, IsKept, Keeps, answer_of};
 ghost use Rattle.pfr_record.specs.Record as spec;
 
 use crate::answer::{Answer, is_same_find, is_same_key};
 use indexmap::IndexMap;
-use pfr_packet::Question;
-use pfr_states::{Place, Side, Table};
+use pfr_states::{Place, Question, Side, Table};
 use pfr_track::{Clock, Key};
 use std::alloc::{AllocError, Global};
 use std::marker::Model;
@@ -62,7 +61,7 @@ fn note_room(place: &mut Option<bool>, room: bool) -> bool
 }
 
 /// Whether no state of a table has a key. It is looked for where a hint says first.
-#[tactic(auto, unfolding(pfr_packet::specs::Plan::found_in, pfr_packet::specs::Plan::purged_at))]
+#[tactic(auto, unfolding(pfr_states::specs::Answers::found_in, pfr_states::specs::Answers::purged_at))]
 fn is_none_at(table: &Table, clock: Clock, hint: Option<Place>, side: Side, key: &Key) -> bool
     ensures { IsTrue result ↔ (found_in (purged_at clock table.now) side key.now ≡ None) }
 {
@@ -80,7 +79,7 @@ fn is_missed(table: &Table, clock: Clock, hint: Option<Place>, missed: &Missed) 
 }
 
 /// Whether a table has room, or has none, as is said.
-#[tactic(auto, unfolding(pfr_packet::specs::Plan::has_room_in, pfr_packet::specs::Plan::purged_at))]
+#[tactic(auto, unfolding(pfr_states::specs::Answers::has_room_in, pfr_states::specs::Answers::purged_at))]
 fn has_room(table: &Table, clock: Clock, room: bool) -> bool
     ensures { IsTrue result ↔ (has_room_in (purged_at clock table.now) ≡ room) }
 {
@@ -98,7 +97,7 @@ fn has_room_so(table: &Table, clock: Clock, room: &Option<bool>) -> bool
 }
 
 /// Whether a table answers a question so at a clock. The state of the question is looked for where a hint says first.
-#[tactic(auto, unfolding(pfr_packet::specs::Plan::found_in, pfr_packet::specs::Plan::has_room_in, pfr_packet::specs::Plan::purged_at))]
+#[tactic(auto, unfolding(pfr_states::specs::Answers::found_in, pfr_states::specs::Answers::has_room_in, pfr_states::specs::Answers::has_rule_room_in, pfr_states::specs::Answers::purged_at))]
 fn is_answered(
     table: &Table,
     clock: Clock,
@@ -113,6 +112,9 @@ fn is_answered(
             is_same_find(&table.find_near(*side, key, clock, hint), recorded)
         }
         (Question::Room, Answer::HasRoom(room)) => table.room(clock) == *room,
+        (Question::RuleRoom(rule, most), Answer::HasRuleRoom(room)) => {
+            table.rule_room(*rule, *most, clock) == *room
+        }
         _ => false,
     }
 }

@@ -1,14 +1,15 @@
 //! Answers that are recorded.
 ghost use Rattle.std.specs.Prelude.{◌≡◌, OnOk};
-ghost use Rattle.pfr_packet.specs.declared.answers.Question.{Question};
-ghost use Rattle.pfr_packet.specs.Plan.{purged_at};
+ghost use Rattle.pfr_states.specs.declared.question.Question.{Question};
+ghost use Rattle.pfr_states.specs.Answers.{purged_at};
 ghost use Rattle.pfr_record.specs.Record.{Agrees, IsKept, answer_of};
 
 use crate::answer::Answer;
 use crate::lookups::Lookups;
-use pfr_packet::{Answers, Question};
-use pfr_states::{Side, Table};
-use pfr_track::{Clock, Key, State};
+use pfr_packet::Answers;
+use pfr_rules::RuleRoom;
+use pfr_states::{Question, Side, Table};
+use pfr_track::{Clock, Key, RuleNumber, State};
 use std::alloc::{AllocError, Global};
 
 /// The answers of a table at a clock, with a record of what was asked and answered.
@@ -45,19 +46,28 @@ impl<'a> Recorder<'a> {
     }
 }
 
-impl Answers for Recorder<'_> {
+impl RuleRoom for Recorder<'_> {
     ghost seen = { λ recorder. purged_at recorder.clock recorder.table.now };
 
     ghost asked = { λ recorder question. IsKept recorder.answers question };
 
-    #[tactic(auto, unfolding(pfr_packet::specs::Plan::found_in, pfr_packet::specs::Plan::purged_at))]
+    #[tactic(auto, unfolding(pfr_states::specs::Answers::has_rule_room_in, pfr_states::specs::Answers::purged_at))]
+    fn rule_room(&mut self, rule: RuleNumber, most: u32) -> Result<bool, AllocError> {
+        let room = self.table.rule_room(rule, most, self.clock);
+        self.keep(Question::RuleRoom(rule, most), Answer::HasRuleRoom(room))?;
+        Ok(room)
+    }
+}
+
+impl Answers for Recorder<'_> {
+    #[tactic(auto, unfolding(pfr_states::specs::Answers::found_in, pfr_states::specs::Answers::purged_at))]
     fn at(&mut self, side: Side, key: &Key) -> Result<Option<State>, AllocError> {
         let found = self.table.at(side, key, self.clock);
         self.keep(Question::At(side, *key), Answer::Found(found))?;
         Ok(found)
     }
 
-    #[tactic(auto, unfolding(pfr_packet::specs::Plan::has_room_in, pfr_packet::specs::Plan::purged_at))]
+    #[tactic(auto, unfolding(pfr_states::specs::Answers::has_room_in, pfr_states::specs::Answers::purged_at))]
     fn room(&mut self) -> Result<bool, AllocError> {
         let room = self.table.room(self.clock);
         self.keep(Question::Room, Answer::HasRoom(room))?;

@@ -1,7 +1,7 @@
 //! Packets that are evaluated ahead.
 ghost use Rattle.std.specs.Prelude.{◌≡◌, IfOk};
 ghost use Rattle.std.specs.Arc.{arc_value};
-ghost use Rattle.pfr_packet.specs.Plan.{purged_at};
+ghost use Rattle.pfr_states.specs.Answers.{purged_at};
 ghost use Rattle.pfr_record.specs.Record.{Agrees};
 
 use crate::recorder::Recorder;

@@ -1,7 +1,7 @@
 //! Outcomes of packets that were evaluated ahead.
 ghost use Rattle.std.specs.Prelude.{◌≡◌, ◌↔◌, true, IsTrue, IsSome, IfSome, length};
 ghost use Rattle.std.specs.Arc.{arc_value};
-ghost use Rattle.pfr_packet.specs.Plan.{purged_at};
+ghost use Rattle.pfr_states.specs.Answers.{purged_at};
 ghost use Rattle.pfr_packet.specs.Steps.{step_of};
 ghost use Rattle.pfr_record.specs.Record.{Agrees, IsSound};
 

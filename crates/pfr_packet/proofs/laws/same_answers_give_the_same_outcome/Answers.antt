@@ -1,4 +1,4 @@
-use Rattle.pfr_packet.specs.Plan.{purged_at}
+use Rattle.pfr_states.specs.Answers.{purged_at}
 use Rattle.pfr_packet.specs.Steps.{asked_of, plan, step_of}
 use Rattle.pfr_packet.proofs.Local.{local}
 use Rattle.pfr_packet.proofs.laws.same_answers_give_the_same_outcome.Goals as goal

@@ -1,5 +1,5 @@
 use Rattle.std.proofs.Common.{take}
-use Rattle.pfr_packet.specs.Plan.{purged_at}
+use Rattle.pfr_states.specs.Answers.{purged_at}
 use Rattle.pfr_record.specs.Record.{Agrees}
 use Rattle.pfr_record.proofs.lookups.are_answered.Given as goal
 

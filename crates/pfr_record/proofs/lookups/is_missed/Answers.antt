@@ -1,4 +1,4 @@
-use Rattle.pfr_packet.specs.Plan.{purged_at}
+use Rattle.pfr_states.specs.Answers.{purged_at}
 use Rattle.pfr_record.proofs.LookupLemmas.{agree_missed, missed_agrees}
 use Rattle.pfr_record.proofs.lookups.is_missed.Goals as goal
 

@@ -1,6 +1,6 @@
 use Rattle.std.proofs.Common.{◌≡◌, ◌≤◌, ◌-◌, ◌++◌, ℕ, List, Option}
 use Rattle.pfr_track.specs.declared.key.Key.{Key}
-use Rattle.pfr_packet.specs.declared.answers.Question.{Question}
+use Rattle.pfr_states.specs.declared.question.Question.{Question}
 use Rattle.pfr_packet.specs.Picks.{falling, key_with, picking}
 use Rattle.pfr_packet.specs.Plan.{GoesUpTo, Plan}
 use Rattle.pfr_packet.proofs.picks.Pick.falling.Given as goal
@@ -8,9 +8,9 @@ use Rattle.pfr_packet.proofs.picks.Pick.falling.Given as goal
 abbrev pub invariant-loop-above : goal.invariant-loop-above
 invariant-loop-above g l = record {
   within : l.above ≤ 65536;
-  seen : g.A.Answers.seen l.answers ≡ g.A.Answers.seen l.fn.answers;
-  goes : (next : Option Key → Plan) (rest : List ℕ) → GoesUpTo (g.A.Answers.seen l.fn.answers) (picking (key_with l.self) next (falling l.bound (l.bound - l.low) ++ rest)) (picking (key_with l.self) next (falling l.above (l.above - l.low) ++ rest)) (g.A.Answers.asked l.answers);
-  kept : (question : Question) → g.A.Answers.asked l.fn.answers question → g.A.Answers.asked l.answers question;
+  seen : g.A.RuleRoom.seen l.answers ≡ g.A.RuleRoom.seen l.fn.answers;
+  goes : (next : Option Key → Plan) (rest : List ℕ) → GoesUpTo (g.A.RuleRoom.seen l.fn.answers) (picking (key_with l.self) next (falling l.bound (l.bound - l.low) ++ rest)) (picking (key_with l.self) next (falling l.above (l.above - l.low) ++ rest)) (g.A.RuleRoom.asked l.answers);
+  kept : (question : Question) → g.A.RuleRoom.asked l.fn.answers question → g.A.RuleRoom.asked l.answers question;
 }
 
 abbrev pub decreases-loop-above : goal.decreases-loop-above

@@ -1,6 +1,6 @@
 use Rattle.std.proofs.Common.{Bool, IsTrue, sym, subst}
 use Rattle.std.proofs.lemmas.Bool.{false≢true}
-use Rattle.pfr_packet.specs.Plan.{purged_at}
+use Rattle.pfr_states.specs.Answers.{purged_at}
 use Rattle.pfr_record.specs.Record.{Agrees, Entries}
 use Rattle.pfr_record.proofs.LookupLemmas.{agree_all, all_agree}
 use Rattle.pfr_record.proofs.lookups.Lookups.hold_near.Goals as goal

@@ -1,5 +1,5 @@
 use Rattle.std.proofs.Common.{None, subst}
-use Rattle.pfr_packet.specs.declared.answers.Question.TheVariants.{At}
+use Rattle.pfr_states.specs.declared.question.Question.TheVariants.{At}
 use Rattle.pfr_record.specs.declared.answer.Answer.TheVariants.{Found}
 use Rattle.pfr_record.specs.Record.{Entries, Keeps, entries_of}
 use Rattle.pfr_record.proofs.LookupLemmas.{keeps_missed, keeps_missed_too, keeps_then, kept_missed_too}

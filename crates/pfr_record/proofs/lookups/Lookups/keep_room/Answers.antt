@@ -1,5 +1,5 @@
 use Rattle.std.proofs.Common.{subst}
-use Rattle.pfr_packet.specs.declared.answers.Question.TheVariants.{Room}
+use Rattle.pfr_states.specs.declared.question.Question.TheVariants.{Room}
 use Rattle.pfr_record.specs.declared.answer.Answer.TheVariants.{HasRoom}
 use Rattle.pfr_record.specs.Record.{Entries, Keeps, entries_of}
 use Rattle.pfr_record.proofs.LookupLemmas.{keeps_room, keeps_then, kept_room}

@@ -1,4 +1,4 @@
-use Rattle.pfr_packet.specs.Plan.{purged_at}
+use Rattle.pfr_states.specs.Answers.{purged_at}
 use Rattle.pfr_record.proofs.recorder.Recorder.keep.Goals as goal
 
 pub invariant_of-self : goal.invariant_of-self
