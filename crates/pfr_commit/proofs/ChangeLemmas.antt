@@ -4,9 +4,9 @@ use Rattle.std.proofs.lemmas.Grind.{fold-append}
 use Rattle.pfr_track.specs.declared.state.State.{State}
 use Rattle.pfr_track.specs.declared.time.Clock.{Clock}
 use Rattle.pfr_states.specs.declared.change.TableChange.{TableChange}
+use Rattle.pfr_states.specs.Answers.{purged_at}
 use Rattle.pfr_states.specs.States.{StateTable, all_due, due, empty, purged, stepped, table_of}
 use Rattle.pfr_packet.specs.Job.{RunJob}
-use Rattle.pfr_packet.specs.Plan.{purged_at}
 use Rattle.pfr_telling.specs.Telling.{changed}
 use Rattle.pfr_commit.specs.Runs.{next_taken}
 use Rattle.pfr_commit.specs.World.{Frame, World, after, changes_of, opening, apply_by, purge_by, with_outcome, world_after, world_of}

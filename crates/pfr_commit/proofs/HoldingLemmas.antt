@@ -6,13 +6,13 @@ use Rattle.pfr_track.specs.declared.state.StateNumber.{StateNumber}
 use Rattle.pfr_track.specs.declared.time.Clock.{Clock}
 use Rattle.pfr_states.specs.declared.change.TableChange.{TableChange}
 use Rattle.pfr_states.specs.declared.change.TableChange.TheVariants.{Made, Touched, Removed}
+use Rattle.pfr_states.specs.Answers.{purged_at}
 use Rattle.pfr_states.specs.States.{lives, purged, rise}
 use Rattle.pfr_states.proofs.FilterLemmas.{rise_filter}
 use Rattle.pfr_states.proofs.FindLemmas.{one_number}
 use Rattle.pfr_packet.specs.declared.outcome.Outcome.{Outcome}
 use Rattle.pfr_packet.specs.Job.{RunJob}
 use Rattle.pfr_packet.specs.Laws.{IsOwnChange}
-use Rattle.pfr_packet.specs.Plan.{purged_at}
 use Rattle.pfr_standby.specs.Standby.{standby_of}
 use Rattle.pfr_sync.specs.Laws.{AreOfOne}
 use Rattle.pfr_telling.specs.Holding.{IsNextOfStates, LeaveStates, StaysOfOne}

@@ -5,6 +5,7 @@ pub mod CountLemmas
 pub mod EmittedLemmas
 pub mod EndingLemmas
 pub mod HoldingLemmas
+pub mod LimitLemmas
 pub mod MachineLemmas
 pub mod OnlineLemmas
 pub mod ResultLemmas

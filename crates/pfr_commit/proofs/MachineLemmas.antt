@@ -7,11 +7,11 @@ use Rattle.std.proofs.lemmas.List.Elements.{Contains-append_cases, Contains-appe
 use Rattle.pfr_headers.specs.declared.packet.View.{View}
 use Rattle.pfr_headers.specs.View.{view_of}
 use Rattle.pfr_track.specs.declared.time.Clock.{Clock}
+use Rattle.pfr_states.specs.Answers.{purged_at}
 use Rattle.pfr_states.specs.States.{StateTable}
 use Rattle.pfr_states.proofs.Membership.{in_cons, in_none, there}
 use Rattle.pfr_packet.specs.declared.outcome.Outcome.{Outcome}
 use Rattle.pfr_packet.specs.Job.{RunJob}
-use Rattle.pfr_packet.specs.Plan.{purged_at}
 use Rattle.pfr_packet.specs.Steps.{asked_of, step_of}
 use Rattle.pfr_record.proofs.SoundLemmas.{sound, sound_outcome}
 use Rattle.pfr_commit.specs.Machine.{Commits, Emits, Event, EveryRun, Guess, IsEvaluation, IsSoundGuess, Loses, Machine, Moves, RunsTo, Takes, start}

@@ -7,6 +7,7 @@ use Rattle.pfr_track.specs.declared.state.StateNumber.{StateNumber}
 use Rattle.pfr_track.specs.declared.time.Clock.{Clock}
 use Rattle.pfr_states.specs.declared.change.TableChange.{TableChange}
 use Rattle.pfr_states.specs.declared.change.TableChange.TheVariants.{Made, Touched, Removed}
+use Rattle.pfr_states.specs.Answers.{purged_at}
 use Rattle.pfr_states.specs.States.{IsTable, StateTable, due, lives, purged, rise}
 use Rattle.pfr_states.proofs.FilterLemmas.{rise_filter}
 use Rattle.pfr_states.proofs.FindLemmas.{one_number}
@@ -14,7 +15,6 @@ use Rattle.pfr_states.proofs.Membership.{in_none}
 use Rattle.pfr_packet.specs.declared.outcome.Outcome.{Outcome}
 use Rattle.pfr_packet.specs.Job.{RunJob}
 use Rattle.pfr_packet.specs.Laws.{IsOwnChange}
-use Rattle.pfr_packet.specs.Plan.{purged_at}
 use Rattle.pfr_sync.specs.declared.event.Event.{Event}
 use Rattle.pfr_telling.specs.Standby.{Leave, StaysTold}
 use Rattle.pfr_telling.specs.Telling.{AreTold, IsNextChange, changed, events_of, events_of_change, events_of_purge}

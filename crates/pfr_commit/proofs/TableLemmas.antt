@@ -9,6 +9,7 @@ use Rattle.pfr_track.specs.declared.state.StateNumber.{StateNumber}
 use Rattle.pfr_track.specs.declared.time.Clock.{Clock}
 use Rattle.pfr_states.specs.declared.change.TableChange.{TableChange}
 use Rattle.pfr_states.specs.declared.change.TableChange.TheVariants.{Made, Touched, Removed}
+use Rattle.pfr_states.specs.Answers.{purged_at}
 use Rattle.pfr_states.specs.States.{IsTable, StateTable, has_room, is_number, is_taken, is_too_many, lives, purged, refusal, with_change}
 use Rattle.pfr_states.proofs.FilterLemmas.{table_filter}
 use Rattle.pfr_states.proofs.Membership.{from_filter, here, there}
@@ -17,7 +18,6 @@ use Rattle.pfr_states.proofs.TouchLemmas.{table_touched}
 use Rattle.pfr_packet.specs.declared.outcome.Outcome.{Outcome}
 use Rattle.pfr_packet.specs.Job.{RunJob}
 use Rattle.pfr_packet.specs.Laws.{IsOwnChange}
-use Rattle.pfr_packet.specs.Plan.{purged_at}
 use Rattle.pfr_packet.specs.Steps.{step_of}
 use Rattle.pfr_telling.specs.Telling.{changed}
 use Rattle.pfr_telling.proofs.ChangeLemmas.{from_touched, from_with}

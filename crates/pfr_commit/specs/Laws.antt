@@ -1,8 +1,11 @@
 -- What the laws of a run say.
-use Rattle.std.specs.Prelude.{◌≡◌, ◌++◌, List, ◌∷◌, ◌<◌, ◌+◌, ◌^◌, length, ℕ, get_or}
-use Rattle.std.specs.List.{flat_map, Any, count_by, sum_by, Contains}
+use Rattle.std.specs.Prelude.{◌≡◌, ◌++◌, List, ◌∷◌, ◌<◌, ◌≤◌, ◌+◌, ◌^◌, length, ℕ, get_or, Some}
+use Rattle.std.specs.List.{flat_map, Any, count_by, sum_by, Contains, slice_get}
+use Rattle.pfr_net.specs.declared.rule_number.RuleNumber.{RuleNumber}
+use Rattle.pfr_ruleset.specs.declared.flat.FlatRule.{FlatRule}
+use Rattle.pfr_rules.specs.Filter.{most_of}
 use Rattle.pfr_track.specs.declared.state.State.{State}
-use Rattle.pfr_states.specs.States.{table_of}
+use Rattle.pfr_states.specs.States.{count_of_rule, table_of}
 use Rattle.pfr_packet.specs.Job.{RunJob}
 use Rattle.pfr_packet.specs.declared.verdict.Verdict.{Verdict}
 use Rattle.pfr_commit.specs.declared.counters.Totals.{Totals}
@@ -92,6 +95,14 @@ StatesAreOfPackets =
     (job : RunJob) (frames : List Frame) (state : State)
     → Contains (world_of job frames).table.states state
     → IsMadeAmong (taken_in job frames) state
+
+-- of a rule with `max` there are never more states than it says
+abbrev pub RulesKeepToTheirMax : Type 0
+RulesKeepToTheirMax =
+    (job : RunJob) (frames : List Frame) (by : RuleNumber) (rule : FlatRule) (most : ℕ)
+    → slice_get job.rules.filter.rules by.0 ≡ Some rule
+    → most_of rule.state ≡ Some most
+    → count_of_rule by.0 (world_of job frames).table.states ≤ most
 
 -- what packets did to the table makes it of the empty one
 abbrev pub ChangesMakeTheTable : Type 0

@@ -5,10 +5,10 @@ use Rattle.std.specs.List.{All, Contains, slice_get}
 use Rattle.pfr_headers.specs.declared.packet.View.{View}
 use Rattle.pfr_headers.specs.View.{view_of}
 use Rattle.pfr_track.specs.declared.time.Clock.{Clock}
+use Rattle.pfr_states.specs.Answers.{purged_at}
 use Rattle.pfr_states.specs.States.{StateTable}
 use Rattle.pfr_packet.specs.declared.outcome.Outcome.{Outcome}
 use Rattle.pfr_packet.specs.Job.{RunJob}
-use Rattle.pfr_packet.specs.Plan.{purged_at}
 use Rattle.pfr_packet.specs.Steps.{asked_of, step_of}
 use Rattle.pfr_record.specs.Record.{Agrees, Entries, IsKept, IsSound}
 use Rattle.pfr_sync.specs.Messages.{closed_at}

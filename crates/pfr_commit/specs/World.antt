@@ -9,10 +9,10 @@ use Rattle.pfr_track.specs.declared.state.State.{State}
 use Rattle.pfr_states.specs.declared.change.Change as tables
 use Rattle.pfr_states.specs.declared.change.Change.TheVariants.{Purge, Apply}
 use Rattle.pfr_states.specs.declared.change.TableChange.{TableChange}
+use Rattle.pfr_states.specs.Answers.{purged_at}
 use Rattle.pfr_states.specs.States.{StateTable, due, empty}
 use Rattle.pfr_packet.specs.declared.outcome.Outcome.{Outcome}
 use Rattle.pfr_packet.specs.Job.{RunJob}
-use Rattle.pfr_packet.specs.Plan.{purged_at}
 use Rattle.pfr_packet.specs.Steps.{step_of}
 use Rattle.pfr_packet.specs.Verdicts.{is_written}
 use Rattle.pfr_messages.specs.Messages.{Content}

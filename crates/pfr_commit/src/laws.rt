@@ -4,12 +4,15 @@ ghost use Rattle.std.specs.List.{All, range_with_len};
 ghost use Rattle.pfr_states.specs.States.{IsTable};
 ghost use Rattle.pfr_packet.specs.Job.{RunJob};
 ghost use Rattle.pfr_commit.specs.Holding.{AStandbyHoldsEachState};
-ghost use Rattle.pfr_commit.specs.Laws.{AStandbyHoldsTheStates, BytesOfARule, ChangesMakeTheTable, ClockIsOfARecord, EachHasItsLine, EachHasItsRecord, EvaluationsOfARule, PacketsOfARule, StatesAreOfPackets, TotalsAreTheCount, TheLastMessageIsTheRest, TotalsCountVerdicts, TwoPartsAreTheWhole, WhatIsWrittenStays};
+ghost use Rattle.pfr_commit.specs.Laws.{AStandbyHoldsTheStates, BytesOfARule, ChangesMakeTheTable, ClockIsOfARecord, EachHasItsLine, EachHasItsRecord, EvaluationsOfARule, PacketsOfARule, RulesKeepToTheirMax, StatesAreOfPackets, TotalsAreTheCount, TheLastMessageIsTheRest, TotalsCountVerdicts, TwoPartsAreTheWhole, WhatIsWrittenStays};
 ghost use Rattle.pfr_commit.specs.Machine.{EveryRun};
 ghost use Rattle.pfr_commit.specs.Runs.{taken_in};
 ghost use Rattle.pfr_commit.specs.World.{Frame, world_of};
 
-use pfr_packet::laws::{every_change_is_of_the_named_state, no_change_is_refused};
+use pfr_packet::laws::{
+    every_change_is_of_the_named_state, no_change_is_refused,
+    states_are_made_where_their_rule_has_room,
+};
 use pfr_states::laws::a_purge_goes_state_by_state;
 
 /// Packets that are taken in two parts leave what they leave together.
@@ -66,6 +69,19 @@ pub fn every_run_leaves_a_table()
     ensures { (job : RunJob) (frames : List Frame) → IsTable (world_of job frames).table }
 {
     // each change that a packet comes to leaves a table
+    no_change_is_refused();
+}
+
+/// A rule that says how many states it may have never has more: after any packets no more states than its `max` name it as their
+/// filter rule.
+pub fn rules_keep_to_their_max()
+    ensures { RulesKeepToTheirMax }
+{
+    // a state is made only where its rule has room
+    states_are_made_where_their_rule_has_room();
+    // a touched one keeps its rule
+    every_change_is_of_the_named_state();
+    // and there is one of each number
     no_change_is_refused();
 }
 

@@ -1,7 +1,7 @@
 use Rattle.std.proofs.Common.{◌∙◌, refl}
-use Rattle.pfr_packet.specs.Plan.{purged_at}
-use Rattle.pfr_commit.specs.Books.{world_with}
+use Rattle.pfr_states.specs.Answers.{purged_at}
 use Rattle.pfr_states.specs.States.{due}
+use Rattle.pfr_commit.specs.Books.{world_with}
 use Rattle.pfr_commit.specs.Emissions.{are_kept, frame_of, listed, purges_at}
 use Rattle.pfr_commit.specs.World.{apply_by, purge_by, with_outcome}
 use Rattle.pfr_commit.proofs.EmittedLemmas.{more_alike}
