@@ -1,28 +1,29 @@
 //! When workers rest or are given up, how many of them are given a batch, and how many of its packets they evaluate ahead.
 //!
 //! The answers depend on what batches came to, and on no clock. So what things cost is reckoned in rules: as long as asking a packet
-//! one rule takes, about 8 ns (`bench/README.md`, `stateless` with 100 and with 1000 rules).
+//! one rule takes: 31 ns on the machine of the last measurements (`bench/README.md`, `ranges`), and about 16 ns on one of twice its
+//! speed. A rule that is passed over takes next to nothing.
 
 // What things cost, in rules.
 
-/// Handing a result over: 45 rules were measured, and the rest is a margin.
-const HANDING: u64 = 60;
+/// Handing a result over: 23 rules were measured, and the rest is a margin.
+const HANDING: u64 = 30;
 
 /// Having a worker begin a batch, which is reckoned as 12 us: it is woken, and may take the processor of the calling thread.
-const STARTING: u64 = 1500;
+const STARTING: u64 = 750;
 
 /// Showing workers a change of the table: two more copies take it over. If many packets change it, that is a third of a run's time.
-const SHOWING: u64 = 100;
+const SHOWING: u64 = 50;
 
 /// Evaluating a packet ahead, beside its own rules.
-const EVALUATING: u64 = 100;
+const EVALUATING: u64 = 50;
 
 /// Taking over a packet whose result holds. It takes somewhat less, but one worker too many slows all threads down.
-const TAKING: u64 = 100;
+const TAKING: u64 = 50;
 
 /// What a packet that changes the table takes beside. If each packet makes a state after 1000 rules, three workers keep up: on four
 /// processors the run is 2.6 times as quick as without workers, and 2.4 times with a fourth one.
-const CHANGING: u64 = 300;
+const CHANGING: u64 = 150;
 
 // Numbers of packets.
 

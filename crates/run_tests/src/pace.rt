@@ -55,17 +55,17 @@ fn a_trial_may_take_several_batches(rt: HostRuntime) -> Result<(), Fail> {
     Ok(())
 }
 
-/// Two workers save half of the rules. In a batch of 256 packets a result costs 60 rules, and its share of two starts nearly 12. In
-/// one of 1024 packets that share is nearly 3. A change for each packet adds 100.
+/// Two workers save half of the rules. In a batch of 256 packets a result costs 30 rules, and its share of two starts nearly 6. In
+/// one of 1024 packets that share is nearly 1.5. A change for each packet adds 50.
 #[test]
 fn a_batch_pays_by_the_rules_that_packets_are_asked_about(rt: HostRuntime) -> Result<(), Fail> {
     for (packets, asked, changes, pays) in [
-        (256, 142, 0, false),
-        (256, 143, 0, true),
-        (1024, 124, 0, false),
-        (1024, 125, 0, true),
-        (1024, 324, 1024, false),
-        (1024, 325, 1024, true),
+        (256, 70, 0, false),
+        (256, 71, 0, true),
+        (1024, 62, 0, false),
+        (1024, 63, 0, true),
+        (1024, 162, 1024, false),
+        (1024, 163, 1024, true),
     ] {
         let pace = after(1000, 2, held(packets, 256, asked, changes));
         assert!(rt; pace.rests() != pays, "{packets} packets, {asked} rules");
@@ -80,7 +80,7 @@ fn a_batch_pays_by_the_rules_that_packets_are_asked_about(rt: HostRuntime) -> Re
     Ok(())
 }
 
-/// Packets are asked about 200 rules, so a result that holds saves 100, and each one costs nearly 72: 184 of 256 have to hold.
+/// Packets are asked about 100 rules, so a result that holds saves 50, and each one costs nearly 36: 184 of 256 have to hold.
 #[test]
 fn a_batch_pays_by_the_results_that_hold(rt: HostRuntime) -> Result<(), Fail> {
     for (holding, pays) in [(256, true), (184, true), (183, false), (0, false)] {
@@ -89,14 +89,14 @@ fn a_batch_pays_by_the_results_that_hold(rt: HostRuntime) -> Result<(), Fail> {
             evaluated_ahead: 256,
             rerun: 256u64.saturating_sub(holding),
             changes: 0,
-            asked_rules: 51_200,
+            asked_rules: 25_600,
         };
         assert!(rt; after(1000, 2, batch).rests() != pays, "{holding} hold");
     }
     Ok(())
 }
 
-/// The estimate of rules changes after 8 packets. In a batch of 7 a result costs nearly 489 rules: 60, and its share of two starts. It
+/// The estimate of rules changes after 8 packets. In a batch of 7 a result costs nearly 245 rules: 30, and its share of two starts. It
 /// saves 500 by the packets before it, and nothing by its own.
 #[test]
 fn a_few_packets_do_not_tell_how_many_rules_are_asked(rt: HostRuntime) -> Result<(), Fail> {
@@ -108,29 +108,29 @@ fn a_few_packets_do_not_tell_how_many_rules_are_asked(rt: HostRuntime) -> Result
     Ok(())
 }
 
-/// Packets that come while workers rest tell too: here one of eight. The seven others are asked about 1000 rules each. In their batch a
-/// result costs nearly 489 rules. It saves 438 if packets are asked about 875 on average, and 500 if all are asked about 1000.
+/// Packets that come while workers rest tell too: here one of eight. The seven others are asked about 500 rules each. In their batch a
+/// result costs nearly 245 rules. It saves 219 if packets are asked about 437 on average, and 250 if all are asked about 500.
 #[test]
 fn packets_of_a_rest_tell_how_many_rules_are_asked(rt: HostRuntime) -> Result<(), Fail> {
-    for (asked, pays) in [(0, false), (1000, true)] {
+    for (asked, pays) in [(0, false), (500, true)] {
         let mut pace = after(1000, 2, held(256, 256, 0, 0));
         pace.note(held(1023, 0, 0, 0));
         pace.note(held(1, 0, asked, 0));
         assert!(rt; pace.ahead() == 256);
-        pace.note(held(7, 7, 1000, 0));
+        pace.note(held(7, 7, 500, 0));
         assert!(rt; pace.rests() != pays, "{asked} rules");
     }
     Ok(())
 }
 
-/// With two workers a result saves 60 rules of 119, and with four 60 of 79. With one it saves nothing.
+/// With two workers a result saves 30 rules of 59, and with four 30 of 39. With one it saves nothing.
 #[test]
 fn workers_are_given_up_if_there_are_few_rules(rt: HostRuntime) -> Result<(), Fail> {
     for (rules, workers, gives_up) in [
-        (118, 2, true),
-        (119, 2, false),
-        (78, 4, true),
-        (79, 4, false),
+        (58, 2, true),
+        (59, 2, false),
+        (38, 4, true),
+        (39, 4, false),
         (1000, 1, true),
         (0, 4, true),
     ] {
@@ -229,16 +229,16 @@ fn workers_that_paid_are_given_up_the_second_time(rt: HostRuntime) -> Result<(),
     Ok(())
 }
 
-/// To evaluate a packet takes 100 rules beside its own. To take it over takes 100 rules, and 300 more for each change.
+/// To evaluate a packet takes 50 rules beside its own. To take it over takes 50 rules, and 150 more for each change.
 #[test]
 fn no_more_workers_are_given_a_batch_than_keep_up(rt: HostRuntime) -> Result<(), Fail> {
     for (asked, changes, workers) in [
-        (150, 0, 3),
-        (199, 0, 3),
-        (200, 0, 4),
-        (1000, 0, 8),
-        (1000, 1024, 3),
-        (1000, 512, 5),
+        (75, 0, 3),
+        (99, 0, 3),
+        (100, 0, 4),
+        (500, 0, 8),
+        (500, 1024, 3),
+        (500, 512, 5),
     ] {
         let pace = after(1000, 8, held(1024, 256, asked, changes));
         assert!(rt;

@@ -111,14 +111,14 @@ fn workers_are_given_up_where_they_cannot_pay(rt: HostRuntime) -> Result<(), Fai
     Ok(())
 }
 
-/// With 120 rules two workers save as much as it takes to hand results over, and to begin each batch they need more. They evaluate the
+/// With 60 rules two workers save as much as it takes to hand results over, and to begin each batch they need more. They evaluate the
 /// beginning of the first batch, and rest for 1024 packets once it is judged: the batch 1. They evaluate the beginning of the
 /// batch 2 then, and rest for 4096 packets: the batches 3 to 6. The batch 7 is opened next, and they evaluate its beginning.
 #[test]
 fn workers_rest_where_they_do_not_pay(rt: HostRuntime) -> Result<(), Fail> {
     let answered = beginnings(&[0, 2, 7]);
     let again = sum(1, 8193).saturating_sub(answered);
-    assert!(rt; told(&rt, 120, 8192, 1024, 2)? == (answered, answered, again));
+    assert!(rt; told(&rt, 60, 8192, 1024, 2)? == (answered, answered, again));
     Ok(())
 }
 
@@ -219,11 +219,11 @@ fn most_at_once<R: AllocGlobal + Threads + Wait + Clock + Sync>(
     }
 }
 
-/// With 150 rules three workers evaluate packets more quickly than the committer takes them over. So no more of eight are given the
+/// With 75 rules three workers evaluate packets more quickly than the committer takes them over. So no more of eight are given the
 /// batches after the first one.
 #[test]
 fn no_more_workers_are_given_a_batch_than_it_takes(rt: HostRuntime) -> Result<(), Fail> {
-    let text = rules(rt.alloc(), 150, &[])?;
+    let text = rules(rt.alloc(), 75, &[])?;
     let most = most_at_once(&rt, text.as_slice(), 8)?;
     assert!(rt; most > 0 && most <= 3, "{most} at once");
     Ok(())
