@@ -177,8 +177,8 @@ class Drawer(Forms):
         return ends or ["all"]
 
     def fitting_state(self):
-        kept = self.random.sample(("no-sync", self.one_of("floating", "if-bound")), self.random.randint(0, 2))
-        gone = ("max 100", "source-track rule", "max-src-nodes 5", "max-src-conn-rate 15/5", "sloppy", "pflow",
+        kept = self.random.sample(("no-sync", "max 100", self.one_of("floating", "if-bound")), self.random.randint(0, 3))
+        gone = ("max-src-conn 7", "source-track rule", "max-src-nodes 5", "max-src-conn-rate 15/5", "sloppy", "pflow",
                 "overload <t> flush global", "overload <t>", "tcp.first 30", "adaptive.end 9", "src.track 7")
         options = kept + self.random.sample(gone, self.random.randint(0, 3))
         self.random.shuffle(options)

@@ -4,14 +4,14 @@ GRAMMAR = frozenset(b"""
     table persist const counters set skip on timeout limit states frags src-nodes table-entries tables block-policy
     drop return state-policy if-bound floating hostid optimization normal require-order loginterface debug
     ruleset-optimization interval frag src.track pass block in out log quick inet proto all from to port any self
-    flags icmp-type code no state keep no-sync allow-opts label anchor nat-anchor rdr-anchor binat-anchor nat rdr
+    flags icmp-type code no state keep no-sync max allow-opts label anchor nat-anchor rdr-anchor binat-anchor nat rdr
     binat static-port
     """.split())
 
 # words that are left out in the strict language, and names for numbers that it has: no macro or table has such a name
 TAKEN = GRAMMAR | frozenset(b"""
     scrub altq queue antispoof load include route-to reply-to dup-to tag tagged user group os tos probability fragment
-    modulate synproxy sloppy max max-src-nodes max-src-states max-src-conn max-src-conn-rate overload source-track
+    modulate synproxy sloppy max-src-nodes max-src-states max-src-conn max-src-conn-rate overload source-track
     bitmask random source-hash round-robin sticky-address file inet6 icmp6-type return-rst return-icmp return-icmp6
     no-route urpf-failed
     icmp igmp tcp udp gre esp ah
@@ -83,7 +83,7 @@ ALONE = b"fastroute"
 ANSWERS = (b"return-rst", b"return-icmp", b"return-icmp6")
 
 # options of states with a value
-LIMITS = (b"max", b"max-src-nodes", b"max-src-states", b"max-src-conn")
+LIMITS = (b"max-src-nodes", b"max-src-states", b"max-src-conn")
 RATE = b"max-src-conn-rate"
 TIMEOUTS = tuple(b"""
     tcp.first tcp.opening tcp.established tcp.closing tcp.finwait tcp.closed udp.first udp.single udp.multiple

@@ -57,10 +57,11 @@ ROWS = (
     ("anchor \"a\" tag x {⏎ pass tag y⏎ queue z⏎}⏎pass tag z", "anchor \"a\" {⏎ pass⏎ ⏎}⏎pass",
      "1:12: warning: tag | 2:7: warning: tag | 3:2: note: queue | 5:6: warning: tag"),
     # options in brackets
-    ("pass keep state (max 3)", "pass keep state", "1:18: warning: max"),
-    ("pass keep state (max 3, no-sync)", "pass keep state ( no-sync)", "1:18: warning: max"),
-    ("pass keep state (no-sync, max 3)", "pass keep state (no-sync)", "1:27: warning: max"),
-    ("pass keep state (no-sync,max 3,floating)", "pass keep state (no-sync,floating)", "1:26: warning: max"),
+    ("pass keep state (max-src-conn 3)", "pass keep state", "1:18: warning: max-src-conn"),
+    ("pass keep state (max-src-conn 3, no-sync)", "pass keep state ( no-sync)", "1:18: warning: max-src-conn"),
+    ("pass keep state (no-sync, max-src-conn 3)", "pass keep state (no-sync)", "1:27: warning: max-src-conn"),
+    ("pass keep state (no-sync,max-src-conn 3,floating)", "pass keep state (no-sync,floating)",
+     "1:26: warning: max-src-conn"),
     ("pass keep state (no-sync sloppy pflow)", "pass keep state (no-sync)",
      "1:26: warning: sloppy | 1:33: note: pflow"),
     ("pass keep state (source-track rule, max-src-nodes 5, max-src-states 6)", "pass keep state",
@@ -69,7 +70,16 @@ ROWS = (
      "2:18: warning: overload | 2:31: warning: flush"),
     ("pass keep state (tcp.first 3, adaptive.start 5 adaptive.end 6, if-bound)", "pass keep state ( if-bound)",
      "1:18: warning: tcp.first | 1:31: warning: adaptive.start | 1:48: warning: adaptive.end"),
-    ("pass keep state (max)", None, "1:18: error: max: left out: max"),
+    ("pass keep state (max-src-conn)", None, "1:18: error: max-src-conn: left out: max-src-conn"),
+    # `max` stays
+    ("pass keep state (max 3)⏎pass keep state (no-sync, max 4294967295)", None, ""),
+    ("pass modulate state (max 3)", "pass keep state (max 3)", "1:6: note: modulate"),
+    ("pass keep state (sloppy, max 3, no-sync)", "pass keep state ( max 3, no-sync)", "1:18: warning: sloppy"),
+    ("pass keep state (max 3, max-src-nodes 5)", "pass keep state (max 3)", "1:25: warning: max-src-nodes"),
+    ("pass keep state (max 3 pflow)", "pass keep state (max 3)", "1:24: note: pflow"),
+    ("pass keep state (max)⏎pass keep state (max 0) tag x", "pass keep state (max)⏎pass keep state (max 0)",
+     "2:25: warning: tag | 1:21: error: ): unknown word | 2:22: error: 0: bad number"),
+    ("pass keep state (max 1, max 2)⏎pass max 5", None, "1:25: error: max: unknown word | 2:6: error: max: unknown word"),
     # values
     ("pass proto carp⏎pass proto { ospf, tcp sctp }", "pass proto 112⏎pass proto { 89, tcp 132 }",
      "1:12: note: carp | 2:14: note: ospf | 2:24: note: sctp"),
@@ -133,8 +143,9 @@ ROWS = (
     ("pass keep state (sloppy,)", "pass keep state ()", "1:18: warning: sloppy | 1:25: error: ): unknown word"),
     ("pass keep state (sloppy,,pflow)", "pass keep state ()",
      "1:18: warning: sloppy | 1:26: note: pflow | 1:31: error: ): unknown word"),
-    ("pass keep state (sloppy,pflow max 3)", "pass keep state ", "1:18: warning: sloppy | 1:25: note: pflow |"
-     " 1:31: warning: max"),
+    ("pass keep state (sloppy,pflow max-src-nodes 3)", "pass keep state ", "1:18: warning: sloppy | 1:25: note: pflow |"
+     " 1:31: warning: max-src-nodes"),
+    ("pass keep state (sloppy,pflow max 3)", "pass keep state (  max 3)", "1:18: warning: sloppy | 1:25: note: pflow"),
     # what is no value
     ("pass keep state (flush rule, no-sync)", "pass keep state ( rule, no-sync)",
      "1:18: warning: flush | 1:24: error: rule: unknown word"),

@@ -1,7 +1,7 @@
 -- What is found at the front of marks covers some of them: by the words of a statement alone.
-use Rattle.std.proofs.Common.{◌≡◌, ◌≤◌, ℕ, zero, suc, ◌+◌, ◌-◌, ◌==◌, Bool, true, false, not, if◌then◌else◌, ◌&&◌, ◌||◌, List, [], ◌∷◌, arith, length, take, drop, codes, map, Option, Some, None, inl, inr, refl, ap, subst, sym}
+use Rattle.std.proofs.Common.{◌≡◌, ◌≤◌, ℕ, zero, suc, ◌+◌, ◌-◌, ◌==◌, Bool, true, false, not, if◌then◌else◌, ◌&&◌, ◌||◌, List, [], ◌∷◌, arith, length, take, drop, codes, Option, Some, None, inl, inr, refl, ap, subst, sym}
 use Rattle.std.specs.Bool.{⊤}
-use Rattle.pfr_words.specs.Names.{entry_of, is_among}
+use Rattle.pfr_words.specs.Names.{entry_of}
 use Rattle.pfr_words.specs.Words.{newlines}
 use Rattle.pfr_marks.specs.Marks.{begins_with, is}
 use Rattle.pfr_marks.specs.declared.mark.Mark.{Mark}
@@ -13,7 +13,8 @@ use Rattle.pfr_phrases.specs.Options.{element_len, option_at}
 use Rattle.pfr_phrases.specs.Phrases.{file_phrase_at, label_phrase_at, phrase_at, phrase_of, pool_phrase_at, rule_phrase_at}
 use Rattle.pfr_phrases.specs.Lengths.{taken_len}
 use Rattle.pfr_phrases.specs.Settings.{optimization_at, setting_at, two_of}
-use Rattle.pfr_phrases.specs.Statements.{criterion_at, criterion_by, criterion_in, end_of, found_for, left_out_by, left_out_for, left_out_in, second_left_out, setting_left_out, statement_left_out, statement_len, unseen_at, whole}
+use Rattle.pfr_phrases.specs.Statements.{criterion_at, criterion_by, criterion_in, end_of, found_for, left_out_by, left_out_for, left_out_in, second_left_out, setting_left_out, statement_left_out, statement_len, unseen_at, whole, criterion_reason, may_ask, statement_reason}
+use Rattle.pfr_phrases.specs.Tables.{options_of_states, phrases_of_files, phrases_of_labels, phrases_of_pools, phrases_of_rules, timeouts_of_optimizations}
 use Rattle.pfr_phrases.specs.Values.{value_phrase}
 use Rattle.pfr_phrases.specs.declared.change.Becomes.{Becomes}
 use Rattle.pfr_phrases.specs.declared.change.Becomes.TheVariants as becomes
@@ -25,11 +26,8 @@ use Rattle.pfr_phrases.specs.declared.context.Within.TheVariants as within
 use Rattle.pfr_phrases.specs.declared.options.Group.{Group}
 use Rattle.pfr_phrases.specs.declared.phrases.Phrase.{Phrase}
 use Rattle.pfr_phrases.specs.declared.lengths.Takes.TheVariants as takes
-use Rattle.pfr_phrases.specs.declared.phrases.TheConstants.{FILE_PHRASES, LABEL_PHRASES, POOL_PHRASES, RULE_PHRASES, STATE_OPTIONS}
 use Rattle.pfr_phrases.specs.declared.reason.Reason.{Reason}
 use Rattle.pfr_phrases.specs.declared.reason.Reason.TheVariants as reason
-use Rattle.pfr_phrases.specs.declared.settings.TheConstants.{OPTIMIZATIONS}
-use Rattle.pfr_phrases.specs.declared.statements.TheConstants.{ASKING, CRITERIA, STATEMENTS}
 use Rattle.pfr_phrases.proofs.PlainLawLemmas.{EndsNoLine, EndsNoLineIf, IsPlain, IsPlainIf, are_alone, entry_plain, value_plain}
 use Rattle.pfr_phrases.proofs.StatementLemmas.{none_here, some_here}
 
@@ -138,19 +136,24 @@ phrase_counted table [] alone = tt
 phrase_counted table (first ∷ behind) alone = of_entry (entry_of table first.piece) behind (entry_plain table first.piece alone)
 
 pub rule_counted : (marks : List Mark) → Counted (rule_phrase_at marks)
-rule_counted marks = phrase_counted (map (λ e. (e.0.now, e.1)) RULE_PHRASES) marks refl
+unfolding rule_phrase_at
+rule_counted marks = phrase_counted phrases_of_rules marks refl
 
 pub pool_counted : (marks : List Mark) → Counted (pool_phrase_at marks)
-pool_counted marks = phrase_counted (map (λ e. (e.0.now, e.1)) POOL_PHRASES) marks refl
+unfolding pool_phrase_at
+pool_counted marks = phrase_counted phrases_of_pools marks refl
 
 pub label_counted : (marks : List Mark) → Counted (label_phrase_at marks)
-label_counted marks = phrase_counted (map (λ e. (e.0.now, e.1)) LABEL_PHRASES) marks refl
+unfolding label_phrase_at
+label_counted marks = phrase_counted phrases_of_labels marks refl
 
 pub file_counted : (marks : List Mark) → Counted (file_phrase_at marks)
-file_counted marks = phrase_counted (map (λ e. (e.0.now, e.1)) FILE_PHRASES) marks refl
+unfolding file_phrase_at
+file_counted marks = phrase_counted phrases_of_files marks refl
 
 pub option_counted : (marks : List Mark) → Counted (option_at marks)
-option_counted marks = phrase_counted (map (λ e. (e.0.now, e.1)) STATE_OPTIONS) marks refl
+unfolding option_at
+option_counted marks = phrase_counted options_of_states marks refl
 
 first_counted : (one other : Option (ℕ × Phrase)) → Counted one → Counted other → Counted (first_of one other)
 first_counted (Some found) other a b = a
@@ -177,7 +180,7 @@ two_counted (Some phrase) plain = (omega arith, plain)
 optimization_plain : (marks : List Mark) → IsPlainIf (optimization_at marks)
 unfolding optimization_at
 optimization_plain [] = tt
-optimization_plain (second ∷ marks) = entry_plain (map (λ e. (e.0.now, e.1)) OPTIMIZATIONS) second.piece refl
+optimization_plain (second ∷ marks) = entry_plain timeouts_of_optimizations second.piece refl
 
 setting_counted : (marks : List Mark) → Counted (setting_at marks)
 unfolding setting_at
@@ -330,7 +333,7 @@ of_criterion None first behind =
 criterion_among : (marks : List Mark) → IsAtIf (criterion_at marks) marks
 unfolding criterion_at
 criterion_among [] = tt
-criterion_among (first ∷ behind) = of_criterion (entry_of (map (λ e. (e.0.now, e.1)) CRITERIA) first.piece) first behind
+criterion_among (first ∷ behind) = of_criterion (criterion_reason first.piece) first behind
 
 first_criterion : (found : Option Finding) (mark : Mark) (marks : List Mark) → criterion_at (mark ∷ marks) ≡ found → IsAtIf found (mark ∷ marks)
     → IsAtIf (criterion_in marks) marks → IsAtIf (criterion_in (mark ∷ marks)) (mark ∷ marks)
@@ -359,14 +362,14 @@ of_reason : (why : Option Reason) (second : Option Finding) (first : Mark) (behi
 of_reason (Some why) second first behind at = inl (refl, refl)
 of_reason None (Some finding) first behind at = at
 of_reason None None first behind at =
-    either (λ found. IsAtIf found (first ∷ behind)) (is_among (map (λ w. w.now) ASKING) first.piece) (criterion_in (first ∷ behind)) None
+    either (λ found. IsAtIf found (first ∷ behind)) (may_ask first.piece) (criterion_in (first ∷ behind)) None
     (criteria_among (first ∷ behind)) tt
 
 left_out_among : (marks : List Mark) → IsAtIf (left_out_in marks) marks
 unfolding left_out_in
 left_out_among [] = tt
 left_out_among (first ∷ behind) =
-    of_reason (entry_of (map (λ e. (e.0.now, e.1)) STATEMENTS) first.piece) (second_left_out first behind) first behind (second_among first behind)
+    of_reason (statement_reason first.piece) (second_left_out first behind) first behind (second_among first behind)
 
 taken_again : (n : ℕ) (marks : List Mark) → take (length (take n marks)) marks ≡ take n marks
 taken_again zero marks = refl

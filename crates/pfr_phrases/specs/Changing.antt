@@ -1,5 +1,5 @@
 -- What is rewritten of a text.
-use Rattle.std.specs.Prelude.{ℕ, ◌+◌, ◌-◌, ◌==◌, ◌&&◌, ◌||◌, Bool, true, false, not, if◌then◌else◌, List, [], ◌∷◌, map, take, drop, codes, Option, Some, None}
+use Rattle.std.specs.Prelude.{ℕ, ◌+◌, ◌-◌, ◌==◌, ◌&&◌, ◌||◌, Bool, true, false, not, if◌then◌else◌, List, [], ◌∷◌, take, drop, codes, Option, Some, None}
 use Rattle.pfr_words.specs.Names.{is_among}
 use Rattle.pfr_marks.specs.declared.mark.Mark.{Mark}
 use Rattle.pfr_marks.specs.declared.mark.Place.{Place}
@@ -8,7 +8,6 @@ use Rattle.pfr_phrases.specs.declared.change.Becomes.{Becomes}
 use Rattle.pfr_phrases.specs.declared.change.Becomes.TheVariants as becomes
 use Rattle.pfr_phrases.specs.declared.change.Change.{Change}
 use Rattle.pfr_phrases.specs.declared.change.Found.{Found}
-use Rattle.pfr_phrases.specs.declared.changing.TheConstants.{CLOSERS}
 use Rattle.pfr_phrases.specs.declared.context.Context.{Context}
 use Rattle.pfr_phrases.specs.declared.context.Says.{Says}
 use Rattle.pfr_phrases.specs.declared.context.Says.TheVariants as says
@@ -28,10 +27,17 @@ use Rattle.pfr_phrases.specs.Settings.{setting_at}
 use Rattle.pfr_phrases.specs.Statements.{end_of, statement_left_out}
 use Rattle.pfr_phrases.specs.Values.{value_phrase}
 
+-- the signs before which no blank is put
+abbrev pub closers : List (List ℕ)
+closers = codes "\n" ∷ codes ")" ∷ codes "}" ∷ codes "," ∷ codes ">" ∷ []
+
+unfoldable pub is_closer : List ℕ → Bool
+is_closer word = is_among closers word
+
 -- a word begins right where a change ends
 abbrev pub touches : Place → List Mark → Bool
 touches end [] = false
-touches end (mark ∷ marks) = mark.start.offset == end.offset && not (is_among (map (λ w. w.now) CLOSERS) mark.piece)
+touches end (mark ∷ marks) = mark.start.offset == end.offset && not (is_closer mark.piece)
 
 -- what is left out takes the blanks before it along, on its line
 abbrev pub start_of : Context → Place → Becomes → ℕ

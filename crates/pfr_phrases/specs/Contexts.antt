@@ -1,12 +1,11 @@
 -- Where a word stands in its statement.
-use Rattle.std.specs.Prelude.{ℕ, ◌&&◌, ◌||◌, Bool, true, false, not, if◌then◌else◌, List, [], ◌∷◌, map, codes, Option, Some, None}
+use Rattle.std.specs.Prelude.{ℕ, ◌&&◌, ◌||◌, Bool, true, false, not, if◌then◌else◌, List, [], ◌∷◌, codes, Option, Some, None}
 use Rattle.std.specs.Str.{bytes_eq}
 use Rattle.pfr_words.specs.Names.{entry_of, is_among, is_grammar_word}
 use Rattle.pfr_marks.specs.declared.mark.Mark.{Mark}
 use Rattle.pfr_marks.specs.declared.mark.Place.{Place}
 use Rattle.pfr_marks.specs.Marks.{begins_with, is}
 use Rattle.pfr_phrases.specs.declared.context.Context.{Context}
-use Rattle.pfr_phrases.specs.declared.context.TheConstants.{AMONG, ANCHORS, OPENERS, OPERATORS, RULES, SAYINGS, TARGETS}
 use Rattle.pfr_phrases.specs.declared.context.Says.{Says}
 use Rattle.pfr_phrases.specs.declared.context.Says.TheVariants as says
 use Rattle.pfr_phrases.specs.declared.context.Within.{Within}
@@ -14,11 +13,54 @@ use Rattle.pfr_phrases.specs.declared.context.Within.TheVariants as within
 use Rattle.pfr_phrases.specs.declared.options.Group.TheVariants as group
 use Rattle.pfr_phrases.specs.Options.{are_all_left_out}
 
+-- ---- words and signs
+
+-- the words that begin a rule (pf.conf(5), "Grammar")
+abbrev pub words_of_rules : List (List ℕ)
+words_of_rules =
+    codes "pass" ∷ codes "block" ∷ codes "match" ∷ codes "nat" ∷ codes "rdr" ∷ codes "binat" ∷ codes "no" ∷ []
+
+-- the words that begin an anchor (pf.conf(5), "Grammar")
+abbrev pub words_of_anchors : List (List ℕ)
+words_of_anchors = codes "anchor" ∷ codes "nat-anchor" ∷ codes "rdr-anchor" ∷ codes "binat-anchor" ∷ []
+
+-- the words behind which words say something
+abbrev pub sayings : List (List ℕ × Says)
+sayings =
+    (codes "on", says.Interface) ∷ (codes "proto", says.Protocol) ∷ (codes "from", says.Address) ∷ (codes "to", says.Address)
+    ∷ (codes "->", says.Target) ∷ (codes "table", says.Address) ∷ (codes "port", says.Port) ∷ (codes "icmp-type", says.IcmpType)
+    ∷ (codes "timeout", says.Timeout) ∷ (codes "limit", says.Limit) ∷ []
+
+-- the words of the grammar that may stand among what is said: hosts, flags of tables, `code`, names of limits and of timeouts
+abbrev pub words_among : List (List ℕ)
+words_among =
+    codes "any" ∷ codes "self" ∷ codes "code" ∷ codes "const" ∷ codes "persist" ∷ codes "counters"
+    ∷ codes "states" ∷ codes "frags" ∷ codes "src-nodes" ∷ codes "table-entries" ∷ codes "tables"
+    ∷ codes "interval" ∷ codes "frag" ∷ codes "src.track" ∷ []
+
+-- the signs that ask for one value behind them
+abbrev pub operators : List (List ℕ)
+operators =
+    codes "!" ∷ codes "=" ∷ codes "!=" ∷ codes "<" ∷ codes "<=" ∷ codes ">" ∷ codes ">=" ∷ codes "><" ∷ codes "<>"
+    ∷ codes "-" ∷ codes "/" ∷ []
+
+-- the signs behind which a value stands
+abbrev pub openers : List (List ℕ)
+openers =
+    codes "!" ∷ codes "=" ∷ codes "!=" ∷ codes "<" ∷ codes "<=" ∷ codes ">=" ∷ codes "><" ∷ codes "<>" ∷ codes "-" ∷ codes "/"
+    ∷ codes "," ∷ codes "(" ∷ codes "{" ∷ codes "->" ∷ codes "\n" ∷ []
+
+-- the words behind which targets stand (pf.conf(5), "Translation", "Routing")
+abbrev pub words_of_targets : List (List ℕ)
+words_of_targets = codes "->" ∷ codes "route-to" ∷ codes "reply-to" ∷ codes "dup-to" ∷ []
+
+-- ---- statements
+
 -- the statement that a word begins
-abbrev pub within_of : List ℕ → Within
+unfoldable pub within_of : List ℕ → Within
 within_of word =
-    if is_among (map (λ w. w.now) RULES) word then within.Rule
-    else if is_among (map (λ w. w.now) ANCHORS) word then within.Anchor
+    if is_among words_of_rules word then within.Rule
+    else if is_among words_of_anchors word then within.Anchor
     else if bytes_eq word (codes "table") then within.Table
     else if bytes_eq word (codes "set") then within.Setting
     else within.Other
@@ -34,10 +76,16 @@ within_with within.Other word = within.Other
 -- what a word says behind another one: what that asks for, nothing if it is another word of the grammar
 abbrev pub says_for : Option Says → Says → List ℕ → Says
 says_for (Some says) before word = says
-says_for None before word = if is_grammar_word word && not (is_among (map (λ w. w.now) AMONG) word) then says.Nothing else before
+says_for None before word = if is_grammar_word word && not (is_among words_among word) then says.Nothing else before
 
-abbrev pub says_behind : Says → List ℕ → Says
-says_behind before word = says_for (entry_of (map (λ e. (e.0.now, e.1)) SAYINGS) word) before word
+unfoldable pub says_behind : Says → List ℕ → Says
+says_behind before word = says_for (entry_of sayings word) before word
+
+unfoldable pub is_operator : List ℕ → Bool
+is_operator word = is_among operators word
+
+unfoldable pub stands_before_targets : List ℕ → Bool
+stands_before_targets word = is_among words_of_targets word
 
 abbrev pub is_anchor : Within → Bool
 is_anchor within.Anchor = true
@@ -50,6 +98,8 @@ is_table_statement _ = false
 abbrev pub is_nothing : Within → Bool
 is_nothing within.Nothing = true
 is_nothing _ = false
+
+-- ---- one mark after the other
 
 -- before the first word of a statement
 abbrev pub beginning_at : Place → Context
@@ -88,7 +138,7 @@ with_mark context mark more =
       within = within_with context.within mark.piece;
       says = says_behind context.says mark.piece;
       has_label = context.has_label || is (codes "label") mark;
-      has_target = context.has_target || is_among (map (λ w. w.now) TARGETS) mark.piece;
+      has_target = context.has_target || stands_before_targets mark.piece;
       has_file = context.has_file || is (codes "file") mark;
     }
 
@@ -97,10 +147,10 @@ is_port says.Port = true
 is_port _ = false
 
 -- a word is a value, or ends one, and is no sign that another value is to follow
-abbrev pub is_value : Context → List ℕ → Bool
+unfoldable pub is_value : Context → List ℕ → Bool
 is_value context word =
     if bytes_eq word (codes ">") then not (is_port context.says)
-    else not (is_among (map (λ w. w.now) OPENERS) word) && (not (is_grammar_word word) || is_among (map (λ w. w.now) AMONG) word)
+    else not (is_among openers word) && (not (is_grammar_word word) || is_among words_among word)
 
 abbrev pub is_second : List ℕ → List Mark → Bool
 is_second word (first ∷ second ∷ marks) = is word second
@@ -114,7 +164,7 @@ opens_angles context mark more = not (is_port context.says) && is (codes "<") ma
 abbrev pub ended_at : Context → Mark → List Mark → Context
 ended_at context mark more = record context {
   behind = mark.end;
-  behind_operator = is_among (map (λ w. w.now) OPERATORS) mark.piece;
+  behind_operator = is_operator mark.piece;
   has_value = is_value context mark.piece;
   in_angles = opens_angles context mark more;
 }

@@ -1,10 +1,9 @@
 -- IPv6 addresses in a text.
-use Rattle.std.specs.Prelude.{ℕ, ◌+◌, ◌==◌, ◌&&◌, ◌||◌, Bool, true, false, not, nat_le, if◌then◌else◌, List, [], ◌∷◌, map, codes}
+use Rattle.std.specs.Prelude.{ℕ, ◌+◌, ◌==◌, ◌&&◌, ◌||◌, Bool, true, false, not, nat_le, if◌then◌else◌, List, [], ◌∷◌, codes}
 use Rattle.std.specs.Char.{is_ascii_hexdigit}
 use Rattle.pfr_words.specs.Names.{is_among}
 use Rattle.pfr_marks.specs.declared.mark.Mark.{Mark}
 use Rattle.pfr_marks.specs.Marks.{begins_with, is}
-use Rattle.pfr_phrases.specs.declared.inet6.TheConstants.{SIGNS}
 use Rattle.pfr_phrases.specs.Values.{count_of}
 
 -- every byte may stand in an IPv6 address
@@ -12,11 +11,19 @@ abbrev pub are_inet6 : List ℕ → Bool
 are_inet6 [] = true
 are_inet6 (b ∷ text) = if is_ascii_hexdigit b || b == 58 || b == 46 || b == 47 then are_inet6 text else false
 
+-- the signs that end a word though no blank is between
+abbrev pub signs : List (List ℕ)
+signs =
+    codes "{" ∷ codes "}" ∷ codes "(" ∷ codes ")" ∷ codes "," ∷ codes "=" ∷ codes "!" ∷ codes "<" ∷ codes ">" ∷ codes "\n" ∷ []
+
+unfoldable pub is_sign : List ℕ → Bool
+is_sign word = is_among signs word
+
 -- how many marks stand right one behind the other from an offset on, up to a sign, with those before
 abbrev pub run_from : (before at : ℕ) → List Mark → ℕ
 run_from before at [] = before
 run_from before at (mark ∷ marks) =
-    if not (mark.start.offset == at) || is_among (map (λ w. w.now) SIGNS) mark.piece then before
+    if not (mark.start.offset == at) || is_sign mark.piece then before
     else run_from (before + 1) mark.end.offset marks
 
 -- an IPv6 address begins with a mark: it has two colons, or is one before another

@@ -1,12 +1,11 @@
 -- How many words go with a word that is rewritten.
-use Rattle.std.specs.Prelude.{ℕ, ◌+◌, ◌==◌, ◌||◌, Bool, false, not, nat_eq, if◌then◌else◌, List, [], ◌∷◌, map, drop, codes}
+use Rattle.std.specs.Prelude.{ℕ, ◌+◌, ◌==◌, ◌||◌, Bool, false, not, nat_eq, if◌then◌else◌, List, [], ◌∷◌, drop, codes}
 use Rattle.std.specs.List.{starts_with}
 use Rattle.pfr_words.specs.Names.{is_among}
 use Rattle.pfr_marks.specs.declared.mark.Mark.{Mark}
 use Rattle.pfr_marks.specs.Marks.{begins_with, is}
 use Rattle.pfr_phrases.specs.declared.lengths.Takes.{Takes}
 use Rattle.pfr_phrases.specs.declared.lengths.Takes.TheVariants as takes
-use Rattle.pfr_phrases.specs.declared.lengths.TheConstants.{HEXADECIMAL, NO_VALUES, QUOTE}
 
 -- how many marks there are up to the first of this sign, with it and those before; none if the line ends before it
 abbrev pub group_from : ℕ → List ℕ → List Mark → ℕ
@@ -21,13 +20,22 @@ abbrev pub newlines_from : ℕ → List Mark → ℕ
 newlines_from before [] = before
 newlines_from before (mark ∷ marks) = if not (is (codes "\n") mark) then before else newlines_from (before + 1) marks
 
+-- the signs that are no values
+abbrev pub signs_of_no_values : List (List ℕ)
+signs_of_no_values =
+    codes "\n" ∷ codes ")" ∷ codes "}" ∷ codes ">" ∷ codes "," ∷ codes "=" ∷ codes "!" ∷ codes "->" ∷ codes "-" ∷ codes "!="
+    ∷ codes "<=" ∷ codes ">=" ∷ codes "<>" ∷ codes "><" ∷ []
+
+unfoldable pub is_no_value : List ℕ → Bool
+is_no_value word = is_among signs_of_no_values word
+
 -- how many marks a value has: a word, or a group in brackets, braces or `< >`
 abbrev pub value_at : Mark → List Mark → ℕ
 value_at first marks =
     if is (codes "(") first then group_from 0 (codes ")") marks
     else if is (codes "{") first then group_from 0 (codes "}") marks
     else if is (codes "<") first then group_from 0 (codes ">") marks
-    else if is_among (map (λ w. w.now) NO_VALUES) first.piece then 0
+    else if is_no_value first.piece then 0
     else 1
 
 unfoldable pub value_len : List Mark → ℕ
@@ -62,7 +70,7 @@ setting_len marks = if begins_with marks (codes "(") then value_len marks else t
 -- a key of a hash: a quoted text, or hexadecimal digits behind `0x`
 unfoldable pub is_key : List Mark → Bool
 is_key [] = false
-is_key (first ∷ marks) = starts_with nat_eq first.piece QUOTE.now || starts_with nat_eq first.piece HEXADECIMAL.now
+is_key (first ∷ marks) = starts_with nat_eq first.piece (codes "\"") || starts_with nat_eq first.piece (codes "0x")
 
 -- how many marks go with the word before these, itself among them
 unfoldable pub taken_len : Takes → List Mark → ℕ

@@ -4,10 +4,12 @@ pub mod Changing
 pub mod Contexts
 pub mod Inet6
 pub mod Lengths
+pub mod Numbers
 pub mod Options
 pub mod Phrases
 pub mod Reasons
 pub mod Settings
 pub mod Statements
+pub mod Tables
 pub mod Tracing
 pub mod Values

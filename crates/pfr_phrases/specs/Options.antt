@@ -1,5 +1,5 @@
 -- What is left out of brackets and braces.
-use Rattle.std.specs.Prelude.{ℕ, zero, suc, ◌-◌, ◌==◌, ◌&&◌, ◌||◌, Bool, true, false, not, if◌then◌else◌, List, [], ◌∷◌, map, codes, Option, Some, None}
+use Rattle.std.specs.Prelude.{ℕ, zero, suc, ◌-◌, ◌==◌, ◌&&◌, ◌||◌, Bool, true, false, not, if◌then◌else◌, List, [], ◌∷◌, codes, Option, Some, None}
 use Rattle.pfr_marks.specs.declared.mark.Mark.{Mark}
 use Rattle.pfr_marks.specs.Marks.{begins_with, is}
 use Rattle.pfr_phrases.specs.declared.options.Group.{Group}
@@ -7,15 +7,14 @@ use Rattle.pfr_phrases.specs.declared.options.Group.TheVariants as group
 use Rattle.pfr_phrases.specs.declared.options.Seen.{Seen}
 use Rattle.pfr_phrases.specs.declared.options.Seen.TheVariants.{Known, LeftOut}
 use Rattle.pfr_phrases.specs.declared.phrases.Phrase.{Phrase}
-use Rattle.pfr_phrases.specs.declared.phrases.TheConstants.{ADAPTIVE_TIMEOUTS, LIMITS, STATE_OPTIONS}
-use Rattle.pfr_phrases.specs.declared.options.TheConstants.{NO_ADDRESSES}
 use Rattle.pfr_phrases.specs.Inet6.{inet6_len}
 use Rattle.pfr_phrases.specs.Phrases.{phrase_at}
+use Rattle.pfr_phrases.specs.Tables.{adaptive_timeouts, limits_of_anchors, options_of_states}
 use Rattle.pfr_words.specs.Names.{is_among}
 
 -- the option that is left out at the front of marks, and how many it has
-abbrev pub option_at : List Mark → Option (ℕ × Phrase)
-option_at marks = phrase_at (map (λ e. (e.0.now, e.1)) STATE_OPTIONS) marks
+unfoldable pub option_at : List Mark → Option (ℕ × Phrase)
+option_at marks = phrase_at options_of_states marks
 
 abbrev pub len_of : Option (ℕ × Phrase) → ℕ
 len_of None = 0
@@ -24,14 +23,22 @@ len_of (Some found) = found.0
 unfoldable pub option_len : List Mark → ℕ
 option_len marks = len_of (option_at marks)
 
--- an element that is a phrase of a table
-unfoldable pub phrase_len : List (List ℕ × Phrase) → List Mark → ℕ
-phrase_len table marks = len_of (phrase_at table marks)
+-- the timeout that goes by how many states there are at the front of marks, and how many it has
+unfoldable pub timeout_at : List Mark → Option (ℕ × Phrase)
+timeout_at marks = phrase_at adaptive_timeouts marks
+
+-- the limit on which no verdict depends at the front of marks, and how many it has
+unfoldable pub limit_at : List Mark → Option (ℕ × Phrase)
+limit_at marks = phrase_at limits_of_anchors marks
+
+-- the hosts that ask for the routes of a packet (pf.conf(5), "Parameters")
+abbrev pub words_of_routes : List (List ℕ)
+words_of_routes = codes "no-route" ∷ codes "urpf-failed" ∷ []
 
 -- a word that asks for what packets don't show of an address
-abbrev pub is_no_address : List Mark → Bool
+unfoldable pub is_no_address : List Mark → Bool
 is_no_address [] = false
-is_no_address (first ∷ behind) = is_among (map (λ w. w.now) NO_ADDRESSES) first.piece
+is_no_address (first ∷ behind) = is_among words_of_routes first.piece
 
 abbrev pub unseen_len : List Mark → ℕ
 unseen_len marks = if is_no_address marks then 1 else inet6_len marks
@@ -41,8 +48,8 @@ abbrev pub element_len : Group → List Mark → ℕ
 element_len group.Options marks = option_len marks
 element_len group.Inet6 marks = inet6_len marks
 element_len group.Unseen marks = unseen_len marks
-element_len group.Timeouts marks = phrase_len (map (λ e. (e.0.now, e.1)) ADAPTIVE_TIMEOUTS) marks
-element_len group.Limits marks = phrase_len (map (λ e. (e.0.now, e.1)) LIMITS) marks
+element_len group.Timeouts marks = len_of (timeout_at marks)
+element_len group.Limits marks = len_of (limit_at marks)
 
 -- a mark ends a list
 abbrev pub ends : Group → Mark → Bool

@@ -1,10 +1,10 @@
 -- The words of rules that are rewritten by themselves.
-use Rattle.std.specs.Prelude.{ℕ, ◌==◌, if◌then◌else◌, List, [], ◌∷◌, map, Option, Some, None}
+use Rattle.std.specs.Prelude.{ℕ, ◌==◌, if◌then◌else◌, List, [], ◌∷◌, Option, Some, None}
 use Rattle.pfr_words.specs.Names.{entry_of}
 use Rattle.pfr_marks.specs.declared.mark.Mark.{Mark}
 use Rattle.pfr_phrases.specs.declared.phrases.Phrase.{Phrase}
-use Rattle.pfr_phrases.specs.declared.phrases.TheConstants.{FILE_PHRASES, LABEL_PHRASES, POOL_PHRASES, RULE_PHRASES}
 use Rattle.pfr_phrases.specs.Lengths.{taken_len}
+use Rattle.pfr_phrases.specs.Tables.{phrases_of_files, phrases_of_labels, phrases_of_pools, phrases_of_rules}
 
 abbrev pub phrase_of : Option Phrase → List Mark → Option (ℕ × Phrase)
 phrase_of None behind = None
@@ -15,14 +15,14 @@ unfoldable pub phrase_at : List (List ℕ × Phrase) → List Mark → Option (�
 phrase_at table [] = None
 phrase_at table (first ∷ behind) = phrase_of (entry_of table first.piece) behind
 
-abbrev pub rule_phrase_at : List Mark → Option (ℕ × Phrase)
-rule_phrase_at marks = phrase_at (map (λ e. (e.0.now, e.1)) RULE_PHRASES) marks
+unfoldable pub rule_phrase_at : List Mark → Option (ℕ × Phrase)
+rule_phrase_at marks = phrase_at phrases_of_rules marks
 
-abbrev pub pool_phrase_at : List Mark → Option (ℕ × Phrase)
-pool_phrase_at marks = phrase_at (map (λ e. (e.0.now, e.1)) POOL_PHRASES) marks
+unfoldable pub pool_phrase_at : List Mark → Option (ℕ × Phrase)
+pool_phrase_at marks = phrase_at phrases_of_pools marks
 
-abbrev pub file_phrase_at : List Mark → Option (ℕ × Phrase)
-file_phrase_at marks = phrase_at (map (λ e. (e.0.now, e.1)) FILE_PHRASES) marks
+unfoldable pub file_phrase_at : List Mark → Option (ℕ × Phrase)
+file_phrase_at marks = phrase_at phrases_of_files marks
 
-abbrev pub label_phrase_at : List Mark → Option (ℕ × Phrase)
-label_phrase_at marks = phrase_at (map (λ e. (e.0.now, e.1)) LABEL_PHRASES) marks
+unfoldable pub label_phrase_at : List Mark → Option (ℕ × Phrase)
+label_phrase_at marks = phrase_at phrases_of_labels marks

@@ -1,5 +1,5 @@
 -- The statements that are left out whole.
-use Rattle.std.specs.Prelude.{ℕ, ◌+◌, ◌-◌, ◌&&◌, ◌||◌, Bool, true, false, not, nat_lt, if◌then◌else◌, List, [], ◌∷◌, length, map, take, codes, Option, Some, None}
+use Rattle.std.specs.Prelude.{ℕ, ◌+◌, ◌-◌, ◌&&◌, ◌||◌, Bool, true, false, not, nat_lt, if◌then◌else◌, List, [], ◌∷◌, length, take, codes, Option, Some, None}
 use Rattle.pfr_words.specs.Names.{entry_of, is_among}
 use Rattle.pfr_marks.specs.declared.mark.Mark.{Mark}
 use Rattle.pfr_marks.specs.declared.mark.Place.{Place}
@@ -12,8 +12,47 @@ use Rattle.pfr_phrases.specs.declared.options.Group.{Group}
 use Rattle.pfr_phrases.specs.declared.options.Group.TheVariants as group
 use Rattle.pfr_phrases.specs.declared.reason.Reason.{Reason}
 use Rattle.pfr_phrases.specs.declared.reason.Reason.TheVariants as reason
-use Rattle.pfr_phrases.specs.declared.statements.TheConstants.{ASKING, CRITERIA, SETTINGS, STATEMENTS}
 use Rattle.pfr_phrases.specs.Options.{are_all_left_out, element_len}
+
+-- ---- words
+
+-- the first words of statements that are left out (pf.conf(5), "Traffic normalization", "Queueing", "Packet filtering")
+abbrev pub words_of_statements : List (List ℕ × Reason)
+words_of_statements =
+    (codes "scrub", reason.Scrub) ∷ (codes "altq", reason.Queue) ∷ (codes "queue", reason.Queue) ∷ (codes "match", reason.Match) ∷ []
+
+-- the settings that are left out, by the word behind `set` (pf.conf(5), "Options")
+abbrev pub words_of_settings : List (List ℕ × Reason)
+words_of_settings =
+    (codes "fingerprints", reason.Setting) ∷ (codes "syncookies", reason.Setting) ∷ (codes "keepcounters", reason.Setting)
+    ∷ (codes "fail-policy", reason.Setting) ∷ (codes "reassemble", reason.Reassemble) ∷ (codes "state-defaults", reason.StateDefaults) ∷ []
+
+-- the words by which a rule asks for what packets don't show here (pf.conf(5), "Parameters")
+abbrev pub words_of_criteria : List (List ℕ × Reason)
+words_of_criteria =
+    (codes "inet6", reason.Inet6) ∷ (codes "icmp6-type", reason.Inet6)
+    ∷ (codes "tagged", reason.Criterion) ∷ (codes "user", reason.Criterion) ∷ (codes "group", reason.Criterion)
+    ∷ (codes "os", reason.Criterion) ∷ (codes "probability", reason.Criterion) ∷ (codes "fragment", reason.Criterion)
+    ∷ (codes "tos", reason.Criterion) ∷ (codes "received-on", reason.Criterion) ∷ []
+
+-- the words of statements that are left out for what they ask for (pf.conf(5), "Grammar")
+abbrev pub words_that_ask : List (List ℕ)
+words_that_ask =
+    codes "pass" ∷ codes "block" ∷ codes "match" ∷ codes "nat" ∷ codes "rdr" ∷ codes "binat" ∷ codes "no" ∷ codes "antispoof" ∷ []
+
+unfoldable pub statement_reason : List ℕ → Option Reason
+statement_reason word = entry_of words_of_statements word
+
+unfoldable pub setting_reason : List ℕ → Option Reason
+setting_reason word = entry_of words_of_settings word
+
+unfoldable pub criterion_reason : List ℕ → Option Reason
+criterion_reason word = entry_of words_of_criteria word
+
+unfoldable pub may_ask : List ℕ → Bool
+may_ask word = is_among words_that_ask word
+
+-- ---- statements
 
 abbrev pub in_braces_behind : Bool → Mark → Bool
 in_braces_behind in_braces mark = if is (codes "{") mark then true else if is (codes "}") mark then false else in_braces
@@ -55,7 +94,7 @@ criterion_by None first behind =
 -- why a rule is left out for the word at the front
 unfoldable pub criterion_at : List Mark → Option Finding
 criterion_at [] = None
-criterion_at (first ∷ behind) = criterion_by (entry_of (map (λ e. (e.0.now, e.1)) CRITERIA) first.piece) first behind
+criterion_at (first ∷ behind) = criterion_by (criterion_reason first.piece) first behind
 
 -- why a rule is left out, at the first word by which it asks for what packets don't show
 abbrev pub criterion_in : List Mark → Option Finding
@@ -70,7 +109,7 @@ abbrev pub setting_left_out : Mark → List Mark → Option Reason
 setting_left_out second behind =
     if is (codes "timeout") second && are_only group.Timeouts behind then Some reason.Adaptive
     else if is (codes "limit") second && are_only group.Limits behind then Some reason.Setting
-    else entry_of (map (λ e. (e.0.now, e.1)) SETTINGS) second.piece
+    else setting_reason second.piece
 
 -- the second word of a statement as the one for which it is left out
 abbrev pub second_left_out : Mark → List Mark → Option Finding
@@ -83,13 +122,13 @@ second_left_out first (second ∷ marks) =
 abbrev pub left_out_by : Option Reason → Option Finding → Mark → List Mark → Option Finding
 left_out_by (Some why) second first behind = Some (finding_at first why)
 left_out_by None (Some finding) first behind = Some finding
-left_out_by None None first behind = if is_among (map (λ w. w.now) ASKING) first.piece then criterion_in (first ∷ behind) else None
+left_out_by None None first behind = if may_ask first.piece then criterion_in (first ∷ behind) else None
 
 -- why a statement is left out, at the word for which it is
 unfoldable pub left_out_in : List Mark → Option Finding
 left_out_in [] = None
 left_out_in (first ∷ behind) =
-    left_out_by (entry_of (map (λ e. (e.0.now, e.1)) STATEMENTS) first.piece) (second_left_out first behind) first behind
+    left_out_by (statement_reason first.piece) (second_left_out first behind) first behind
 
 -- the end of the last of some marks
 abbrev pub end_of : Place → List Mark → Place

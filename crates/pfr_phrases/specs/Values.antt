@@ -1,5 +1,5 @@
 -- The words of lists that are rewritten.
-use Rattle.std.specs.Prelude.{ℕ, suc, ◌-◌, ◌==◌, ◌&&◌, ◌||◌, Bool, true, false, not, nat_eq, nat_le, nat_lt, if◌then◌else◌, List, [], ◌∷◌, map, Option, Some, None}
+use Rattle.std.specs.Prelude.{ℕ, suc, ◌-◌, ◌==◌, ◌&&◌, ◌||◌, Bool, true, false, not, nat_eq, nat_le, nat_lt, if◌then◌else◌, List, [], ◌∷◌, codes, Option, Some, None}
 use Rattle.std.specs.List.{ends_with}
 use Rattle.pfr_words.specs.Names.{entry_of}
 use Rattle.pfr_phrases.specs.declared.change.Becomes.TheVariants as becomes
@@ -8,13 +8,22 @@ use Rattle.pfr_phrases.specs.declared.context.Says.TheVariants as says
 use Rattle.pfr_phrases.specs.declared.phrases.Phrase.{Phrase}
 use Rattle.pfr_phrases.specs.declared.lengths.Takes.TheVariants as takes
 use Rattle.pfr_phrases.specs.declared.reason.Reason.TheVariants as reason
-use Rattle.pfr_phrases.specs.declared.values.TheConstants.{ICMP_TYPES, ONE_ADDRESS, PROTOCOLS, SERVICES}
+use Rattle.pfr_phrases.specs.Numbers.{icmp_numbers, protocol_numbers, service_ports}
+
+unfoldable pub protocol_number : List ℕ → Option ℕ
+protocol_number word = entry_of protocol_numbers word
+
+unfoldable pub service_port : List ℕ → Option ℕ
+service_port word = entry_of service_ports word
+
+unfoldable pub icmp_number : List ℕ → Option ℕ
+icmp_number word = entry_of icmp_numbers word
 
 -- the number of a name where words say this
 abbrev pub number_of : Says → List ℕ → Option ℕ
-number_of says.Protocol word = entry_of (map (λ e. (e.0.now, e.1)) PROTOCOLS) word
-number_of says.Port word = entry_of (map (λ e. (e.0.now, e.1)) SERVICES) word
-number_of says.IcmpType word = entry_of (map (λ e. (e.0.now, e.1)) ICMP_TYPES) word
+number_of says.Protocol word = protocol_number word
+number_of says.Port word = service_port word
+number_of says.IcmpType word = icmp_number word
 number_of _ word = None
 
 abbrev pub is_digit : ℕ → Bool
@@ -59,4 +68,4 @@ value_phrase asked word = value_for (number_of asked word) asked word
 
 -- a network of four parts and of several addresses
 abbrev pub is_network : List ℕ → Bool
-is_network word = are_parts false word && (count_of 46 word == 3) && (count_of 47 word == 1) && not (ends_with nat_eq word ONE_ADDRESS.now)
+is_network word = are_parts false word && (count_of 46 word == 3) && (count_of 47 word == 1) && not (ends_with nat_eq word (codes "/32"))

@@ -20,12 +20,20 @@ use std::alloc::AllocError;
 /// The signs before which no blank is put.
 const CLOSERS: [&[u8]; 5] = [b"\n", b")", b"}", b",", b">"];
 
+/// Whether no blank is put before a sign.
+#[tactic(auto, unfolding(crate::specs::Changing::is_closer))]
+fn is_closer(word: &[u8]) -> bool
+    ensures { result ≡ spec.is_closer word.now }
+{
+    is_among(&CLOSERS, word)
+}
+
 /// Whether a word begins right where a change ends.
 pub fn touches(end: Place, behind: &[Mark<'_>]) -> bool
     ensures { result ≡ spec.touches end behind.now }
 {
     match behind.first() {
-        Some(mark) => mark.start.offset == end.offset && !is_among(&CLOSERS, mark.piece.as_slice()),
+        Some(mark) => mark.start.offset == end.offset && !is_closer(mark.piece.as_slice()),
         None => false,
     }
 }

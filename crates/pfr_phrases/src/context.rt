@@ -115,6 +115,22 @@ const TARGETS: [&[u8]; 4] = [b"->", b"route-to", b"reply-to", b"dup-to"];
 /// The words that begin an anchor.
 const ANCHORS: [&[u8]; 4] = [b"anchor", b"nat-anchor", b"rdr-anchor", b"binat-anchor"];
 
+/// Whether a sign asks for one value behind it.
+#[tactic(auto, unfolding(crate::specs::Contexts::is_operator))]
+fn is_operator(word: &[u8]) -> bool
+    ensures { result ≡ spec.is_operator word.now }
+{
+    is_among(&OPERATORS, word)
+}
+
+/// Whether targets stand behind a word.
+#[tactic(auto, unfolding(crate::specs::Contexts::stands_before_targets))]
+fn stands_before_targets(word: &[u8]) -> bool
+    ensures { result ≡ spec.stands_before_targets word.now }
+{
+    is_among(&TARGETS, word)
+}
+
 impl Context {
     /// What stands round the first word of a statement, behind a place.
     pub fn beginning(behind: Place) -> Context
@@ -154,7 +170,7 @@ impl Context {
         let more = &marks[1..];
         let here = Context {
             behind: mark.end,
-            behind_operator: is_among(&OPERATORS, mark.piece.as_slice()),
+            behind_operator: is_operator(mark.piece.as_slice()),
             has_value: self.is_value(mark.piece.as_slice()),
             in_angles: self.opens_angles(mark, more),
             ..self
@@ -167,6 +183,7 @@ impl Context {
     }
 
     /// Whether a word is a value, or ends one, and is no sign that another value is to follow.
+    #[tactic(auto, unfolding(crate::specs::Contexts::is_value))]
     fn is_value(self, word: &[u8]) -> bool
         ensures { result ≡ spec.is_value self word.now }
     {
@@ -217,7 +234,7 @@ impl Context {
             within: self.within.with(mark.piece.as_slice()),
             says: self.says.behind(mark.piece.as_slice()),
             has_label: self.has_label || is(mark, b"label"),
-            has_target: self.has_target || is_among(&TARGETS, mark.piece.as_slice()),
+            has_target: self.has_target || stands_before_targets(mark.piece.as_slice()),
             has_file: self.has_file || is(mark, b"file"),
             ..self
         }
@@ -259,6 +276,7 @@ impl Within {
     }
 
     /// The statement that a word begins.
+    #[tactic(auto, unfolding(crate::specs::Contexts::within_of))]
     fn of(word: &[u8]) -> Within
         ensures { result ≡ spec.within_of word.now }
     {
@@ -278,6 +296,7 @@ impl Within {
 
 impl Says {
     /// Behind a word: what it asks for, nothing if it is another word of the grammar, and the same as before behind all others.
+    #[tactic(auto, unfolding(crate::specs::Contexts::says_behind))]
     fn behind(self, word: &[u8]) -> Says
         ensures { result ≡ spec.says_behind self word.now }
     {

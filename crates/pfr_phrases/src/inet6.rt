@@ -21,6 +21,14 @@ fn are_inet6(text: &[u8]) -> bool
     true
 }
 
+/// Whether a word is a sign that ends another one.
+#[tactic(auto, unfolding(crate::specs::Inet6::is_sign))]
+fn is_sign(word: &[u8]) -> bool
+    ensures { result ≡ spec.is_sign word.now }
+{
+    is_among(&SIGNS, word)
+}
+
 /// How many marks stand right one behind the other from an offset on, up to a sign.
 fn run_len(at: usize, marks: &[Mark<'_>]) -> usize
     ensures value { result ≡ spec.run_from 0 at marks.now }
@@ -28,7 +36,7 @@ fn run_len(at: usize, marks: &[Mark<'_>]) -> usize
 {
     let mut next = at;
     for (before, mark) in marks.iter().enumerate() {
-        if mark.start.offset != next || is_among(&SIGNS, mark.piece.as_slice()) {
+        if mark.start.offset != next || is_sign(mark.piece.as_slice()) {
             return before;
         }
         next = mark.end.offset;

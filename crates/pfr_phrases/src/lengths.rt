@@ -39,6 +39,14 @@ const NO_VALUES: [&[u8]; 14] = [
     b"\n", b")", b"}", b">", b",", b"=", b"!", b"->", b"-", b"!=", b"<=", b">=", b"<>", b"><",
 ];
 
+/// Whether a sign is no value.
+#[tactic(auto, unfolding(crate::specs::Lengths::is_no_value))]
+fn is_no_value(word: &[u8]) -> bool
+    ensures { result ≡ spec.is_no_value word.now }
+{
+    is_among(&NO_VALUES, word)
+}
+
 /// How many marks there are up to the first of this sign, with it; none if the line ends before it.
 fn group_len(close: &[u8], marks: &[Mark<'_>]) -> usize
     ensures value { result ≡ spec.group_from 0 close.now marks.now }
@@ -73,7 +81,7 @@ fn value_len(marks: &[Mark<'_>]) -> usize
     if is(first, b"<") {
         return group_len(b">", marks);
     }
-    if is_among(&NO_VALUES, first.piece.as_slice()) {
+    if is_no_value(first.piece.as_slice()) {
         return 0;
     }
     1

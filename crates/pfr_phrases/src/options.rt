@@ -1,5 +1,5 @@
 //! What is left out of brackets and braces.
-ghost use Rattle.std.specs.Prelude.{◌≡◌, ◌≤◌, ◌<◌, length, map, true, IfSome};
+ghost use Rattle.std.specs.Prelude.{◌≡◌, ◌≤◌, ◌<◌, length, true, IfSome};
 ghost use Rattle.pfr_phrases.specs.Options as spec;
 
 use crate::inet6::inet6_len;
@@ -8,11 +8,24 @@ use pfr_marks::mark::{Mark, begins_with, is};
 use pfr_words::names::is_among;
 
 /// The option that is left out at the front of marks, and how many it has.
+#[tactic(auto, unfolding(crate::specs::Options::option_at))]
 pub(crate) fn option_at(marks: &[Mark<'_>]) -> Option<(usize, Phrase)>
     ensures value { result ≡ spec.option_at marks.now }
     ensures within { IfSome result (λ found. (0 < found.0) × (found.0 ≤ length marks.now)) }
 {
     phrase_at(&STATE_OPTIONS, marks)
+}
+
+/// How many marks a phrase has; none if there is none.
+fn len_of(most: usize, found: Option<(usize, Phrase)>) -> usize
+    requires { IfSome found (λ phrase. phrase.0 ≤ most) }
+    ensures value { result ≡ spec.len_of found }
+    ensures within { result ≤ most }
+{
+    match found {
+        Some((len, _)) => len,
+        None => 0,
+    }
 }
 
 /// How many marks an option has that is left out; none if there is none at the front.
@@ -21,10 +34,7 @@ fn option_len(marks: &[Mark<'_>]) -> usize
     ensures value { result ≡ spec.option_len marks.now }
     ensures within { result ≤ length marks.now }
 {
-    match option_at(marks) {
-        Some((len, _)) => len,
-        None => 0,
-    }
+    len_of(marks.len(), option_at(marks))
 }
 
 /// Elements that are left out of a list.
@@ -45,19 +55,26 @@ pub enum Group {
 /// Words among addresses that ask for what packets don't show.
 const NO_ADDRESSES: [&[u8]; 2] = [b"no-route", b"urpf-failed"];
 
-/// How many marks an element has that is the first part of a phrase of a table; none if there is none at the front.
-#[tactic(auto, unfolding(crate::specs::Options::phrase_len))]
-fn phrase_len(table: &[(&[u8], Phrase)], marks: &[Mark<'_>]) -> usize
-    ensures value { result ≡ spec.phrase_len (map (λ e. (e.0.now, e.1)) table.now) marks.now }
-    ensures within { result ≤ length marks.now }
+/// The timeout that goes by how many states there are at the front of marks, and how many it has.
+#[tactic(auto, unfolding(crate::specs::Options::timeout_at))]
+fn timeout_at(marks: &[Mark<'_>]) -> Option<(usize, Phrase)>
+    ensures value { result ≡ spec.timeout_at marks.now }
+    ensures within { IfSome result (λ found. (0 < found.0) × (found.0 ≤ length marks.now)) }
 {
-    match phrase_at(table, marks) {
-        Some((len, _)) => len,
-        None => 0,
-    }
+    phrase_at(&ADAPTIVE_TIMEOUTS, marks)
+}
+
+/// The limit on which no verdict depends at the front of marks, and how many it has.
+#[tactic(auto, unfolding(crate::specs::Options::limit_at))]
+fn limit_at(marks: &[Mark<'_>]) -> Option<(usize, Phrase)>
+    ensures value { result ≡ spec.limit_at marks.now }
+    ensures within { IfSome result (λ found. (0 < found.0) × (found.0 ≤ length marks.now)) }
+{
+    phrase_at(&LIMITS, marks)
 }
 
 /// Whether the word at the front asks for what packets don't show of an address.
+#[tactic(auto, unfolding(crate::specs::Options::is_no_address))]
 pub(crate) fn is_no_address(marks: &[Mark<'_>]) -> bool
     ensures value { result ≡ spec.is_no_address marks.now }
     ensures some { result ≡ true → 0 < length marks.now }
@@ -89,8 +106,8 @@ pub fn element_len(group: Group, marks: &[Mark<'_>]) -> usize
         Group::Options => option_len(marks),
         Group::Inet6 => inet6_len(marks),
         Group::Unseen => unseen_len(marks),
-        Group::Timeouts => phrase_len(&ADAPTIVE_TIMEOUTS, marks),
-        Group::Limits => phrase_len(&LIMITS, marks),
+        Group::Timeouts => len_of(marks.len(), timeout_at(marks)),
+        Group::Limits => len_of(marks.len(), limit_at(marks)),
     }
 }
 

@@ -110,11 +110,7 @@ const RULE_PHRASES: [(&[u8], Phrase); 18] = [
 ];
 
 /// The words in the brackets behind `keep state`.
-pub(crate) const STATE_OPTIONS: [(&[u8], Phrase); 29] = [
-    (
-        b"max",
-        Phrase(Takes::Value, Becomes::Nothing, Reason::Limit),
-    ),
+pub(crate) const STATE_OPTIONS: [(&[u8], Phrase); 28] = [
     (
         b"max-src-nodes",
         Phrase(Takes::Value, Becomes::Nothing, Reason::Limit),
@@ -303,6 +299,7 @@ pub(crate) fn phrase_at(table: &[(&[u8], Phrase)], marks: &[Mark<'_>]) -> Option
 }
 
 /// The word behind a target that is left out at the front of marks, and how many it has.
+#[tactic(auto, unfolding(crate::specs::Phrases::pool_phrase_at))]
 pub(crate) fn pool_phrase_at(marks: &[Mark<'_>]) -> Option<(usize, Phrase)>
     ensures value { result ≡ spec.pool_phrase_at marks.now }
     ensures within { IfSome result (λ found. (0 < found.0) × (found.0 ≤ length marks.now)) }
@@ -311,6 +308,7 @@ pub(crate) fn pool_phrase_at(marks: &[Mark<'_>]) -> Option<(usize, Phrase)>
 }
 
 /// The file of a table at the front of marks: how many marks it has, and what is written for it.
+#[tactic(auto, unfolding(crate::specs::Phrases::file_phrase_at))]
 pub fn file_phrase_at(marks: &[Mark<'_>]) -> Option<(usize, Phrase)>
     ensures value { result ≡ spec.file_phrase_at marks.now }
     ensures within { IfSome result (λ found. (0 < found.0) × (found.0 ≤ length marks.now)) }
@@ -319,6 +317,7 @@ pub fn file_phrase_at(marks: &[Mark<'_>]) -> Option<(usize, Phrase)>
 }
 
 /// The label at the front of marks, and how many it has.
+#[tactic(auto, unfolding(crate::specs::Phrases::label_phrase_at))]
 pub(crate) fn label_phrase_at(marks: &[Mark<'_>]) -> Option<(usize, Phrase)>
     ensures value { result ≡ spec.label_phrase_at marks.now }
     ensures within { IfSome result (λ found. (0 < found.0) × (found.0 ≤ length marks.now)) }
@@ -327,6 +326,7 @@ pub(crate) fn label_phrase_at(marks: &[Mark<'_>]) -> Option<(usize, Phrase)>
 }
 
 /// The word of a rule that is rewritten at the front of marks, and how many it has.
+#[tactic(auto, unfolding(crate::specs::Phrases::rule_phrase_at))]
 pub(crate) fn rule_phrase_at(marks: &[Mark<'_>]) -> Option<(usize, Phrase)>
     ensures value { result ≡ spec.rule_phrase_at marks.now }
     ensures within { IfSome result (λ found. (0 < found.0) × (found.0 ≤ length marks.now)) }

@@ -93,7 +93,7 @@ pub enum Reason {
     /// `scrub`.
     #[error("left out: fragments aren't put together here, and packets pass whose flags or headers pf would drop or mend")]
     Scrub,
-    /// `max`, `max-src-states` and the like.
+    /// `max-src-states` and the like.
     #[error("left out: where the limit would be reached, pf would block what passes here")]
     Limit,
     /// `overload`, `flush`.

@@ -41,7 +41,7 @@ const CRITERIA: [(&[u8], Reason); 10] = [
 ];
 
 /// The words of statements that are left out for what they ask for.
-pub const ASKING: [&[u8]; 8] = [
+const ASKING: [&[u8]; 8] = [
     b"pass",
     b"block",
     b"match",
@@ -51,6 +51,38 @@ pub const ASKING: [&[u8]; 8] = [
     b"no",
     b"antispoof",
 ];
+
+/// Why the statement is left out that a word begins, whatever is behind it.
+#[tactic(auto, unfolding(crate::specs::Statements::statement_reason))]
+fn statement_reason(word: &[u8]) -> Option<Reason>
+    ensures { result ≡ spec.statement_reason word.now }
+{
+    entry_of(&STATEMENTS, word)
+}
+
+/// Why a setting is left out, whatever it sets.
+#[tactic(auto, unfolding(crate::specs::Statements::setting_reason))]
+fn setting_reason(word: &[u8]) -> Option<Reason>
+    ensures { result ≡ spec.setting_reason word.now }
+{
+    entry_of(&SETTINGS, word)
+}
+
+/// Why a rule is left out that has a word.
+#[tactic(auto, unfolding(crate::specs::Statements::criterion_reason))]
+fn criterion_reason(word: &[u8]) -> Option<Reason>
+    ensures { result ≡ spec.criterion_reason word.now }
+{
+    entry_of(&CRITERIA, word)
+}
+
+/// Whether the statement that a word begins may be left out for what it asks for.
+#[tactic(auto, unfolding(crate::specs::Statements::may_ask))]
+pub fn may_ask(word: &[u8]) -> bool
+    ensures { result ≡ spec.may_ask word.now }
+{
+    is_among(&ASKING, word)
+}
 
 /// Whether a list is open behind a mark, by whether one is before it.
 fn in_braces_behind(in_braces: bool, mark: &Mark<'_>) -> bool
@@ -119,7 +151,7 @@ fn criterion_at<'a>(marks: &[Mark<'a>]) -> Option<Finding<'a>>
     ensures { result ≡ spec.criterion_at marks.now }
 {
     let first = marks.first()?;
-    if let Some(reason) = entry_of(&CRITERIA, first.piece.as_slice()) {
+    if let Some(reason) = criterion_reason(first.piece.as_slice()) {
         return Some(finding_at(first, reason));
     }
     if is(first, b"from") || is(first, b"to") {
@@ -152,7 +184,7 @@ fn setting_left_out(second: &Mark<'_>, behind: &[Mark<'_>]) -> Option<Reason>
     if is(second, b"limit") && are_only(Group::Limits, behind) {
         return Some(Reason::Setting);
     }
-    entry_of(&SETTINGS, second.piece.as_slice())
+    setting_reason(second.piece.as_slice())
 }
 
 /// The second word of a statement as the one for which it is left out.
@@ -177,13 +209,13 @@ fn left_out_in<'a>(statement: &[Mark<'a>]) -> Option<Finding<'a>>
     ensures { result ≡ spec.left_out_in statement.now }
 {
     let first = statement.first()?;
-    if let Some(reason) = entry_of(&STATEMENTS, first.piece.as_slice()) {
+    if let Some(reason) = statement_reason(first.piece.as_slice()) {
         return Some(finding_at(first, reason));
     }
     if let Some(finding) = second_left_out(first, &statement[1..]) {
         return Some(finding);
     }
-    if is_among(&ASKING, first.piece.as_slice()) {
+    if may_ask(first.piece.as_slice()) {
         criterion_in(statement)
     } else {
         None

@@ -161,14 +161,38 @@ const ICMP_TYPES: [(&[u8], u16); 48] = [
     (b"decrypt-fail", 3),
 ];
 
+/// The number of a protocol by its name.
+#[tactic(auto, unfolding(crate::specs::Values::protocol_number))]
+fn protocol_number(word: &[u8]) -> Option<u16>
+    ensures { result ≡ spec.protocol_number word.now }
+{
+    entry_of(&PROTOCOLS, word)
+}
+
+/// The port of a service by its name.
+#[tactic(auto, unfolding(crate::specs::Values::service_port))]
+fn service_port(word: &[u8]) -> Option<u16>
+    ensures { result ≡ spec.service_port word.now }
+{
+    entry_of(&SERVICES, word)
+}
+
+/// The number of a type or a code of ICMP by its name.
+#[tactic(auto, unfolding(crate::specs::Values::icmp_number))]
+fn icmp_number(word: &[u8]) -> Option<u16>
+    ensures { result ≡ spec.icmp_number word.now }
+{
+    entry_of(&ICMP_TYPES, word)
+}
+
 /// The number of a name where words say this: of a protocol, a service, or a type or code of ICMP.
 pub fn number_of(says: Says, word: &[u8]) -> Option<u16>
     ensures { result ≡ spec.number_of says word.now }
 {
     match says {
-        Says::Protocol => entry_of(&PROTOCOLS, word),
-        Says::Port => entry_of(&SERVICES, word),
-        Says::IcmpType => entry_of(&ICMP_TYPES, word),
+        Says::Protocol => protocol_number(word),
+        Says::Port => service_port(word),
+        Says::IcmpType => icmp_number(word),
         _ => None,
     }
 }

@@ -1,5 +1,5 @@
 -- What stands before a word in its statement.
-use Rattle.std.specs.Prelude.{ℕ, ◌+◌, ◌-◌, ◌^◌, ◌==◌, ◌&&◌, ◌||◌, Bool, true, false, nat_lt, if◌then◌else◌, min, List, map, codes, Option, Some, None}
+use Rattle.std.specs.Prelude.{ℕ, ◌+◌, ◌-◌, ◌^◌, ◌==◌, ◌&&◌, ◌||◌, Bool, true, false, nat_lt, if◌then◌else◌, min, List, [], ◌∷◌, codes, Option, Some, None}
 use Rattle.std.specs.Str.{bytes_eq}
 use Rattle.pfr_words.specs.Names.{entry_of}
 use Rattle.pfr_marks.specs.declared.mark.Mark.{Mark}
@@ -11,17 +11,31 @@ use Rattle.pfr_remarks.specs.declared.before.Keyword.{Keyword}
 use Rattle.pfr_remarks.specs.declared.before.Keyword.TheVariants as keyword
 use Rattle.pfr_remarks.specs.declared.before.Statement.{Statement}
 use Rattle.pfr_remarks.specs.declared.before.Statement.TheVariants as statement
-use Rattle.pfr_remarks.specs.declared.before.TheConstants.{KEYWORDS, STATEMENTS}
 use Rattle.pfr_remarks.specs.declared.why.Why.{Why}
 use Rattle.pfr_remarks.specs.Protocols.{announced, none}
 use Rattle.pfr_remarks.specs.Protocols as protocols
 use Rattle.pfr_remarks.specs.Told.{nothing, with_why}
 
+-- ---- words
+
+-- the first words of statements (pf.conf(5), "Grammar")
+abbrev pub statements : List (List ℕ × Statement)
+statements =
+    (codes "pass", statement.Pass) ∷ (codes "match", statement.Pass) ∷ (codes "block", statement.Block)
+    ∷ (codes "rdr", statement.Redirection) ∷ (codes "anchor", statement.Anchor) ∷ []
+
+-- the words that mean something outside of braces and brackets (pf.conf(5), "Parameters")
+abbrev pub keywords : List (List ℕ × Keyword)
+keywords =
+    (codes "proto", keyword.Protocol) ∷ (codes "port", keyword.Port) ∷ (codes "icmp-type", keyword.Type)
+    ∷ (codes "keep", keyword.Keep) ∷ (codes "modulate", keyword.Keep) ∷ (codes "synproxy", keyword.Keep)
+    ∷ (codes "label", keyword.Label) ∷ (codes "->", keyword.Target) ∷ []
+
 -- ---- statements
 
 -- what a word means outside of braces and brackets
 unfoldable pub keyword_of : List ℕ → Option Keyword
-keyword_of word = entry_of (map (λ e. (e.0.now, e.1)) KEYWORDS) word
+keyword_of word = entry_of keywords word
 
 abbrev pub or_other : Option Statement → Statement
 or_other (Some known) = known
@@ -29,7 +43,7 @@ or_other None = statement.Other
 
 -- the statement that a word begins
 unfoldable pub statement_of : List ℕ → Statement
-statement_of word = or_other (entry_of (map (λ e. (e.0.now, e.1)) STATEMENTS) word)
+statement_of word = or_other (entry_of statements word)
 
 -- the first word of a statement says what it is
 abbrev pub statement_with : Statement → List ℕ → Statement

@@ -1,12 +1,17 @@
 -- The protocols of a rule, and what pfctl(8) refuses behind them: a port asks for tcp or udp, a type of ICMP for icmp.
-use Rattle.std.specs.Prelude.{ℕ, ◌==◌, ◌&&◌, Bool, true, false, not, if◌then◌else◌, List, [], ◌∷◌, map, Option, Some, None}
+use Rattle.std.specs.Prelude.{ℕ, ◌==◌, ◌&&◌, Bool, true, false, not, if◌then◌else◌, List, [], ◌∷◌, codes, Option, Some, None}
 use Rattle.pfr_words.specs.Names.{entry_of}
 use Rattle.pfr_remarks.specs.declared.protocols.Has.{Has}
 use Rattle.pfr_remarks.specs.declared.protocols.Has.TheVariants as has
 use Rattle.pfr_remarks.specs.declared.protocols.Protocols.{Protocols}
-use Rattle.pfr_remarks.specs.declared.protocols.TheConstants.{PROTOCOLS}
 use Rattle.pfr_remarks.specs.declared.why.Why.{Why}
 use Rattle.pfr_remarks.specs.declared.why.Why.TheVariants as why
+
+-- the protocols whose packets have ports or types of ICMP, by pf.conf(5)'s names and the numbers of IANA's "Protocol Numbers"
+abbrev pub known_protocols : List (List ℕ × Has)
+known_protocols =
+    (codes "tcp", has.Ports) ∷ (codes "6", has.Ports) ∷ (codes "udp", has.Ports) ∷ (codes "17", has.Ports)
+    ∷ (codes "icmp", has.Types) ∷ (codes "1", has.Types) ∷ []
 
 -- a use of a macro begins with a `$`
 abbrev pub is_macro_use : List ℕ → Bool
@@ -19,7 +24,7 @@ had_by_entry None word = if is_macro_use word then has.Unknown else has.Neither
 
 -- what packets of the protocol have that a word stands for
 unfoldable pub had_by : List ℕ → Has
-had_by word = had_by_entry (entry_of (map (λ e. (e.0.now, e.1)) PROTOCOLS) word) word
+had_by word = had_by_entry (entry_of known_protocols word) word
 
 -- before the word `proto`
 abbrev pub none : Protocols

@@ -1,14 +1,12 @@
 -- What is found at the front of marks covers some of them: by what macros stand for.
-use Rattle.std.proofs.Common.{◌≡◌, ℕ, zero, suc, ◌+◌, ◌-◌, ◌||◌, not, List, [], ◌∷◌, arith, take, drop, codes, map, Option, Some, None, inl, refl, subst}
+use Rattle.std.proofs.Common.{◌≡◌, ℕ, zero, suc, ◌+◌, ◌-◌, ◌||◌, not, List, [], ◌∷◌, arith, take, drop, codes, Option, Some, None, inl, refl, subst}
 use Rattle.std.specs.Option.{is_some}
-use Rattle.pfr_words.specs.Names.{is_among}
 use Rattle.pfr_marks.specs.declared.mark.Mark.{Mark}
 use Rattle.pfr_phrases.specs.Changing.{comma_before, sign_len}
-use Rattle.pfr_phrases.specs.Statements.{statement_left_out, statement_len}
+use Rattle.pfr_phrases.specs.Statements.{statement_left_out, statement_len, may_ask}
 use Rattle.pfr_phrases.specs.declared.change.Finding.{Finding}
 use Rattle.pfr_phrases.specs.declared.context.Context.{Context}
 use Rattle.pfr_phrases.specs.declared.reason.Reason.{Reason}
-use Rattle.pfr_phrases.specs.declared.statements.TheConstants.{ASKING}
 use Rattle.pfr_phrases.proofs.CoverLawLemmas.{CoversIf, IsAtIf, at_behind, at_later, of_element, of_whole, unless}
 use Rattle.pfr_spelling.specs.Known.{value_len}
 use Rattle.pfr_spelling.specs.declared.known.Known.{Known}
@@ -52,7 +50,7 @@ of_rule zero known context marks = tt
 of_rule (suc n) known context [] = tt
 of_rule (suc n) known context (first ∷ marks) =
     let said = said_from known known.left (first ∷ take n marks) in
-    unless (not (is_among (map (λ w. w.now) ASKING) first.piece) || is_some (statement_left_out (first ∷ marks))) context (first ∷ marks)
+    unless (not (may_ask first.piece) || is_some (statement_left_out (first ∷ marks))) context (first ∷ marks)
     (rule_for said (first ∷ take n marks)) (of_said n said context first marks (said_among known known.left (first ∷ take n marks)))
 
 pub rule_covers : (known : Known) (context : Context) (marks : List Mark) → CoversIf context marks (rule_here known marks)

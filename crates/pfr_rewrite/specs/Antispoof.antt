@@ -1,5 +1,5 @@
 -- `antispoof` as the rules that it stands for (pf.conf(5), "BLOCKING SPOOFED TRAFFIC").
-use Rattle.std.specs.Prelude.{ℕ, ◌+◌, ◌==◌, ◌||◌, Bool, true, false, not, nat_lt, if◌then◌else◌, List, [], ◌∷◌, ◌++◌, length, map, take, drop, codes, Option, Some, None}
+use Rattle.std.specs.Prelude.{ℕ, ◌+◌, ◌==◌, ◌||◌, Bool, true, false, not, nat_lt, if◌then◌else◌, List, [], ◌∷◌, ◌++◌, length, take, drop, codes, Option, Some, None}
 use Rattle.std.specs.Str.{bytes_eq}
 use Rattle.pfr_given.specs.Entries.{texts_of}
 use Rattle.pfr_given.specs.Texts.{joined_by}
@@ -24,7 +24,6 @@ use Rattle.pfr_rewrite.specs.declared.antispoof.Awaits.{Awaits}
 use Rattle.pfr_rewrite.specs.declared.antispoof.Awaits.TheVariants as awaits
 use Rattle.pfr_rewrite.specs.declared.antispoof.Forms.{Forms}
 use Rattle.pfr_rewrite.specs.declared.antispoof.Frame.{Frame}
-use Rattle.pfr_rewrite.specs.declared.antispoof.TheConstants.{LOOPBACK, NUMBERS}
 
 -- ---- its parts
 
@@ -60,7 +59,7 @@ given_forms given name = forms_in (texts_of given subject.Address (name ++ codes
 unfoldable pub forms_of : Given → List ℕ → List ℕ → Option Forms
 forms_of given own name =
     if bytes_eq name own then Some (own_forms own)
-    else if bytes_eq name LOOPBACK.now then Some loopback_forms
+    else if bytes_eq name (codes "lo0") then Some loopback_forms
     else given_forms given name
 
 -- ---- its rules
@@ -71,12 +70,19 @@ head_of front =
     let logged = if nat_lt 0 (log_len front) then codes "block drop in" ++ codes " log" else codes "block drop in" in
     if begins_with (drop (log_len front) front) (codes "quick") then logged ++ codes " quick" else logged
 
+-- the options that go with the word behind them
+abbrev pub options_that_go : List (List ℕ)
+options_that_go = codes "ridentifier" ∷ codes "tracker" ∷ codes "rtable" ∷ []
+
+unfoldable pub goes_with_value : List ℕ → Bool
+goes_with_value word = is_among options_that_go word
+
 -- what stays of a word among the options
 abbrev pub option_text : Awaits → List ℕ → List ℕ
 option_text awaits.Value word = []
 option_text awaits.Label word = 32 ∷ word
 option_text awaits.Option word =
-    if is_among (map (λ w. w.now) NUMBERS) word then [] else if not (bytes_eq word (codes "label")) then [] else codes " label"
+    if goes_with_value word then [] else if not (bytes_eq word (codes "label")) then [] else codes " label"
 
 abbrev pub behind_token : Option Token → Option Awaits
 behind_token (Some (token.MacroUse name suffix)) = None
@@ -90,7 +96,7 @@ abbrev pub behind_option : Awaits → List ℕ → Option Awaits
 behind_option awaits.Value word = Some awaits.Option
 behind_option awaits.Label word = behind_label word
 behind_option awaits.Option word =
-    if is_among (map (λ w. w.now) NUMBERS) word then Some awaits.Value
+    if goes_with_value word then Some awaits.Value
     else if not (bytes_eq word (codes "label")) then None
     else Some awaits.Label
 

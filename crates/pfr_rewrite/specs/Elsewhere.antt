@@ -14,13 +14,12 @@ use Rattle.pfr_phrases.specs.declared.context.Within.TheVariants as within
 use Rattle.pfr_phrases.specs.declared.reason.Reason.TheVariants as reason
 use Rattle.pfr_spelling.specs.Known.{known_behind}
 use Rattle.pfr_spelling.specs.declared.known.Known.{Known}
-use Rattle.pfr_rewrite.specs.Interfaces.{interfaces_len, names_in}
+use Rattle.pfr_rewrite.specs.Interfaces.{interfaces_len, names_in, unknown_name}
 use Rattle.pfr_rewrite.specs.Whole.{known_before}
-use Rattle.pfr_rewrite.specs.declared.interfaces.TheConstants.{UNKNOWN}
 
 -- the run's own interface, or one that isn't known
 abbrev pub may_hold : (own name : List ℕ) → Bool
-may_hold own name = bytes_eq name own || bytes_eq name UNKNOWN.now
+may_hold own name = bytes_eq name own || bytes_eq name unknown_name
 
 abbrev pub one_may_hold : List ℕ → List (List ℕ) → Bool
 one_may_hold own [] = false

@@ -12,7 +12,6 @@ use Rattle.pfr_marks.specs.declared.mark.Mark.{Mark}
 use Rattle.pfr_spelling.specs.Macros.{is_plain, token_in, value_of}
 use Rattle.pfr_spelling.specs.Targets.{list_from}
 use Rattle.pfr_spelling.specs.declared.known.Known.{Known}
-use Rattle.pfr_rewrite.specs.declared.interfaces.TheConstants.{UNKNOWN}
 
 -- a word, one in round brackets, or a list
 abbrev pub interfaces_len : List Mark → ℕ
@@ -33,9 +32,13 @@ names_for_texts word texts = if length texts == 0 then word ∷ [] else plain_wo
 abbrev pub names_for : Given → List ℕ → List (List ℕ)
 names_for given word = names_for_texts word (texts_of given subject.Interface (word ++ []))
 
+-- what stands for the name of an interface that isn't known: no name has a `$`
+abbrev pub unknown_name : List ℕ
+unknown_name = codes "$"
+
 -- what names no interface for a `!`, since all but some interfaces have no names
 abbrev pub names_of_sign : List ℕ → List (List ℕ)
-names_of_sign piece = if bytes_eq piece (codes "!") then UNKNOWN.now ∷ [] else []
+names_of_sign piece = if bytes_eq piece (codes "!") then unknown_name ∷ [] else []
 
 abbrev pub names_of_word : Given → List ℕ → List (List ℕ)
 names_of_word given piece = if is_plain piece then names_for given piece else names_of_sign piece
@@ -46,7 +49,7 @@ names_of_words given (mark ∷ marks) = names_of_word given mark.piece ++ names_
 
 abbrev pub names_by : Given → Option (List ℕ) → List (List ℕ)
 names_by given (Some value) = names_of_words given (marks value)
-names_by given None = UNKNOWN.now ∷ []
+names_by given None = unknown_name ∷ []
 
 -- the words of a macro's value; what names no interface, if that isn't known
 abbrev pub value_names : Given → Known → List ℕ → List (List ℕ)

@@ -1,12 +1,11 @@
 -- Rules and elements of lists that are left out for what macros stand for.
-use Rattle.std.specs.Prelude.{ℕ, ◌+◌, ◌-◌, ◌||◌, Bool, false, not, if◌then◌else◌, List, [], ◌∷◌, length, map, take, drop, codes, Option, Some, None}
+use Rattle.std.specs.Prelude.{ℕ, ◌+◌, ◌-◌, ◌||◌, Bool, false, not, if◌then◌else◌, List, [], ◌∷◌, length, take, drop, codes, Option, Some, None}
 use Rattle.std.specs.Option.{is_some}
-use Rattle.pfr_words.specs.Names.{is_among}
 use Rattle.pfr_marks.specs.Marks.{is, marks}
 use Rattle.pfr_marks.specs.declared.mark.Mark.{Mark}
 use Rattle.pfr_phrases.specs.Changes.{finding_at}
 use Rattle.pfr_phrases.specs.Changing.{comma_before, element_of, sign_len}
-use Rattle.pfr_phrases.specs.Statements.{criterion_in, end_of, statement_left_out, statement_len, whole}
+use Rattle.pfr_phrases.specs.Statements.{criterion_in, end_of, statement_left_out, statement_len, whole, may_ask}
 use Rattle.pfr_phrases.specs.declared.change.Finding.{Finding}
 use Rattle.pfr_phrases.specs.declared.change.Found.{Found}
 use Rattle.pfr_phrases.specs.declared.context.Context.{Context}
@@ -14,7 +13,6 @@ use Rattle.pfr_phrases.specs.declared.context.Says.{Says}
 use Rattle.pfr_phrases.specs.declared.context.Says.TheVariants as says
 use Rattle.pfr_phrases.specs.declared.reason.Reason.{Reason}
 use Rattle.pfr_phrases.specs.declared.reason.Reason.TheVariants as reason
-use Rattle.pfr_phrases.specs.declared.statements.TheConstants.{ASKING}
 use Rattle.pfr_spelling.specs.Known.{value_len, value_within}
 use Rattle.pfr_spelling.specs.declared.known.Known.{Known}
 use Rattle.pfr_rewrite.specs.UnseenLists.{unseen_list}
@@ -71,7 +69,7 @@ rule_for (Some finding) (first ∷ behind) = Some (whole first.start (end_of fir
 abbrev pub rule_in : Known → (statement marks : List Mark) → Option Found
 rule_in known [] marks = None
 rule_in known (first ∷ behind) marks =
-    if not (is_among (map (λ w. w.now) ASKING) first.piece) || is_some (statement_left_out marks) then None
+    if not (may_ask first.piece) || is_some (statement_left_out marks) then None
     else rule_for (said_from known known.left (first ∷ behind)) (first ∷ behind)
 
 -- the rule at the front of marks, if it is left out for what its macros stand for, and not for its own words

@@ -154,6 +154,14 @@ enum Awaits {
 /// The options that don't stay.
 const NUMBERS: [&[u8]; 3] = [b"ridentifier", b"tracker", b"rtable"];
 
+/// Whether an option goes, with the word behind it.
+#[tactic(auto, unfolding(crate::specs::Antispoof::goes_with_value))]
+fn goes_with_value(word: &[u8]) -> bool
+    ensures { result ≡ spec.goes_with_value word.now }
+{
+    is_among(&NUMBERS, word)
+}
+
 /// What is awaited behind a label; nothing if it is the use of a macro.
 fn behind_label(word: &[u8]) -> Option<Awaits>
     ensures { result ≡ spec.behind_label word.now }
@@ -181,7 +189,7 @@ fn put_option(
             Ok(behind_label(word))
         }
         Awaits::Option => {
-            if is_among(&NUMBERS, word) {
+            if goes_with_value(word) {
                 return Ok(Some(Awaits::Value));
             }
             if word != b"label".as_slice() {

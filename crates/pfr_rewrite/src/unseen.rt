@@ -11,11 +11,10 @@ use pfr_phrases::context::{Context, Says};
 use pfr_phrases::options::{Group, element_len};
 use pfr_phrases::reason::Reason;
 use pfr_phrases::statements::{
-    ASKING, criterion_in, end_of, statement_left_out, statement_len, unseen_at, whole,
+    criterion_in, end_of, may_ask, statement_left_out, statement_len, unseen_at, whole,
 };
 use pfr_spelling::known::Known;
 use pfr_spelling::targets::list_len;
-use pfr_words::names::is_among;
 use std::alloc::{AllocError, Global};
 
 /// What a rule with a value is left out for, if it is: a word of the value.
@@ -173,7 +172,7 @@ pub(crate) fn rule_here<'a>(
     let Some(first) = statement.first() else {
         return Ok(None);
     };
-    if !is_among(&ASKING, first.piece.as_slice()) || statement_left_out(marks).is_some() {
+    if !may_ask(first.piece.as_slice()) || statement_left_out(marks).is_some() {
         return Ok(None);
     }
     match said_in(alloc, known, statement)? {
