@@ -3,7 +3,8 @@
 It says which results the book tries and which it drops, and so how many packets it evaluates itself.
 
 - A result is of one packet number, at one clock, as one packet is seen, under one job. It holds what was asked of the
-  table for it and answered. Asked are the state with a key on one side, and whether there is room for one more.
+  table for it and answered. Asked are the state with a key on one side, whether there is room for one more, and for
+  each rule that is asked for it whether there are fewer states of it than its limit.
 - Of several results of a packet's number the first in the list is tried, and the others are dropped.
 - It is taken where number, clock, packet and job are those of the packet, and the table gives each answer anew. States
   whose deadline is at most the clock are gone from the table then. Else the book evaluates the packet itself.
@@ -87,11 +88,20 @@ class Asked:
         return self.answers.setdefault(("at", direction, key), self.table.at(direction, key))
 
     def is_full(self):
-        return self.answers.setdefault(("room",), self.table.is_full())
+        return self.answers.setdefault(("is_full",), self.table.is_full())
+
+    def has_rule_room(self, rule, most):
+        """Without writing it down: the model of the filter looks at more rules than are asked."""
+        return self.table.has_rule_room(rule, most)
+
+    def write_down(self, rooms):
+        """Writes down for which rules it was asked."""
+        self.answers |= {("has_rule_room", room.place, room.most): room.is_left for room in rooms}
 
 
 def answer_to(table, question):
-    return table.is_full() if question == ("room",) else table.at(*question[1:])
+    name, *about = question
+    return getattr(table, name)(*about)
 
 
 def purged(table, clock):
@@ -145,7 +155,8 @@ class Book:
             self.kept.append(None)
             return
         asked, seen = Asked(purged(self.table, call.clock)), self.seen(call.seen_as)
-        step(self.meanings[call.job], call.number, call.clock, *seen, asked)
+        outcome = step(self.meanings[call.job], call.number, call.clock, *seen, asked)
+        asked.write_down(outcome.rooms)
         self.kept.append(Found(self.jobs[call.job], call.number, call.clock, seen, asked.answers))
 
     def taken(self, kept):

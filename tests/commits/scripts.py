@@ -6,7 +6,7 @@ from typing import NamedTuple
 import messages.random_runs
 import steps.random_runs
 import steps.translation_runs
-from captures.packets import SYN, record, tcp, udp
+from captures.packets import SYN, UDP, ipv4, record, tcp, udp
 from commits.model import Batch, Book, Clear, Commit, Holds, Speculate, hex_of
 from steps.replay import Record
 from steps.random_runs import LAST_SECOND
@@ -70,6 +70,17 @@ def both_ahead(name, rules, packets, lines):
            ["holds", lines[0], f"packets {first}", "messages -", "own 0, committed 1", "fails", "none"])
 
 
+def ahead_in_order(name, rules, packets, lines, own):
+    """Packets about all of which something is found out on the empty table, and taken in a batch; with the lines of the
+    packets, which all pass, and how many the book evaluates itself."""
+    run = Run(name, rules, [(0, packet) for packet in packets])
+    numbers = range(1, len(packets) + 1)
+    written = hex_of(b"".join(each.header + each.frame for each in Script(run, [], []).records()))
+    yield (Script(run, [(0, rules)], [*(Speculate(0, number, number, 0) for number in numbers),
+                                      Batch(len(packets), tuple(range(len(packets))))]),
+           [*lines, f"packets {written}", "messages -", f"own {own}, committed {len(packets)}"])
+
+
 def rows():
     """Scripts, each with the lines that it is answered with before the end. For messages these have their sizes."""
     opening = tcp(H, 1000, P, 80, SYN, 1000)
@@ -78,6 +89,19 @@ def rows():
     yield from both_ahead("room for one state", "set limit states 1\npass out",
                           [udp(H, 1000, P, 53), udp(H, 1001, P, 53)],
                           ["1 0 out pass rule r=0 t=- s=1", "2 0 out block state-limit r=0 t=- s=-"])
+    yield from both_ahead("room for one state of a rule", "block out\npass out keep state (max 1)",
+                          [udp(H, 1000, P, 53), udp(H, 1001, P, 53)],
+                          ["1 0 out pass rule r=1 t=- s=1", "2 0 out block rule r=0 t=- s=-"])
+    yield from ahead_in_order("room for two states of a rule", "pass out keep state (max 2)",
+                              [udp(H, port, P, 53) for port in (1000, 1001, 1002)],
+                              ["1 0 out pass rule r=0 t=- s=1", "2 0 out pass rule r=0 t=- s=2",
+                               "3 0 out pass default r=- t=- s=-"], own=1)
+    # a fragment isn't asked for room, and the state of another rule takes none
+    fragment = ipv4(H, P, UDP, bytes(8), fragment=1)
+    yield from ahead_in_order("packets whose answers stay", "pass out no state\npass out proto udp keep state (max 1)\n"
+                              "pass out proto tcp keep state (max 1)", [udp(H, 1000, P, 53), opening, fragment],
+                              ["1 0 out pass rule r=1 t=- s=1", "2 0 out pass rule r=2 t=- s=2",
+                               "3 0 out pass rule r=1 t=- s=-"], own=0)
 
 
 def in_batches(run, size):

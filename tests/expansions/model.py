@@ -23,8 +23,8 @@ are decimal, addresses are a.b.c.d, and what is in square brackets here is writt
     anchor K [inside K] rules FIRST LAST [in|out] [quick] MATCH
                               before its first rule, an outer one before those inside it. K counts the anchors as they
                               begin, `inside` names the one next round it, FIRST and LAST are numbers of filter rules
-    filter N pass|drop|return [in|out] [quick] MATCH [flags SET MASK [default]] [state if-bound|floating [no-sync]]
-             [allow-opts] [anchors K ..]
+    filter N pass|drop|return [in|out] [quick] MATCH [flags SET MASK [default]]
+             [state if-bound|floating [no-sync] [max NUMBER]] [allow-opts] [anchors K ..]
                               the anchors round it from the outermost on
 
 MATCH is `[on [!]NAME] [proto NUMBER] [icmp TYPE [code CODE]] from HOST [port PORT] to HOST [port PORT]`. HOST is [!]
@@ -141,6 +141,7 @@ def rule_words(number, rule):
         yield f"flags {rule.flags[0]} {rule.flags[1]}" + " default" * rule.has_default_flags
     if rule.binding is not None:
         yield f"state {rule.binding}" + " no-sync" * rule.no_sync
+        yield from [f"max {rule.most}"] if rule.most is not None else []
     yield from ["allow-opts"] if rule.allow_opts else []
     yield from ["anchors", *map(str, rule.anchors)] if rule.anchors else []
 

@@ -8,6 +8,7 @@ INTERFACES = ("em0", "em1", "lo0", "igb1", "vlan_5", "a_name_of_15_by")
 PROTOCOLS = ("tcp", "udp", "icmp", "igmp", "gre", "esp", "ah", "0", "6", "255")
 SERVICES = ("ftp", "ssh", "telnet", "smtp", "domain", "http", "www", "pop3", "ntp", "imap", "snmp", "https")
 ICMP_TYPES = ("echorep", "unreach", "redir", "echoreq", "timex", "paramprob", "0", "8", "255")
+MOST_STATES = (1, 2, 10, 4294967295)
 FLAG_SETS = ("any", "S/SA", "SA/SA", "FUP/FSRPAUEW", "S/S", "A/A")
 NETWORKS = ("10.0.0.0/8", "10.1.2.3/8", "10.1.0.0/16", "10.1.2.0/24", "10.1.2.3", "10.1.2.4/31", "10.1.2.5/32",
             "0.0.0.0/0", "192.0.2.1", "192.0.2.0/24", "192.0.2.77/25", "255.255.255.255", "203.0.113.6/31")
@@ -273,7 +274,8 @@ class Writer:
         return text + self.either(60, self.part("from")) + self.either(60, self.part("to"))
 
     def state(self):
-        options = self.draw.sample(("no-sync", self.draw.choice(("floating", "if-bound"))), self.draw.randrange(3))
+        options = self.draw.sample(("no-sync", self.draw.choice(("floating", "if-bound")),
+                                    f"max {self.draw.choice(MOST_STATES)}"), self.draw.randrange(4))
         within = f" ({', '.join(options)})" if options else ""
         return self.either(30, " no state", f" keep state{within}")
 

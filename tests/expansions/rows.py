@@ -127,6 +127,10 @@ TABLES = (
         ["table a", "table b", *sources_of("<a>", "!<b>", "any", "!10.0.0.1-10.0.0.9")]),
     Row('x = "em0"\ntable <t> { !$x:network, $x, !10.0.0.0/8 }', ["table t !10.0.0.0/8 !192.0.2.0/24 192.0.2.1/32"]),
     Row("table <t> { !10.0.0.0/8 }", ["table t !10.0.0.0/8"]),
+    # a network that stands there already stands there once
+    Row("table <t> { !10.1.9.9/16 192.0.2.1 10.2.3.4/8 !10.1.0.0/16 }",
+        ["table t 10.0.0.0/8 !10.1.0.0/16 192.0.2.1/32"]),
+    Row("table <t> { 192.0.2.1\n!192.0.2.1/32 }", "line 2: clash"),
     Row("table <t> { 10.0.0.0/8, !10.1.0.0/16, 10.1.2.0/24 }", ["table t 10.0.0.0/8 !10.1.0.0/16 10.1.2.0/24"]),
     # a table is defined before it is used
     Row('table <a>\nx = "{ <a> <later> }"\nblock from $x\ntable <later>', "line 3: undefined table"),
@@ -176,6 +180,21 @@ RULES = (
     Row("pass all keep state (if-bound)", [f"filter 0 pass {ALL} flags 2 18 default state if-bound"]),
     Row("set state-policy if-bound\npass all",
         ["state-policy if-bound", f"filter 0 pass {ALL} flags 2 18 default state if-bound"]),
+    Row("pass all keep state (max 1)", [f"filter 0 pass {ALL}{STATE} max 1"]),
+    Row("set state-policy if-bound\npass all keep state (max 010)",
+        ["state-policy if-bound", f"filter 0 pass {ALL} flags 2 18 default state if-bound max 10"]),
+    Row("pass flags any keep state (max 4294967295 no-sync, if-bound) allow-opts",
+        [f"filter 0 pass {ALL} state if-bound no-sync max 4294967295 allow-opts"]),
+    # each of the rules has the limit for itself
+    Row("anchor on { em0, em1 } {\npass proto { tcp, udp } keep state (no-sync max 7)\n}", [
+        f"anchor 0 rules 0 1 on em0 {ALL}", f"filter 0 pass proto 6 {ALL}{STATE} no-sync max 7 anchors 0",
+        f"filter 1 pass proto 17 {ALL}{STATE} no-sync max 7 anchors 0",
+        f"anchor 1 rules 2 3 on em1 {ALL}", f"filter 2 pass proto 6 {ALL}{STATE} no-sync max 7 anchors 1",
+        f"filter 3 pass proto 17 {ALL}{STATE} no-sync max 7 anchors 1"]),
+    # on a rule that keeps no state it has no effect
+    Row("block all keep state (max 1)", [f"filter 0 drop {ALL}"]),
+    Row("block return all keep state (if-bound, max 1)", [f"filter 0 return {ALL}"]),
+    Row("block all keep state (max 0)", "line 1: bad number"),
     Row("block all", [f"filter 0 drop {ALL}"]),
     Row("block return all", [f"filter 0 return {ALL}"]),
     Row("set block-policy return\nblock all", ["block-policy return", f"filter 0 return {ALL}"]),

@@ -20,7 +20,6 @@ from rulesets.words import BAD_NUMBER, Fault
 # filter rules and rules of translation together
 MOST_RULES = 65536
 DEFAULT_FLAGS = (0x02, 0x12)
-BINDINGS = frozenset({"if-bound", "floating"})
 EVERYWHERE = FlatHost(ANY, False)
 
 
@@ -57,6 +56,8 @@ class FlatRule:
     # None without a state, else its binding
     binding: str | None
     no_sync: bool
+    # how many states of it there may be, None if it keeps none, or any number of them
+    most: int | None
     allow_opts: bool
     # places of the anchors round it, the outermost first
     anchors: tuple
@@ -185,12 +186,12 @@ class Rules:
         is_stateful = action == "pass" and rule.keeps_state is not False
         has_default_flags = is_stateful and rule.flags is None
         flags = DEFAULT_FLAGS if has_default_flags else rule.flags
-        binding, no_sync = None, False
+        binding, no_sync, most = None, False, None
         if is_stateful:
-            binding = next(iter(rule.state_options & BINDINGS), policies["state-policy"])
-            no_sync = "no-sync" in rule.state_options
+            binding = rule.state_options.binding or policies["state-policy"]
+            no_sync, most = rule.state_options.no_sync, rule.state_options.most
         return FlatRule(action, rule.direction, rule.quick, match, None if flags == ANY else flags, has_default_flags,
-                        binding, no_sync, rule.allow_opts, anchors)
+                        binding, no_sync, most, rule.allow_opts, anchors)
 
     # Translation
 

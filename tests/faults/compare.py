@@ -31,7 +31,8 @@ BATCH, SMALL, MIDDLE = replay.BATCH, 7, 64
 CUT_LENGTH, TOO_LONG = 2000, 262145
 # of each flow a second has the first packet and its reply
 SECONDS, FLOWS, LATE = 6, 25, 200
-TELLING_RULES = b"set timeout udp.single 3\nblock in\npass out"
+# the rule is asked for room for each of the flows, and always has it
+TELLING_RULES = b"set timeout udp.single 3\nblock in\npass out keep state (max 1000)"
 
 
 def bad_captures():

@@ -19,7 +19,7 @@ from runs.comparison import Comparison
 from runs.model import Files, Outcome
 from workers.choices import Choice, run_of
 
-WORKERS, BATCHES = (0, 1, 2, 8), (1, 2, 256)
+WORKERS, BATCHES = (0, 1, 2, 4, 8), (1, 2, 256)
 MOST_SHOWN = 10
 
 

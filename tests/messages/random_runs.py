@@ -1,4 +1,5 @@
-"""Random runs of which much is to be told: many states at once, short timeouts, rules with `no-sync`, and translation.
+"""Random runs of which much is to be told: many states at once, short timeouts, rules with `no-sync` or `max`, and
+translation.
 
 Packets are drawn by the model's table of states before them.
 """
@@ -19,9 +20,10 @@ INSIDE_HOSTS, OUTSIDE_HOSTS = ("10.0.0.5", "10.0.0.6", "10.1.2.3"), ("198.51.100
 PORTS = range(1000, 1200)
 SECONDS = (0, 0, 1, 2, 5, 10)
 NO_SYNC = ("pass proto udp keep state (no-sync)", "pass in keep state (no-sync)", "pass proto tcp keep state (no-sync)",
-           "pass quick from any port 1000:1040 keep state (no-sync)", "pass flags any keep state (no-sync)")
+           "pass quick from any port 1000:1040 keep state (no-sync)", "pass flags any keep state (no-sync)",
+           "pass proto udp keep state (max 5, no-sync)")
 # rules that decide on most packets
-FIRST_RULES = ("pass",) * 3 + ("pass flags any",) * 3 + ("pass out", "pass no state")
+FIRST_RULES = ("pass",) * 3 + ("pass flags any",) * 3 + ("pass out", "pass no state", "pass flags any keep state (max 30)")
 TRANSLATIONS = ("nat on em0 from any to any -> em0", "nat pass on em0 proto udp from any to any -> em0",
                 "rdr on em0 from any to em0 port 1000:1100 -> 10.0.0.5 port 1000:*",
                 "binat on em0 from 10.0.0.6 to any -> 192.0.2.9", "nat on em0 from any to any -> em0 port 50001:50050")

@@ -158,6 +158,9 @@ def rule_rows():
     yield row("a flow and its reply", "pass out\n", [flow(0), (1, reply(0))], [290, 132], bytes=FLOW_MESSAGES)
     yield row("no-sync through a life", udp_rule, [flow(0), (1, reply(0)), (100, flow(1)), (200, NOT_IPV4)], [],
               states=[])
+    yield row("a rule for one state", "block out\npass out keep state (max 1)", [flow(0), (1, flow(1)), (60, flow(2))],
+              [290, 306], last=({"INS": [1]}, {"INS": [3], "DEL_C": [1]}), lines={2: "2 1 out block rule r=0 t=- s=-"},
+              states=[3])
     # translation rule 0 and none of the filter, age 0, 60 seconds left, and one packet the maker's way
     yield row("a translation without a rule of the filter", "nat on em0 from any to any -> em0 port 7", [flow(0)],
               [290], bytes=((0, 68, "c6336407" + "00" * 12 + "c0000201" + "00" * 12 + "00350007" + FLOW_KEY),

@@ -15,6 +15,8 @@ PUBLISHED, REFUSED = "published", "refused"
 VIEWER, MISSING = "viewer", "missing"
 # what is seen where no table is shown
 NO_TABLE = "-"
+# the rules whose states are counted, and how many of one at most
+RULES, MOST = range(4), 9
 # the steps of a viewer that wait for a token, and those at which it looks
 WAITS, LOOKS = ("wait", "learn"), ("enter", "leave")
 
@@ -57,9 +59,12 @@ def script_of(lines):
 
 
 def text_of(table):
-    """The states of a table by rising number, each with its deadline and the bytes that it has counted."""
+    """The states of a table by rising number, each with its deadline and the bytes that it has counted; then how many
+    states rules have, as far as it is told."""
     states = sorted(table.states.values())
-    return " ".join((str(len(states)), *(f"{state.number}/{state.deadline}/{state.bytes}" for state in states)))
+    counts = {rule: next((count for count in range(MOST) if table.rule_room(rule, count + 1, 0)), MOST) for rule in RULES}
+    return " ".join((str(len(states)), *(f"{state.number}/{state.deadline}/{state.bytes}" for state in states),
+                     *(f"r{rule}={count}" for rule, count in counts.items() if count)))
 
 
 def words_of(step):

@@ -8,9 +8,9 @@ from table.kinds import own_key
 from table.model import State
 
 
-def change(word, number, deadline, octets, key):
+def change(word, number, deadline, octets, key, rule=None):
     """A change that makes or touches the state of a number; its keys are those that belong to a number."""
-    return f"{word} {State(number, own_key(key), own_key(key), deadline, octets).text()}"
+    return f"{word} {State(number, own_key(key), own_key(key), deadline, octets, rule).text()}"
 
 
 CHANGES = {
@@ -20,6 +20,10 @@ CHANGES = {
     "make-3-as-1": change("make", 3, 90, 30, 1),
     "touch-1": change("touch", 1, 70, 11, 1),
     "touch-2-as-1": change("touch", 2, 99, 21, 1),
+    "make-4-of-0": change("make", 4, 60, 40, 4, 0),
+    "make-5-of-0": change("make", 5, 90, 50, 5, 0),
+    "make-6-of-3": change("make", 6, 90, 60, 6, 3),
+    "touch-5-of-3": change("touch", 5, 90, 51, 5, 3),
 }
 ONE, TWO, THREE = "1 1/60/10", "2 1/60/10 2/90/20", "3 1/60/10 2/90/20 3/90/30"
 ONLY_2, ONLY_3, LAST_TWO = "1 2/90/20", "1 3/90/30", "2 2/90/20 3/90/30"
@@ -54,6 +58,13 @@ def one_after_the_other():
                   "start make-1 publish tell await 1 3 make-2 publish tell await 1 6 purge 60 publish tell await 1 9 "
                   "make-3 publish tell await 1 12 remove 2 publish tell await 1 15"),
            [*published(5), *looks(ONE, TWO, ONLY_2, LAST_TWO, ONLY_3), f"closed {ONLY_3}"])
+    yield (script("rules are counted in both copies", 5,
+                  ["wait 1 enter leave wait 2 enter leave wait 3 enter leave wait 4 enter leave wait 5 enter leave"],
+                  "start make-4-of-0 make-5-of-0 publish tell await 1 3 make-6-of-3 publish tell await 1 6 purge 60 "
+                  "publish tell await 1 9 touch-5-of-3 publish tell await 1 12 remove 6 publish tell await 1 15"),
+           [*published(5), *looks("2 4/60/40 5/90/50 r0=2", "3 4/60/40 5/90/50 6/90/60 r0=2 r3=1",
+                                  "2 5/90/50 6/90/60 r0=1 r3=1", "2 5/90/51 6/90/60 r3=2", "1 5/90/51 r3=1"),
+            "closed 1 5/90/51 r3=1"])
     yield (script("publications of nothing", 5, ["wait 1 enter leave wait 2 enter leave wait 3 enter leave"],
                   "start publish tell await 1 3 make-1 publish publish tell await 1 6 remove 1 publish publish publish "
                   "tell await 1 9"),

@@ -33,8 +33,9 @@ PLACES = """
     pass to port { 80 @ }; pass to port { @, 80 }; pass to port 80 @; pass flags @; pass flags any @; pass flags S/@;
     pass icmp-type @; pass icmp-type { 3 @ }; pass icmp-type 3 code @; pass icmp-type 3 @; pass no @; pass keep @;
     pass no state @; pass keep state @; pass keep state (@); pass keep state (no-sync, @); pass keep state (@ 5);
-    pass keep state (no-sync @); pass allow-opts @; pass label @; pass label "a" @; anchor @; anchor "a" @;
-    anchor "a" in @; anchor "a" quick @; anchor { @; anchor {|@ all|}; anchor {|} @; anchor {|pass all @|}; table @;
+    pass keep state (no-sync @); pass keep state (max @); pass keep state (max 5, @); pass allow-opts @; pass label @;
+    pass label "a" @; anchor @; anchor "a" @; anchor "a" in @; anchor "a" quick @; anchor { @; anchor {|@ all|};
+    anchor {|} @; anchor {|pass all @|}; table @;
     table <@; table <@>; table <t> @; table <t> persist @; table <t> { @ }; table <t> { !@ }; table <t> { 10.0.0.1, @ };
     table <t> { } @; set @; set @ x; set @ 5; set @ on lo0; set @ tcp.first 5; set skip @; set skip on @;
     set skip on { lo0 @ }; set timeout @; set timeout @ 5; set timeout tcp.first @; set timeout { tcp.first 5, @ 5 };
@@ -92,6 +93,69 @@ def short():
     )
     for number, (text, answer) in enumerate(rows):
         yield Ruleset(f"short text {number}", text.encode(), answer)
+
+
+# How bytes make words: texts with the line of the first fault, mostly a word behind those that are asked for.
+BLANK_TEXTS = (
+    ("", "0 statements"), (" \t\r ", "0 statements"), ("# a comment", "0 statements"), ("#", "0 statements"),
+    ("\\\n", "0 statements"), (" \\\n # a \\\n comment", "0 statements"),
+    ("set skip on lo0\n\npass\tin quick\r\nsurplus", "line 4: unknown word"),
+    # a newline behind a backslash ends no line, and a backslash before anything else is no word
+    ("pass \\\nin\\\nquick", "1 statements"), ("pass \\\nin\\\nquick\\\nsurplus", "line 4: unknown word"),
+    ("pass \\\nin\\\nquick\n\\\r\nall", "line 4: unknown word"), ("pass\n\\\nall\\", "line 3: unknown word"),
+    # a comment ends before the newline, goes on behind a backslash, and may hold any bytes
+    ('pass# { " \x00\xff\npass # c \\\nd \\\\\n# e\npass #', "3 statements"),
+    ("pass # c \\\nd \\\\\n# e\nsurplus", "line 4: unknown word"),
+)
+QUOTED_TEXTS = (
+    ('pass label "a # b"\npass label ""\npass label "c\\\nd"\npass label "\\"\nsurplus', "line 6: unknown word"),
+    ('pass label "f\ng', "line 1: unterminated"), ('pass label "\n"open\n', "line 1: unterminated"),
+    ('pass\npass label "open\n', "line 2: unterminated"), ('pass label "op\x01en\n', "line 1: bad byte"),
+    ('pass\npass label "\xe9"\n', "line 2: bad byte"), ('pass label "\x7f"', "line 1: bad byte"),
+)
+SIGN_TEXTS = (
+    # two bytes are one sign if they can be, from the left
+    ("pass to port 1><9\npass to port 1<>9\npass to port >=1\npass to port !=1\npass to port <=1", "5 statements"),
+    ("pass to port !=80\npass to port ><80", "line 2: unknown word"),
+    ("pass to port <=80\npass to port <>80", "line 2: unknown word"),
+    ("pass to port ! = 80", "line 1: unknown word"), ("pass to port > = 80", "line 1: unknown word"),
+    ("pass to port >=<80", "line 1: unknown word"), ("pass to port !==80", "line 1: unknown word"),
+    # an arrow is no part of the word before it
+    ("rdr to em0 port 1024->192.0.2.1 port 1024:*", "1 statements"),
+    ("nat from 10.0.0.1->192.0.2.1\nnat to a-->192.0.2.1\nnat to a-b-1/8->192.0.2.1", "3 statements"),
+    ("nat from 10.0.0.1-192.0.2.1", "line 1: unknown word"), ("pass from 10.0.0.1 -> 10.0.0.9", "line 1: unknown word"),
+)
+USE_TEXTS = (
+    ("pass from $net/24 to $if:network\npass from { $a, $d:0/8 $b }\npass from {$f}", "3 statements"),
+    ("nat from $d:0/8->$e", "1 statements"), ("pass from $a234567890123456789012345678901", "1 statements"),
+    ("pass from $a2345678901234567890123456789012", "line 1: unknown word"),
+    # a point or a dash ends a name
+    ("pass from $b.c", "line 1: unknown word"), ("pass from $_x1-y", "line 1: unknown word"),
+    ("pass from $", "line 1: unknown word"), ("pass from $tag", "line 1: unknown word"),
+    ("pass from $tcp/24", "line 1: unknown word"), ("pass from :1", "line 1: unknown word"),
+    ("pass from /2", "line 1: unknown word"),
+)
+STRAY_TEXTS = (
+    ("@", "line 1: unknown word"), ("~", "line 1: unknown word"), ("\\", "line 1: unknown word"),
+    ("\x00", "line 1: bad byte"), ("\x1f", "line 1: bad byte"), ("\x7f", "line 1: bad byte"),
+    ("\xff", "line 1: bad byte"),
+    # a brace in a quote or a comment closes none
+    ("{ { }", "line 1: unterminated"), ("} { }", "line 1: unknown word"),
+    ('pass to { 1.2.3.4\n, "}" } }', "line 2: unknown word"),
+    ('pass to { 1.2.3.4\n, 1.2.3.5 } # }\npass label "}"\npass to { 1.2.3.4 # }', "line 4: unterminated"),
+    ('pass to { 1.2.3.4\n, 1.2.3.5 "}"', "line 1: unterminated"),
+)
+NUMBER_TEXTS = (
+    ("set timeout tcp.first 4294967297", "line 1: bad number"), ("pass from 198.51.100.256", "line 1: bad address"),
+    ("pass proto ah\npass to port https\npass to port http\npass icmp-type echorep", "4 statements"),
+    ("pass proto icmp6", "line 1: unknown word"), ("pass icmp-type echo", "line 1: unknown word"),
+)
+
+
+def spelled():
+    """How bytes make words, and words names and numbers."""
+    for text, answer in (*BLANK_TEXTS, *QUOTED_TEXTS, *SIGN_TEXTS, *USE_TEXTS, *STRAY_TEXTS, *NUMBER_TEXTS):
+        yield Ruleset(f"the text {text!r}", text.encode("latin-1"), answer)
 
 
 def large():

@@ -13,7 +13,7 @@ import sys
 import building
 from faults.command import ends_lawfully
 from rulesets import model
-from rulesets.cases import TEXTS, Ruleset, beginnings, changed, each_byte, each_word, large, short, written
+from rulesets.cases import TEXTS, Ruleset, beginnings, changed, each_byte, each_word, large, short, spelled, written
 
 TIME_LIMIT = 120
 MOST_SHOWN = 10
@@ -46,7 +46,7 @@ def model_answer(text):
 
 def with_answers():
     """The texts whose answers are written."""
-    return [*written(), *short(), *large()]
+    return [*written(), *short(), *spelled(), *large()]
 
 
 def made_of(files):

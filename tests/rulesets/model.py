@@ -7,7 +7,7 @@ import rulesets.translation
 from rulesets.parts import (read_braced, read_criteria, read_entry, read_interface, read_list, read_log, read_number,
                             read_number_or_name, read_separated, read_table_name, read_title, read_use, sees_title,
                             sees_use, value_of)
-from rulesets.tree import ANY, Anchor, FilterRule, IcmpType, Macro, Option, Table
+from rulesets.tree import ANY, Anchor, FilterRule, IcmpType, Macro, Option, StateOptions, Table
 from rulesets.words import (ADAPTIVE, BAD_NUMBER, FLAG_LETTERS, ICMP_TYPES, LINE_END, OUT_OF_ORDER, PLAIN, QUOTED, SIGN,
                             TEXT_END, TIMEOUTS, TOO_DEEP, UNKNOWN, Fault, is_name, left_out, text_cursor)
 
@@ -135,22 +135,23 @@ def read_icmp_type(cursor):
 
 def read_state_options(cursor):
     """What stands in round brackets after `keep state`: no option twice, and one binding at most."""
-    given = set()
+    options = StateOptions()
 
     def read_state_option(cursor):
         if cursor.sees(PLAIN, *TIMEOUTS, *ADAPTIVE):
             raise Fault(cursor.peek().line, left_out("timeout"))
-        allowed = {"no-sync"} - given
-        if not given & {"floating", "if-bound"}:
-            allowed |= {"floating", "if-bound"}
-        # with no words to compare with, any word would be seen
-        if not allowed or not cursor.sees(PLAIN, *allowed):
+        if not options.no_sync and cursor.takes(PLAIN, "no-sync"):
+            options.no_sync = True
+        elif options.most is None and cursor.takes(PLAIN, "max"):
+            options.most = read_number(cursor, 1, MOST_NUMBER)
+        elif options.binding is None and cursor.sees(PLAIN, "floating", "if-bound"):
+            options.binding = cursor.take().text
+        else:
             raise cursor.refused()
-        given.add(cursor.take().text)
 
     cursor.demand(SIGN, "(")
     read_separated(cursor, read_state_option, ")")
-    return frozenset(given)
+    return options
 
 
 def read_rule_option(cursor, name, rule):

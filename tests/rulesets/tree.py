@@ -102,6 +102,15 @@ class Option:
 
 
 @dataclass
+class StateOptions:
+    """What stands in round brackets after `keep state`: None, or False, if it isn't written."""
+    no_sync: bool = False
+    # how many states of the rule there may be
+    most: int | None = None
+    binding: str | None = None
+
+
+@dataclass
 class FilterRule:
     line: int
     action: str
@@ -112,7 +121,7 @@ class FilterRule:
     flags: object = None
     # None where nothing is written
     keeps_state: bool | None = None
-    state_options: frozenset = frozenset()
+    state_options: StateOptions = field(default_factory=StateOptions)
     allow_opts: bool = False
 
 

@@ -21,13 +21,13 @@ GRAMMAR_WORDS = frozenset("""
     table persist const counters set skip on timeout limit states frags src-nodes table-entries tables block-policy
     drop return state-policy if-bound floating hostid optimization normal require-order loginterface debug
     ruleset-optimization interval frag src.track pass block in out log quick inet proto all from to port any self
-    flags icmp-type code no state keep no-sync allow-opts label anchor nat-anchor rdr-anchor binat-anchor nat rdr
-    binat static-port""".split())
+    flags icmp-type code no state keep no-sync max allow-opts label anchor nat-anchor rdr-anchor binat-anchor nat
+    rdr binat static-port""".split())
 
 # words of pf.conf that this reader refuses by their name
 LEFT_OUT_WORDS = frozenset("""
     scrub altq queue antispoof load include route-to reply-to dup-to tag tagged user group os tos probability
-    fragment modulate synproxy sloppy max max-src-nodes max-src-states max-src-conn max-src-conn-rate overload
+    fragment modulate synproxy sloppy max-src-nodes max-src-states max-src-conn max-src-conn-rate overload
     source-track bitmask random source-hash round-robin sticky-address file inet6 icmp6-type return-rst return-icmp
     return-icmp6 no-route urpf-failed""".split())
 

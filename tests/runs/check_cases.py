@@ -5,6 +5,7 @@ from typing import NamedTuple
 from expansions.cases import RUNS
 from runs.case import EXAMPLES, Line
 from runs.filter_cases import MANY_RULES, stored
+from runs.max_texts import MAX_FAULTS, MAX_TEXTS
 from runs.translation_faults import TRANSLATION_FAULTS
 
 MOST_TEXT = 1048576
@@ -62,6 +63,7 @@ def rows():
     yield refused(b"\x01" * (MOST_TEXT + 1), "line 1: too many")
     yield refused(b"\n".ljust(MOST_TEXT, b"\x01"), "line 2: bad byte")
     yield from translation_rows()
+    yield from max_rows()
 
 
 def translation_rows():
@@ -75,6 +77,14 @@ def translation_rows():
                   b"rdr pass proto tcp to em0 port { 80, 2000:2999 } -> 10.0.0.1 port 4000:*\n"
                   b"no rdr all\nno binat all\n", 0, "502b02bf7b0acd6050266d9219156470", translations=6)
     for text, line, kind in TRANSLATION_FAULTS:
+        yield refused(text.encode(), f"line {line}: {kind}")
+
+
+def max_rows():
+    """Those of rulesets with `max`."""
+    for text, count, checksum in MAX_TEXTS:
+        yield counted(f"with max, {text!r}", text.encode(), count, checksum)
+    for text, line, kind in MAX_FAULTS:
         yield refused(text.encode(), f"line {line}: {kind}")
 
 

@@ -8,6 +8,7 @@ from typing import NamedTuple
 
 from captures.packets import ACK, FIN, MORE_FRAGMENTS, PSH, RST, SYN, TCP, UDP, echo, ipv4, summed_message, tcp, udp
 from runs.case import INSIDE, Case, capture_of, refused
+from runs.max_texts import MAX_FAULTS
 from runs.translation_faults import TRANSLATION_FAULTS
 
 OUTSIDE, HERE = "198.51.100.7", "192.0.2.1"
@@ -132,6 +133,9 @@ def port_rows():
     yield passing("the least and the greatest port", "pass in from port 0 to port 65535",
                   (udp(OUTSIDE, 0, HERE, 65535), True), (udp(OUTSIDE, 1, HERE, 65535), False),
                   (udp(OUTSIDE, 0, HERE, 65534), False))
+    yield passing("the least and the greatest port outside of a range", "pass in from port 80 <> 90 to port 80 <> 90",
+                  (udp(OUTSIDE, 0, HERE, 65535), True), (udp(OUTSIDE, 65535, HERE, 0), True),
+                  (udp(OUTSIDE, 0, HERE, 80), False), (udp(OUTSIDE, 90, HERE, 65535), False))
     # zeros where a TCP or UDP packet had its ports
     yield passing("a port and other protocols", "pass in to port != 1", (PING, False), (TUNNEL, False),
                   (UDP_NINE, True), (SYN_PACKET, True))
@@ -142,7 +146,7 @@ def flag_rows():
                   (with_flags(SYN | ACK), False), (with_flags(ACK), False), (with_flags(SYN | PSH | FIN), True),
                   (with_flags(0), False), (UDP_NINE, True), (PING, True), (TUNNEL, True))
     yield passing("default flags", "pass in", (SYN_PACKET, True), (with_flags(SYN | ACK), False),
-                  (with_flags(ACK), False), (with_flags(SYN | RST), True), (UDP_NINE, True), (PING, True))
+                  (with_flags(ACK), False), (with_flags(FIN), False), (with_flags(SYN | RST), True), (UDP_NINE, True), (PING, True))
     yield passing("default flags beside other options", "pass in keep state (if-bound)", (SYN_PACKET, True),
                   (with_flags(ACK), False))
     yield passing("flags that no state asks for", "pass in no state", (with_flags(ACK), True), (with_flags(0), True))
@@ -283,6 +287,32 @@ ANCHORS = (
 )
 
 
+# what a rule and an anchor may ask all at once, and packets of which each but the first lacks one of these
+TO_WEB = "in on em0 proto tcp from !10.0.0.0/8 port > 1023 to <web> port 443"
+WEB = "table <web> { 192.0.2.0/31 }\nblock in\n"
+
+
+def to_web(source=OUTSIDE, port=50000, destination=HERE, service=443, flags=SYN):
+    return tcp(source, port, destination, service, flags, 1000)
+
+
+def all_criteria_rows():
+    lacking = [to_web(source="10.9.9.9"), to_web(port=1023), to_web(destination="192.0.2.2"), to_web(service=444),
+               udp(OUTSIDE, 50000, HERE, 443)]
+    others = [(packet, BLOCKED) for packet in lacking]
+    # 10.9.9.9 isn't inside
+    inside = "172.16.0.0/12"
+    yield row("all that a rule may ask", f"{WEB}pass {TO_WEB}", (to_web(), "in pass rule r=1"), (to_web(flags=ACK), BLOCKED),
+              *others, inside=inside)
+    # an anchor asks for no flags
+    yield row("all that an anchor may ask", f"{WEB}anchor {TO_WEB} {{\npass no state\n}}", (to_web(), "in pass rule r=1"),
+              (to_web(flags=ACK), "in pass rule r=1"), *others, inside=inside)
+    yield row("all that a rule may ask, on another interface", f"{WEB}pass {TO_WEB.replace('em0', 'em1')}",
+              (to_web(), BLOCKED), inside=inside)
+    yield row("all that an anchor of the other direction may ask",
+              f"{WEB}anchor {TO_WEB.replace('in', 'out', 1)} {{\npass\n}}", (to_web(), BLOCKED), inside=inside)
+
+
 def anchor_rows():
     for name, rules, words in ANCHORS:
         yield row(name, rules, (UDP_NINE, f"in {words}"))
@@ -292,6 +322,7 @@ def anchor_rows():
 
 FAULTS = (
     ("scrub in all", 1, "left out: scrub"),
+    ("\n\nset limits 5", 3, "left out: set limits"),
     ("pass all\npass all \x01", 2, "bad byte"),
     ("pass all\n\npass label \"a", 3, "unterminated"),
     ("pass surplus", 1, "unknown word"),
@@ -318,12 +349,12 @@ def length_rows():
 def faults():
     """Rulesets with a fault, as the rows of `cases`."""
     capture = capture_of([UDP_NINE])
-    for text, line, kind in FAULTS + TRANSLATION_FAULTS:
+    for text, line, kind in FAULTS + TRANSLATION_FAULTS + MAX_FAULTS:
         yield refused(Case(f"{kind} on line {line} of {text[:30]!r}", text.encode("latin-1"), INSIDE, capture),
                       f"rules line {line}: {kind}".encode())
 
 
 def rows():
     for make in (verdict_rows, port_rows, flag_rows, icmp_rows, protocol_rows, address_rows, table_rows, interface_rows,
-                 fragment_rows, anchor_rows, length_rows):
+                 fragment_rows, all_criteria_rows, anchor_rows, length_rows):
         yield from make()

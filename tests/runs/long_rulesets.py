@@ -91,7 +91,7 @@ def without_states(text):
     # a list may go over several lines; the brace of an anchor ends one
     on_lines = re.sub(r"\{ [^{}]*\}", lambda found: found[0].replace("\n", " "), text.decode())
     for line in on_lines.split("\n"):
-        line = line.replace("keep state (if-bound, no-sync)", "no state").replace("keep state", "no state")
+        line = re.sub(r"keep state( \([^()]*\))?", "no state", line)
         lines.append(f"{line} no state" if line.startswith("pass") and "no state" not in line else line)
     return "\n".join(lines).encode()
 

@@ -56,6 +56,9 @@ ROWS = (
     # at the third packet the states of the first two have run out, and the second of the fourth is an earlier one
     Row("states that run out", SHORT + "pass out",
         ((0, FIRST), (0, SECOND), (5, FIRST), (3, SECOND), (9, FIRST), (10, SECOND)), 15),
+    # the rule has room for the fourth packet again, and for the sixth
+    Row("room for two states of a rule", SHORT + "block out\npass out keep state (max 2)",
+        ((0, FIRST), (3, SECOND), (3, THIRD), (5, THIRD), (5, FOURTH), (8, FOURTH)), 8),
 )
 
 

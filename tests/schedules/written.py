@@ -29,8 +29,10 @@ ROOM = ("0 out pass rule r=0 t=- s=1", "0 out pass rule r=0 t=- s=2", "0 out blo
         "0 out pass state r=0 t=- s=1", "0 out block state-limit r=0 t=- s=-", "0 out pass state r=0 t=- s=2")
 RUN_OUT = ("0 out pass rule r=0 t=- s=1", "0 out pass rule r=0 t=- s=2", "5 out pass rule r=0 t=- s=3",
            "5 out pass rule r=0 t=- s=4", "9 out pass state r=0 t=- s=3", "10 out pass rule r=0 t=- s=6")
-LINES = dict(zip(ROWS, (ONE, IN_TURN, REMOVED, PORTS, ROOM, RUN_OUT)))
-CONNECTION, TWO_CONNECTIONS, REMOVED_STATE, TWO_PORTS, ROOM_FOR_TWO, RUNNING_OUT = ROWS
+ROOM_OF_RULE = ("0 out pass rule r=1 t=- s=1", "3 out pass rule r=1 t=- s=2", "3 out block rule r=0 t=- s=-",
+                "5 out pass rule r=1 t=- s=4", "5 out block rule r=0 t=- s=-", "8 out pass rule r=1 t=- s=6")
+LINES = dict(zip(ROWS, (ONE, IN_TURN, REMOVED, PORTS, ROOM, RUN_OUT, ROOM_OF_RULE), strict=True))
+CONNECTION, TWO_CONNECTIONS, REMOVED_STATE, TWO_PORTS, ROOM_FOR_TWO, RUNNING_OUT, RULE_FOR_TWO = ROWS
 
 
 class Written(NamedTuple):
@@ -89,6 +91,13 @@ def other_rows():
     yield written(ROOM_FOR_TWO, THREE_TWOS, "b b b s1 s2 a2 s3 a3 s4 a4 a1 s5 t b a5 s6 a6 t t", {3, 4}, {3, 4, 5})
     yield written(RUNNING_OUT, THREE_TWOS, "b b b s1 s2 a2 a1 t b s3 s4 a3 a4 s5 s6 a6 a5 t t", {5})
     yield written(RUNNING_OUT, THREE_TWOS, "b b b s1 s2 a2 a1 t b s3 s4 a3 a4 t s5 s6 a6 a5 t", set(), {5})
+    # on the empty table the rule has room for the third packet, and behind the first two it has none
+    yield written(RULE_FOR_TWO, ONES, "b b b s1 a1 s2 a2 s3 a3 t b t t", {3})
+    yield written(RULE_FOR_TWO, ONES, "b b b s1 a1 t b s2 a2 s3 a3 t t", {3})
+    yield written(RULE_FOR_TWO, ONES, "b b b s1 a1 t b s2 a2 t s3 a3 t", set(), {3})
+    yield written(RULE_FOR_TWO, THREE_TWOS, "b b b s1 s2 a2 a1 t b s3 s4 a3 a4 s5 s6 a6 a5 t t", {5})
+    yield written(RULE_FOR_TWO, THREE_TWOS, "b b b s1 s2 a2 s3 a3 s4 a4 a1 s5 t b a5 s6 a6 t t", {3, 5})
+    yield written(RULE_FOR_TWO, THREE_TWOS, "b b b s1 s2 a2 a1 t b s3 s4 a3 a4 t s5 s6 a6 a5 t", set(), {5})
 
 
 def rows():

@@ -67,7 +67,7 @@ def wrong_endings():
     yield ending("a line after memory was refused", MEMORY, "no memory, after 1 messages", 4, FIRST_LINE)
     yield ending("more messages than are taken, after memory was refused", MEMORY, "no memory, after 3 messages", 4)
     yield ending("another status after memory was refused", MEMORY, "no memory, after 1 messages", 3)
-    yield ending("a run's words", MEMORY, "no memory, committed 0", 4)
+    yield ending("a run's words", MEMORY, "no memory, committed 1", 4)
     yield ending("lines before a read that failed are lost", MESSAGES, "read failed, after 1 messages", 3, moved=FIRST)
     yield ending("a message before a read that failed isn't taken", MESSAGES, "read failed, after 0 messages", 3,
                  moved=FIRST)

@@ -1,7 +1,8 @@
 """Cases of what one packet comes to, with the outcomes written out.
 
 They have each thing that can become of a packet, and for each two that come after one another which of them goes first.
-Those of translation stand in translation_cases.py and written_cases.py. The reason `state-insert` is among these alone.
+Those of rules with `max` stand in room_cases.py, and those of translation in translation_cases.py and written_cases.py.
+The reason `state-insert` is among these alone.
 Without translation both keys of a state are one. The key that a packet would make a state with was just looked for in
 vain, so no state has it on either side.
 """
@@ -9,7 +10,7 @@ vain, so no state has it on either side.
 from captures.packets import (ACK, ETHER_ARP, ETHER_IPV4, ETHER_IPV6, FIN, ICMP, LINKTYPE_ETHERNET, LINKTYPE_LOOPBACK,
                               LINKTYPE_RAW, MORE_FRAGMENTS, RST, SYN, TCP, UDP, echo, ethernet, ipv4, loopback,
                               summed_message, tcp, udp)
-from steps import error_cases, translation_cases, written_cases
+from steps import error_cases, room_cases, translation_cases, written_cases
 from steps.run import Expected, Run
 
 H, SECOND_HOST, P, HERE = "10.0.0.5", "10.0.0.6", "198.51.100.7", "192.0.2.1"
@@ -290,5 +291,6 @@ def cases():
     yield from filter_cases()
     yield from option_cases()
     yield from limit_cases()
+    yield from room_cases.cases()
     yield from translation_cases.cases()
     yield from written_cases.cases()

@@ -26,7 +26,7 @@ from steps.rows import ends, rows
 from steps.run import INSIDE, INTERFACE, words_of
 
 RANDOM_PACKETS, TRANSLATED_PACKETS = 20000, 80000
-# how often what is counted of packets with translation has to come up at least, and how many runs are compared at once
+# how often what is counted of packets has to come up at least, and how many runs are compared at once
 LEAST, CHUNK = 100, 200
 # of the cases each such one is run with each allocation refused
 REFUSED_STEP = 9
@@ -61,11 +61,17 @@ def lines_of(done):
     return [*map(step_line, done.steps), *done.texts.states.splitlines()]
 
 
-def lines_by_model(run):
+def told_by_model(run):
+    """The lines of a run, and its packets; none if the ruleset has a fault."""
     try:
-        return lines_of(replay_of(run))
+        done = replay_of(run)
     except Refused as why:
-        return [str(why)]
+        return [str(why)], []
+    return lines_of(done), done.steps
+
+
+def lines_by_model(run):
+    return told_by_model(run)[0]
 
 
 # The comparison
@@ -129,15 +135,18 @@ def compare_ends():
 
 
 def compare_random(command):
-    """How many random runs differ."""
+    """How many random runs differ, and whether too few packets visit rules that have no room."""
     runs = list(random_runs.runs(RANDOM_PACKETS))
-    expected = [lines_by_model(run) for run in runs]
+    expected, counts, full = [], Counter(), 0
+    for lines, steps in map(told_by_model, runs):
+        expected.append(lines)
+        counts.update(step.outcome.reason for step in steps)
+        full += sum(step.outcome.lacks_room() for step in steps)
     count = differing(zip(runs, expected, answers(command, runs)), show)
-    reasons = Counter(line.split(" ")[4].rstrip(";") for run, lines in zip(runs, expected)
-                      for line in lines[:len(run.records)] if line.count("; ") == 3)
-    shares = ", ".join(f"{share} {reason}" for reason, share in sorted(reasons.items()))
-    print(f"{len(runs)} random runs: {count} differ; of {reasons.total()} packets {shares}")
-    return count
+    shares = ", ".join(f"{share} {reason}" for reason, share in sorted(counts.items()))
+    print(f"{len(runs)} random runs: {count} differ; of {counts.total()} packets {shares}; {full} visit a rule that has no "
+          "room")
+    return count + (full < LEAST)
 
 
 def compare_translated(command, packets):

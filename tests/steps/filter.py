@@ -2,10 +2,16 @@
 
 It goes by the definition over the places of rules, and not the way of a walk over them: which rules hit, where the
 first stop is, and which of the hits up to there is the last.
+
+A rule with `max N` hits only if it has room: fewer than N states have it as their rule of the filter. Only a packet that
+could make a state asks for that, and only if the rule holds otherwise. A rule without room is visited all the same.
 """
+
+from typing import NamedTuple
 
 from expansions.rules import FlatRule
 from rulesets.tree import ANY, Network, Range
+from tracking.connections import ECHOES
 
 # what a port is asked by the sign of a criterion; those of two ports name them both
 PORT_SIGNS = {
@@ -96,12 +102,33 @@ def holds(ruleset, written, packet, direction):
     return not isinstance(written, FlatRule) or flags_hold(written, packet)
 
 
-def hits(ruleset, packet, direction):
-    """The places of all rules that hold and whose anchors hold."""
-    rules = ruleset.rules
-    held = [holds(ruleset, anchor, packet, direction) for anchor in rules.anchors]
-    return [place for place, rule in enumerate(rules.filter)
-            if all(held[anchor] for anchor in rule.anchors) and holds(ruleset, rule, packet, direction)]
+def could_make_state(packet):
+    """A fragment, and an ICMP message that is no echo, makes none."""
+    return not packet.is_fragment and (packet.icmp is None or packet.icmp[0] in ECHOES)
+
+
+class Room(NamedTuple):
+    """A rule that is asked for room: its place, how many states of it there may be, and whether there are fewer."""
+    place: int
+    most: int
+    is_left: bool
+
+
+class Filtered(NamedTuple):
+    """What the filter says of a packet: the place of the rule that decides, None if none does; the places of the rules that
+    are visited; and of these the ones that are asked for room."""
+    place: int | None
+    visited: tuple
+    rooms: tuple
+
+
+def rooms_of(rules, holding, packet, has_room):
+    """The rules that are asked for room, by their places: those that hold and have a limit, if the packet could make a
+    state."""
+    if not could_make_state(packet):
+        return {}
+    limits = {place: rules.filter[place].most for place in holding}
+    return {place: Room(place, most, has_room(place, most)) for place, most in limits.items() if most is not None}
 
 
 def stops(rules, hit):
@@ -112,23 +139,19 @@ def stops(rules, hit):
     return quick_rules + quick_anchors
 
 
-def last_reached(rules, hit):
-    """The place of the first stop, or of the last rule where there is none."""
-    return min(stops(rules, hit), default=len(rules.filter) - 1)
+def filtered(ruleset, packet, direction, has_room):
+    """What the filter says of a packet. `has_room` answers of a rule's place and a limit whether fewer states have the rule.
 
-
-def deciding_place(ruleset, packet, direction):
-    """The place of the rule that decides, None where none does: the last that hits up to the first stop."""
-    hit = hits(ruleset, packet, direction)
-    last = last_reached(ruleset.rules, hit)
-    return max((place for place in hit if place <= last), default=None)
-
-
-def visited_places(ruleset, packet, direction):
-    """The places of the rules that are visited: those up to the first stop whose anchors all hold, whether they hold
-    themselves or not."""
+    The last rule that hits up to the first stop decides: one that holds, has room if it is asked for it, and whose anchors
+    hold. Visited are those up to the stop whose anchors all hold, whether they hold themselves or not.
+    """
     rules = ruleset.rules
-    last = last_reached(rules, hits(ruleset, packet, direction))
     held = [holds(ruleset, anchor, packet, direction) for anchor in rules.anchors]
-    return tuple(place for place, rule in enumerate(rules.filter[:last + 1])
-                 if all(held[anchor] for anchor in rule.anchors))
+    inside = [place for place, rule in enumerate(rules.filter) if all(held[anchor] for anchor in rule.anchors)]
+    holding = [place for place in inside if holds(ruleset, rules.filter[place], packet, direction)]
+    rooms = rooms_of(rules, holding, packet, has_room)
+    hit = [place for place in holding if place not in rooms or rooms[place].is_left]
+    last = min(stops(rules, hit), default=len(rules.filter) - 1)
+    return Filtered(max((place for place in hit if place <= last), default=None),
+                    tuple(place for place in inside if place <= last),
+                    tuple(room for room in rooms.values() if room.place <= last))

@@ -14,6 +14,7 @@ SERVICES = {22: "ssh", 53: "domain", 80: "http", 443: "https"}
 PORT_SIGNS = ("=", "!=", "<", "<=", ">", ">=")
 PROTOCOLS = ("tcp", "udp", "icmp", "gre", "igmp", "6", "17", "1", "50")
 TYPES = ("echoreq", "echorep", "unreach", "timex", "redir", "0", "3", "8", "11", "13")
+STATES = ("no state", "keep state", "keep state (if-bound, no-sync)", "keep state (max 1)", "keep state (max 3, no-sync)")
 FLAGS = ("any", "S/SA", "S/S", "A/A", "SA/SA", "F/F", "R/R", "P/PU", "S/SAFR", "E/EW", "SS/A", "FSRPAUEW/FSRPAUEW")
 INTERFACES = ("em0", "em0", "!em1", "!em1", "em1", "!em0", "lo0", "$own")
 OPTIONS = ("set block-policy return", "set block-policy drop", "set skip on em0", "set skip on { lo0 em0 }",
@@ -103,7 +104,7 @@ def some_rule_options(chance):
                sometimes(chance, 0.15, ["icmp-type", listed(chance, some_type)]),
                sometimes(chance, 0.3, ["allow-opts"]),
                sometimes(chance, 0.1, ["label", '"of a rule"']),
-               sometimes(chance, 0.5, [chance.choice(["no state", "keep state", "keep state (if-bound, no-sync)"])])]
+               sometimes(chance, 0.5, [chance.choice(STATES)])]
     chance.shuffle(options)
     return [word for words in options for word in words]
 

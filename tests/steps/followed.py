@@ -5,7 +5,7 @@ from typing import NamedTuple
 
 from steps.lines import step_line
 from steps.replay import Record, job_of, steps_of
-from steps.translation_kinds import Kinds
+from steps.translation_kinds import Kinds, rooms_of
 from steps.written_packets import faults_of
 from table.states import StateTable
 
@@ -26,7 +26,7 @@ def followed(run):
     lines, counts, faults = [], Counter(), []
     for step in steps_of(job, run.link, records, table):
         lines.append(step_line(step))
-        counts.update((step.outcome.verdict, step.outcome.reason, *kinds.of(step)))
+        counts.update((step.outcome.verdict, step.outcome.reason, *kinds.of(step), *rooms_of(step.outcome)))
         faults += [f"{run.name}, packet {step.number}: {fault}"
                    for fault in faults_of(kinds.rules, run.link, step, table)]
     return Followed(lines + [entry.text() for entry in table.by_number()], counts, faults)

@@ -12,6 +12,8 @@ A packet goes through these steps, in this order, until one of them says what be
 6. Any other may be translated. Where a rule picks from ports and none is free, it is blocked (`nat-exhausted`).
 7. It passes where the rule that translates it says so (`nat-pass`). Else it is filtered, with the end that it has
    behind its translation, and by the direction in which it came.
+   A rule of the filter with `max N` holds only if fewer than N states name it as their rule. In step 4 that isn't asked,
+   as the packet makes no state.
 8. Where it passes, a state is made if it was translated, or if a rule decides that keeps state. It is blocked where a
    state has one of both keys on the same side (`state-insert`), or else there are as many as there may be
    (`state-limit`).
@@ -28,7 +30,7 @@ import tracking.model
 from captures.frames import Packet
 from expansions.model import Ruleset
 from steps import translation
-from steps.filter import deciding_place, network_holds, visited_places
+from steps.filter import filtered, network_holds
 from steps.translation import Passage
 from table.states import Entry
 from tracking.connections import connection, told_connection, tracked_packet
@@ -57,7 +59,8 @@ class Job(NamedTuple):
 class Outcome(NamedTuple):
     """What a packet comes to: the words of its line, the numbers of the rules of the filter and of translation that are
     visited, and what it changes in the table: None, or a pair of `made` or `touched` and a state, or of `removed` and a
-    number. Where the passage is there, an end is written into the packet by it."""
+    number. Where the passage is there, an end is written into the packet by it. Rooms are those of the rules of the
+    filter that are asked for it."""
     direction: str
     verdict: str
     reason: str
@@ -68,6 +71,11 @@ class Outcome(NamedTuple):
     visited_translation: tuple = ()
     change: tuple | None = None
     passage: Passage | None = None
+    rooms: tuple = ()
+
+    def lacks_room(self):
+        """Whether a rule is visited that would hold, and has no room."""
+        return not all(room.is_left for room in self.rooms)
 
 
 def written(outcome, passage):
@@ -97,18 +105,12 @@ class Arrival(NamedTuple):
             return self.blocked(outcome, "ip-option")
         return outcome
 
-    def deciding_rule(self):
-        place = deciding_place(self.job.ruleset, self.packet, self.direction)
-        return place, None if place is None else self.job.ruleset.rules.filter[place]
-
-    def filtered(self):
+    def filtered(self, table):
         """By the filter alone."""
-        place, rule = self.deciding_rule()
-        visited = visited_places(self.job.ruleset, self.packet, self.direction)
-        if rule is None:
-            outcome = Outcome(self.direction, "pass", "default", visited=visited)
-        else:
-            outcome = Outcome(self.direction, VERDICTS[rule.action], "rule", place, visited=visited)
+        found = filtered(self.job.ruleset, self.packet, self.direction, table.has_rule_room)
+        rule = None if found.place is None else self.job.ruleset.rules.filter[found.place]
+        verdict, reason = ("pass", "default") if rule is None else (VERDICTS[rule.action], "rule")
+        outcome = Outcome(self.direction, verdict, reason, found.place, visited=found.visited, rooms=found.rooms)
         return self.unless_options(outcome, rule is not None and rule.allow_opts)
 
     def by_state(self, entry, verdict, reason, change=None):
@@ -143,7 +145,7 @@ class Arrival(NamedTuple):
         if translating and translating.passes:
             outcome = self.unless_options(Outcome(self.direction, "pass", "nat-pass"), False)
         else:
-            outcome = self.filtered()
+            outcome = self.filtered(table)
         rule = None if outcome.rule is None else self.job.ruleset.rules.filter[outcome.rule]
         if outcome.verdict != "pass" or not translating and (rule is None or rule.binding is None):
             return outcome
@@ -165,7 +167,7 @@ class Arrival(NamedTuple):
                 return self.passed_by_state(entry, "state-error")
         key = connection(self.packet, self.datagram, self.direction)
         if key is None:
-            return self.filtered()
+            return self.filtered(table)
         entry = table.at(self.direction, key)
         return self.followed(entry) if entry else self.opened(key, table)
 

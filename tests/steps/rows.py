@@ -68,6 +68,25 @@ def opening_rows():
               f"1 6 out {KEYS} r=0 t=- 4/1101/3001/1000/2 4/5001/9001/250/3 0 86400 3 224 1 44\n")
 
 
+# four bytes of options of a SYN, with whether they offer a shift of 2
+SHIFTS_OFFERED = ((scale(2), True), (bytes([1, 3, 3, 2]), True), (bytes([3, 4, 2, 2]), False), (bytes([3, 1, 3, 2]), False),
+                  (bytes([2, 5, 3, 2]), False), (bytes([0, 3, 3, 2]), False))
+
+
+def option_rows():
+    """A shift behind a filler, options that are longer and shorter than a shift is, one that ends behind the header, and
+    the end of the options (RFC 7323, section 2.2, and RFC 9293, section 3.1)."""
+    for options, offered in SHIFTS_OFFERED:
+        window = "250/2" if offered else "1000/-"
+        yield row(f"a SYN with the options {options.hex()}", "pass out", [h_to_p(SYN, 1000, options=options)],
+                  ["out pass rule r=0 s=1; 0; made 1"],
+                  f"1 6 out {KEYS} r=0 t=- 2/1000/1002/{window} 0/0/1/1/- 0 120 1 44 0 0\n")
+    behind_options = tcp(H, 1000, P, 80, SYN, 1000, window=1000, options=scale(2), ip_options=FOUR_OPTION_BYTES)
+    yield row("a SYN with a shift behind IP options", "pass out allow-opts", [behind_options],
+              ["out pass rule r=0 s=1; 0; made 1"],
+              f"1 6 out {KEYS} r=0 t=- 2/1000/1002/250/2 0/0/1/1/- 0 120 1 48 0 0\n")
+
+
 def window_rows():
     opened = f"1 6 out {KEYS} r=0 t=- 4/1000/3001/1000/- 4/5001/6001/2000/- 0 86400 2 80 1 40\n"
     late = f"1 6 out {KEYS} r=0 t=- 4/4294967000/1705/1000/- 4/5001/6001/2000/- 0 86400 2 80 1 40\n"
@@ -153,6 +172,7 @@ def ends():
 
 def rows():
     yield from opening_rows()
+    yield from option_rows()
     yield from window_rows()
     yield from time_rows()
     yield from filter_rows()

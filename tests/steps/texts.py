@@ -1,16 +1,18 @@
 """Random rulesets for runs with states: few rules over the hosts and ports of the packets, many of them with states, small
-tables and short timeouts."""
+tables, rules for few states, and short timeouts."""
 
 from expansions.options import TIMEOUT_SECONDS
 from steps.filter_texts import HOSTS, NETWORKS, PORTS, some_ruleset
 
 FIRST_RULES = ("pass",) * 4 + ("pass out",) * 2 + ("pass allow-opts",) * 2 + (
-    "pass flags any", "block", "block in", "block return", "pass no state")
+    "pass flags any", "block", "block in", "block return", "pass no state", "pass keep state (max 1)",
+    "pass keep state (max 2)", "pass flags any keep state (max 1)", "pass flags any keep state (max 3)")
 ACTIONS = ("pass",) * 6 + ("block", "block drop", "block return")
 WAYS = ("", "", "in", "out")
 PLACES = ("on em0", "on !em1", "on em1", "on { em0, em1 }")
 PROTOCOLS = ("proto tcp", "proto udp", "proto icmp", "proto gre", "proto { tcp, udp }", "proto { udp, icmp, gre }")
 STATES = ("", "", "", "", "keep state", "no state")
+MOST = (1, 1, 2, 3, 5)
 FLAGS = ("flags any", "flags any", "flags S/SA", "flags A/A", "flags R/R", "flags F/F")
 TYPES = ("echoreq", "{ echoreq, echorep }", "unreach", "unreach code 1", "{ unreach, timex, paramprob }", "13")
 SECONDS = (0, 1, 2, 5, 10, 20, 30, 60, 120, 300)
@@ -38,6 +40,11 @@ def some_criteria(draw):
     return [sometimes(draw, 0.1, PLACES), sometimes(draw, 0.35, PROTOCOLS), ends or sometimes(draw, 0.5, ("all",))]
 
 
+def some_states(draw):
+    """Whether a rule keeps state, and now and then how many states of it there may be."""
+    return f"keep state (max {draw.choice(MOST)})" if draw.random() < 0.3 else draw.choice(STATES)
+
+
 def written(words):
     return " ".join(word for word in words if word)
 
@@ -45,7 +52,7 @@ def written(words):
 def some_rule(draw):
     types = f"icmp-type {draw.choice(TYPES)}" if draw.random() < 0.1 else ""
     return written([draw.choice(ACTIONS), draw.choice(WAYS), sometimes(draw, 0.15, ("quick",)), *some_criteria(draw),
-                    sometimes(draw, 0.3, FLAGS), types, draw.choice(STATES), sometimes(draw, 0.3, ("allow-opts",))])
+                    sometimes(draw, 0.3, FLAGS), types, some_states(draw), sometimes(draw, 0.3, ("allow-opts",))])
 
 
 def some_anchor(draw, depth):

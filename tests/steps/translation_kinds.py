@@ -1,5 +1,5 @@
 """What comes up in runs with translation, by kinds that are counted: what a rule makes of a first packet and what
-becomes of it, the packets of translated connections, and the errors about them."""
+becomes of it, the packets of translated connections, the errors about them, and rules with `max` that are asked for room."""
 
 from captures.frames import ICMP, TCP, UDP, Packet, datagram_of, view
 from steps import translation
@@ -34,6 +34,9 @@ COUNTED = {
         *(f"{way}: error {direction} about {transport}" for way in WAYS for direction in DIRECTIONS
           for transport in TRANSPORTS.values()),
         *(f"error {direction} at {own} address" for direction in DIRECTIONS for own in ("the translated", "another"))),
+    "rules that are asked for room": (
+        *(f"{room}, {state}" for room in ("room", "no room") for state in ("translated", "not translated")),
+        "several rules are asked", "a rule behind one without room", "no rule behind one without room"),
 }
 
 
@@ -50,6 +53,16 @@ def rdr_kind(rule):
     if rule.ports is None:
         return "rdr to the same port"
     return "rdr to a moved port" if rule.ports[1] == "*" else "rdr to one port"
+
+
+def rooms_of(outcome):
+    """The kinds of the rules that a packet asks for room."""
+    way = "not translated" if outcome.translation is None else "translated"
+    yield from (f"{'room' if room.is_left else 'no room'}, {way}" for room in outcome.rooms)
+    if len(outcome.rooms) > 1:
+        yield "several rules are asked"
+    if outcome.lacks_room():
+        yield f"{'no' if outcome.rule is None else 'a'} rule behind one without room"
 
 
 class Kinds:

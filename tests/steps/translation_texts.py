@@ -1,5 +1,5 @@
 """Random rulesets with translation for runs: few rules over few hosts and ports, ranges of few ports, small tables and
-short timeouts, so that ports run out and come free again."""
+short timeouts, so that ports run out and come free again. Some rules of the filter are for few states."""
 
 from expansions.options import TIMEOUT_SECONDS
 from steps.texts import some_rule, some_statements, sometimes, written
@@ -38,11 +38,13 @@ BINAT_SOURCES = ("10.0.0.5", "10.0.0.6", "10.0.0.6 port 1000", "10.0.0.5 port { 
 BINAT_TARGETS = ("192.0.2.9", "192.0.2.9", "em0", "10.0.0.6")
 # rules of the filter that most packets come to, and some that judge what is behind a translation, or never hit for it
 FIRST_RULES = ("pass",) * 8 + ("pass allow-opts", "pass no state", "pass no state allow-opts", "pass out", "block",
-                               "block return", "", "")
+                               "block return", "", "", "pass keep state (max 2)", "pass keep state (max 5)")
 BEHIND_RULES = ("block out from 10.0.0.0/8", "pass out from em0", "block in to em0", "pass in to 10.0.0.0/8",
                 "block in to port 8080", "pass in to 10.0.0.5 port { 80, 4000:4003 }",
                 "block return out proto udp from em0 port 50001", "pass out from any port >= 50001 no state",
-                "block in proto icmp to 10.0.0.5", "pass quick proto tcp flags any")
+                "block in proto icmp to 10.0.0.5", "pass quick proto tcp flags any",
+                "pass out from em0 keep state (max 1)", "pass in to { 10.0.0.5, 10.0.0.6 } keep state (max 2)",
+                "pass quick from em0 keep state (max 1)", "anchor quick {\npass keep state (max 3)\n}")
 SECONDS = (2, 5, 10, 20)
 
 

@@ -3,10 +3,11 @@ checksums, and frames of each link."""
 
 from captures.packets import (ACK, ETHER_IPV4, LINKTYPE_ETHERNET, LINKTYPE_LOOPBACK, SYN, TIME_EXCEEDED, UNREACHABLE,
                               echo, ethernet, icmp_error, loopback, tcp, udp)
+from rulesets.tree import Network
 from steps.error_cases import PROBLEM, changed, error
 from steps.translation_words import (ANSWER, ANSWERED, ASKED, INSIDE_END, MADE, NAT, ONE_END, ONE_PORT, OPENING,
-                                     OPENING_WIRE, OPTIONS, OTHER, ROUTER, TOLD_IN, TOUCHED_IN, WIRE, B, E, H, P,
-                                     SERVER, case, made, told)
+                                     OPENING_WIRE, OPTIONS, OTHER, ROUTER, TOLD_IN, TOUCHED_IN, TOUCHED_OUT, WIRE, B,
+                                     E, H, P, SERVER, case, made, told)
 
 
 # Errors
@@ -114,6 +115,50 @@ def all_ones_cases():
                "rdr to em0 port 53 -> em0 port 5353\npass", (came, made("in", "192.0.2.1:5353"), sent_in))
 
 
+def length_cases():
+    """Payloads of each length up to 64 bytes, which all go one way or the other."""
+    payloads = [b"\xa7" * length for length in range(65)]
+    rules = f"{ONE_PORT}\npass"
+    yield case("datagrams of each length", rules, (ASKED, MADE, WIRE),
+               *((udp(H, 1000, P, 53, payload), TOUCHED_OUT, udp(E, 50001, P, 53, payload)) for payload in payloads),
+               *((udp(P, 53, E, 50001, payload), TOUCHED_IN, udp(P, 53, H, 1000, payload)) for payload in payloads))
+    # each of one window, from the first byte on
+    forth, back = (ACK, 1001, 5001), (ACK, 5001, 1001)
+    yield case("segments of each length", rules, (OPENING, MADE, OPENING_WIRE),
+               (tcp(P, 80, E, 50001, SYN | ACK, 5000, 1001), TOUCHED_IN, tcp(P, 80, H, 1000, SYN | ACK, 5000, 1001)),
+               *((tcp(H, 1000, P, 80, *forth, payload=payload), TOUCHED_OUT,
+                  tcp(E, 50001, P, 80, *forth, payload=payload)) for payload in payloads),
+               *((tcp(P, 80, E, 50001, *back, payload=payload), TOUCHED_IN,
+                  tcp(P, 80, H, 1000, *back, payload=payload)) for payload in payloads))
+
+
+# A datagram of odd length and an error, as other programs captured them (test vectors of the gopacket library), each before
+# it as it is written. The checksums of the written ones are worked out in full.
+LIBRARY_DATAGRAM, LIBRARY_DATAGRAM_WIRE, LIBRARY_ERROR, LIBRARY_ERROR_INSIDE = (bytes.fromhex(octets) for octets in (
+    "45000039d4310000f311b3a00a4d2b830a010011ed2e003500250832474554202f20485454502f312e310d0a486f73743a207777770d0a0d0a",
+    "45000039d4310000f311276fc00002010a010011c35100350025a5dd474554202f20485454502f312e310d0a486f73743a207777770d0a0d0a",
+    "4500003800000000fc01d7a7480edee2ac1d140f030d946e000000004520004d000040003e112849ac1d140f0a4249c98ecc62e10039769d",
+    "4500003800000000fc018dcf480edee20a000005030dde46000000004520004d000040003e11de700a0000050a4249c903e862e10039b7a9"))
+
+
+def outside_cases():
+    """Packets and checksums that others worked out."""
+    yield case("a datagram that a library captured", f"{ONE_PORT}\npass", (LIBRARY_DATAGRAM, MADE, LIBRARY_DATAGRAM_WIRE))
+    client, server = "172.29.20.15", "10.66.73.201"
+    yield case("an error that a library captured", f"nat from {H} to any -> {client} port 36556\npass",
+               (udp(H, 1000, server, 25313), made("out", f"{client}:36556"), udp(client, 36556, server, 25313)),
+               (LIBRARY_ERROR, TOLD_IN, LIBRARY_ERROR_INSIDE), inside=(Network(0x0A000005, 32),))
+    # the example of RFC 1624, section 4: from 5555 to 3285 the checksum dd2f becomes 0, which UDP writes as all ones
+    example, became = b"\xdd\x2f", "10.0.0.5:12933"
+    yield case("the example of a checksum that becomes 0", f"nat from {H} to any -> {H} port 12933\npass",
+               (changed(tcp(H, 21845, P, 80, SYN, 1000), 36, example), made("out", became),
+                changed(tcp(H, 12933, P, 80, SYN, 1000), 36, b"\0\0")),
+               (changed(udp(H, 21845, P, 53), 26, example), made("out", became, 2),
+                changed(udp(H, 12933, P, 53), 26, b"\xff\xff")),
+               (changed(udp(H, 21845, P, 54), 26, b"\0\0"), made("out", became, 3),
+                changed(udp(H, 12933, P, 54), 26, b"\0\0")))
+
+
 # Frames
 
 def frame_cases():
@@ -133,5 +178,5 @@ def frame_cases():
 
 
 def cases():
-    for make in (told_cases, untold_cases, sum_cases, all_ones_cases, frame_cases):
+    for make in (told_cases, untold_cases, sum_cases, all_ones_cases, length_cases, outside_cases, frame_cases):
         yield from make()

@@ -17,7 +17,7 @@ LISTS = 24
 CALLS = 2500
 # the calls that are told, with their answers
 CALLS_TOLD = (("make", "done"), ("make", "key taken"), ("make", "full"), ("touch", "done"), ("touch", "key taken"),
-              ("settle", "done"), ("purge", "done"))
+              ("settle", "done"), ("purge", "done"), ("rule_room", "yes"), ("rule_room", "no"))
 # for one list, so that a program without an end is told
 TIME_LIMIT = 60
 # how many lists that differ are shown

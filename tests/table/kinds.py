@@ -1,8 +1,8 @@
 """Lists of calls to a table of states, each of its own kind: of deadlines that move, of places and numbers that are
-used again, and of keys that are near one another.
+used again, of keys that are near one another, and of rules that are asked how many states they have.
 """
 
-from table.lists import GREATEST_CLOCK, KEY, SIDES, Writer
+from table.lists import GREATEST_CLOCK, KEY, RULES, SIDES, Writer
 
 NO_LIMIT = 100000
 # how many states have near keys, and how many of those are looked for after each of the changes
@@ -71,6 +71,13 @@ class KindWriter(Writer):
         self.ask(clock)
         self.add("purge", clock)
         self.add("len")
+
+    def ask_rules(self, clock):
+        """Asks each rule whether it has fewer states than about as many as it has, of which some may be due."""
+        self.settle(clock)
+        for rule in sorted({rule for rule in RULES if rule is not None}):
+            count = sum(state.rule == rule for state in self.table.states.values())
+            self.add("rule_room", rule, max(0, count + self.source.choice((-2, -1, 0, 0, 0, 1))), clock)
 
     def purge_by_and_by(self, clocks):
         """Purges at each of some clocks, so that the order in which states are due is seen."""
@@ -158,6 +165,22 @@ class KindWriter(Writer):
                 self.purge(self.clock)
         self.purge_by_and_by(range(self.clock, self.clock + 50))
 
+    def of_few_rules(self, count, ways):
+        """`count` states of few rules. They move, now and then to another rule, go and come, and mostly aren't purged when
+        they are due and their rules are asked."""
+        for _ in range(300):
+            self.clock += self.source.choice((0, 0, 1))
+            while len(self.table.states) < count:
+                self.make_new(self.clock + self.source.randrange(1, 30))
+            self.move(self.any_state(), ways, 30)
+            if not self.source.randrange(5):
+                self.add("remove", self.any_state().number)
+            self.ask_rules(self.clock + self.source.choice((0, 0, 1, 8, 30)))
+            if not self.source.randrange(20):
+                self.purge(self.clock)
+        self.ask_rules(GREATEST_CLOCK)
+        self.purge_by_and_by({state.deadline for state in self.table.states.values()})
+
     def look_for(self, keys):
         for key in keys:
             self.add("at", self.source.choice(SIDES), *key, self.clock)
@@ -223,6 +246,9 @@ def kinds(settles):
     for count in (1, 2, 7, 30, 150):
         for ways in (("later",), ("earlier",), ("later", "earlier", "same")):
             yield "all moved", count, (KindWriter.all_moved, count, ways)
+    for count in (2, 8, 40):
+        for ways in (("later",), ("later", "earlier", "same")):
+            yield "of few rules", NO_LIMIT, (KindWriter.of_few_rules, count, ways)
     for turns in (30, 300, 300, 900):
         yield "made again", NO_LIMIT, (KindWriter.made_again, turns)
     for order in ("rising", "falling", "random"):

@@ -20,8 +20,11 @@ KEY = (6, 167772165, 1000, 3325256711, 80)
 NEAR_KEYS = [KEY, (17, *KEY[1:]), (6, 167772166, *KEY[2:]), (6, 167772165, 1001, *KEY[3:]), (*KEY[:3], 3325256712, 80),
              (*KEY[:4], 81), (6, *KEY[3:], *KEY[1:3]), (0, 0, 0, 0, 0), (255, 2**32 - 1, 65535, 2**32 - 1, 65535)]
 FEW_NUMBERS = [0, 1, 2, 3, 4, 255, 256, 2**32, 2**64 - 1]
-WEIGHTS = {"make": 30, "touch": 26, "remove": 6, "settle": 3, "purge": 3, "at": 16, "room": 4, "due": 5, "after": 5,
-           "len": 1, "list": 2}
+WEIGHTS = {"make": 30, "touch": 26, "remove": 6, "settle": 3, "purge": 3, "at": 16, "room": 4, "rule_room": 12, "due": 5,
+           "after": 5, "len": 1, "list": 2}
+# the rules of states, and how many states of a rule a question asks for
+RULES = (None, 0, 0, 1, 1, 1, 2, 2, 3, 40)
+MOST = range(5)
 WORDS = tuple(WEIGHTS)
 WEIGHTS_SO_FAR = tuple(accumulate(WEIGHTS.values()))
 
@@ -67,7 +70,14 @@ class Writer:
 
     def add_state(self, word, number, wire, stack, deadline):
         """Makes or touches a state, which counts other bytes than all others."""
-        return self.add(word, State(number, wire, stack, deadline, len(self.lines)).text())
+        rule = self.rule_of(word, number)
+        return self.add(word, State(number, wire, stack, deadline, len(self.lines), rule).text())
+
+    def rule_of(self, word, number):
+        """The rule of a state: one that is touched mostly keeps its own."""
+        if word == "touch" and number in self.table.states and self.source.randrange(8):
+            return self.table.states[number].rule
+        return self.source.choice(RULES)
 
     def any_state(self):
         return self.source.choice(list(self.table.states.values()))
@@ -118,12 +128,17 @@ class RandomWriter(Writer):
                                               (wire, kept.stack), (wire, stack)))
         self.add_state(word, number, wire, stack, self.deadline())
 
-    def add_at_clock(self, word):
+    def add_at_clock(self, word, *parts):
         """A call at a clock, every second time behind a settling, mostly at the same one."""
         clock = self.any_clock()
         if self.source.randrange(2):
             self.add("settle", clock if self.source.randrange(4) else self.any_clock())
-        self.add(word, clock)
+        self.add(word, *parts, clock)
+
+    def rule(self):
+        """A rule, mostly that of a state; one has no states."""
+        kept = self.kept()
+        return kept.rule if kept and kept.rule is not None else self.source.choice((0, 1, 2, 3, 4, 40))
 
     def step(self):
         """One call, or two with a settling."""
@@ -140,6 +155,8 @@ class RandomWriter(Writer):
                 self.add(word, self.any_clock())
             case "purge" | "room" | "due":
                 self.add_at_clock(word)
+            case "rule_room":
+                self.add_at_clock(word, self.rule(), self.source.choice(MOST))
             case _:
                 self.add(word)
 
@@ -171,6 +188,8 @@ class Refusals(Writer):
 
     def __init__(self):
         super().__init__(0, LIMITS[-1])
+        # of the questions about rules
+        self.turn = 0
         self.keys = [far_key(self.source) for _ in range(34)]
 
     def look_at_keys(self, *keys):
@@ -185,6 +204,9 @@ class Refusals(Writer):
         for clock in (0, 1000, GREATEST_CLOCK):
             self.add("due", clock)
             self.add("room", clock)
+            for rule in (0, 1, 2, 8):
+                self.add("rule_room", rule, self.turn % 5, clock)
+                self.turn += 1
 
     def twice(self, *parts):
         """A change, and the same change once more. What that one does to the keys is seen behind the next change."""
@@ -201,8 +223,13 @@ class Refusals(Writer):
             self.add("due", GREATEST_CLOCK)
             self.add("after", max(0, number - 1))
 
+    def rule_of(self, word, number):
+        """A state keeps its rule. Those of greater numbers are mostly of later rules, so that more rules are counted."""
+        return None if number % 7 == 0 else number // 9 * 8 + number % 2
+
     def text(self, number, wire, stack, deadline):
-        return State(number, self.keys[wire], self.keys[stack], deadline, len(self.lines)).text()
+        rule = self.rule_of("make", number)
+        return State(number, self.keys[wire], self.keys[stack], deadline, len(self.lines), rule).text()
 
     def grow(self):
         """Makes states until each index of them has grown a few times, touches them, and makes one over another."""

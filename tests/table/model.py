@@ -18,6 +18,8 @@ class State(NamedTuple):
     stack: tuple
     deadline: int
     bytes: int
+    # that of the filter, None if none made it
+    rule: int | None = None
 
     def lives(self, clock):
         """Whether its deadline hasn't come."""
@@ -27,12 +29,13 @@ class State(NamedTuple):
         return self.wire == other.wire or self.stack == other.stack
 
     def text(self):
-        return " ".join(map(str, (self.number, *self.wire, *self.stack, self.deadline, self.bytes)))
+        rule = "-" if self.rule is None else self.rule
+        return " ".join(map(str, (self.number, *self.wire, *self.stack, self.deadline, self.bytes, rule)))
 
 
 def state_of(numbers):
     """The state of which these are the numbers of its text."""
-    return State(numbers[0], tuple(numbers[1:6]), tuple(numbers[6:11]), numbers[11], numbers[12])
+    return State(numbers[0], tuple(numbers[1:6]), tuple(numbers[6:11]), *numbers[11:])
 
 
 class Table:
@@ -78,6 +81,10 @@ class Table:
         """Whether one more could be made, once those are gone whose deadline has come."""
         return sum(state.lives(clock) for state in self.states.values()) < self.limit
 
+    def rule_room(self, rule, most, clock):
+        """Whether a rule has fewer states than `most`, once those are gone whose deadline has come."""
+        return sum(state.lives(clock) for state in self.states.values() if state.rule == rule) < most
+
     def due(self, clock):
         """Of the states whose deadline has come that of the least deadline, and of those that of the least number."""
         come = (state for state in self.states.values() if not state.lives(clock))
@@ -104,7 +111,7 @@ def answer(table, call):
     if word == "at":
         protocol, *ends, clock = map(int, rest[1:])
         return [found(table.at(rest[0], (protocol, *ends), clock))]
-    numbers = [int(number) for number in rest]
+    numbers = [None if number == "-" else int(number) for number in rest]
     match word:
         case "make":
             return [table.make(state_of(numbers))]
@@ -119,6 +126,8 @@ def answer(table, call):
             return [table.purge(*numbers)]
         case "room":
             return ["yes" if table.room(*numbers) else "no"]
+        case "rule_room":
+            return ["yes" if table.rule_room(*numbers) else "no"]
         case "due":
             return [found(table.due(*numbers))]
         case "after":

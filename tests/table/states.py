@@ -54,6 +54,10 @@ class StateTable:
     def is_full(self):
         return len(self.entries) >= self.limit
 
+    def has_rule_room(self, rule, most):
+        """Whether fewer than `most` states have a rule of the filter."""
+        return sum(entry.rule == rule for entry in self.entries.values()) < most
+
     def apply(self, change):
         """Takes over what a packet changes."""
         if change is None:

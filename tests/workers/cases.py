@@ -3,8 +3,8 @@
 Workers evaluate the packets of a batch on the table as it was before. So the cases are such that packets often change
 what one close behind them meets. Most are those of other comparisons: few connections with their packets close
 together, tables of a few states, ranges of a few ports, states that run out on the way. Here come runs that fill a
-range of ports again and again, runs that are so long that workers rest in them, limits of states, and packets that come
-twice.
+range of ports again and again, runs whose rules are for about as many states as there are flows, runs that are so long that
+workers rest in them, limits of states, and packets that come twice.
 """
 
 import random
@@ -12,12 +12,12 @@ import random
 import messages.random_runs
 import steps.random_runs
 import steps.translation_runs
-from captures.packets import udp
+from captures.packets import MORE_FRAGMENTS, UDP, ipv4, udp
 from runs import message_cases
 from runs.message_cases import LAST_SECOND
 from runs.random_cases import some_capture
 from runs.rows import case_of
-from steps.rows import HERE, H, P
+from steps.rows import HERE, OTHER, H, P
 from steps.run import Run
 
 SEED = 20261126
@@ -31,6 +31,12 @@ LIMITED, LIMITS = 0.4, (1, 2, 3, 5, 8, 20)
 # of a run that fills a range: the ports, and how many flows more or fewer begin in a round
 RANGE_LENGTHS, SURPLUS = (1, 2, 3, 8, 30, 120), (-2, -1, 0, 0, 1, 2, 10)
 ROUNDS = 2, 6
+# of a run of rules with `max`: how many states they are for, and the rules, which have that number or one near it
+MOSTS = (1, 1, 2, 3, 5, 20, 80)
+ROOM_RULES = ("pass out proto udp keep state (max N)", "pass out proto udp from any port 1000:1003 keep state (max N)",
+              "pass quick proto udp to port 53 keep state (max N)", "pass in proto udp keep state (max N, no-sync)",
+              "pass out to { 198.51.100.7, 203.0.113.9 } keep state (max N)", "anchor quick {\npass out keep state (max N)\n}")
+FIRST_OF_ROOMS = ("block", "pass no state", "pass", "block return")
 # packets of a run in which workers rest, and are tried again
 RESTING = 20_000
 # seconds between two rounds, and of the timeouts, so that in some rounds all ports are free, and in some none is
@@ -81,6 +87,27 @@ def full_run(draw, number):
     return Run(f"random run with a range that is full {number}", "\n".join(rules), records, seed=draw.randbytes(32))
 
 
+def room_run(draw, number):
+    """Flows in rounds, each about as many as a rule is for, with replies and fragments. Of a round some flows were in the
+    rounds before, and between two rounds states may go."""
+    count = draw.choice(MOSTS)
+    timeouts = [f"set timeout {name} {draw.choice(SECONDS)}" for name in UDP_TIMEOUTS]
+    records, second = [], 1000
+    for _ in range(draw.randint(*ROUNDS)):
+        flows = draw.sample(range(2 * count + 12), max(count + draw.choice(SURPLUS), 1))
+        packets = [udp(H, 1000 + flow, draw.choice((P, P, OTHER)), 53) for flow in flows]
+        packets += [udp(P, 53, draw.choice((H, HERE)), 1000 + flow) for flow in flows[:count // 2 + 1]]
+        packets += [ipv4(H, P, UDP, bytes(8), fragment=draw.choice((1, MORE_FRAGMENTS)))] * draw.randint(0, 2)
+        draw.shuffle(packets)
+        records += [(second, packet) for packet in packets]
+        second += draw.choice(ROUND_WAITS)
+    rules = [rule.replace("N", str(max(count + draw.choice(SURPLUS), 1)))
+             for rule in draw.sample(ROOM_RULES, draw.randint(1, 4))]
+    translation = draw.choice(("", "", "nat on em0 from any to any -> em0"))
+    text = "\n".join([*timeouts, translation, draw.choice(FIRST_OF_ROOMS), *rules])
+    return Run(f"random run with rules for few states {number}", text, records, seed=draw.randbytes(32))
+
+
 def limited(draw, run):
     """The run, maybe with room for few states."""
     if draw.random() < LIMITED:
@@ -97,7 +124,7 @@ def with_some_again(draw, records):
     return made
 
 
-KINDS = (plain_run, translated_run, telling_run, full_run, moving_run, translated_run, message_cases.together_run,
+KINDS = (plain_run, translated_run, telling_run, full_run, moving_run, room_run, translated_run, message_cases.together_run,
          resting_run)
 
 

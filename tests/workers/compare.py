@@ -23,7 +23,8 @@ from typing import NamedTuple
 import building
 from runs.case import Case
 from runs.comparison import Comparison, shown
-from runs.model import OUTPUTS, Outcome
+from runs.model import OUTPUTS, Outcome, job_of_case
+from steps.replay import replay_of
 from workers import endings
 from workers.cases import SEED, case_at
 from workers.choices import Choice, run_of
@@ -38,8 +39,10 @@ REFERENCE = Choice(0, 256)
 RUNS = 3
 # the cases in which each thing has to come up once at least
 COMING_UP = 20
-COUNTED = ("rule", "state", "state-error", "state-mismatch", "state-insert", "state-limit", "nat-exhausted",
-           "states that are gone")
+GONE, NO_ROOM = "states that are gone", "visits to a rule without room"
+COUNTED = ("rule", "state", "state-error", "state-mismatch", "state-insert", "state-limit", "nat-exhausted", GONE, NO_ROOM)
+# bytes of the longest capture for which the model is asked how many visits these are
+MODELLED = 500_000
 
 
 class Difference(NamedTuple):
@@ -86,7 +89,14 @@ def counts_of(expected):
     left = (expected.files.states or b"").count(b"\n")
     # there is no list of those that are left where the capture has a fault
     gone = made - left if expected.status in (0, 2) else 0
-    return Counter({**Counter(line[4] for line in lines), "states that are gone": gone})
+    return Counter({**Counter(line[4] for line in lines), GONE: gone})
+
+
+def visits_without_room(case):
+    """How many packets visit rules that would hold and have no room, by the model. Of a long run none is counted."""
+    if len(case.capture) > MODELLED:
+        return 0
+    return sum(step.outcome.lacks_room() for step in replay_of(job_of_case(case), case.capture).steps)
 
 
 def compared(program, number):
@@ -103,7 +113,8 @@ def compared(program, number):
             with running_on(core):
                 seen = run_of(comparison, case, choice)
             found += [Difference(number, case, choice, core, expected, seen)] if seen != expected else []
-    return Compared(RUNS + 1, len(found), found[0] if found else None, counts_of(expected))
+    counts = counts_of(expected) + Counter({NO_ROOM: visits_without_room(case)})
+    return Compared(RUNS + 1, len(found), found[0] if found else None, counts)
 
 
 # All cases

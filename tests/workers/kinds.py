@@ -76,7 +76,7 @@ def longest_kinds():
 
 def mixed_kind(vain, count=SHORT):
     """A run whose outputs all grow; with more than a few rules each is longer than a page."""
-    return kind(f"{vain} rules that hold for no packet", "pass in no state\npass out", mixed(count), vain)
+    return kind(f"{vain} rules that hold for no packet", "pass in no state\npass out keep state (max 1000)", mixed(count), vain)
 
 
 def resting(count):

@@ -2,29 +2,33 @@
 //!
 //! The first line is how many states there may be. A call is a word and numbers, with spaces between them:
 //!
-//!     make NUMBER WIRE STACK DEADLINE BYTES      a state comes
-//!     touch NUMBER WIRE STACK DEADLINE BYTES     a packet leaves a state like this
+//!     make NUMBER WIRE STACK DEADLINE BYTES RULE      a state comes
+//!     touch NUMBER WIRE STACK DEADLINE BYTES RULE     a packet leaves a state like this
 //!     remove NUMBER
 //!     settle CLOCK
 //!     purge CLOCK
-//!     at SIDE KEY CLOCK                          SIDE is the word `wire` or `stack`
+//!     at SIDE KEY CLOCK                               SIDE is the word `wire` or `stack`
 //!     room CLOCK
+//!     rule_room RULE MOST CLOCK                       whether a rule has fewer states than MOST
 //!     due CLOCK
 //!     after NUMBER
 //!     len
-//!     list                                       `len`, and then `after` for each state from number 0 on
+//!     list                                            `len`, and then `after` for each state from number 0 on
 //!
 //! WIRE, STACK and KEY are five numbers each: the protocol, the outside party's address and port, and the inside one's.
-//! BYTES are what the state has counted; what else a state has is the same in all. The answers are `done` or why the
-//! change isn't taken, `yes` or `no`, a number, and a state's numbers in the order above or `none`. A list is one line for
-//! each of its answers.
+//! BYTES are what the state has counted, and RULE is the number of its filter rule, or `-`. What else a state has is the
+//! same in all. The answers are `done` or why the change isn't taken, `yes` or `no`, a number, and a state's words in the
+//! order above or `none`. A list is one line for each of its answers.
 //!
 //! All lines are read before the first call, and the answers go into a text that is made before it. So from there on only the
 //! table takes memory, as long as no answer is longer than that text has room.
 use crate::given::Words;
+use crate::printing::word_if;
 use pfr_net::{Direction, Endpoint, Ipv4Address, Port, Protocol};
 use pfr_states::{Side, Table, TableChange};
-use pfr_track::{Clock, Deadline, Key, Peers, State, StateNumber, StateRules, Timeout, Traffic};
+use pfr_track::{
+    Clock, Deadline, Key, Peers, RuleNumber, State, StateNumber, StateRules, Timeout, Traffic,
+};
 use std::alloc::{AllocError, Global};
 use std::io;
 use std::io::Write;
@@ -50,19 +54,25 @@ fn key(words: &mut Words<'_>) -> Option<Key> {
     })
 }
 
+/// The rule that is the next word; a word that is no number stands for none.
+fn rule(words: &mut Words<'_>) -> Option<RuleNumber> {
+    Some(RuleNumber(words.number()?))
+}
+
 fn state(words: &mut Words<'_>) -> Option<State> {
     let number = StateNumber(words.number()?);
     let wire = key(words)?;
     let stack = key(words)?;
     let deadline = Deadline(words.number()?);
     let bytes = words.number()?;
+    let filter = rule(words);
     Some(State {
         number,
         direction: Direction::In,
         wire,
         stack,
         rules: StateRules {
-            filter: None,
+            filter,
             translation: None,
             is_synchronised: true,
             allows_options: false,
@@ -91,6 +101,14 @@ fn found_at(table: &Table, words: &mut Words<'_>) -> Option<Option<State>> {
     Some(table.at(side, &key, clock))
 }
 
+/// Whether the rule of a line has fewer states than the line says, at its clock.
+fn has_rule_room(table: &Table, words: &mut Words<'_>) -> Option<bool> {
+    let rule = rule(words)?;
+    let most = words.number()?;
+    let clock = Clock(words.number()?);
+    Some(table.rule_room(rule, most, clock))
+}
+
 fn put_key(out: &mut String, key: Key) -> Result<(), AllocError> {
     let Endpoint { address, port } = key.outside;
     write!(out, " {} {} {}", key.protocol.0, address.0, port.0)?;
@@ -105,7 +123,15 @@ fn put_found(out: &mut String, found: Option<State>) -> Result<(), AllocError> {
     write!(out, "{}", state.number.0)?;
     put_key(out, state.wire)?;
     put_key(out, state.stack)?;
-    writeln!(out, " {} {}", state.deadline.0, state.forth.bytes)
+    write!(out, " {} {}", state.deadline.0, state.forth.bytes)?;
+    match state.rules.filter {
+        Some(rule) => writeln!(out, " {}", rule.0),
+        None => out.push_str(" -\n"),
+    }
+}
+
+fn put_whether(out: &mut String, holds: bool) -> Result<(), AllocError> {
+    out.push_str(word_if(holds, "yes\n", "no\n"))
 }
 
 fn put_list(out: &mut String, table: &Table) -> Result<(), AllocError> {
@@ -152,8 +178,8 @@ fn put_answer(
             out.push_str("done\n")
         }
         "at" => put_found(out, found_at(table, words)?),
-        "room" if table.room(Clock(words.number()?)) => out.push_str("yes\n"),
-        "room" => out.push_str("no\n"),
+        "room" => put_whether(out, table.room(Clock(words.number()?))),
+        "rule_room" => put_whether(out, has_rule_room(table, words)?),
         "due" => put_found(out, table.due(Clock(words.number()?))),
         "after" => put_found(out, table.after(StateNumber(words.number()?))),
         "len" => writeln!(out, "{}", table.len()),

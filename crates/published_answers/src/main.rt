@@ -9,8 +9,8 @@
 //!
 //! Behind these stands what the one does who publishes, one after the other:
 //!
-//!     make NUMBER WIRE STACK DEADLINE BYTES       one more change: a state comes
-//!     touch NUMBER WIRE STACK DEADLINE BYTES      a packet leaves a state like this
+//!     make NUMBER WIRE STACK DEADLINE BYTES RULE  one more change: a state comes
+//!     touch NUMBER WIRE STACK DEADLINE BYTES RULE a packet leaves a state like this
 //!     remove NUMBER
 //!     purge CLOCK
 //!     publish                   publishes the changes that stand behind the publication before
@@ -22,7 +22,8 @@
 //!     end                       the end of the script
 //!
 //! WIRE and STACK are five numbers each: the protocol, the outside party's address and port, and the inside one's.
-//! BYTES are what the state has counted; what else a state has is the same in all. The steps of a viewer are
+//! BYTES are what the state has counted, and RULE is the number of its filter rule, or `-`. What else a state has is the
+//! same in all. The steps of a viewer are
 //!
 //!     wait TOKEN                waits until there are so many tokens
 //!     learn TOKEN               waits for that too, and learns the token of this number, from 1 on
@@ -33,8 +34,9 @@
 //!
 //! The answer has `published` or `refused` for each publication. Then comes for each `start` a line `viewer`, or
 //! `missing` where memory, a place or the thread was refused. Behind `viewer` stands a line for each step `enter` and
-//! `leave`: how many states the table has that is shown, and of each by rising number `NUMBER/DEADLINE/BYTES`; `-`
-//! where none is shown. Behind the word `closed` the table that the close leaves stands like this. Then come `late`, if
+//! `leave`: how many states the table has that is shown, of each by rising number `NUMBER/DEADLINE/BYTES`, and for each
+//! rule from 0 to 3 with states `rRULE=COUNT`, at most 9, by what the table says of the rule's room. It is `-` if no
+//! table is shown. Behind the word `closed` the table that the close leaves stands like this. Then come `late`, if
 //! a wait was in vain, and `end`.
 #![tactic(auto)]
 

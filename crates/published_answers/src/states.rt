@@ -2,8 +2,15 @@
 use crate::given::Words;
 use pfr_net::{Direction, Endpoint, Ipv4Address, Port, Protocol};
 use pfr_states::{Change, Table, TableChange};
-use pfr_track::{Clock, Deadline, Key, Peers, State, StateNumber, StateRules, Timeout, Traffic};
+use pfr_track::{
+    Clock, Deadline, Key, Peers, RuleNumber, State, StateNumber, StateRules, Timeout, Traffic,
+};
 use std::alloc::AllocError;
+
+/// Rules from 0 on whose states are counted, and how many states of one are counted at most.
+const RULES: usize = 4;
+
+const MOST: u32 = 9;
 
 fn endpoint(words: &mut Words<'_>) -> Option<Endpoint> {
     let address = Ipv4Address(words.number()?);
@@ -22,19 +29,25 @@ fn key(words: &mut Words<'_>) -> Option<Key> {
     })
 }
 
+/// The rule that is the next word; a word that is no number stands for none.
+fn rule(words: &mut Words<'_>) -> Option<RuleNumber> {
+    Some(RuleNumber(words.number()?))
+}
+
 fn state(words: &mut Words<'_>) -> Option<State> {
     let number = StateNumber(words.number()?);
     let wire = key(words)?;
     let stack = key(words)?;
     let deadline = Deadline(words.number()?);
     let bytes = words.number()?;
+    let filter = rule(words);
     Some(State {
         number,
         direction: Direction::In,
         wire,
         stack,
         rules: StateRules {
-            filter: None,
+            filter,
             translation: None,
             is_synchronised: true,
             allows_options: false,
@@ -62,7 +75,29 @@ pub(crate) fn change(word: &str, words: &mut Words<'_>) -> Option<Change> {
     })
 }
 
-/// A line of how many states a table has, and of each its number, its deadline and the bytes that it has counted.
+/// How many states a rule has, by for how many it has no room.
+fn count_of_rule(table: &Table, rule: RuleNumber) -> u32 {
+    for count in 0..MOST {
+        if table.rule_room(rule, count.saturating_add(1), Clock(0)) {
+            return count;
+        }
+    }
+    MOST
+}
+
+/// The rules that have states, each with how many.
+fn put_rules(out: &mut String, table: &Table) -> Result<(), AllocError> {
+    for rule in 0..RULES {
+        let count = count_of_rule(table, RuleNumber(rule));
+        if count != 0 {
+            write!(out, " r{rule}={count}")?;
+        }
+    }
+    Ok(())
+}
+
+/// A line of how many states a table has, of each its number, its deadline and the bytes that it has counted, and of how
+/// many states rules have.
 pub(crate) fn put_table(out: &mut String, table: &Table) -> Result<(), AllocError> {
     write!(out, "{}", table.len())?;
     let mut found = table.first();
@@ -77,5 +112,6 @@ pub(crate) fn put_table(out: &mut String, table: &Table) -> Result<(), AllocErro
         )?;
         found = table.after(state.number);
     }
+    put_rules(out, table)?;
     out.push('\n')
 }

@@ -50,7 +50,11 @@ fn put_state(out: &mut String, state: Option<StateRule>) -> Result<(), AllocErro
         return Ok(());
     };
     let no_sync = word_if(state.no_sync, " no-sync", "");
-    write!(out, " state {}{no_sync}", binding_word(state.binding))
+    write!(out, " state {}{no_sync}", binding_word(state.binding))?;
+    match state.most {
+        Some(most) => write!(out, " max {most}"),
+        None => Ok(()),
+    }
 }
 
 /// The anchors round a rule.
