@@ -1,4 +1,4 @@
-//! Messages written out byte by byte, through a standby, and devices that fail.
+//! Devices that fail under a standby, by a message written out byte by byte.
 use pfr_capture::memory::Mem;
 use pfr_stream::{Framing, StandbyStop, SyncError, standby};
 use std::alloc::{AllocError, Global};
@@ -21,104 +21,48 @@ static INSERTED: [u8; 290] = [
     0, 1,
 ];
 
-/// The message that deletes it, without a header.
-static DELETED: [u8; 40] = [
-    5, 0, 0, 40, 212, 29, 140, 217, 143, 0, 178, 4, 233, 128, 9, 152, 236, 248, 66, 126, 7, 0, 0,
-    1, //
-    0, 0, 0, 0, 0, 0, 0, 1, 0, 0, 0, 1, 12, 0, 0, 1,
-];
-
 /// The line of that state.
 static LINE: &[u8] =
     b"1 6 out 198.51.100.7:80,10.0.0.5:1000 198.51.100.7:80,10.0.0.5:1000 r=0 4/1101/3001/1000/- 4/5001/6001/2000/- 2\n";
 
-/// A source of that message this often, and of some bytes more.
-fn repeated(alloc: Global, count: usize, more: &[u8]) -> Result<Mem, AllocError> {
-    let mut bytes = Vec::new(alloc);
-    for _turn in 0..count {
-        bytes.extend_from_slice(&INSERTED)?;
-    }
+/// A source of that message and some bytes more, of which it gives at most `most` at a time and fails after the first time.
+fn failing(alloc: Global, more: &[u8], most: usize) -> Result<Mem, AllocError> {
+    let mut bytes = Vec::from_slice(alloc, &INSERTED)?;
     bytes.extend_from_slice(more)?;
-    Ok(Mem::new(bytes))
+    Ok(Mem::new(bytes).at_most(most).failing_after(1))
 }
 
-/// Whether a run over a source answers this, and writes this.
-fn runs(
-    alloc: Global,
-    mut source: Mem,
-    framing: Framing,
-    answer: Result<u64, StandbyStop>,
-    text: &[u8],
-) -> bool {
+/// Whether a run over a source stops so behind the line of the first message.
+fn stops(alloc: Global, mut source: Mem, stop: StandbyStop) -> bool {
     let mut sink = Mem::new(Vec::new(alloc));
-    standby(alloc, &mut source, framing, &mut sink) == answer && sink.bytes() == text
-}
-
-#[test]
-fn states_are_written(rt: HostRuntime) -> Result<(), Fail> {
-    let alloc = rt.alloc();
-    for most in [1, 17, usize::MAX] {
-        let source = repeated(alloc, 1, b"")?.at_most(most);
-        assert!(rt; runs(alloc, source, Framing::File, Ok(1), LINE));
-    }
-    assert!(rt; runs(alloc, repeated(alloc, 0, b"")?, Framing::Bare, Ok(0), b""));
-    Ok(())
-}
-
-#[test]
-fn messages_are_refused(rt: HostRuntime) -> Result<(), Fail> {
-    let alloc = rt.alloc();
-    let twice = Err(StandbyStop::Message(2, SyncError::UnknownState));
-    assert!(rt; runs(alloc, repeated(alloc, 2, b"")?, Framing::File, twice, LINE));
-    let short = Err(StandbyStop::Message(2, SyncError::Short));
-    assert!(rt;
-        runs(
-            alloc,
-            repeated(alloc, 1, b"\x45")?,
-            Framing::File,
-            short,
-            LINE
-        )
-    );
-    let headed = Err(StandbyStop::Message(1, SyncError::Version));
-    assert!(rt; runs(alloc, repeated(alloc, 1, b"")?, Framing::Bare, headed, b""));
-    let unknown = Err(StandbyStop::Message(1, SyncError::UnknownState));
-    assert!(rt;
-        runs(
-            alloc,
-            repeated(alloc, 0, &DELETED)?,
-            Framing::Bare,
-            unknown,
-            b""
-        )
-    );
-    Ok(())
+    standby(alloc, &mut source, Framing::File, &mut sink) == Err(stop) && sink.bytes() == LINE
 }
 
 #[test]
 fn a_source_fails(rt: HostRuntime) -> Result<(), Fail> {
-    let alloc = rt.alloc();
-    let failing = repeated(alloc, 2, b"")?.at_most(300).failing_after(1);
+    let source = failing(rt.alloc(), &INSERTED, 300)?;
+    assert!(rt; stops(rt.alloc(), source, StandbyStop::Read(1)));
+    Ok(())
+}
+
+/// What is wrong in the bytes before goes before the failure.
+#[test]
+fn a_source_fails_behind_a_wrong_message(rt: HostRuntime) -> Result<(), Fail> {
+    let source = failing(rt.alloc(), &[0x46; 30], 320)?;
     assert!(rt;
-        runs(
-            alloc,
-            failing,
-            Framing::File,
-            Err(StandbyStop::Read(1)),
-            LINE
+        stops(
+            rt.alloc(),
+            source,
+            StandbyStop::Message(2, SyncError::Version)
         )
     );
-    let refused = Err(StandbyStop::Message(2, SyncError::Version));
-    let broken = [0x46; 30];
-    let failing = repeated(alloc, 1, &broken)?.at_most(320).failing_after(1);
-    assert!(rt; runs(alloc, failing, Framing::File, refused, LINE));
     Ok(())
 }
 
 #[test]
 fn a_sink_fails(rt: HostRuntime) -> Result<(), Fail> {
     let alloc = rt.alloc();
-    let mut source = repeated(alloc, 1, b"")?;
+    let mut source = Mem::new(Vec::from_slice(alloc, &INSERTED)?);
     let mut sink = Mem::new(Vec::new(alloc)).at_most(10).failing_after(2);
     assert!(rt;
         standby(alloc, &mut source, Framing::File, &mut sink) == Err(StandbyStop::Write(1))

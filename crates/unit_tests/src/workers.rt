@@ -312,80 +312,74 @@ fn whole(id: u64, word: u64, begun: u64, answers: u64) -> Option<Seen> {
     })
 }
 
-/// Each number is answered by one worker.
-#[test]
-fn each_number_is_answered_once(rt: HostRuntime) -> Result<(), Fail> {
-    for (workers, count, word, answers) in [
-        (1, 200, 201, 134),
-        (3, 200, 203, 134),
-        (8, 200, 208, 134),
-        (8, 5, 13, 4),
-        (64, 5, 69, 4),
-        (3, 0, 3, 0),
-    ] {
-        let staff = Staff {
-            workers,
-            missing: 0,
-        };
-        let plan = [Planned { count, most: 64 }];
-        let seen = play(&rt, rt.alloc(), staff, &plan)?;
-        assert!(rt; seen.as_slice() == [whole(0, word, workers, answers)].as_slice());
+/// Whether workers, of whom some have no hand, leave this of the batches of a plan.
+fn leaves<R: Threads + Wait + Clock + Sync>(
+    rt: &R,
+    alloc: Global,
+    staff: Staff,
+    plan: &[Planned],
+    expected: &[Option<Seen>],
+) -> bool {
+    match play(rt, alloc, staff, plan) {
+        Ok(seen) => seen.as_slice() == expected,
+        Err(_) => false,
     }
-    Ok(())
 }
 
-/// A batch of so many numbers that workers are to answer.
+/// Workers of whom each has a hand.
+fn hired(workers: u64) -> Staff
+    requires { (0 < workers) × (workers ≤ 64) }
+{
+    Staff {
+        workers,
+        missing: 0,
+    }
+}
+
+/// A batch of so many numbers that all workers are to answer.
 fn answered(count: u64) -> Planned
     requires { count ≤ 4096 }
 {
     Planned { count, most: 64 }
 }
 
+/// Each number is answered by one worker.
+#[test]
+fn each_number_is_answered_once(rt: HostRuntime) {
+    let (many, few, none) = (answered(200), answered(5), answered(0));
+    assert!(rt; leaves(&rt, rt.alloc(), hired(1), &[many], &[whole(0, 201, 1, 134)]));
+    assert!(rt; leaves(&rt, rt.alloc(), hired(8), &[many], &[whole(0, 208, 8, 134)]));
+    assert!(rt; leaves(&rt, rt.alloc(), hired(64), &[few], &[whole(0, 69, 64, 4)]));
+    assert!(rt; leaves(&rt, rt.alloc(), hired(3), &[none], &[whole(0, 3, 3, 0)]));
+}
+
 /// Batches that are open at once each have answers of their own alone.
 #[test]
-fn batches_are_open_at_once(rt: HostRuntime) -> Result<(), Fail> {
-    let staff = Staff {
-        workers: 3,
-        missing: 0,
-    };
+fn batches_are_open_at_once(rt: HostRuntime) {
     let plan = [answered(200), answered(64), answered(5)];
     let expected = [
         whole(0, 203, 3, 134),
         whole(1, 67, 3, 43),
         whole(2, 8, 3, 4),
     ];
-    let two = play(&rt, rt.alloc(), staff, &plan[..2])?;
-    assert!(rt; two.as_slice() == &expected[..2]);
-    let three = play(&rt, rt.alloc(), staff, &plan)?;
-    assert!(rt; three.as_slice() == expected.as_slice());
-    Ok(())
+    assert!(rt; leaves(&rt, rt.alloc(), hired(3), &plan, &expected));
 }
 
 /// While workers rest a batch is whole without any answer, and they answer the next one again.
 #[test]
-fn workers_rest(rt: HostRuntime) -> Result<(), Fail> {
-    let staff = Staff {
-        workers: 3,
-        missing: 0,
-    };
+fn workers_rest(rt: HostRuntime) {
     let resting = Planned {
         count: 200,
         most: 0,
     };
     let plan = [answered(64), resting, answered(5)];
     let expected = [whole(0, 67, 3, 43), whole(1, 203, 0, 0), whole(2, 8, 3, 4)];
-    let seen = play(&rt, rt.alloc(), staff, &plan)?;
-    assert!(rt; seen.as_slice() == expected.as_slice());
-    Ok(())
+    assert!(rt; leaves(&rt, rt.alloc(), hired(3), &plan, &expected));
 }
 
 /// A batch is given to as many workers as are asked for, and these answer all its numbers.
 #[test]
-fn few_workers_are_given_a_batch(rt: HostRuntime) -> Result<(), Fail> {
-    let staff = Staff {
-        workers: 3,
-        missing: 0,
-    };
+fn few_workers_are_given_a_batch(rt: HostRuntime) {
     let plan = [
         Planned {
             count: 200,
@@ -399,57 +393,64 @@ fn few_workers_are_given_a_batch(rt: HostRuntime) -> Result<(), Fail> {
         whole(1, 67, 1, 43),
         whole(2, 8, 3, 4),
     ];
-    let seen = play(&rt, rt.alloc(), staff, &plan)?;
-    assert!(rt; seen.as_slice() == expected.as_slice());
-    Ok(())
+    assert!(rt; leaves(&rt, rt.alloc(), hired(3), &plan, &expected));
 }
 
-/// Where hands are missing the others answer all numbers. Where all are missing nobody does.
+/// If hands are missing the others answer all numbers. If all are missing nobody does.
 #[test]
-fn hands_are_missing(rt: HostRuntime) -> Result<(), Fail> {
-    for (missing, begun, answers, later) in [(1, 2, 134, 43), (2, 1, 134, 43), (3, 0, 0, 0)] {
-        let staff = Staff {
-            workers: 3,
-            missing,
-        };
-        let plan = [answered(200), answered(64)];
-        let expected = [whole(0, 203, begun, answers), whole(1, 67, begun, later)];
-        let seen = play(&rt, rt.alloc(), staff, &plan)?;
-        assert!(rt; seen.as_slice() == expected.as_slice());
-    }
-    Ok(())
+fn hands_are_missing(rt: HostRuntime) {
+    let plan = [answered(200), answered(64)];
+    let two_hands = Staff {
+        workers: 3,
+        missing: 1,
+    };
+    let expected = [whole(0, 203, 2, 134), whole(1, 67, 2, 43)];
+    assert!(rt; leaves(&rt, rt.alloc(), two_hands, &plan, &expected));
+    let no_hand = Staff {
+        workers: 3,
+        missing: 3,
+    };
+    let expected = [whole(0, 203, 0, 0), whole(1, 67, 0, 0)];
+    assert!(rt; leaves(&rt, rt.alloc(), no_hand, &plan, &expected));
 }
 
-/// How many answers groups have, if their numbers rise, also from one group to the next.
-fn sizes_of(alloc: Global, groups: &[Vec<Answer>]) -> Result<Vec<usize>, AllocError> {
-    let mut sizes = Vec::new(alloc);
-    let mut least = 0u64;
-    for group in groups {
-        for answer in group {
-            if answer.number < least {
-                return Ok(Vec::new(alloc));
-            }
-            least = answer.number.saturating_add(1);
+/// Whether the numbers of answers rise from a least one on.
+fn rise(answers: &[Answer], first: u64) -> bool {
+    let mut least = first;
+    for answer in answers {
+        if answer.number < least {
+            return false;
         }
-        sizes.push(group.len())?;
+        least = answer.number.saturating_add(1);
     }
-    Ok(sizes)
+    true
+}
+
+/// Whether groups are one of 128 answers and one of 6, whose numbers rise, those of the second from 192 on.
+fn are_two(groups: &[Vec<Answer>]) -> bool {
+    match groups {
+        [first, second] => {
+            first.len() == 128
+                && second.len() == 6
+                && rise(first.as_slice(), 0)
+                && rise(second.as_slice(), 192)
+        }
+        _ => false,
+    }
+}
+
+/// Whether there is one batch, which came in two such groups.
+fn came_in_two(finished: &[Finished<Sheet, Vec<Answer>>]) -> bool {
+    match finished {
+        [batch] => are_two(batch.groups.as_slice()),
+        _ => false,
+    }
 }
 
 /// One worker sends 128 of its 134 answers in a group, and the rest with its pass, in the order of their numbers.
 #[test]
 fn answers_are_sent_in_groups(rt: HostRuntime) -> Result<(), Fail> {
-    let staff = Staff {
-        workers: 1,
-        missing: 0,
-    };
-    let mut finished = finished(&rt, rt.alloc(), staff, &[answered(200)])?;
-    match finished.pop() {
-        Some(finished) => {
-            let sizes = sizes_of(rt.alloc(), finished.groups.as_slice())?;
-            assert!(rt; sizes.as_slice() == [128, 6].as_slice());
-        }
-        None => panic!(rt; "there is no batch"),
-    }
+    let finished = finished(&rt, rt.alloc(), hired(1), &[answered(200)])?;
+    assert!(rt; came_in_two(finished.as_slice()));
     Ok(())
 }
