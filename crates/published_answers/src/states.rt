@@ -96,8 +96,8 @@ fn put_rules(out: &mut String, table: &Table) -> Result<(), AllocError> {
     Ok(())
 }
 
-/// A line of how many states a table has, of each its number, its deadline and the bytes that it has counted, and of how
-/// many states rules have.
+/// Puts a table's line: the number of its states, the number, the deadline and the counted bytes of each, and the number of
+/// states of each rule that has some.
 pub(crate) fn put_table(out: &mut String, table: &Table) -> Result<(), AllocError> {
     write!(out, "{}", table.len())?;
     let mut found = table.first();

@@ -336,7 +336,7 @@ fn hired(workers: u64) -> Staff
     }
 }
 
-/// A batch of so many numbers that all workers are to answer.
+/// A batch of `count` numbers that all workers are to answer.
 fn answered(count: u64) -> Planned
     requires { count ≤ 4096 }
 {
@@ -348,7 +348,9 @@ fn answered(count: u64) -> Planned
 fn each_number_is_answered_once(rt: HostRuntime) {
     let (many, few, none) = (answered(200), answered(5), answered(0));
     assert!(rt; leaves(&rt, rt.alloc(), hired(1), &[many], &[whole(0, 201, 1, 134)]));
+    assert!(rt; leaves(&rt, rt.alloc(), hired(3), &[many], &[whole(0, 203, 3, 134)]));
     assert!(rt; leaves(&rt, rt.alloc(), hired(8), &[many], &[whole(0, 208, 8, 134)]));
+    assert!(rt; leaves(&rt, rt.alloc(), hired(8), &[few], &[whole(0, 13, 8, 4)]));
     assert!(rt; leaves(&rt, rt.alloc(), hired(64), &[few], &[whole(0, 69, 64, 4)]));
     assert!(rt; leaves(&rt, rt.alloc(), hired(3), &[none], &[whole(0, 3, 3, 0)]));
 }
@@ -362,6 +364,7 @@ fn batches_are_open_at_once(rt: HostRuntime) {
         whole(1, 67, 3, 43),
         whole(2, 8, 3, 4),
     ];
+    assert!(rt; leaves(&rt, rt.alloc(), hired(3), &plan[..2], &expected[..2]));
     assert!(rt; leaves(&rt, rt.alloc(), hired(3), &plan, &expected));
 }
 
@@ -406,6 +409,12 @@ fn hands_are_missing(rt: HostRuntime) {
     };
     let expected = [whole(0, 203, 2, 134), whole(1, 67, 2, 43)];
     assert!(rt; leaves(&rt, rt.alloc(), two_hands, &plan, &expected));
+    let one_hand = Staff {
+        workers: 3,
+        missing: 2,
+    };
+    let expected = [whole(0, 203, 1, 134), whole(1, 67, 1, 43)];
+    assert!(rt; leaves(&rt, rt.alloc(), one_hand, &plan, &expected));
     let no_hand = Staff {
         workers: 3,
         missing: 3,
