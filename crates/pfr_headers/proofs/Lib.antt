@@ -1,5 +1,8 @@
 pub mod CarriedLemmas
 pub mod ChecksumLemmas
+pub mod EmbeddedLemmas
+pub mod ErrorBytesLemmas
+pub mod ErrorLemmas
 pub mod FieldLemmas
 pub mod MessageLemmas
 pub mod OptionLemmas

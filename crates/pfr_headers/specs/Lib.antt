@@ -1,4 +1,5 @@
 pub mod Checksum
+pub mod ErrorLaws
 pub mod Laws
 pub mod Rewriting
 pub mod Room

@@ -1,5 +1,6 @@
 //! Laws of the definitions, each the contract of a function that does nothing.
 ghost use Rattle.std.specs.Prelude.{◌≡◌, List, length, ℕ};
+ghost use Rattle.pfr_headers.specs.ErrorLaws.{EmbeddedEchoStillVerifies, EmbeddedHeaderStillVerifies, EmbeddedNoChecksumStays, EmbeddedUdpStillVerifies, RewrittenErrorIsTranslated};
 ghost use Rattle.pfr_headers.specs.Laws.{HeaderStillVerifies, IcmpStillVerifies, MendedUdpVerifies, MendedVerifies, NoChecksumStays, OtherBytesStay, RewrittenIsTranslated, SameEndChangesNothing, TcpStillVerifies, UdpStillVerifies};
 ghost use Rattle.pfr_headers.specs.declared.packet.View.{View};
 ghost use Rattle.pfr_headers.specs.declared.packet.View.TheVariants.{Ipv4};
@@ -56,4 +57,22 @@ pub fn what_stands_there_changes_nothing()
 /// translation.
 pub fn what_is_written_is_the_translated_packet()
     ensures { RewrittenIsTranslated }
+{}
+
+/// An ICMP error that embeds a packet is seen, once it is rewritten, as the error about the translated packet. The
+/// embedded packet has the new address at its other end, with the new port or identifier. The error's own address at
+/// the translated end becomes the new one too if it is the same. All else of both is as before.
+pub fn what_is_written_is_the_translated_error()
+    ensures { RewrittenErrorIsTranslated }
+{}
+
+/// The checksums of the packet that an error embeds still verify after the error was rewritten: that of its IPv4
+/// header, that of UDP if there is one (if there is none, there is none afterwards), and that of an echo, but where all
+/// words come out as 0. The last two are over what the embedded packet carries by its own lengths, which must hold its
+/// first 8 bytes, as far as it was captured. A TCP checksum stays as it is.
+pub fn embedded_checksums_still_verify()
+    ensures header { EmbeddedHeaderStillVerifies }
+    ensures udp { EmbeddedUdpStillVerifies }
+    ensures udp_without { EmbeddedNoChecksumStays }
+    ensures echo { EmbeddedEchoStillVerifies }
 {}
