@@ -2,7 +2,8 @@
 ghost use Rattle.std.specs.Prelude.{◌≡◌, ◌≤◌, ◌++◌, [], ◌∷◌, length, IfOk, OnOk};
 ghost use Rattle.pfr_adapt.specs.Adapting as spec;
 
-use pfr_expand::{RulesetError, ruleset_of};
+use pfr_conf::ConfErrorKind;
+use pfr_expand::ruleset_of;
 use pfr_given::Given;
 use pfr_items::Items;
 use pfr_marks::mark::{Mark, Place, marks};
@@ -42,8 +43,10 @@ fn is_accepted(alloc: Global, text: &[u8], around: &Surroundings) -> Result<bool
 {
     match ruleset_of(alloc, text, &around.interface) {
         Ok(_) => Ok(true),
-        Err(RulesetError::Fault(_)) => Ok(false),
-        Err(RulesetError::Memory) => Err(AllocError),
+        Err(fault) => match fault.kind {
+            ConfErrorKind::Memory => Err(AllocError),
+            _ => Ok(false),
+        },
     }
 }
 

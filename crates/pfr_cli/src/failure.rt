@@ -1,7 +1,6 @@
 //! What the program says when something is wrong, in one line, and the statuses that it ends with.
 use pfr_capture::CaptureError;
 use pfr_command::Refused;
-use pfr_expand::RulesetError;
 use pfr_out::{ConfError, ConfErrorKind, StandbyStop, Stop};
 use pfr_prepare::{Prepared, Refusal};
 use pfr_sync::SyncError;
@@ -48,12 +47,6 @@ impl<'a> From<Refused<'a>> for Failure<'a> {
 impl From<ConfError> for Failure<'_> {
     fn from(fault: ConfError) -> Self {
         Failure::Stopped(Stop::Ruleset(fault))
-    }
-}
-
-impl From<RulesetError> for Failure<'_> {
-    fn from(error: RulesetError) -> Self {
-        Failure::from(ConfError::from(error))
     }
 }
 

@@ -1,5 +1,6 @@
 //! What `pfreplay check` says of a ruleset.
-use pfr_expand::{RulesetError, ruleset_of};
+use pfr_expand::ruleset_of;
+use pfr_out::ConfError;
 use pfr_ruleset::Interface;
 use pfr_sync::checksum;
 use std::alloc::{AllocError, Global};
@@ -15,7 +16,7 @@ pub struct Summary {
 }
 
 impl Summary {
-    pub fn of(alloc: Global, text: &[u8], interface: &Interface) -> Result<Summary, RulesetError> {
+    pub fn of(alloc: Global, text: &[u8], interface: &Interface) -> Result<Summary, ConfError> {
         let (filter, translation) = ruleset_of(alloc, text, interface)?.counts();
         Ok(Summary {
             filter,

@@ -9,7 +9,10 @@ use Rattle.pfr_terms.specs.declared.name.Written.{Written}
 use Rattle.pfr_terms.specs.declared.name.Written.TheVariants as w
 use Rattle.pfr_terms.specs.declared.error.ConfErrorKind.TheVariants.{BadNumber}
 use Rattle.pfr_terms.specs.Input.{Parser, ◌>>=◌, plain_ahead, quoted_ahead, macro_ahead}
-use Rattle.pfr_terms.proofs.Stays.{Stays, Sight, stays_pure, stays_pure_told, stays_then, stays_first, stays_turn, stays_by_test, stays_by_test_so, stays_found, stays_if, stays_any, stays_by, stays_at, stays_test, stays_fault, stays_loop, stays_eat_word, stays_eat_word_so, stays_eat_sign, stays_named, stays_taken, stays_refuse, stays_faulty, stays_leave_out, stays_expect_word, stays_number_in, plain_sight, plain_shows, quoted_sight, quoted_shows, macro_sight, macro_shows, refusal_sight, left_out_sight, word_sight, sees_sight, named_sight, named_shows}
+use Rattle.pfr_terms.proofs.BraceStays.{stays_expect_word, stays_number_in}
+use Rattle.pfr_terms.proofs.Closers.{Stays}
+use Rattle.pfr_terms.proofs.Sights.{Sight, plain_sight, plain_shows, quoted_sight, quoted_shows, macro_sight, macro_shows, refusal_sight, left_out_sight, word_sight, sees_sight, named_sight, named_shows}
+use Rattle.pfr_terms.proofs.Stays.{stays_pure, stays_pure_told, stays_then, stays_first, stays_turn, stays_by_test, stays_by_test_so, stays_found, stays_if, stays_any, stays_by, stays_at, stays_test, stays_fault, stays_loop, stays_eat_word, stays_eat_word_so, stays_eat_sign, stays_named, stays_taken, stays_refuse, stays_faulty, stays_leave_out}
 use Rattle.pfr_terms.proofs.TermStays.{stays_written, stays_list, stays_interface_name, stays_icmp_match, stays_flags_match, stays_criteria}
 use Rattle.pfr_conf.specs.declared.options.SetOption.TheVariants as o
 use Rattle.pfr_conf.specs.declared.settings.TimeoutName.{TimeoutName}

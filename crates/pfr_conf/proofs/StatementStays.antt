@@ -12,7 +12,10 @@ use Rattle.pfr_terms.specs.Input.{Input, Outcome, Parser, and_then, ◌>>=◌, p
 use Rattle.pfr_terms.specs.declared.error.ConfErrorKind.TheVariants.{OutOfOrder}
 use Rattle.pfr_terms.specs.Lists.{members}
 use Rattle.pfr_terms.specs.Addresses.{table_entry}
-use Rattle.pfr_terms.proofs.Stays.{longer, mode, Closed, Fine, Sees, Sight, IsTest, Follows, Stays, skip_longer, skip_closers, skip_closed, skip_length, stays_pure, stays_then, stays_first, stays_turn, stays_by_test, stays_found, stays_if, stays_any, stays_by, stays_at, stays_test, either_follows, stays_fault, stays_loop, stays_eat_word, stays_eat_word_so, stays_eat_sign, stays_expect_sign, stays_named, stays_taken, stays_refuse, stays_faulty, stays_open_list, stays_close_list, stays_open_body, stays_close_body, plain_sight, plain_shows, quoted_sight, quoted_shows, macro_sight, macro_shows, line_sight, refusal_sight, end_sight, word_sight, word_test, named_sight}
+use Rattle.pfr_terms.proofs.BraceStays.{stays_expect_sign, stays_open_list, stays_close_list, stays_open_body, stays_close_body}
+use Rattle.pfr_terms.proofs.Closers.{longer, mode, Closed, Fine, Sees, Follows, Stays, skip_longer, skip_closers, skip_closed, skip_length}
+use Rattle.pfr_terms.proofs.Sights.{Sight, IsTest, plain_sight, plain_shows, quoted_sight, quoted_shows, macro_sight, macro_shows, line_sight, refusal_sight, end_sight, word_sight, word_test, named_sight}
+use Rattle.pfr_terms.proofs.Stays.{stays_pure, stays_then, stays_first, stays_turn, stays_by_test, stays_found, stays_if, stays_any, stays_by, stays_at, stays_test, either_follows, stays_fault, stays_loop, stays_eat_word, stays_eat_word_so, stays_eat_sign, stays_named, stays_taken, stays_refuse, stays_faulty}
 use Rattle.pfr_terms.proofs.TermStays.{stays_members, stays_table_name, stays_table_entry, stays_criteria}
 use Rattle.pfr_conf.specs.declared.filter.Action as A
 use Rattle.pfr_conf.specs.declared.anchor.AnchorRule.{AnchorRule}

@@ -5,7 +5,7 @@ use Rattle.pfr_words.specs.declared.word.Word.{Word}
 use Rattle.pfr_words.specs.Words.{newlines, pieces, words, words_on, moved}
 use Rattle.pfr_words.proofs.JoinedWords.{words_joined}
 use Rattle.pfr_terms.specs.Input.{Input, Outcome, Parser, and_then, start, loop_from, is_done, words_behind_line_ends, skip_line_ends}
-use Rattle.pfr_terms.proofs.Stays.{Fine}
+use Rattle.pfr_terms.proofs.Closers.{Fine}
 use Rattle.pfr_conf.specs.declared.statement.Statement.{Statement}
 use Rattle.pfr_conf.specs.declared.statement.Statements as S
 use Rattle.pfr_conf.specs.Policies.{end_of_line}

@@ -9,7 +9,8 @@ use Rattle.pfr_words.specs.declared.word.WordFault.TheVariants.{Unterminated}
 use Rattle.pfr_words.proofs.JoinedWords.{words_joined}
 use Rattle.pfr_terms.specs.declared.error.ConfError.{ConfError}
 use Rattle.pfr_terms.specs.Input.{Input, Outcome, Parser, and_then, ◌>>=◌, pure, refuse, start, turns, loop_from, is_line_end, ends_line, at_line_end, is_done, words_behind_line_ends, skip_line_ends, stepped, next}
-use Rattle.pfr_terms.proofs.Stays.{longer, mode, Closed, Fine, Follows, skip_closed, skip_length, refusal_sight}
+use Rattle.pfr_terms.proofs.Closers.{longer, mode, Closed, Fine, Follows, skip_closed, skip_length}
+use Rattle.pfr_terms.proofs.Sights.{refusal_sight}
 use Rattle.pfr_conf.specs.declared.statement.Section.TheVariants as section
 use Rattle.pfr_conf.specs.declared.statement.Statement.{Statement}
 use Rattle.pfr_conf.specs.Policies.{end_of_line}

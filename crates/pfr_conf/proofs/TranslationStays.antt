@@ -14,7 +14,10 @@ use Rattle.pfr_terms.specs.Input.{◌>>=◌, is_free, plain_ahead, line_ahead, s
 use Rattle.pfr_terms.specs.Lists as lists
 use Rattle.pfr_terms.specs.Addresses as addresses
 use Rattle.pfr_terms.specs.Ports as ports
-use Rattle.pfr_terms.proofs.Stays.{Stays, Sight, stays_pure, stays_then, stays_found, stays_if, stays_by, stays_at, stays_test, stays_fault, stays_eat_word, stays_taken, stays_refuse, stays_faulty, stays_leave_out, stays_expect_sign, stays_expect_word, plain_sight, plain_shows, line_sight, fault_sight, left_out_sight, word_sight, sees_sight, named_sight, named_shows}
+use Rattle.pfr_terms.proofs.BraceStays.{stays_expect_sign, stays_expect_word}
+use Rattle.pfr_terms.proofs.Closers.{Stays}
+use Rattle.pfr_terms.proofs.Sights.{Sight, plain_sight, plain_shows, line_sight, fault_sight, left_out_sight, word_sight, sees_sight, named_sight, named_shows}
+use Rattle.pfr_terms.proofs.Stays.{stays_pure, stays_then, stays_found, stays_if, stays_by, stays_at, stays_test, stays_fault, stays_eat_word, stays_taken, stays_refuse, stays_faulty, stays_leave_out}
 use Rattle.pfr_terms.proofs.TermStays.{stays_written, stays_host, stays_port_or_range, stays_ports, stays_part_behind, stays_interfaces, stays_protocols, stays_criteria}
 use Rattle.pfr_conf.specs.declared.targets.RedirectedPort.{RedirectedPort}
 use Rattle.pfr_conf.specs.declared.targets.PortFault.{PortFault}

@@ -8,7 +8,7 @@ use Rattle.pfr_words.specs.declared.word.WordFault.TheVariants.{Unterminated}
 use Rattle.pfr_words.proofs.JoinedWords.{words_joined}
 use Rattle.pfr_terms.specs.declared.error.ConfError.{ConfError}
 use Rattle.pfr_terms.specs.Input.{Input, Outcome, Parser, and_then, start, turns, loop_from, is_line_end, is_done, words_behind_line_ends, skip_line_ends}
-use Rattle.pfr_terms.proofs.Stays.{Fine}
+use Rattle.pfr_terms.proofs.Closers.{Fine}
 use Rattle.pfr_conf.specs.declared.statement.Section.TheVariants as section
 use Rattle.pfr_conf.specs.declared.statement.Statement.{Statement}
 use Rattle.pfr_conf.specs.declared.statement.Statements as S

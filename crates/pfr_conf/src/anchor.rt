@@ -1,5 +1,5 @@
 //! Anchors, which may hold filter rules and anchors.
-ghost use Rattle.std.specs.Prelude.{◌≡◌, ◌≤◌, [], Ok, codes};
+ghost use Rattle.std.specs.Prelude.{Ok};
 ghost use Rattle.pfr_terms.specs.Input.{Reads};
 ghost use Rattle.pfr_conf.specs.Anchors as spec;
 ghost use Rattle.pfr_conf.specs.Statements.{ReadsOnto};

@@ -1,5 +1,5 @@
 //! Filter rules.
-ghost use Rattle.std.specs.Prelude.{◌≡◌, Ok, codes};
+ghost use Rattle.std.specs.Prelude.{◌≡◌, Ok};
 ghost use Rattle.pfr_terms.specs.Input.{Reads};
 ghost use Rattle.pfr_conf.specs.Filters as spec;
 

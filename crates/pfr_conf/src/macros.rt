@@ -1,5 +1,4 @@
 //! Definitions of macros: `NAME = pieces`.
-ghost use Rattle.std.specs.Prelude.{◌≡◌, []};
 ghost use Rattle.pfr_terms.specs.Input.{Reads};
 ghost use Rattle.pfr_conf.specs.Macros as spec;
 ghost use Rattle.pfr_conf.specs.Statements.{ReadsOnto};

@@ -1,5 +1,4 @@
 //! A ruleset text as statements.
-ghost use Rattle.std.specs.Prelude.{◌≡◌};
 ghost use Rattle.pfr_terms.specs.Input.{Reads, Gives};
 ghost use Rattle.pfr_conf.specs.Statements as spec;
 

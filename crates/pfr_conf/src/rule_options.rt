@@ -1,5 +1,5 @@
 //! What may stand behind the hosts of a filter rule, each at most once and in any order.
-ghost use Rattle.std.specs.Prelude.{◌≡◌, ◌&&◌, Ok, codes};
+ghost use Rattle.std.specs.Prelude.{◌≡◌, ◌&&◌, Ok};
 ghost use Rattle.pfr_terms.specs.Input.{Reads};
 ghost use Rattle.pfr_conf.specs.RuleOptions as spec;
 ghost use Rattle.pfr_conf.specs.Statements.{ReadsOnto};

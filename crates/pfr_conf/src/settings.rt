@@ -1,6 +1,6 @@
 //! Timeouts and limits, as `set` writes them: a pair, or pairs in braces.
 ghost use Rattle.std.specs.Prelude.{◌≡◌, ◌≤◌};
-ghost use Rattle.pfr_terms.specs.Input.{Reads, Refuses};
+ghost use Rattle.pfr_terms.specs.Input.{Refuses};
 ghost use Rattle.pfr_conf.specs.Settings as spec;
 
 use pfr_net::Timeout;

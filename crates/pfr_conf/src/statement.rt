@@ -1,5 +1,5 @@
 //! Statements, and the order in which they may come.
-ghost use Rattle.std.specs.Prelude.{◌≡◌, codes};
+ghost use Rattle.std.specs.Prelude.{◌≡◌};
 ghost use Rattle.pfr_conf.specs.Statements as spec;
 ghost use Rattle.pfr_conf.specs.Statements.{ReadsOnto};
 

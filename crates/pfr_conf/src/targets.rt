@@ -1,5 +1,5 @@
 //! What translation rules translate to.
-ghost use Rattle.std.specs.Prelude.{◌≡◌, codes};
+ghost use Rattle.std.specs.Prelude.{◌≡◌};
 ghost use Rattle.pfr_terms.specs.Input.{Reads, Refuses};
 ghost use Rattle.pfr_conf.specs.Targets as spec;
 

@@ -1,6 +1,6 @@
 //! Translation rules: `nat`, `rdr` and `binat`, and anchors of such.
-ghost use Rattle.std.specs.Prelude.{◌≡◌, ◌≤◌, ◌∷◌, [], Ok, codes, IfOk};
-ghost use Rattle.pfr_terms.specs.Input.{Reads, Refuses};
+ghost use Rattle.std.specs.Prelude.{◌≡◌, ◌∷◌, [], Ok, IfOk};
+ghost use Rattle.pfr_terms.specs.Input.{Reads};
 ghost use Rattle.pfr_conf.specs.Translations as spec;
 
 use crate::filter::logged;

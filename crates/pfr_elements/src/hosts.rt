@@ -1,5 +1,5 @@
 //! What addresses mean in a list.
-ghost use Rattle.std.specs.Prelude.{◌≡◌, ◌<◌, ◌≤◌, Ok};
+ghost use Rattle.std.specs.Prelude.{◌≡◌, ◌<◌, Ok};
 ghost use Rattle.pfr_words.specs.Words.{words};
 ghost use Rattle.pfr_terms.specs.Input.{Reads};
 ghost use Rattle.pfr_elements.specs.Elements.{value_item};

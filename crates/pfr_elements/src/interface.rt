@@ -1,5 +1,5 @@
 //! What the forms of an interface mean.
-ghost use Rattle.std.specs.Prelude.{◌≡◌, ◌<◌, ◌≤◌, length, codes};
+ghost use Rattle.std.specs.Prelude.{◌≡◌, ◌<◌};
 ghost use Rattle.pfr_elements.specs.Interfaces as spec;
 
 use pfr_net::interface::LONGEST_NAME;

@@ -1,5 +1,5 @@
 //! The macros that are defined, and what their uses stand for.
-ghost use Rattle.std.specs.Prelude.{◌≡◌, ◌<◌, ◌≤◌, ◌++◌, Ok, Some, OnOk, IfOk};
+ghost use Rattle.std.specs.Prelude.{◌≡◌, ◌<◌, ◌++◌, Ok, Some, OnOk, IfOk};
 ghost use Rattle.std.specs.Option.{is_some, option_copied};
 ghost use Rattle.pfr_words.specs.Words.{words};
 ghost use Rattle.pfr_elements.specs.Meanings as meanings;

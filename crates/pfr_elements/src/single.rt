@@ -1,6 +1,6 @@
 //! One address, where pf.conf(5) would take a pool of several: the target of a translation rule, and the source of a
 //! binat rule.
-ghost use Rattle.std.specs.Prelude.{◌≡◌, ◌<◌, ◌≤◌, IfOk, IfErr, OnOk, Ok};
+ghost use Rattle.std.specs.Prelude.{◌≡◌, ◌<◌, IfOk, IfErr, OnOk, Ok};
 ghost use Rattle.pfr_words.specs.Words.{words};
 ghost use Rattle.pfr_terms.specs.declared.error.ConfErrorKind.TheVariants.{Memory};
 ghost use Rattle.pfr_terms.specs.Input.{Reads};

@@ -1,5 +1,5 @@
 //! The words of a macro's value.
-ghost use Rattle.std.specs.Prelude.{◌≡◌, ◌<◌, ◌≤◌, ◌+◌, length};
+ghost use Rattle.std.specs.Prelude.{◌≡◌, ◌<◌, ◌+◌};
 ghost use Rattle.std.specs.Option.{option_map};
 ghost use Rattle.pfr_words.specs.Words.{words};
 ghost use Rattle.pfr_elements.specs.Values as spec;

@@ -1,5 +1,5 @@
 //! The values of macros.
-ghost use Rattle.std.specs.Prelude.{◌≡◌, ◌<◌, ◌≤◌, ◌++◌, ◌∷◌, length, OnOk, Ok};
+ghost use Rattle.std.specs.Prelude.{◌≡◌, ◌<◌, ◌++◌, ◌∷◌, OnOk, Ok};
 ghost use Rattle.pfr_elements.specs.Values as spec;
 ghost use Rattle.pfr_elements.specs.declared.value.Value.TheVariants.{Text, TooLong};
 

@@ -4,6 +4,7 @@ use Rattle.std.proofs.lemmas.List.{length-append}
 use Rattle.pfr_ruleset.specs.declared.interface.Interface.{Interface}
 use Rattle.pfr_ruleset.specs.declared.flat.FlatRule.{FlatRule}
 use Rattle.pfr_ruleset.specs.declared.flat.PacketMatch.{PacketMatch}
+use Rattle.pfr_ruleset.specs.declared.label.Label.{Label}
 use Rattle.pfr_ruleset.specs.Places.{joined}
 use Rattle.pfr_ruleset.specs.declared.options.Options as O
 use Rattle.pfr_ruleset.specs.declared.ruleset.Ruleset as R
@@ -43,7 +44,7 @@ use Rattle.pfr_expand.specs.Rulesets.{and_more, clash_of, expanded, expanded_fro
 use Rattle.pfr_expand.specs.Tables.{filled, unfilled}
 use Rattle.pfr_expand.specs.Translations.{change_of, lists_by, translation_lists, with_change, with_choices, with_rules}
 use Rattle.pfr_expand.proofs.CountLemmas.{AreCounted, combinations_few, lists_counted, lists_counted_with, sources_counted, within}
-use Rattle.pfr_expand.proofs.RuleLemmas.{Adds, statement_adds}
+use Rattle.pfr_expand.proofs.RuleLemmas.{Adds, Reach, reach_on, reach_themselves, statement_adds}
 
 -- ---- a ruleset on its way
 
@@ -55,16 +56,18 @@ pub record IsFew (work : Work) : Type 0 where
   pub all : length work.flat.filter.rules + work.translations ≤ 65536
   pub translations : translation_count work.flat.translations ≤ work.translations
 
--- rules of the filter behind those that there were, of what is said
-pub record Advances (AreMade : List FlatRule → Type 0) (work next : Work) : Type 0 where
+-- rules of the filter behind those that there were, of what is said with all labels that come to be
+pub record Advances (AreMade : List Label → List FlatRule → Type 0) (work next : Work) : Type 0 where
   pub own : List FlatRule
   pub rules : next.flat.filter.rules ≡ work.flat.filter.rules ++ own
-  pub made : AreMade own
+  pub labels : Reach work.flat.labels next.flat.labels
+  pub made : (all : List Label) → Reach next.flat.labels all → AreMade all own
   pub few : IsFew work → IsFew next
 
 -- the rules stay as they are
 pub record Stays (work next : Work) : Type 0 where
   pub rules : next.flat.filter.rules ≡ work.flat.filter.rules
+  pub labels : next.flat.labels ≡ work.flat.labels
   pub count : next.translations ≡ work.translations
   pub translations : next.flat.translations ≡ work.flat.translations
 
@@ -77,8 +80,11 @@ stays_few work next stays few =
     let same = ap translation_count stays.translations in
     record { all = omega (arith, all, rules, count); translations = omega (arith, least, count, same) }
 
-stays_advances : (work next : Work) → Stays work next → Advances (λ rules. rules ≡ []) work next
-stays_advances work next stays = record { own = []; rules = stays.rules ∙ sym (append-nil work.flat.filter.rules); made = refl; few = stays_few work next stays }
+same_reach : (labels later : List Label) → later ≡ labels → Reach labels later
+same_reach labels later is = subst (Reach labels) (sym is) (reach_themselves labels)
+
+stays_advances : (work next : Work) → Stays work next → Advances (λ all rules. rules ≡ []) work next
+stays_advances work next stays = record { own = []; rules = stays.rules ∙ sym (append-nil work.flat.filter.rules); labels = same_reach work.flat.labels next.flat.labels stays.labels; made = λ all behind. refl; few = stays_few work next stays }
 
 -- ---- macros, tables and options
 
@@ -91,7 +97,7 @@ macro_stays d work next is = by_value (pieces_from work.scope.macros (begun work
   where
     by_value : (found : Result Draft ConfError) → macro_by work d.name found ≡ Ok next → Stays work next
     by_value (Err e) is = absurd (cc is)
-    by_value (Ok draft) is = same_work work next _ is (record { rules = refl; count = refl; translations = refl })
+    by_value (Ok draft) is = same_work work next _ is (record { rules = refl; labels = refl; count = refl; translations = refl })
 
 abbrev filling_of : TableDefinition → Work → Filling
 filling_of d work = filled work.scope (unfilled (clash_of d.name (is_defined work.scope d.name))) d.entries
@@ -102,7 +108,7 @@ table_stays d work next is = by_count (nat_lt most_elements (filling_of d work).
   where
     by_fault : (fault : Option ConfError) → table_by work d (filling_of d work) fault ≡ Ok next → Stays work next
     by_fault (Some e) is = absurd (cc is)
-    by_fault None is = same_work work next _ is (record { rules = refl; count = refl; translations = refl })
+    by_fault None is = same_work work next _ is (record { rules = refl; labels = refl; count = refl; translations = refl })
 
     by_count : (large : Bool) → (if large then Err (too_many d.line) else table_by work d (filling_of d work) (filling_of d work).found.fault) ≡ Ok next → Stays work next
     by_count true is = absurd (cc is)
@@ -114,7 +120,7 @@ option_stays option work next is = by_options (with_option work.scope option wor
   where
     by_options : (found : Result O.Options ConfError) → option_by work found ≡ Ok next → Stays work next
     by_options (Err e) is = absurd (cc is)
-    by_options (Ok options) is = same_work work next _ is (record { rules = refl; count = refl; translations = refl })
+    by_options (Ok options) is = same_work work next _ is (record { rules = refl; labels = refl; count = refl; translations = refl })
 
 -- ---- translation rules
 
@@ -166,6 +172,7 @@ within_limit rules translations count few = omega (arith, few)
 -- a translation rule makes none of the filter's
 pub record Translates (work next : Work) : Type 0 where
   pub rules : next.flat.filter.rules ≡ work.flat.filter.rules
+  pub labels : next.flat.labels ≡ work.flat.labels
   pub few : IsFew work → IsFew next
 
 translation_translates : (rule : TranslationRule) (work next : Work) → with_translation rule work ≡ Ok next → Translates work next
@@ -182,6 +189,7 @@ translation_translates rule work next is = by_count (counted (used_in work) rule
         let more = choices_count work.scope work.translations rule (choices_or_fault (translation_lists work.scope rule)) work.flat.translations all (product (translation_lists work.scope rule)) (λ c found. combinations_few (translation_lists work.scope rule) c (translation_lists_counted work.scope rule) w.short found) made_is in
         subst (Translates work) same (record {
           rules = refl;
+          labels = refl;
           few = λ before. (let least = before.translations in record { all = omega (arith, limit); translations = omega (arith, least, more, total) });
         })
 
@@ -192,16 +200,16 @@ translation_translates rule work next is = by_count (counted (used_in work) rule
 translations_translate : (found : TranslationStatement) (work next : Work) → with_translations found work ≡ Ok next → Translates work next
 translations_translate (t.Anchor found name) work next is =
     let same : work ≡ next = cc is in
-    subst (Translates work) same (record { rules = refl; few = λ before. before })
+    subst (Translates work) same (record { rules = refl; labels = refl; few = λ before. before })
 translations_translate (t.Rule rule) work next is = translation_translates rule work next is
 
 -- ---- filter rules
 
-filter_advances : (x : FilterStatement) (work next : Work) → with_filter x work ≡ Ok next → Advances (AreOfFilter 16 x) work next
+filter_advances : (x : FilterStatement) (work next : Work) → with_filter x work ≡ Ok next → Advances (λ all. AreOfFilter all 16 x) work next
 unfolding with_filter
-filter_advances x work next is = by_body (filter_statement 16 work.scope (setting_of work (line_of x)) x empty_body) refl is
+filter_advances x work next is = by_body (filter_statement 16 work.scope (setting_of work (line_of x)) x (empty_body work.flat.labels)) refl is
   where
-    by_fault : (body : Body) → Adds (used_in work) (AreOfFilter 16 x) empty_body body → (fault : Option ConfError) → body.fault ≡ fault → filter_if work body fault ≡ Ok next → Advances (AreOfFilter 16 x) work next
+    by_fault : (body : Body) → Adds (used_in work) (λ all. AreOfFilter all 16 x) (empty_body work.flat.labels) body → (fault : Option ConfError) → body.fault ≡ fault → filter_if work body fault ≡ Ok next → Advances (λ all. AreOfFilter all 16 x) work next
     by_fault body adds (Some e) fault_is is = absurd (cc is)
     by_fault body adds None fault_is is =
         let own = adds.grows fault_is in
@@ -209,24 +217,25 @@ filter_advances x work next is = by_body (filter_statement 16 work.scope (settin
         let long = ap (λ (rules : List FlatRule). length rules) own.rules in
         let limit = within_limit (length work.flat.filter.rules) work.translations body.count adds.few in
         let both = length-append work.flat.filter.rules body.rules in
-        let same : record work { flat = record work.flat { filter = joined work.flat.filter body.rules body.anchors } } ≡ next = cc is in
-        subst (Advances (AreOfFilter 16 x) work) same (record {
+        let same : record work { flat = record work.flat { filter = joined work.flat.filter body.rules body.anchors; labels = body.labels } } ≡ next = cc is in
+        subst (Advances (λ all. AreOfFilter all 16 x) work) same (record {
           own = body.rules;
           rules = refl;
-          made = subst (AreOfFilter 16 x) (sym own.rules) own.made;
+          labels = own.labels;
+          made = λ all behind. subst (AreOfFilter all 16 x) (sym own.rules) (own.made all behind);
           few = λ before. (let least = before.translations in record { all = omega (arith, limit, own_few, long, both); translations = least });
         })
 
-    by_body : (found : Result Body ConfError) → filter_statement 16 work.scope (setting_of work (line_of x)) x empty_body ≡ found → filter_by work found ≡ Ok next → Advances (AreOfFilter 16 x) work next
+    by_body : (found : Result Body ConfError) → filter_statement 16 work.scope (setting_of work (line_of x)) x (empty_body work.flat.labels) ≡ found → filter_by work found ≡ Ok next → Advances (λ all. AreOfFilter all 16 x) work next
     by_body (Err e) body_is is = absurd (cc is)
-    by_body (Ok body) body_is is = by_fault body (statement_adds 16 work.scope (setting_of work (line_of x)) x empty_body body body_is) body.fault refl is
+    by_body (Ok body) body_is is = by_fault body (statement_adds 16 work.scope (setting_of work (line_of x)) x (empty_body work.flat.labels) body body_is) body.fault refl is
 
 -- ---- all statements
 
-translates_advances : (work next : Work) → Translates work next → Advances (λ rules. rules ≡ []) work next
-translates_advances work next t = record { own = []; rules = t.rules ∙ sym (append-nil work.flat.filter.rules); made = refl; few = t.few }
+translates_advances : (work next : Work) → Translates work next → Advances (λ all rules. rules ≡ []) work next
+translates_advances work next t = record { own = []; rules = t.rules ∙ sym (append-nil work.flat.filter.rules); labels = same_reach work.flat.labels next.flat.labels t.labels; made = λ all behind. refl; few = t.few }
 
-statement_advances : (x : Statement) (work next : Work) → with_statement x work ≡ Ok next → Advances (AreOf x) work next
+statement_advances : (x : Statement) (work next : Work) → with_statement x work ≡ Ok next → Advances (λ all. AreOf all x) work next
 unfolding with_statement
 statement_advances (s.Macro d) work next is = stays_advances work next (macro_stays d work next is)
 statement_advances (s.Table d) work next is = stays_advances work next (table_stays d work next is)
@@ -234,13 +243,13 @@ statement_advances (s.Option option) work next is = stays_advances work next (op
 statement_advances (s.Translation found) work next is = translates_advances work next (translations_translate found work next is)
 statement_advances (s.Filter x) work next is = filter_advances x work next is
 
-all_advance : (xs : List Statement) (work next : Work) → expanded_from work xs ≡ Ok next → Advances (AreInTurn AreOf xs) work next
+all_advance : (xs : List Statement) (work next : Work) → expanded_from work xs ≡ Ok next → Advances (λ all. AreInTurn (AreOf all) xs) work next
 all_advance [] work next is =
     let same : work ≡ next = cc is in
-    subst (Advances (AreInTurn AreOf []) work) same (record { own = []; rules = sym (append-nil work.flat.filter.rules); made = refl; few = λ before. before })
+    subst (Advances (λ all. AreInTurn (AreOf all) []) work) same (record { own = []; rules = sym (append-nil work.flat.filter.rules); labels = reach_themselves work.flat.labels; made = λ all behind. refl; few = λ before. before })
 all_advance (x ∷ xs) work next is = by_first (λ between. all_advance xs between next) (with_statement x work) refl is
   where
-    by_first : ((between : Work) → expanded_from between xs ≡ Ok next → Advances (AreInTurn AreOf xs) between next) → (found : Result Work ConfError) → with_statement x work ≡ found → and_more found (λ w. expanded_from w xs) ≡ Ok next → Advances (AreInTurn AreOf (x ∷ xs)) work next
+    by_first : ((between : Work) → expanded_from between xs ≡ Ok next → Advances (λ all. AreInTurn (AreOf all) xs) between next) → (found : Result Work ConfError) → with_statement x work ≡ found → and_more found (λ w. expanded_from w xs) ≡ Ok next → Advances (λ all. AreInTurn (AreOf all) (x ∷ xs)) work next
     by_first others (Err e) first_is is = absurd (cc is)
     by_first others (Ok between) first_is is =
         let first = statement_advances x work between first_is in
@@ -248,13 +257,14 @@ all_advance (x ∷ xs) work next is = by_first (λ between. all_advance xs betwe
         record {
           own = first.own ++ behind.own;
           rules = behind.rules ∙ ap (λ (rules : List FlatRule). rules ++ behind.own) first.rules ∙ append_assoc work.flat.filter.rules first.own behind.own;
-          made = (first.own, behind.own, refl, first.made, behind.made);
+          labels = reach_on work.flat.labels between.flat.labels next.flat.labels first.labels behind.labels;
+          made = λ all later. (first.own, behind.own, refl, first.made all (reach_on between.flat.labels next.flat.labels all behind.labels later), behind.made all later);
           few = λ before. behind.few (first.few before);
         }
 
 -- a ruleset's rules are of its statements, and they are few
 pub record IsOfAll (xs : List Statement) (r : R.Ruleset) : Type 0 where
-  pub rules : AreInTurn AreOf xs r.filter.rules
+  pub rules : AreInTurn (AreOf r.labels) xs r.filter.rules
   pub most : length r.filter.rules + translation_count r.translations ≤ 65536
 
 abbrev begin_of : S.Statements → Interface → Work
@@ -273,11 +283,11 @@ of_all statements interface r is = by_work (expanded_from (begin_of statements i
         let total = few.all in
         let least = few.translations in
         subst (IsOfAll statements.statements) same (record {
-          rules = subst (AreInTurn AreOf statements.statements) (sym all.rules) all.made;
+          rules = subst (AreInTurn (AreOf work.flat.labels) statements.statements) (sym all.rules) (all.made work.flat.labels (reach_themselves work.flat.labels));
           most = omega (arith, total, least);
         })
 
-pub rules_of : (statements : S.Statements) (interface : Interface) (r : R.Ruleset) → expanded statements interface ≡ Ok r → AreInTurn AreOf statements.statements r.filter.rules
+pub rules_of : (statements : S.Statements) (interface : Interface) (r : R.Ruleset) → expanded statements interface ≡ Ok r → AreInTurn (AreOf r.labels) statements.statements r.filter.rules
 rules_of statements interface r is = (of_all statements interface r is).rules
 
 pub most_of : (statements : S.Statements) (interface : Interface) (r : R.Ruleset) → expanded statements interface ≡ Ok r → length r.filter.rules + translation_count r.translations ≤ 65536

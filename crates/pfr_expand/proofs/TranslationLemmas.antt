@@ -1,5 +1,5 @@
 -- The translation rules of a ruleset: each is of a statement.
-use Rattle.std.proofs.Common.{◌≡◌, ◌<◌, ◌+◌, ℕ, suc, Bool, true, false, if◌then◌else◌, List, [], ◌∷◌, ◌++◌, length, All, Contains, slice_index_or, Option, Some, None, IfSome, Result, Ok, Err, append_assoc, refl, sym, ap, subst, arith}
+use Rattle.std.proofs.Common.{◌≡◌, ◌+◌, ℕ, suc, Bool, true, false, if◌then◌else◌, List, [], ◌∷◌, ◌++◌, All, Contains, slice_index_or, Option, Some, None, IfSome, Result, Ok, Err, append_assoc, refl, sym, ap, subst, arith}
 use Rattle.std.proofs.lemmas.Bool.{and_parts}
 use Rattle.std.proofs.lemmas.Option.{slice_get-get_or}
 use Rattle.std.proofs.lemmas.List.Elements.{All-append, All-cons, All-head, All-nil, All-tail, Contains-append_right}
@@ -188,12 +188,12 @@ translations_remain statements (t.Rule rule) work next there is are = translatio
 
 filter_remains : (statements : List Statement) (x : FilterStatement) (work next : Work) → with_filter x work ≡ Ok next → Remain statements work next
 unfolding with_filter
-filter_remains statements x work next is are = by_body (filter_statement 16 work.scope (setting_of work (line_of x)) x empty_body) is
+filter_remains statements x work next is are = by_body (filter_statement 16 work.scope (setting_of work (line_of x)) x (empty_body work.flat.labels)) is
   where
     by_fault : (body : Body) (fault : Option ConfError) → filter_if work body fault ≡ Ok next → AreOfOnes statements next.flat.translations
     by_fault body (Some e) is = absurd (cc is)
     by_fault body None is =
-        let same : record work { flat = record work.flat { filter = joined work.flat.filter body.rules body.anchors } } ≡ next = cc is in
+        let same : record work { flat = record work.flat { filter = joined work.flat.filter body.rules body.anchors; labels = body.labels } } ≡ next = cc is in
         subst (λ (w : Work). AreOfOnes statements w.flat.translations) same are
 
     by_body : (found : Result Body ConfError) → filter_by work found ≡ Ok next → AreOfOnes statements next.flat.translations

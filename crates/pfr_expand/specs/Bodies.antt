@@ -1,5 +1,5 @@
 -- Filter rules and anchors as flat rules, with the anchors round them.
-use Rattle.std.specs.Prelude.{◌≡◌, ◌≤◌, ◌<◌, ℕ, zero, suc, ◌+◌, ◌-◌, ◌*◌, ◌==◌, ◌||◌, Bool, true, false, not, nat_lt, if◌then◌else◌, List, [], ◌∷◌, ◌++◌, length, map, fold, Option, Some, None, Result, Ok, Err, ◌≢◌}
+use Rattle.std.specs.Prelude.{◌≡◌, ℕ, zero, suc, ◌+◌, ◌-◌, ◌==◌, Bool, true, false, not, nat_lt, if◌then◌else◌, List, [], ◌∷◌, ◌++◌, length, map, fold, Option, Some, None, Result, Ok, Err, ◌≢◌}
 use Rattle.pfr_ruleset.specs.declared.policy.BlockPolicy.{BlockPolicy}
 use Rattle.pfr_ruleset.specs.declared.policy.BlockPolicy.TheVariants as b
 use Rattle.pfr_ruleset.specs.declared.policy.Binding.{Binding}
@@ -11,11 +11,13 @@ use Rattle.pfr_ruleset.specs.declared.flat.FlagsCriterion.TheVariants as asked
 use Rattle.pfr_ruleset.specs.declared.flat.StateRule.{StateRule}
 use Rattle.pfr_ruleset.specs.declared.flat.FlatRule.{FlatRule}
 use Rattle.pfr_ruleset.specs.declared.flat.FlatAnchor.{FlatAnchor}
+use Rattle.pfr_ruleset.specs.declared.label.Label.{Label}
 use Rattle.pfr_ruleset.specs.Places.{moved}
 use Rattle.pfr_terms.specs.declared.error.ConfError.{ConfError}
 use Rattle.pfr_terms.specs.declared.error.ConfErrorKind.TheVariants.{TooDeep, Memory}
 use Rattle.pfr_terms.specs.declared.flags.FlagsMatch.{FlagsMatch}
 use Rattle.pfr_terms.specs.declared.flags.FlagsMatch.TheVariants as flags
+use Rattle.pfr_terms.specs.declared.name.Name.{Name}
 use Rattle.pfr_conf.specs.declared.filter.Action.{Action}
 use Rattle.pfr_conf.specs.declared.filter.Action.TheVariants as a
 use Rattle.pfr_conf.specs.declared.filter.FilterRule.{FilterRule}
@@ -29,7 +31,7 @@ use Rattle.pfr_elements.specs.Elements.{first_fault}
 use Rattle.pfr_flat.specs.declared.choices.Choices as C
 use Rattle.pfr_flat.specs.declared.lists.Lists as L
 use Rattle.pfr_flat.specs.Choices.{no_match, combinations}
-use Rattle.pfr_flat.specs.Counts.{counted}
+use Rattle.pfr_flat.specs.Counts.{counted, too_many}
 use Rattle.pfr_flat.specs.Lists.{lists_of, choices_or_fault}
 use Rattle.pfr_expand.specs.declared.body.Setting.{Setting}
 use Rattle.pfr_expand.specs.declared.body.Body.{Body}
@@ -69,14 +71,20 @@ flags_of (Some state) None = asked.Default
 flags_of state (Some flags.Any) = asked.Any
 flags_of state (Some (flags.Of set mask)) = asked.Written set mask
 
--- what all flat rules of one rule have alike
-unfoldable pub flat_rule : Setting → FilterRule → FlatRule
-flat_rule setting rule =
+-- the place that a label comes to behind others
+abbrev pub label_place : List Label → Option Name → Option ℕ
+label_place labels None = None
+label_place labels (Some name) = Some (length labels)
+
+-- what all flat rules of one rule have alike, with the place of its label
+unfoldable pub flat_rule : Setting → Option ℕ → FilterRule → FlatRule
+flat_rule setting label rule =
     let state : Option StateRule = state_of setting.state_policy rule.action rule.options.state in
     record {
       action = action_of setting.block_policy rule.action;
       direction = rule.direction;
       is_quick = rule.is_quick;
+      label = label;
       packet = no_match;
       flags = flags_of state rule.options.flags;
       state = state;
@@ -95,15 +103,26 @@ abbrev pub with_made : FlatRule → Result C.Choices ConfError → Body → Body
 with_made rule (Err e) out = record out { fault = first_fault out.fault e }
 with_made rule (Ok choices) out = made_if out.fault rule choices out
 
-abbrev pub rule_by : Setting → FilterRule → L.Lists → Body → Result ℕ ConfError → Result Body ConfError
-rule_by setting rule lists out (Err e) = Err e
-rule_by setting rule lists out (Ok count) = Ok (with_made (flat_rule setting rule) (choices_or_fault lists) (record out { count = count }))
+abbrev pub rule_by : FlatRule → L.Lists → Body → Result ℕ ConfError → Result Body ConfError
+rule_by rule lists out (Err e) = Err e
+rule_by rule lists out (Ok count) = Ok (with_made rule (choices_or_fault lists) (record out { count = count }))
 
-abbrev pub rule_of : Setting → FilterRule → L.Lists → Body → Result Body ConfError
-rule_of setting rule lists out = rule_by setting rule lists out (counted setting.used setting.line lists out.count 1)
+abbrev pub rule_of : Setting → FlatRule → L.Lists → Body → Result Body ConfError
+rule_of setting rule lists out = rule_by rule lists out (counted setting.used setting.line lists out.count 1)
+
+-- a label behind others; there are at most as many as there may be rules
+abbrev pub with_label : ℕ → List Label → Option Name → Result (List Label) ConfError
+with_label line labels None = Ok labels
+with_label line labels (Some name) = if nat_lt (length labels) 65536 then Ok (labels ++ record { text = name.text } ∷ []) else Err (too_many line)
+
+abbrev pub labelled_rule : Scope → Setting → FilterRule → Body → Result (List Label) ConfError → Result Body ConfError
+labelled_rule scope setting rule out (Err e) = Err e
+labelled_rule scope setting rule out (Ok labels) =
+    let flat : FlatRule = flat_rule setting (label_place out.labels rule.options.label) rule in
+    rule_of setting flat (lists_of scope true rule.criteria rule.options.icmp_types) (record out { labels = labels })
 
 unfoldable pub with_rule : Scope → Setting → FilterRule → Body → Result Body ConfError
-with_rule scope setting rule out = rule_of setting rule (lists_of scope true rule.criteria rule.options.icmp_types) out
+with_rule scope setting rule out = labelled_rule scope setting rule out (with_label setting.line out.labels rule.options.label)
 
 -- ---- anchors
 
@@ -136,13 +155,14 @@ with_copies anchor (Ok choices) inner out =
 
 abbrev pub anchor_by : AnchorRule → L.Lists → Body → Body → Result ℕ ConfError → Result Body ConfError
 anchor_by anchor lists inner out (Err e) = Err e
-anchor_by anchor lists inner out (Ok count) = Ok (with_copies (flat_anchor anchor) (choices_or_fault lists) inner (record out { count = count }))
+anchor_by anchor lists inner out (Ok count) = Ok (with_copies (flat_anchor anchor) (choices_or_fault lists) inner (record out { count = count; labels = inner.labels }))
 
 abbrev pub counted_anchor : Setting → AnchorRule → L.Lists → Body → Body → Result Body ConfError
 counted_anchor setting anchor lists inner out = anchor_by anchor lists inner out (counted setting.used setting.line lists out.count inner.count)
 
-abbrev pub empty_body : Body
-empty_body = record { rules = []; anchors = []; fault = None; count = 0 }
+-- no rules, behind rules with these labels
+abbrev pub empty_body : List Label → Body
+empty_body labels = record { rules = []; anchors = []; labels = labels; fault = None; count = 0 }
 
 -- ---- bodies
 
@@ -176,4 +196,4 @@ statement_by anchored scope setting (FilterStatement-F.Anchor anchor body) out =
 -- a statement in which at most so many anchors stand in one another
 unfoldable pub statement : ℕ → Scope → Setting → Adding
 statement zero scope setting x out = statement_by (λ anchor body out. Err (record { line = anchor.line; kind = TooDeep })) scope setting (out-FilterStatement x) out
-statement (suc depth) scope setting x out = statement_by (λ anchor body out. with_anchor scope setting anchor (body_from (statement depth scope setting) empty_body body) out) scope setting (out-FilterStatement x) out
+statement (suc depth) scope setting x out = statement_by (λ anchor body out. with_anchor scope setting anchor (body_from (statement depth scope setting) (empty_body out.labels) body) out) scope setting (out-FilterStatement x) out

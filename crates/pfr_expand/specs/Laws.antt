@@ -13,15 +13,17 @@ use Rattle.pfr_ruleset.specs.declared.flat.RdrAddress.{RdrAddress}
 use Rattle.pfr_ruleset.specs.declared.flat.PacketMatch.{PacketMatch}
 use Rattle.pfr_ruleset.specs.declared.flat.StateRule.{StateRule}
 use Rattle.pfr_ruleset.specs.declared.interface.Interface.{Interface}
+use Rattle.pfr_ruleset.specs.declared.label.Label.{Label}
 use Rattle.pfr_ruleset.specs.declared.ruleset.Ruleset.{Ruleset}
 use Rattle.pfr_ruleset.specs.declared.translations.Translations.{Translations}
-use Rattle.pfr_ruleset.specs.Rulesets.{counts}
+use Rattle.pfr_ruleset.specs.Rulesets.{counts, label_at}
 use Rattle.pfr_terms.specs.declared.address.Address.{Address}
 use Rattle.pfr_terms.specs.declared.address.Address.TheVariants as a
 use Rattle.pfr_terms.specs.declared.flags.FlagsMatch.{FlagsMatch}
 use Rattle.pfr_terms.specs.declared.flags.FlagsMatch.TheVariants as flags
 use Rattle.pfr_terms.specs.declared.hosts.Criteria.{Criteria}
 use Rattle.pfr_terms.specs.declared.hosts.Part.{Part}
+use Rattle.pfr_terms.specs.declared.name.Name.{Name}
 use Rattle.pfr_terms.specs.declared.name.Written.{Written}
 use Rattle.pfr_terms.specs.declared.name.Written.TheVariants.{Item, Macro}
 use Rattle.pfr_conf.specs.declared.filter.Action.{Action}
@@ -121,20 +123,26 @@ pub record AsksFrom (rule : FilterRule) (asked : PacketMatch) : Type 0 where
   pub source_port : IsFrom (ports_of rule.criteria.hosts.source) asked.source_port
   pub destination_port : IsFrom (ports_of rule.criteria.hosts.destination) asked.destination_port
 
--- a flat rule of a written one
-pub record IsOfRule (rule : FilterRule) (flat : FlatRule) : Type 0 where
+-- the label at a flat rule's place is the one that is written, and it has no place where none is
+abbrev pub IsLabelled : List Label → Option Name → Option ℕ → Type 0
+IsLabelled labels None place = place ≡ None
+IsLabelled labels (Some name) place = label_at labels place ≡ Some name.text
+
+-- a flat rule of a written one, in a ruleset with these labels
+pub record IsOfRule (labels : List Label) (rule : FilterRule) (flat : FlatRule) : Type 0 where
   pub action : IsAsWritten rule.action flat.action
   pub direction : flat.direction ≡ rule.direction
   pub quick : flat.is_quick ≡ rule.is_quick
   pub options : flat.allow_opts ≡ rule.options.allow_opts
   pub line : flat.line ≡ rule.line
+  pub label : IsLabelled labels rule.options.label flat.label
   pub state : KeepsAsWritten rule.action rule.options.state flat.state
   pub flags : AsksAsWritten rule.options.flags flat.state flat.flags
   pub packet : AsksFrom rule flat.packet
 
 -- all flat rules of a written one; where its lists use no macro there is one for each combination of their elements
-pub record AreOfRule (rule : FilterRule) (rules : List FlatRule) : Type 0 where
-  pub each : All (IsOfRule rule) rules
+pub record AreOfRule (labels : List Label) (rule : FilterRule) (rules : List FlatRule) : Type 0 where
+  pub each : All (IsOfRule labels rule) rules
   pub count : ArePlain rule.criteria → AllWritten IsPlain rule.options.icmp_types → length rules ≡ combinations_in rule.criteria * choices_in rule.options.icmp_types
 
 -- ---- anchors, and all statements
@@ -159,19 +167,19 @@ pub record AreOfAnchor (AreOfBody : List FlatRule → Type 0) (anchor : AnchorRu
   pub count : ArePlain anchor.criteria → times ≡ combinations_in anchor.criteria
 
 -- the rules of a filter rule, or of an anchor where it is known which are rules of its body
-abbrev pub AreByForm : (List FilterStatement → List FlatRule → Type 0) → FilterStatement-F FilterStatement → List FlatRule → Type 0
-AreByForm AreOfBody (FilterStatement-F.Rule rule) rules = AreOfRule rule rules
-AreByForm AreOfBody (FilterStatement-F.Anchor anchor body) rules = AreOfAnchor (AreOfBody body) anchor rules
+abbrev pub AreByForm : List Label → (List FilterStatement → List FlatRule → Type 0) → FilterStatement-F FilterStatement → List FlatRule → Type 0
+AreByForm labels AreOfBody (FilterStatement-F.Rule rule) rules = AreOfRule labels rule rules
+AreByForm labels AreOfBody (FilterStatement-F.Anchor anchor body) rules = AreOfAnchor (AreOfBody body) anchor rules
 
 -- the rules of a filter rule or an anchor in which at most so many anchors stand in one another
-abbrev pub AreOfFilter : ℕ → FilterStatement → List FlatRule → Type 0
-AreOfFilter zero x rules = AreByForm (λ body one. ⊥) (out-FilterStatement x) rules
-AreOfFilter (suc depth) x rules = AreByForm (AreInTurn (AreOfFilter depth)) (out-FilterStatement x) rules
+abbrev pub AreOfFilter : List Label → ℕ → FilterStatement → List FlatRule → Type 0
+AreOfFilter labels zero x rules = AreByForm labels (λ body one. ⊥) (out-FilterStatement x) rules
+AreOfFilter labels (suc depth) x rules = AreByForm labels (AreInTurn (AreOfFilter labels depth)) (out-FilterStatement x) rules
 
 -- the filter rules of a statement; other statements have none
-abbrev pub AreOf : Statement → List FlatRule → Type 0
-AreOf (Filter x) rules = AreOfFilter 16 x rules
-AreOf other rules = rules ≡ []
+abbrev pub AreOf : List Label → Statement → List FlatRule → Type 0
+AreOf labels (Filter x) rules = AreOfFilter labels 16 x rules
+AreOf labels other rules = rules ≡ []
 
 -- ---- translation rules
 
@@ -216,7 +224,7 @@ abbrev pub EveryRuleIsOfOneStatement : Type 0
 EveryRuleIsOfOneStatement =
     (statements : Statements) (interface : Interface) (r : Ruleset)
     → expanded statements interface ≡ Ok r
-    → AreInTurn AreOf statements.statements r.filter.rules
+    → AreInTurn (AreOf r.labels) statements.statements r.filter.rules
 
 -- each translation rule is of a statement
 abbrev pub EveryTranslationIsOfAStatement : Type 0

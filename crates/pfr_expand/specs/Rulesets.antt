@@ -1,5 +1,5 @@
 -- The flat ruleset of statements, or the first fault of theirs.
-use Rattle.std.specs.Prelude.{ℕ, ◌+◌, ◌||◌, Bool, true, false, nat_lt, if◌then◌else◌, List, [], ◌∷◌, ◌++◌, length, map, fold, min, Option, Some, None, Result, Ok, Err}
+use Rattle.std.specs.Prelude.{ℕ, ◌+◌, ◌||◌, Bool, true, false, nat_lt, if◌then◌else◌, List, [], ◌∷◌, ◌++◌, length, fold, min, Option, Some, None, Result, Ok, Err}
 use Rattle.pfr_ruleset.specs.declared.interface.Interface.{Interface}
 use Rattle.pfr_ruleset.specs.Places.{joined}
 use Rattle.pfr_ruleset.specs.declared.options.Options as O
@@ -7,7 +7,6 @@ use Rattle.pfr_ruleset.specs.declared.ruleset.Ruleset as R
 use Rattle.pfr_ruleset.specs.Rulesets.{empty_ruleset}
 use Rattle.pfr_ruleset.specs.declared.translations.Translations.{Translations}
 use Rattle.pfr_terms.specs.declared.error.ConfError.{ConfError}
-use Rattle.pfr_terms.specs.declared.name.MacroUse.{MacroUse}
 use Rattle.pfr_terms.specs.declared.name.Name.{Name}
 use Rattle.pfr_conf.specs.declared.macros.Piece as P
 use Rattle.pfr_conf.specs.declared.macros.Piece.TheVariants as p
@@ -127,14 +126,14 @@ setting_of work line = record { block_policy = work.flat.options.block_policy; s
 
 abbrev pub filter_if : Work → Body → Option ConfError → Result Work ConfError
 filter_if work body (Some e) = Err e
-filter_if work body None = Ok (record work { flat = record work.flat { filter = joined work.flat.filter body.rules body.anchors } })
+filter_if work body None = Ok (record work { flat = record work.flat { filter = joined work.flat.filter body.rules body.anchors; labels = body.labels } })
 
 abbrev pub filter_by : Work → Result Body ConfError → Result Work ConfError
 filter_by work (Ok body) = filter_if work body body.fault
 filter_by work (Err e) = Err e
 
 unfoldable pub with_filter : FilterStatement → Work → Result Work ConfError
-with_filter x work = filter_by work (filter_statement 16 work.scope (setting_of work (line_of x)) x empty_body)
+with_filter x work = filter_by work (filter_statement 16 work.scope (setting_of work (line_of x)) x (empty_body work.flat.labels))
 
 -- ---- translation rules
 

@@ -1,14 +1,11 @@
 -- What a ruleset text means for an interface.
-use Rattle.std.specs.Prelude.{◌≡◌, ◌≢◌, ⊤, ℕ, nat_lt, if◌then◌else◌, List, length, Result, Ok, Err}
+use Rattle.std.specs.Prelude.{ℕ, nat_lt, if◌then◌else◌, List, length, Result, Ok, Err}
 use Rattle.pfr_ruleset.specs.declared.interface.Interface.{Interface}
 use Rattle.pfr_ruleset.specs.declared.ruleset.Ruleset.{Ruleset}
 use Rattle.pfr_terms.specs.declared.error.ConfError.{ConfError}
-use Rattle.pfr_terms.specs.declared.error.ConfErrorKind.{ConfErrorKind}
-use Rattle.pfr_terms.specs.declared.error.ConfErrorKind.TheVariants.{Memory, TooMany}
+use Rattle.pfr_terms.specs.declared.error.ConfErrorKind.TheVariants.{TooMany}
 use Rattle.pfr_conf.specs.declared.statement.Statements.{Statements}
 use Rattle.pfr_conf.specs.Statements.{statements_of}
-use Rattle.pfr_expand.specs.declared.text.RulesetError.{RulesetError}
-use Rattle.pfr_expand.specs.declared.text.RulesetError.TheVariants as error
 use Rattle.pfr_expand.specs.Rulesets.{expanded}
 
 abbrev pub expanded_by : Result Statements ConfError → Interface → Result Ruleset ConfError
@@ -20,20 +17,3 @@ unfoldable pub ruleset_of : List ℕ → Interface → Result Ruleset ConfError
 ruleset_of text interface =
     if nat_lt 1048576 (length text) then Err (record { line = 1; kind = TooMany })
     else expanded_by (statements_of text) interface
-
--- why a text gives no ruleset: its first fault, or that memory was refused
-abbrev pub Explains : Result Ruleset ConfError → RulesetError → Type 0
-Explains meaning (error.Fault fault) = (meaning ≡ Err fault) × (fault.kind ≢ Memory)
-Explains meaning error.Memory = ⊤
-
-abbrev pub error_by : ConfError → ConfErrorKind → RulesetError
-error_by fault Memory = error.Memory
-error_by fault other = error.Fault fault
-
-abbrev pub error_of : ConfError → RulesetError
-error_of fault = error_by fault fault.kind
-
--- the same as one fault: want of memory has line 0, since it is no line's
-abbrev pub fault_of : RulesetError → ConfError
-fault_of (error.Fault fault) = fault
-fault_of error.Memory = record { line = 0; kind = Memory }

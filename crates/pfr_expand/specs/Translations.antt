@@ -1,14 +1,12 @@
 -- Translation rules as flat rules.
-use Rattle.std.specs.Prelude.{ℕ, ◌++◌, Bool, true, List, [], Option, Some, None, Result, Ok, Err, if◌then◌else◌}
+use Rattle.std.specs.Prelude.{ℕ, ◌++◌, Bool, true, List, Option, Some, None, Result, Ok, Err, if◌then◌else◌}
 use Rattle.pfr_net.specs.declared.address.Ipv4Address.{Ipv4Address}
 use Rattle.pfr_ruleset.specs.declared.port.PortMatch.{PortMatch}
 use Rattle.pfr_ruleset.specs.declared.port.PortMatch.TheVariants as p
 use Rattle.pfr_ruleset.specs.declared.flat.PacketMatch.{PacketMatch}
 use Rattle.pfr_ruleset.specs.declared.flat.PortRange.{PortRange}
-use Rattle.pfr_ruleset.specs.declared.flat.NatAddress.{NatAddress}
 use Rattle.pfr_ruleset.specs.declared.flat.PortChange.{PortChange}
 use Rattle.pfr_ruleset.specs.declared.flat.PortChange.TheVariants as c
-use Rattle.pfr_ruleset.specs.declared.flat.RdrAddress.{RdrAddress}
 use Rattle.pfr_ruleset.specs.declared.translations.Translations as T
 use Rattle.pfr_terms.specs.declared.error.ConfError.{ConfError}
 use Rattle.pfr_terms.specs.declared.error.ConfErrorKind.TheVariants.{BadNumber}

@@ -1,6 +1,5 @@
 //! Filter rules and anchors as flat rules, with the anchors round them.
-ghost use Rattle.std.specs.Prelude.{◌≡◌, ◌≢◌, ◌<◌, ◌≤◌, ◌+◌, ◌++◌, Ok, Err, length, map, fold, OnOk, IfOk, IfErr, IfSome};
-ghost use Rattle.std.specs.List.{All};
+ghost use Rattle.std.specs.Prelude.{◌≡◌, ◌≢◌, ◌<◌, ◌≤◌, ◌+◌, ◌++◌, Ok, Err, length, map, fold, OnOk, IfOk, IfErr};
 ghost use Rattle.pfr_ruleset.specs.Places as places;
 ghost use Rattle.pfr_terms.specs.declared.error.ConfErrorKind.TheVariants.{Memory};
 ghost use Rattle.pfr_terms.specs.Input.{Gives};
@@ -11,15 +10,18 @@ ghost use Rattle.pfr_expand.specs.Bodies as spec;
 ghost use Rattle.pfr_expand.specs.Bodies.{Adds};
 
 use pfr_conf::{
-    Action, AnchorRule, ConfError, ConfErrorKind, FilterRule, FilterStatement, FlagsMatch,
+    Action, AnchorRule, ConfError, ConfErrorKind, FilterRule, FilterStatement, FlagsMatch, Name,
     StateKeeping,
 };
 use pfr_elements::Scope;
 use pfr_elements::element::first_fault;
-use pfr_flat::{Choices, Lists, choices_or_fault, combinations, counted, lists_of, slice_of};
+use pfr_flat::{
+    Choices, Lists, MOST_RULES, choices_or_fault, combinations, counted, lists_of, slice_of,
+    too_many,
+};
 use pfr_items::Items;
 use pfr_ruleset::{
-    Binding, BlockPolicy, FilterAction, FlagsCriterion, FlatAnchor, FlatRule, NO_MATCH,
+    Binding, BlockPolicy, FilterAction, FlagsCriterion, FlatAnchor, FlatRule, Label, NO_MATCH,
     PacketMatch, StateRule, put_anchors,
 };
 use std::alloc::{AllocError, Global};
@@ -40,6 +42,8 @@ pub struct Setting {
 pub struct Body {
     pub rules: Items<FlatRule>,
     pub anchors: Items<FlatAnchor>,
+    /// The labels of all rules so far, those before the body among them.
+    pub labels: Items<Label>,
     pub fault: Option<ConfError>,
     pub count: usize,
 }
@@ -94,21 +98,47 @@ fn flags_of(state: Option<StateRule>, flags: Option<FlagsMatch>) -> FlagsCriteri
     }
 }
 
-/// What all flat rules of one rule have alike.
+/// What all flat rules of one rule have alike, with the place of its label.
 #[tactic(auto, unfolding(crate::specs::Bodies::flat_rule))]
-fn flat_rule(setting: Setting, rule: &FilterRule<'_>) -> FlatRule
-    ensures { result ≡ spec.flat_rule setting rule.now }
+fn flat_rule(setting: Setting, label: Option<u16>, rule: &FilterRule<'_>) -> FlatRule
+    ensures { result ≡ spec.flat_rule setting label rule.now }
 {
     let state = state_of(setting.state_policy, rule.action, rule.options.state);
     FlatRule {
         action: action_of(setting.block_policy, rule.action),
         direction: rule.direction,
         is_quick: rule.is_quick,
+        label,
         packet: NO_MATCH,
         flags: flags_of(state, rule.options.flags),
         state,
         allow_opts: rule.options.allow_opts,
         line: rule.line,
+    }
+}
+
+/// Puts a rule's label behind the others, if one is written, and answers its place. There are at most as many as there may
+/// be rules.
+fn add_label(
+    alloc: Global,
+    labels: &mut Items<Label>,
+    line: usize,
+    label: &Option<Name<'_>>,
+) -> Result<Option<u16>, ConfError>
+    ensures place { IfOk result (λ place. place ≡ spec.label_place labels.old label.now) }
+    ensures added { IfOk result (λ place. spec.with_label line labels.old label.now ≡ Ok labels.new) }
+    ensures refused { IfErr result (λ e. e.kind ≢ Memory → spec.with_label line labels.old label.now ≡ Err e) }
+{
+    let Some(name) = label else {
+        return Ok(None);
+    };
+    let place = labels.len();
+    if place < MOST_RULES {
+        let text = Items::copied(alloc, name.text.as_slice())?;
+        labels.push(Label { text })?;
+        Ok(Some(place as u16))
+    } else {
+        Err(too_many(line))
     }
 }
 
@@ -130,14 +160,16 @@ fn put_rules(
 }
 
 impl Body {
+    /// No rules yet, behind rules with these labels.
     #[tactic(auto, using(crate::proofs::Places::none_are_placed))]
-    pub fn new(alloc: Global) -> Body
-        ensures made { result ≡ spec.empty_body }
+    pub fn new(alloc: Global, labels: Items<Label>) -> Body
+        ensures made { result ≡ spec.empty_body labels }
         ensures placed { places.ArePlaced result.rules result.anchors }
     {
         Body {
             rules: Items::new(alloc),
             anchors: Items::new(alloc),
+            labels,
             fault: None,
             count: 0,
         }
@@ -231,11 +263,12 @@ fn add_rule(
     ensures counted { OnOk result (out.new.count ≤ 65536) }
     ensures placed { OnOk result (places.ArePlaced out.new.rules out.new.anchors) }
 {
+    let label = add_label(alloc, &mut out.labels, setting.line, &rule.options.label)?;
     let types = slice_of(&rule.options.icmp_types);
     let lists = lists_of(alloc, scope, true, &rule.criteria, types)?;
     let (count, choices) = counted_choices(alloc, setting.used, setting.line, lists, out.count, 1)?;
     out.count = count;
-    out.make(alloc, flat_rule(setting, rule), choices)?;
+    out.make(alloc, flat_rule(setting, label, rule), choices)?;
     Ok(())
 }
 
@@ -379,6 +412,7 @@ fn has_rules(body: &Body) -> bool
 }
 
 /// The rules of an anchor, by what its body comes to. Where the body has no rule, nothing is made of the anchor's lists.
+#[tactic(auto, using(crate::proofs::Depths::labels_taken))]
 fn add_anchor(
     alloc: Global,
     scope: &Scope<'_>,
@@ -404,24 +438,27 @@ fn add_anchor(
         inner.count,
     )?;
     out.count = count;
+    out.labels = replace(&mut inner.labels, Items::new(alloc));
     make_copies(alloc, out, flat_anchor(anchor), choices, inner)?;
     Ok(())
 }
 
-/// What a body's statements come to, in each of which at most so many anchors stand in one another.
+/// What a body's statements come to behind rules with these labels. In each of them at most so many anchors stand in one
+/// another.
 #[cycle(nest)]
 fn body_of(
     alloc: Global,
     scope: &Scope<'_>,
     setting: Setting,
+    labels: Items<Label>,
     statements: &[FilterStatement<'_>],
     depth: usize,
 ) -> Result<Body, ConfError>
-    ensures made { Gives (spec.body_from (spec.statement depth scope.now setting) spec.empty_body statements.now) result }
+    ensures made { Gives (spec.body_from (spec.statement depth scope.now setting) (spec.empty_body labels) statements.now) result }
     ensures counted { IfOk result (λ body. body.count ≤ 65536) }
     ensures placed { IfOk result (λ body. places.ArePlaced body.rules body.anchors) }
 {
-    let mut out = Body::new(alloc);
+    let mut out = Body::new(alloc, labels);
     for statement in statements {
         add_statement(alloc, scope, setting, &mut out, statement, depth)?;
     }
@@ -430,7 +467,7 @@ fn body_of(
 
 /// The rules of a statement in which at most so many anchors stand in one another.
 #[cycle(nest)]
-#[tactic(auto, using(crate::proofs::Depths::rule, crate::proofs::Depths::deepest, crate::proofs::Depths::deeper))]
+#[tactic(auto, using(crate::proofs::Depths::rule, crate::proofs::Depths::deepest, crate::proofs::Depths::deeper, crate::proofs::Depths::labels_go_in))]
 pub(crate) fn add_statement(
     alloc: Global,
     scope: &Scope<'_>,
@@ -454,7 +491,8 @@ pub(crate) fn add_statement(
                     kind: ConfErrorKind::TooDeep,
                 });
             }
-            let mut inner = body_of(alloc, scope, setting, body.as_slice(), depth - 1)?;
+            let labels = replace(&mut out.labels, Items::new(alloc));
+            let mut inner = body_of(alloc, scope, setting, labels, body.as_slice(), depth - 1)?;
             let added = add_anchor(alloc, scope, setting, out, anchor, &mut inner);
             drop(inner);
             added

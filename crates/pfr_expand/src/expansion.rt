@@ -1,5 +1,5 @@
 //! From statements to the flat ruleset.
-ghost use Rattle.std.specs.Prelude.{◌≡◌, ◌<◌, ◌≤◌, ◌+◌, false, length, OnOk, IfOk};
+ghost use Rattle.std.specs.Prelude.{◌≡◌, ◌<◌, ◌≤◌, ◌+◌, false, OnOk, IfOk};
 ghost use Rattle.pfr_ruleset.specs.Places.{ArePlaced, joined};
 ghost use Rattle.pfr_terms.specs.Input.{Gives};
 ghost use Rattle.pfr_elements.specs.Values.{begun, taken_at};
@@ -19,7 +19,8 @@ use pfr_conf::{
 use pfr_elements::value::Draft;
 use pfr_elements::{Macros, Names, Scope};
 use pfr_flat::{MOST_RULES, too_many};
-use pfr_ruleset::{FilterRules, FlatAnchor, FlatRule, Interface, Ruleset};
+use pfr_items::Items;
+use pfr_ruleset::{FilterRules, FlatAnchor, FlatRule, Interface, Label, Ruleset};
 use std::alloc::{AllocError, Global};
 use std::mem::{drop, replace};
 
@@ -178,9 +179,14 @@ impl<'a> Work<'a> {
         set_option(&mut self.flat.options, alloc, &self.scope, option)
     }
 
-    /// What a filter rule or an anchor comes to.
-    fn filter_body(&self, alloc: Global, statement: &FilterStatement<'_>) -> Result<Body, ConfError>
-        ensures made { Gives (bodies.statement 16 self.now.scope (spec.setting_of self.now (spec.line_of statement.now)) statement.now bodies.empty_body) result }
+    /// What a filter rule or an anchor comes to behind rules with these labels.
+    fn filter_body(
+        &self,
+        alloc: Global,
+        labels: Items<Label>,
+        statement: &FilterStatement<'_>,
+    ) -> Result<Body, ConfError>
+        ensures made { Gives (bodies.statement 16 self.now.scope (spec.setting_of self.now (spec.line_of statement.now)) statement.now (bodies.empty_body labels)) result }
         ensures placed { IfOk result (λ body. ArePlaced body.rules body.anchors) }
     {
         let setting = Setting {
@@ -189,7 +195,7 @@ impl<'a> Work<'a> {
             used: self.used(),
             line: line_of(statement),
         };
-        let mut body = Body::new(alloc);
+        let mut body = Body::new(alloc, labels);
         add_statement(
             alloc,
             &self.scope,
@@ -212,6 +218,7 @@ impl<'a> Work<'a> {
         }
         let rules = body.rules.as_slice();
         add_rules(&mut self.flat, alloc, rules, body.anchors.as_slice())?;
+        self.flat.labels = replace(&mut body.labels, Items::new(alloc));
         Ok(())
     }
 
@@ -224,7 +231,8 @@ impl<'a> Work<'a> {
         ensures made { Adds (spec.with_filter statement.now self.old) result self.new }
         ensures few { self.new.translations ≡ self.old.translations }
     {
-        let mut body = self.filter_body(alloc, statement)?;
+        let labels = replace(&mut self.flat.labels, Items::new(alloc));
+        let mut body = self.filter_body(alloc, labels, statement)?;
         let added = self.add_body(alloc, &mut body);
         drop(body);
         added

@@ -11,7 +11,7 @@ pub fn counts_are_lengths()
 /// The filter rules of a ruleset are those of its statements, one after the other: of a filter rule, flat rules that do
 /// and ask for what is written, of an anchor, copies of the rules of its body, and of any other statement none. Where the
 /// lists of a rule or an anchor use no macro, there is one flat rule or copy for each combination of their elements. Each
-/// flat rule has the line of its filter rule.
+/// flat rule has the line and the label of its filter rule.
 pub fn every_flat_rule_is_of_one_statement()
     ensures { EveryRuleIsOfOneStatement }
 {}

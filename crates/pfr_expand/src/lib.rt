@@ -20,4 +20,4 @@ pub use pfr_ruleset::{
     HostCriterion, HostSet, Interface, InterfaceCriterion, NatAddress, Options, PacketMatch,
     PortChange, PortRange, RdrAddress, Ruleset, StateRule, Translations,
 };
-pub use text::{LONGEST_TEXT, RulesetError, ruleset_of};
+pub use text::{LONGEST_TEXT, ruleset_of};

@@ -1,5 +1,5 @@
 //! Options.
-ghost use Rattle.std.specs.Prelude.{◌≡◌, ◌++◌, fold, OnOk, length};
+ghost use Rattle.std.specs.Prelude.{◌≡◌, fold};
 ghost use Rattle.pfr_ruleset.specs.declared.options.Options as O;
 ghost use Rattle.pfr_expand.specs.Bodies.{Adds};
 ghost use Rattle.pfr_expand.specs.Options as spec;

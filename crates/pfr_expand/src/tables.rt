@@ -1,8 +1,7 @@
 //! Tables and their entries.
-ghost use Rattle.std.specs.Prelude.{◌≡◌, ◌≤◌, ◌+◌, drop, OnOk, IfOk, IfErr};
+ghost use Rattle.std.specs.Prelude.{◌≡◌, ◌≤◌, drop, OnOk, IfOk, IfErr};
 ghost use Rattle.pfr_terms.specs.declared.error.ConfErrorKind.TheVariants.{Memory};
 ghost use Rattle.pfr_elements.specs.Values.{Makes};
-ghost use Rattle.pfr_elements.specs.Elements as faults;
 ghost use Rattle.pfr_expand.specs.Tables as spec;
 
 use pfr_conf::{ConfError, ConfErrorKind, TableEntry};

@@ -1,12 +1,11 @@
 //! All that the strict reader refuses of a text.
 ghost use Rattle.std.specs.Prelude.{◌≡◌, ◌++◌, IfOk, OnOk};
-ghost use Rattle.std.specs.List.{slice_get};
 ghost use Rattle.std.specs.Option.{option_copied};
 ghost use Rattle.pfr_faults.specs.Faults as spec;
 
 use crate::leaving::{Left, uses_any};
 use crate::spread::{is_too_long, spread_out, word_on};
-use pfr_expand::{RulesetError, ruleset_of};
+use pfr_expand::ruleset_of;
 use pfr_items::Items;
 use pfr_marks::mark::{BEGINNING, Mark, Place, marks};
 use pfr_ruleset::Interface;
@@ -44,8 +43,10 @@ fn first_fault(
 {
     match ruleset_of(alloc, text, interface) {
         Ok(_) => Ok(None),
-        Err(RulesetError::Fault(fault)) => Ok(Some(fault)),
-        Err(RulesetError::Memory) => Err(AllocError),
+        Err(fault) => match fault.kind {
+            ConfErrorKind::Memory => Err(AllocError),
+            _ => Ok(Some(fault)),
+        },
     }
 }
 

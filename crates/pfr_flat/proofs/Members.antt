@@ -1,5 +1,5 @@
 -- Which addresses tables hold, and the criteria of a table with and without a `!`.
-use Rattle.std.proofs.Common.{◌≡◌, ◌↔◌, ◌<◌, ◌≤◌, nat_lt, ℕ, Bool, true, false, ◌⊎◌, inl, inr, List, [], ◌∷◌, Option, Some, None, Result, Ok, refl, arith}
+use Rattle.std.proofs.Common.{◌≡◌, ◌<◌, ◌≤◌, nat_lt, ℕ, Bool, true, false, ◌⊎◌, inl, inr, List, [], ◌∷◌, Option, Some, None, Result, Ok, refl, arith}
 use Rattle.std.specs.List.{All, Contains, slice_get}
 use Rattle.std.specs.Result.{IsOkAnd}
 use Rattle.std.proofs.lemmas.Bool.{cases_lt, lt-ltb}
@@ -7,8 +7,7 @@ use Rattle.std.proofs.lemmas.List.Elements.{All-nil, All-cons, All-head, All-tai
 use Rattle.pfr_ruleset.specs.declared.table.Entry.{Entry}
 use Rattle.pfr_ruleset.specs.Tables.{bits_of, holds, IsMember}
 use Rattle.pfr_ruleset.specs.declared.hosts.HostSet.TheVariants as set
-use Rattle.pfr_ruleset.specs.declared.hosts.HostCriterion.{HostCriterion}
-use Rattle.pfr_ruleset.specs.Membership.{IsInTable, Holds}
+use Rattle.pfr_ruleset.specs.Membership.{IsInTable}
 use Rattle.pfr_terms.specs.declared.name.Name.{Name}
 use Rattle.pfr_terms.specs.declared.address.Address.TheVariants as a
 use Rattle.pfr_elements.specs.declared.scope.Scope.{Scope}

@@ -1,11 +1,11 @@
 -- Skips and open ends, from the ends of runs.
-use Rattle.std.proofs.Common.{◌≡◌, ◌<◌, ◌≤◌, ◌+◌, ◌-◌, ◌∙◌, ℕ, zero, suc, Bool, false, List, length, Option, Some, None, ap, sym, subst, refl, inl, inr, arith}
+use Rattle.std.proofs.Common.{◌≡◌, ◌<◌, ◌≤◌, ◌+◌, ◌-◌, ◌∙◌, ℕ, suc, Bool, false, List, length, Option, Some, None, ap, sym, subst, refl, inl, inr, arith}
 use Rattle.std.specs.List.{slice_get, slice_index_or, slice_set}
 use Rattle.std.proofs.lemmas.Bool.{cases_lt}
 use Rattle.std.proofs.Math.ListN.{get_or}
 use Rattle.std.proofs.lemmas.List.{length-set, get_or-set_same, get_or-set_other}
 use Rattle.std.proofs.lemmas.Option.{slice_get_within, slice_get_past, slice_get-get_or, get_or_from_slice_get}
-use Rattle.pfr_chains.specs.Runs.{IsRunEnd, AreRunEnds}
+use Rattle.pfr_chains.specs.Runs.{AreRunEnds}
 use Rattle.pfr_ruleset.specs.declared.criterion.Asked.{Asked}
 use Rattle.pfr_ruleset.specs.declared.criterion.Criterion.{Criterion}
 use Rattle.pfr_ruleset.specs.declared.criterion.Criterion.TheVariants as criterion

@@ -1,5 +1,5 @@
 -- What is kept of the skips of rules.
-use Rattle.std.specs.Prelude.{◌≡◌, ◌<◌, ◌≤◌, ℕ, List, length, Option, Some, None}
+use Rattle.std.specs.Prelude.{◌≡◌, ◌≤◌, ℕ, List, length, Option, Some, None}
 use Rattle.std.specs.List.{slice_get}
 use Rattle.pfr_ruleset.specs.declared.criterion.Asked.{Asked}
 use Rattle.pfr_ruleset.specs.declared.criterion.Criterion.{Criterion}

@@ -71,6 +71,8 @@ pub struct FlatRule {
     pub action: FilterAction,
     pub direction: Option<Direction>,
     pub is_quick: bool,
+    /// The place of its label among those of the ruleset, if it has one.
+    pub label: Option<u16>,
     pub packet: PacketMatch,
     pub flags: FlagsCriterion,
     pub state: Option<StateRule>,

@@ -1,9 +1,12 @@
 //! The flat ruleset.
-ghost use Rattle.std.specs.Prelude.{◌≡◌, length, min};
+ghost use Rattle.std.specs.Prelude.{◌≡◌, min};
+ghost use Rattle.std.specs.Option.{option_map};
 ghost use Rattle.pfr_ruleset.specs.Rulesets as spec;
 
 use crate::filter_rules::FilterRules;
+use crate::flat::FlatRule;
 use crate::interface::Interface;
+use crate::label::Label;
 use crate::options::Options;
 use crate::table::AddressTable;
 use crate::translations::Translations;
@@ -20,6 +23,8 @@ pub struct Ruleset {
     pub tables: Items<AddressTable>,
     /// The filter rules, of which each has its place as its number, and the anchors round them.
     pub filter: FilterRules,
+    /// The labels of filter rules in the order of the text, one for each statement that writes one.
+    pub labels: Items<Label>,
     pub translations: Translations,
 }
 
@@ -33,6 +38,7 @@ impl Ruleset {
             options: Options::new(alloc),
             tables: Items::new(alloc),
             filter: FilterRules::new(alloc),
+            labels: Items::new(alloc),
             translations: Translations::new(alloc),
         }
     }
@@ -43,6 +49,14 @@ impl Ruleset {
     {
         self.filter.index(alloc)?;
         self.translations.index(alloc)
+    }
+
+    /// The label of a filter rule, if it has one.
+    pub fn label_of(&self, rule: &FlatRule) -> Option<&[u8]>
+        ensures { option_map (λ label. label.now) result ≡ spec.label_at self.now.labels rule.now.label }
+    {
+        let label = self.labels.as_slice().get(rule.label? as usize)?;
+        Some(label.text.as_slice())
     }
 
     /// How many filter rules and how many translation rules there are.

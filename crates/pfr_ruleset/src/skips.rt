@@ -1,5 +1,5 @@
 //! For each rule and each criterion the next rule that may hold where this one fails.
-ghost use Rattle.std.specs.Prelude.{◌≡◌, ◌↔◌, ◌<◌, ◌≤◌, ◌+◌, ℕ, List, length, true, Some, IfOk};
+ghost use Rattle.std.specs.Prelude.{◌≡◌, ◌↔◌, ◌<◌, ◌≤◌, ◌+◌, List, length, true, Some, IfOk};
 ghost use Rattle.std.specs.List.{slice_get};
 ghost use Rattle.std.specs.Option.{option_copied};
 ghost use Rattle.pfr_ruleset.specs.declared.criterion.Asked as TheAsked;

@@ -1,5 +1,5 @@
 //! Translation rules.
-ghost use Rattle.std.specs.Prelude.{◌≡◌, IfOk};
+ghost use Rattle.std.specs.Prelude.{◌≡◌};
 ghost use Rattle.pfr_ruleset.specs.Translations as spec;
 
 use crate::flat::{NatAddress, RdrAddress};

@@ -1,8 +1,8 @@
 -- Which of two faults is reported.
-use Rattle.std.proofs.Common.{◌≡◌, ◌≤◌, ◌<◌, ℕ, ◌⊎◌, inl, inr, ◌==◌, ◌&&◌, ◌||◌, Bool, true, false, if◌then◌else◌, nat_le, nat_lt, Some, refl, arith, ltb-true, ltb-false, leb-true, leb-false, eqb-true}
+use Rattle.std.proofs.Common.{◌≡◌, ◌≤◌, ◌⊎◌, inl, inr, ◌==◌, ◌&&◌, ◌||◌, Bool, true, false, if◌then◌else◌, nat_le, nat_lt, Some, refl, arith, ltb-true, ltb-false, leb-true, leb-false, eqb-true}
 use Rattle.std.proofs.lemmas.Bool.{eqb-false}
 use Rattle.pfr_terms.specs.declared.error.ConfError.{ConfError}
-use Rattle.pfr_terms.specs.Faults.{kind_number, goes_first, lower}
+use Rattle.pfr_terms.specs.Faults.{kind_number, lower}
 
 pub record IsReported (first second e : ConfError) : Type 0 where
   pub one : (e ≡ first) ⊎ (e ≡ second)

@@ -1,5 +1,8 @@
+pub mod BraceStays
+pub mod Closers
 pub mod FaultLemmas
 pub mod Lines
+pub mod Sights
 pub mod Stays
 pub mod TermLines
 pub mod TermStays

@@ -29,13 +29,16 @@ use Rattle.pfr_terms.specs.declared.port.PortWord.TheVariants.{Port, Unknown}
 use Rattle.pfr_terms.specs.declared.flags.FlagsMatch.{FlagsMatch}
 use Rattle.pfr_terms.specs.declared.interface.InterfaceName.{InterfaceName}
 use Rattle.pfr_terms.specs.declared.interface.InterfaceMatch.{InterfaceMatch}
-use Rattle.pfr_terms.specs.Input.{Input, Parser, ◌>>=◌, pure, blamed, plain_ahead, macro_ahead, sign_ahead, sign_in, of_first, line_ahead, eat_sign, eat_word, expect_sign}
+use Rattle.pfr_terms.specs.Input.{Parser, ◌>>=◌, pure, blamed, plain_ahead, macro_ahead, sign_ahead, sign_in, of_first, line_ahead, eat_sign, eat_word, expect_sign}
 use Rattle.pfr_terms.specs.Lists as lists
 use Rattle.pfr_terms.specs.Addresses as addresses
 use Rattle.pfr_terms.specs.Ports as ports
 use Rattle.pfr_terms.specs.Terms as terms
 use Rattle.pfr_terms.specs.Hosts as hosts
-use Rattle.pfr_terms.proofs.Stays.{Stays, Sight, Shows, Starts, is_inner, staying, stays_pure, stays_pure_told, stays_then, stays_first, stays_turn, stays_found, stays_found_sign, stays_if, stays_any, stays_blind, stays_by, stays_at, stays_loop, stays_blamed, stays_open_list, stays_close_list, stays_eat_word, stays_eat_sign, stays_named, stays_passed, stays_passing, stays_refuse, stays_number_in, stays_free_word, plain_sight, plain_shows, macro_sight, macro_shows, sign_sight, line_sight, fault_sight, left_out_sight, named_sight, named_shows}
+use Rattle.pfr_terms.proofs.BraceStays.{staying, stays_open_list, stays_close_list, stays_passed, stays_passing, stays_number_in, stays_free_word}
+use Rattle.pfr_terms.proofs.Closers.{Stays, Starts, is_inner}
+use Rattle.pfr_terms.proofs.Sights.{Sight, Shows, plain_sight, plain_shows, macro_sight, macro_shows, sign_sight, line_sight, fault_sight, left_out_sight, named_sight, named_shows}
+use Rattle.pfr_terms.proofs.Stays.{stays_pure, stays_pure_told, stays_then, stays_first, stays_turn, stays_found, stays_found_sign, stays_if, stays_any, stays_blind, stays_by, stays_at, stays_loop, stays_blamed, stays_eat_word, stays_eat_sign, stays_named, stays_refuse}
 
 -- ---- lists
 

@@ -1,14 +1,13 @@
 -- Where a packet comes from and goes to, as pf.conf(5) writes it.
-use Rattle.std.specs.Prelude.{ℕ, Bool, true, false, if◌then◌else◌, List, Option, Some, None, codes}
+use Rattle.std.specs.Prelude.{ℕ, if◌then◌else◌, List, Option, Some, None, codes}
 use Rattle.pfr_net.specs.declared.protocol.Protocol.{Protocol}
 use Rattle.pfr_ruleset.specs.declared.port.PortMatch.{PortMatch}
-use Rattle.pfr_terms.specs.declared.address.AddressMatch.{AddressMatch}
 use Rattle.pfr_terms.specs.declared.interface.InterfaceMatch.{InterfaceMatch}
 use Rattle.pfr_terms.specs.declared.name.Written.{Written}
 use Rattle.pfr_terms.specs.declared.hosts.Part.{Part}
 use Rattle.pfr_terms.specs.declared.hosts.Hosts as H
 use Rattle.pfr_terms.specs.declared.hosts.Criteria as C
-use Rattle.pfr_terms.specs.Input.{Input, Parser, ◌>>=◌, pure, eat_word}
+use Rattle.pfr_terms.specs.Input.{Parser, ◌>>=◌, pure, eat_word}
 use Rattle.pfr_terms.specs.Lists.{written, list}
 use Rattle.pfr_terms.specs.Terms.{interface_match, protocol}
 use Rattle.pfr_terms.specs.Ports.{port_match}

@@ -1,10 +1,10 @@
 -- Lists, as pf.conf(5) writes them: one item, or several in braces with at most one comma between two.
-use Rattle.std.specs.Prelude.{ℕ, zero, suc, Bool, true, false, if◌then◌else◌, List, [], ◌∷◌, ◌++◌, Option, Some, None}
+use Rattle.std.specs.Prelude.{if◌then◌else◌, List, [], ◌∷◌, ◌++◌, Option, Some, None}
 use Rattle.pfr_words.specs.declared.sign.Sign.TheVariants as s
 use Rattle.pfr_terms.specs.declared.name.MacroUse.{MacroUse}
 use Rattle.pfr_terms.specs.declared.name.Written.{Written}
 use Rattle.pfr_terms.specs.declared.name.Written.TheVariants as w
-use Rattle.pfr_terms.specs.Input.{Input, Parser, ◌>>=◌, pure, refuse, taken, loop, macro_ahead, eat_sign, open_list, close_list}
+use Rattle.pfr_terms.specs.Input.{Parser, ◌>>=◌, pure, taken, loop, macro_ahead, eat_sign, open_list, close_list}
 
 abbrev pub written_by : {A : Type 0} → Parser A → Option MacroUse → Parser (Written A)
 written_by item (Some found) = do

@@ -1,5 +1,5 @@
 -- Ports, as pf.conf(5) writes them.
-use Rattle.std.specs.Prelude.{ℕ, ◌+◌, ◌==◌, ◌&&◌, Bool, true, false, nat_le, if◌then◌else◌, List, [], ◌∷◌, Option, Some, None, Result, Ok, Err, codes}
+use Rattle.std.specs.Prelude.{ℕ, nat_le, if◌then◌else◌, List, Option, Some, None, Result, Ok, Err, codes}
 use Rattle.pfr_net.specs.Notation.{number, cut_at}
 use Rattle.pfr_ruleset.specs.declared.port.Comparison.{Comparison}
 use Rattle.pfr_ruleset.specs.declared.port.Comparison.TheVariants as c

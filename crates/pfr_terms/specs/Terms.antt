@@ -1,5 +1,5 @@
 -- Interfaces, protocols, ICMP types and TCP flags, as pf.conf(5) writes them.
-use Rattle.std.specs.Prelude.{ℕ, ◌+◌, ◌==◌, ◌&&◌, Bool, true, false, nat_le, if◌then◌else◌, List, [], ◌∷◌, length, bit_or, Option, Some, None, codes}
+use Rattle.std.specs.Prelude.{ℕ, ◌==◌, ◌&&◌, Bool, nat_le, if◌then◌else◌, List, [], ◌∷◌, length, bit_or, Option, Some, None, codes}
 use Rattle.std.specs.Str.{bytes_eq}
 use Rattle.std.specs.Option.{option_and_then}
 use Rattle.pfr_net.specs.declared.protocol.Protocol.{Protocol}
@@ -12,7 +12,7 @@ use Rattle.pfr_terms.specs.declared.flags.FlagsMatch.{FlagsMatch}
 use Rattle.pfr_terms.specs.declared.flags.FlagsMatch.TheVariants as flags
 use Rattle.pfr_terms.specs.declared.interface.InterfaceName.{InterfaceName}
 use Rattle.pfr_terms.specs.declared.interface.InterfaceMatch.{InterfaceMatch}
-use Rattle.pfr_terms.specs.Input.{Input, Parser, ◌>>=◌, pure, refuse, taken, named, passed, is_free, number_in, plain_ahead, eat_sign, eat_word}
+use Rattle.pfr_terms.specs.Input.{Parser, ◌>>=◌, pure, refuse, taken, named, passed, is_free, number_in, plain_ahead, eat_sign, eat_word}
 use Rattle.pfr_terms.specs.Lists.{written}
 
 -- ---- interfaces

@@ -1,6 +1,5 @@
 //! TCP flags, as they are written behind `flags`.
 ghost use Rattle.std.specs.Prelude.{◌≡◌};
-ghost use Rattle.std.specs.Option.{option_map};
 ghost use Rattle.pfr_terms.specs.Terms as spec;
 ghost use Rattle.pfr_terms.specs.Input.{Reads};
 

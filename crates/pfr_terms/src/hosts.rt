@@ -1,5 +1,4 @@
 //! Where a packet comes from and goes to, as it is written in rules and anchors.
-ghost use Rattle.std.specs.Prelude.{◌≡◌};
 ghost use Rattle.pfr_terms.specs.Hosts as spec;
 ghost use Rattle.pfr_terms.specs.Input.{Reads};
 

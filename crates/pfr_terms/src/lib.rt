@@ -17,6 +17,7 @@ pub mod name;
 pub mod port;
 pub mod protocol;
 pub mod reader;
+pub mod token;
 
 pub use address::{Address, AddressMatch, Host, TableEntry};
 pub use error::{ConfError, ConfErrorKind, LeftOutName};

@@ -1,5 +1,4 @@
 //! Lists: one item, or several in braces with at most one comma between two.
-ghost use Rattle.std.specs.Prelude.{◌≡◌, []};
 ghost use Rattle.pfr_terms.specs.Lists as spec;
 ghost use Rattle.pfr_terms.specs.Input.{Parser, Reads};
 

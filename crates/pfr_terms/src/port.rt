@@ -1,5 +1,5 @@
 //! Ports, as they are written behind `port`.
-ghost use Rattle.std.specs.Prelude.{◌≡◌, ◌≤◌, Ok, IfOk};
+ghost use Rattle.std.specs.Prelude.{◌≡◌, Ok, IfOk};
 ghost use Rattle.pfr_terms.specs.Ports as spec;
 ghost use Rattle.pfr_terms.specs.Input.{Reads};
 

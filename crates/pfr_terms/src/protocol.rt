@@ -1,6 +1,5 @@
 //! Protocols and ICMP types.
-ghost use Rattle.std.specs.Prelude.{◌≡◌, ◌≤◌, Some, IfOk, OnSome};
-ghost use Rattle.std.specs.Option.{option_map};
+ghost use Rattle.std.specs.Prelude.{◌≡◌, Some};
 ghost use Rattle.pfr_terms.specs.Terms as spec;
 ghost use Rattle.pfr_terms.specs.Input.{Reads};
 

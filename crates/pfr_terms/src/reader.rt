@@ -1,15 +1,15 @@
 //! The words that are left to read.
-ghost use Rattle.std.specs.Prelude.{◌≡◌, ◌≤◌, ◌+◌, length, codes, IfOk, Ok};
-ghost use Rattle.std.specs.Option.{option_map};
+ghost use Rattle.std.specs.Prelude.{◌≡◌, ◌≤◌, ◌+◌, IfOk, Ok};
 ghost use Rattle.pfr_terms.specs.Input as spec;
 ghost use Rattle.pfr_terms.specs.Input.{Reads, Refuses};
 
-use crate::error::{ConfError, ConfErrorKind, kind_of, left_out_at, lower, name_left_out};
+use crate::error::{ConfError, ConfErrorKind, left_out_at, lower, name_left_out};
 use crate::name::{MacroUse, Name};
+use crate::token::{is_line_end, macro_in, plain_in, quoted_in, refusal_of, sign_in};
 use pfr_net::notation::number;
 use pfr_words::braces::is_sign;
 use pfr_words::names::{is_grammar_word, is_left_out};
-use pfr_words::{Bytes, Sign, Token, Word};
+use pfr_words::{Bytes, Sign, Word};
 use std::alloc::{AllocError, Global};
 use std::marker::Model;
 use std::mem::replace;
@@ -41,15 +41,6 @@ impl<'w, 'a> Model for Reader<'w, 'a> {
       gathers = r.gathers;
       gathered = r.gathered;
     } };
-}
-
-fn is_line_end(token: &Token<'_>) -> bool
-    ensures { result ≡ spec.is_line_end token.now }
-{
-    match token {
-        Token::LineEnd => true,
-        _ => false,
-    }
 }
 
 impl<'w, 'a> Reader<'w, 'a> {
@@ -478,77 +469,4 @@ pub fn is_free(word: &[u8]) -> bool
     ensures { result ≡ spec.is_free word.now }
 {
     !is_grammar_word(word) && !is_left_out(word)
-}
-
-fn sign_in(token: &Token<'_>) -> Option<Sign>
-    ensures { result ≡ spec.sign_in token.now }
-{
-    match token {
-        Token::Sign(sign) => Some(*sign),
-        _ => None,
-    }
-}
-
-fn plain_in<'a>(token: &Token<'a>) -> Option<Bytes<'a>>
-    ensures { result ≡ spec.plain_in token.now }
-{
-    match token {
-        Token::Plain(word) => Some(Bytes::new(word.as_slice())),
-        _ => None,
-    }
-}
-
-fn quoted_in<'a>(token: &Token<'a>) -> Option<Bytes<'a>>
-    ensures { result ≡ spec.quoted_in token.now }
-{
-    match token {
-        Token::Quoted(text) => Some(Bytes::new(text.as_slice())),
-        _ => None,
-    }
-}
-
-fn macro_in<'a>(line: usize, token: &Token<'a>) -> Option<MacroUse<'a>>
-    ensures { result ≡ spec.macro_in line token.now }
-{
-    match token {
-        Token::MacroUse(name, suffix) => Some(MacroUse {
-            line,
-            name: Bytes::new(name.as_slice()),
-            suffix: Bytes::new(suffix.as_slice()),
-        }),
-        _ => None,
-    }
-}
-
-/// The fault that a word is which doesn't belong where it stands; `line` is that of the word before.
-fn refusal_of(alloc: Global, line: usize, word: &Word<'_>) -> ConfError
-    ensures { Refuses (spec.refusal_of line word.now) result }
-{
-    match &word.token {
-        Token::LineEnd => ConfError {
-            line,
-            kind: ConfErrorKind::UnknownWord,
-        },
-        Token::Bad(fault) => ConfError {
-            line: word.line,
-            kind: kind_of(*fault),
-        },
-        Token::Plain(text) => plain_refusal(alloc, word.line, text.as_slice()),
-        _ => ConfError {
-            line: word.line,
-            kind: ConfErrorKind::UnknownWord,
-        },
-    }
-}
-
-fn plain_refusal(alloc: Global, line: usize, word: &[u8]) -> ConfError
-    ensures { Refuses (spec.plain_refusal line word.now) result }
-{
-    if !is_left_out(word) {
-        return ConfError {
-            line,
-            kind: ConfErrorKind::UnknownWord,
-        };
-    }
-    left_out_at(alloc, line, word)
 }

@@ -11,5 +11,5 @@ decreases-body_of l = 2 * l.depth + 1
 
 abbrev pub invariant-body_of-loop-statement : goal.invariant-body_of-loop-statement
 invariant-body_of-loop-statement l =
-    (spec.body_from (spec.statement l.depth l.scope l.setting) l.out (drop l.statement-index l.statements) ≡ spec.body_from (spec.statement l.depth l.scope l.setting) spec.empty_body l.statements)
+    (spec.body_from (spec.statement l.depth l.scope l.setting) l.out (drop l.statement-index l.statements) ≡ spec.body_from (spec.statement l.depth l.scope l.setting) (spec.empty_body l.fn.labels) l.statements)
     × (l.out.count ≤ 65536) × places.ArePlaced l.out.rules l.out.anchors

@@ -1,4 +1,4 @@
-use Rattle.std.proofs.Common.{◌≡◌, ◌++◌, map, flat_map, take}
+use Rattle.std.proofs.Common.{◌≡◌, ◌++◌, map, take}
 use Rattle.pfr_expand.proofs.body.put_rules.Given as goal
 
 abbrev pub invariant-loop-packet : goal.invariant-loop-packet

@@ -1,4 +1,4 @@
-use Rattle.std.proofs.Common.{◌≡◌, fold, take, drop}
+use Rattle.std.proofs.Common.{◌≡◌, drop}
 use Rattle.pfr_elements.specs.Values.{begun}
 use Rattle.pfr_expand.specs.Rulesets as spec
 use Rattle.pfr_expand.proofs.expansion.draft_of.Given as goal

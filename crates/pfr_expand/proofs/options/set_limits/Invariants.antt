@@ -1,4 +1,4 @@
-use Rattle.std.proofs.Common.{◌≡◌, fold, take, drop}
+use Rattle.std.proofs.Common.{◌≡◌, fold, take}
 use Rattle.pfr_expand.specs.Options as spec
 use Rattle.pfr_expand.proofs.options.set_limits.Given as goal
 

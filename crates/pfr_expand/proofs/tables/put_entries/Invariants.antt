@@ -1,4 +1,4 @@
-use Rattle.std.proofs.Common.{◌≡◌, fold, take, drop}
+use Rattle.std.proofs.Common.{◌≡◌, take}
 use Rattle.pfr_expand.specs.Tables as spec
 use Rattle.pfr_expand.proofs.tables.put_entries.Given as goal
 

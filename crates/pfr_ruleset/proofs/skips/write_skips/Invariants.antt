@@ -1,4 +1,4 @@
-use Rattle.std.proofs.Common.{◌≡◌, ◌<◌, ◌≤◌, length}
+use Rattle.std.proofs.Common.{◌<◌, ◌≤◌, length}
 use Rattle.pfr_ruleset.specs.Skipping as spec
 use Rattle.pfr_ruleset.proofs.skips.write_skips.Given as goal
 

@@ -1,6 +1,6 @@
-use Rattle.std.proofs.Common.{◌≡◌, List, map, subst, sym, ℕ}
+use Rattle.std.proofs.Common.{List, subst, ℕ}
 use Rattle.pfr_chains.specs.Runs.{AreRunEnds}
-use Rattle.pfr_ruleset.specs.TranslationAids.{AreNumberBreaks, AreNumberEnds, number_of}
+use Rattle.pfr_ruleset.specs.TranslationAids.{AreNumberBreaks, AreNumberEnds}
 use Rattle.pfr_ruleset.proofs.NumberLemmas.{ends_of_runs}
 use Rattle.pfr_ruleset.proofs.translation_aids.number_ends_of.Goals as goal
 
