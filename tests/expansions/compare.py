@@ -16,7 +16,9 @@ the model.
 
 import random
 import sys
+from collections import Counter, defaultdict
 from concurrent.futures import ProcessPoolExecutor
+from itertools import repeat
 
 import building
 import rulesets.cases
@@ -37,6 +39,9 @@ MOST_DUMPED = 4096
 CHUNK = 500
 # longer texts of the folder aren't changed at random
 LONG_TEXT = 1200
+# what some random texts have to hold
+PROMISED = ("a label", "an empty label", "a label in an anchor", "a label in copies of an anchor",
+            "a label behind one in copies of an anchor")
 # texts for which each allocation is refused, with their interfaces: what they hold covers the expansion, and the last
 # has a fault
 SHORT_OF_MEMORY = (
@@ -44,6 +49,7 @@ SHORT_OF_MEMORY = (
     ("tables_entries_of_macros_laid_flat", "em0", "192.0.2.1/24"),
     ("options_skip_adds_up", "em0", "192.0.2.1/24"),
     ("anchors_nested_lists", "em0", "192.0.2.1/24"),
+    ("anchors_labels", "em0", "192.0.2.1/24"),
     ("example_gateway", "em0", "192.0.2.1/24"),
     ("tables_clash_with_a_value", "em0", "192.0.2.1/24"),
 )
@@ -80,12 +86,39 @@ def answer_of(text):
     return [text.answer] if isinstance(text.answer, str) else text.answer
 
 
-def differences(command, texts):
-    """The texts to which the program says something else, with the lines expected and those that came."""
+def labels_of(answer):
+    """The labels in a dump, each with the line of its rule and the places of the anchors round it."""
+    for words in map(str.split, answer):
+        if words[0] == "filter" and "label" in words:
+            place = words.index("label")
+            yield int(words[place - 1]), words[place + 1], tuple(words[place + 3:])
+
+
+def label_kinds(answer):
+    """What a dump has of PROMISED. The copies of a rule have its line, and stand in different anchors."""
+    rounds, has_empty_label = defaultdict(set), False
+    for line, label, anchors in labels_of(answer):
+        rounds[line].add(anchors)
+        has_empty_label = has_empty_label or label == "-"
+    copied = [line for line, round_it in rounds.items() if len(round_it) > 1]
+    holds = (bool(rounds), has_empty_label, any(any(round_it) for round_it in rounds.values()), bool(copied),
+             any(line > min(copied, default=line) for line in rounds))
+    return [kind for kind, is_there in zip(PROMISED, holds) if is_there]
+
+
+def compared(command, texts):
+    """The texts to which the program says something else, with the lines expected and those that came; and how many of
+    all texts have each kind of label."""
     right = [answer_of(text) for text in texts]
     records = [record(text, is_of_counts(answer)) for text, answer in zip(texts, right)]
-    return [(text, answer, seen) for text, answer, seen in zip(texts, right, answers_of(command, records))
-            if seen != answer]
+    wrong = [(text, answer, seen) for text, answer, seen in zip(texts, right, answers_of(command, records))
+             if seen != answer]
+    return wrong, Counter(kind for answer in right for kind in label_kinds(answer))
+
+
+def differences(command, texts):
+    """The texts to which the program says something else, as above."""
+    return compared(command, texts)[0]
 
 
 def texts_of(cases):
@@ -148,19 +181,33 @@ def compare_model():
     return len(wrong)
 
 
+def never_seen(kinds):
+    """Prints how many random texts have each kind of label, and answers which ones none has."""
+    print("random texts: " + ", ".join(f"{kind} {kinds[kind]}" for kind in PROMISED))
+    missing = [kind for kind in PROMISED if not kinds[kind]]
+    if missing:
+        print(f"random texts: never seen: {', '.join(missing)}")
+    return missing
+
+
 def compare(command):
-    """How many texts the program answers otherwise."""
+    """How many texts the program answers otherwise, and how many kinds of labels no random text has."""
     files, rows = with_answers()
-    hard, others = hostile(), [*changed(files), *each_value(), *random_texts(RANDOM_TEXTS)]
-    wrong = differences(command, files + rows)
+    hard, made, drawn = hostile(), [*changed(files), *each_value()], list(random_texts(RANDOM_TEXTS))
+    wrong, kinds = differences(command, files + rows), Counter()
     for text in hard:
         wrong += differences(command, [text])
     with ProcessPoolExecutor() as pool:
-        for some in pool.map(differences, [command] * len(chunks(others)), chunks(others)):
+        of_made = pool.map(differences, repeat(command), chunks(made))
+        of_drawn = pool.map(compared, repeat(command), chunks(drawn))
+        for some in of_made:
             wrong += some
+        for some, seen in of_drawn:
+            wrong += some
+            kinds += seen
     show(wrong)
-    print(f"{len(files) + len(rows) + len(hard) + len(others)} texts: {len(wrong)} differ from the program")
-    return len(wrong)
+    print(f"{len(files) + len(rows) + len(hard) + len(made) + len(drawn)} texts: {len(wrong)} differ from the program")
+    return len(wrong) + len(never_seen(kinds))
 
 
 def refuse_memory(command):

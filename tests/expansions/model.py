@@ -16,19 +16,23 @@ are decimal, addresses are a.b.c.d, and what is in square brackets here is writt
     skip [NAME ..]            the interfaces as they are written, each as often as it is
     table NAME [ENTRY ..]     the tables in the order of the text. An entry is [!]a.b.c.d/bits; a table has each once,
                               those with fewer bits first, then those with lesser addresses
-    nat N [no] [pass] MATCH [-> a.b.c.d [port P:P] [static-port]]
-    rdr N [no] [pass] MATCH [-> a.b.c.d [port P] or [port P:*]]
-    binat N [no] [pass] MATCH [-> a.b.c.d]
+    nat N [no] [pass] MATCH [-> a.b.c.d [port P:P] [static-port]] line LINE
+    rdr N [no] [pass] MATCH [-> a.b.c.d [port P] or [port P:*]] line LINE
+    binat N [no] [pass] MATCH [-> a.b.c.d] line LINE
                               all nat rules, then all rdr rules, then all binat rules; N counts all kinds together
     anchor K [inside K] rules FIRST LAST [in|out] [quick] MATCH
                               before its first rule, an outer one before those inside it. K counts the anchors as they
                               begin, `inside` names the one next round it, FIRST and LAST are numbers of filter rules
     filter N pass|drop|return [in|out] [quick] MATCH [flags SET MASK [default]]
-             [state if-bound|floating [no-sync] [max NUMBER]] [allow-opts] [anchors K ..]
-                              the anchors round it from the outermost on
+             [state if-bound|floating [no-sync] [max NUMBER]] [allow-opts] line LINE [label BYTES] [anchors K ..]
+                              BYTES are those of its label in hexadecimal digits, `-` if it is empty. The anchors
+                              round it come from the outermost on
 
 MATCH is `[on [!]NAME] [proto NUMBER] [icmp TYPE [code CODE]] from HOST [port PORT] to HOST [port PORT]`. HOST is [!]
 and one of `any`, a.b.c.d/bits, a.b.c.d-a.b.c.d, <NAME>. PORT is =P, !=P, <P, <=P, >P, >=P, P:P, P><P or P<>P.
+
+LINE is where the first word of the rule stands in the text, whose first line is 1. All that lists and anchors make of a
+rule has its line and its label.
 """
 
 import sys
@@ -143,6 +147,9 @@ def rule_words(number, rule):
         yield f"state {rule.binding}" + " no-sync" * rule.no_sync
         yield from [f"max {rule.most}"] if rule.most is not None else []
     yield from ["allow-opts"] if rule.allow_opts else []
+    yield f"line {rule.line}"
+    if rule.label is not None:
+        yield f"label {rule.label.encode('latin-1').hex() or '-'}"
     yield from ["anchors", *map(str, rule.anchors)] if rule.anchors else []
 
 
@@ -171,6 +178,7 @@ def translation_words(kind, rule):
         yield f"-> {dotted(rule.target.address)}"
     yield from [target_ports(kind, rule.ports)] if rule.ports else []
     yield from ["static-port"] if rule.keeps_port else []
+    yield f"line {rule.line}"
 
 
 def option_lines(options):

@@ -8,6 +8,9 @@ INTERFACES = ("em0", "em1", "lo0", "igb1", "vlan_5", "a_name_of_15_by")
 PROTOCOLS = ("tcp", "udp", "icmp", "igmp", "gre", "esp", "ah", "0", "6", "255")
 SERVICES = ("ftp", "ssh", "telnet", "smtp", "domain", "http", "www", "pop3", "ntp", "imap", "snmp", "https")
 ICMP_TYPES = ("echorep", "unreach", "redir", "echoreq", "timex", "paramprob", "0", "8", "255")
+# beside labels that no other rule of the text has
+LABELS = ('""', '" "', '"a label"', '"# no comment {"', '"\t$a, \\ b"', "http", "a/b:c.*", "0")
+NO_LABELS = ("", "tag", "in", "$a", "{ a }", "a b", '"\x7f"', '"caf\u00e9"')
 MOST_STATES = (1, 2, 10, 4294967295)
 FLAG_SETS = ("any", "S/SA", "SA/SA", "FUP/FSRPAUEW", "S/S", "A/A")
 NETWORKS = ("10.0.0.0/8", "10.1.2.3/8", "10.1.0.0/16", "10.1.2.0/24", "10.1.2.3", "10.1.2.4/31", "10.1.2.5/32",
@@ -46,6 +49,7 @@ class Writer:
         self.faults = draw.choice((0, 0, 1, 1, 2))
         # what each macro and table that is defined so far was made for
         self.macros, self.tables = {}, []
+        self.labels = 0
 
     def chance(self, percent):
         return self.draw.randrange(100) < percent
@@ -279,10 +283,17 @@ class Writer:
         within = f" ({', '.join(options)})" if options else ""
         return self.either(30, " no state", f" keep state{within}")
 
+    def label(self):
+        if self.fault(2):
+            return f" label {self.draw.choice(NO_LABELS)}"
+        self.labels += 1
+        own = f"r{self.labels}", f'"rule {self.labels}"'
+        return f" label {self.draw.choice((*own, self.draw.choice(LABELS)))}"
+
     def rule_options(self):
         options = [self.either(25, f" flags {self.draw.choice(FLAG_SETS)}"), self.either(25, self.state()),
                    self.either(20, f" icmp-type {self.list('icmp')}"), self.either(10, " allow-opts"),
-                   self.either(10, ' label "a label"')]
+                   self.label() if self.chance(35) else ""]
         self.draw.shuffle(options)
         return "".join(options)
 

@@ -16,55 +16,61 @@ STATE = " flags 2 18 default state floating"
 ALL = "from any to any"
 
 
-def ports_of(*ports):
-    """The rules of `block to port`, one a port."""
-    return [f"filter {number} drop from any to any port {port}" for number, port in enumerate(ports)]
+def protocols_of(line, *protocols):
+    """The rules of `block proto` on a line, one a protocol."""
+    return [f"filter {number} drop proto {protocol} {ALL} line {line}" for number, protocol in enumerate(protocols)]
 
 
-def sources_of(*sources):
-    """The rules of `block from`, one a source."""
-    return [f"filter {number} drop from {source} to any" for number, source in enumerate(sources)]
+def ports_of(line, *ports):
+    """The rules of `block to port` on a line, one a port."""
+    return [f"filter {number} drop {ALL} port {port} line {line}" for number, port in enumerate(ports)]
+
+
+def sources_of(line, *sources):
+    """The rules of `block from` on a line, one a source."""
+    return [f"filter {number} drop from {source} to any line {line}" for number, source in enumerate(sources)]
 
 
 PROTOCOLS = (
-    Row("block proto {tcp,17 gre}", [f"filter {number} drop proto {protocol} {ALL}"
-                                     for number, protocol in enumerate((6, 17, 47))]),
-    Row('x = "{ udp 47 }"\nblock proto { tcp $x }', [f"filter {number} drop proto {protocol} {ALL}"
-                                                     for number, protocol in enumerate((6, 17, 47))]),
+    Row("block proto {tcp,17 gre}", protocols_of(1, 6, 17, 47)),
+    Row('x = "{ udp 47 }"\nblock proto { tcp $x }', protocols_of(2, 6, 17, 47)),
     Row("block icmp-type { 3 , unreach code 0 }",
-        [f"filter 0 drop icmp 3 {ALL}", f"filter 1 drop icmp 3 code 0 {ALL}"]),
+        [f"filter 0 drop icmp 3 {ALL} line 1", f"filter 1 drop icmp 3 code 0 {ALL} line 1"]),
     Row('x = "{ unreach code 0, 8 }"\nblock icmp-type $x',
-        [f"filter 0 drop icmp 3 code 0 {ALL}", f"filter 1 drop icmp 8 {ALL}"]),
+        [f"filter 0 drop icmp 3 code 0 {ALL} line 2", f"filter 1 drop icmp 8 {ALL} line 2"]),
 )
 PORTS = (
-    Row("block to port { <= 01024 http:443, domain <> 0 }", ports_of("<=1024", "80:443", "53<>0")),
-    Row("block to port != ssh", ports_of("!=22")),
+    Row("block to port { <= 01024 http:443, domain <> 0 }", ports_of(1, "<=1024", "80:443", "53<>0")),
+    Row("block to port != ssh", ports_of(1, "!=22")),
     # of two faults at one word the first kind
     Row("block to port { 80,\n99999:gopher }", "line 2: left out: service"),
     Row("block to port tag", "line 1: left out: tag"),
     Row("block to port { 80\n\n65536 }", "line 3: bad number"),
     Row("block to port 443:80", "line 1: bad number"),
     Row('p = "{ 80, 443 }"\npass in proto tcp to port $p\n',
-        [f"filter {number} pass in proto 6 {ALL} port ={port}{STATE}" for number, port in enumerate((80, 443))]),
+        [f"filter {number} pass in proto 6 {ALL} port ={port}{STATE} line 2" for number, port in enumerate((80, 443))]),
 )
 REPLACED = (
-    Row('x = "{ 80, 443 }"\nblock to port $x', ports_of("=80", "=443")),
-    Row('x = "{ 80, 443 }"\nblock to port { 22 $x, 25 }', ports_of("=22", "=80", "=443", "=25")),
+    Row('x = "{ 80, 443 }"\nblock to port $x', ports_of(2, "=80", "=443")),
+    Row('x = "{ 80, 443 }"\nblock to port { 22 $x, 25 }', ports_of(2, "=22", "=80", "=443", "=25")),
     # from its place on the later definition counts
     Row('x = "{ 80, 443 }"\ny = $x\nx = "80"\nz = "{" $x ", 443 }"\n'
-        "block to port $x\nblock to port $y\nblock to port $z", ports_of("=80", "=80", "=443", "=80", "=443")),
-    Row('x = "em0"\nblock from $x:network', sources_of("192.0.2.0/24")),
-    Row('x = "em0"\nblock from $x:0', sources_of("192.0.2.1/32")),
-    Row('x = "em0"\nblock from ($x)', sources_of("192.0.2.1/32")),
-    Row('x = "em0"\nblock from ($x:0)', sources_of("192.0.2.1/32")),
-    Row('x = "em0"\nblock from !$x', sources_of("!192.0.2.1/32")),
-    Row('x = "10.1.2.3"\nblock from !$x', sources_of("!10.1.2.3/32")),
-    Row('x = "10.1.2.3"\nblock from $x/8', sources_of("10.0.0.0/8")),
+        "block to port $x\nblock to port $y\nblock to port $z",
+        [f"filter {number} drop {ALL} port ={port} line {line}"
+         for number, (port, line) in enumerate(((80, 5), (80, 6), (443, 6), (80, 7), (443, 7)))]),
+    Row('x = "em0"\nblock from $x:network', sources_of(2, "192.0.2.0/24")),
+    Row('x = "em0"\nblock from $x:0', sources_of(2, "192.0.2.1/32")),
+    Row('x = "em0"\nblock from ($x)', sources_of(2, "192.0.2.1/32")),
+    Row('x = "em0"\nblock from ($x:0)', sources_of(2, "192.0.2.1/32")),
+    Row('x = "em0"\nblock from !$x', sources_of(2, "!192.0.2.1/32")),
+    Row('x = "10.1.2.3"\nblock from !$x', sources_of(2, "!10.1.2.3/32")),
+    Row('x = "10.1.2.3"\nblock from $x/8', sources_of(2, "10.0.0.0/8")),
     Row('x = "em1"\nset skip on { em0 $x }', ["skip em0 em1"]),
-    Row('x = "em1"\nblock on { em0 !$x }', [f"filter 0 drop on em0 {ALL}", f"filter 1 drop on !em1 {ALL}"]),
+    Row('x = "em1"\nblock on { em0 !$x }',
+        [f"filter 0 drop on em0 {ALL} line 2", f"filter 1 drop on !em1 {ALL} line 2"]),
     Row('dmz = "em1"\ntable <bad>\nblock on { em0 !$dmz } inet proto tcp from <bad> to port { 80 }',
-        ["table bad", "filter 0 drop on em0 proto 6 from <bad> to any port =80",
-         "filter 1 drop on !em1 proto 6 from <bad> to any port =80"]),
+        ["table bad", "filter 0 drop on em0 proto 6 from <bad> to any port =80 line 3",
+         "filter 1 drop on !em1 proto 6 from <bad> to any port =80 line 3"]),
 )
 # the value of a macro, its use on line 3, and the fault that is told there
 VALUES = (
@@ -105,7 +111,7 @@ FIRST_FAULTS = (
     Row('x = "{ 10.0.0.256 }"\ntable <a>\nblock from { <a>\n\n<c> $x }', "line 5: undefined table"),
     Row('x = "{ 10.0.0.256 }"\nblock from { $x <nowhere> }', "line 2: bad address"),
     Row("table <b>\nblock from { any 10.0.0.1 - 10.0.0.9 <b> }",
-        ["table b", *sources_of("any", "10.0.0.1-10.0.0.9", "<b>")]),
+        ["table b", *sources_of(2, "any", "10.0.0.1-10.0.0.9", "<b>")]),
     Row("pass in from $x to any", "line 1: undefined macro"),
     Row("pass from <nowhere> to any", "line 1: undefined table"),
     Row("table <t> { 10.0.0.1, !10.0.0.1 }", "line 1: clash"),
@@ -118,13 +124,13 @@ FORMS = (("em0", "192.0.2.1/32"), ("em0:0", "192.0.2.1/32"), ("(em0)", "192.0.2.
          ("10.1.2.3/32", "10.1.2.3/32"), ("! 010.0.0.1", "!10.0.0.1/32"), ("10.0.0.1", "10.0.0.1/32"))
 NO_FORMS = ("em1", "em", "em00", "em1:network", "em0:1", "em0:0:0")
 LONG_NAMES = (
-    Row("block from interface-fifte", sources_of("192.0.2.1/32"), "interface-fifte"),
-    Row("block from interface-fifte:0", sources_of("192.0.2.1/32"), "interface-fifte"),
+    Row("block from interface-fifte", sources_of(1, "192.0.2.1/32"), "interface-fifte"),
+    Row("block from interface-fifte:0", sources_of(1, "192.0.2.1/32"), "interface-fifte"),
     Row("block from interface-fiftee", "line 1: left out: host name", "interface-fifte"),
 )
 TABLES = (
     Row('table <a>\ntable <b>\nx = "{ !<b> any }"\nblock from { <a> $x !10.0.0.1 - 10.0.0.9 }',
-        ["table a", "table b", *sources_of("<a>", "!<b>", "any", "!10.0.0.1-10.0.0.9")]),
+        ["table a", "table b", *sources_of(4, "<a>", "!<b>", "any", "!10.0.0.1-10.0.0.9")]),
     Row('x = "em0"\ntable <t> { !$x:network, $x, !10.0.0.0/8 }', ["table t !10.0.0.0/8 !192.0.2.0/24 192.0.2.1/32"]),
     Row("table <t> { !10.0.0.0/8 }", ["table t !10.0.0.0/8"]),
     # a network that stands there already stands there once
@@ -137,12 +143,12 @@ TABLES = (
     Row("table <a>\nblock from <later>\ntable <later>", "line 2: undefined table"),
     Row('table <a>\nx = "{ <a> <later> }"\nblock from { <a> $x }\ntable <later>', "line 3: undefined table"),
     Row('table <a>\nx = "{ <a> <later> }"\ntable <later>\nblock from { <later> $x }',
-        ["table a", "table later", *sources_of("<later>", "<a>", "<later>")]),
+        ["table a", "table later", *sources_of(4, "<later>", "<a>", "<later>")]),
 )
 LISTS = (
     # the last list changes first
     Row("pass out proto { tcp, udp } from any to { 198.51.100.7, 198.51.100.8 } port { 80, 443 }", [
-        f"filter {number} pass out proto {protocol} from any to {host}/32 port ={port}{STATE}"
+        f"filter {number} pass out proto {protocol} from any to {host}/32 port ={port}{STATE} line 1"
         for number, (protocol, host, port) in enumerate((
             (6, "198.51.100.7", 80), (6, "198.51.100.7", 443), (6, "198.51.100.8", 80), (6, "198.51.100.8", 443),
             (17, "198.51.100.7", 80), (17, "198.51.100.7", 443), (17, "198.51.100.8", 80),
@@ -150,21 +156,110 @@ LISTS = (
 )
 ANCHORS = (
     Row('block all\nanchor "a" {\npass quick all\n}\nblock quick all\n', [
-        f"filter 0 drop {ALL}", f"anchor 0 rules 1 1 {ALL}", f"filter 1 pass quick {ALL}{STATE} anchors 0",
-        f"filter 2 drop quick {ALL}"]),
+        f"filter 0 drop {ALL} line 1", f"anchor 0 rules 1 1 {ALL}",
+        f"filter 1 pass quick {ALL}{STATE} line 3 anchors 0", f"filter 2 drop quick {ALL} line 5"]),
     Row("block all\nanchor proto { tcp, udp } {\npass all\nanchor from { 10.0.0.1, 10.0.0.2 } {\nblock all\npass all\n}\n"
         "}\nanchor {\n}\n", [
-            f"filter 0 drop {ALL}", f"anchor 0 rules 1 5 proto 6 {ALL}", f"filter 1 pass {ALL}{STATE} anchors 0",
-            "anchor 1 inside 0 rules 2 3 from 10.0.0.1/32 to any", f"filter 2 drop {ALL} anchors 0 1",
-            f"filter 3 pass {ALL}{STATE} anchors 0 1", "anchor 2 inside 0 rules 4 5 from 10.0.0.2/32 to any",
-            f"filter 4 drop {ALL} anchors 0 2", f"filter 5 pass {ALL}{STATE} anchors 0 2",
-            f"anchor 3 rules 6 10 proto 17 {ALL}", f"filter 6 pass {ALL}{STATE} anchors 3",
-            "anchor 4 inside 3 rules 7 8 from 10.0.0.1/32 to any", f"filter 7 drop {ALL} anchors 3 4",
-            f"filter 8 pass {ALL}{STATE} anchors 3 4", "anchor 5 inside 3 rules 9 10 from 10.0.0.2/32 to any",
-            f"filter 9 drop {ALL} anchors 3 5", f"filter 10 pass {ALL}{STATE} anchors 3 5"]),
+            f"filter 0 drop {ALL} line 1", f"anchor 0 rules 1 5 proto 6 {ALL}",
+            f"filter 1 pass {ALL}{STATE} line 3 anchors 0",
+            "anchor 1 inside 0 rules 2 3 from 10.0.0.1/32 to any", f"filter 2 drop {ALL} line 5 anchors 0 1",
+            f"filter 3 pass {ALL}{STATE} line 6 anchors 0 1",
+            "anchor 2 inside 0 rules 4 5 from 10.0.0.2/32 to any", f"filter 4 drop {ALL} line 5 anchors 0 2",
+            f"filter 5 pass {ALL}{STATE} line 6 anchors 0 2",
+            f"anchor 3 rules 6 10 proto 17 {ALL}", f"filter 6 pass {ALL}{STATE} line 3 anchors 3",
+            "anchor 4 inside 3 rules 7 8 from 10.0.0.1/32 to any", f"filter 7 drop {ALL} line 5 anchors 3 4",
+            f"filter 8 pass {ALL}{STATE} line 6 anchors 3 4",
+            "anchor 5 inside 3 rules 9 10 from 10.0.0.2/32 to any", f"filter 9 drop {ALL} line 5 anchors 3 5",
+            f"filter 10 pass {ALL}{STATE} line 6 anchors 3 5"]),
+)
+LABELS = (
+    # 61 to 65 are the letters from `a` on
+    Row("block\npass label a\nblock\nblock label b", [
+        f"filter 0 drop {ALL} line 1", f"filter 1 pass {ALL}{STATE} line 2 label 61", f"filter 2 drop {ALL} line 3",
+        f"filter 3 drop {ALL} line 4 label 62"]),
+    Row("block label a\npass label b\npass allow-opts label a\nblock label c", [
+        f"filter 0 drop {ALL} line 1 label 61", f"filter 1 pass {ALL}{STATE} line 2 label 62",
+        f"filter 2 pass {ALL}{STATE} allow-opts line 3 label 61", f"filter 3 drop {ALL} line 4 label 63"]),
+    # plain words, and what a quoted text may hold
+    Row("block label http\nblock label web-1.a/b:*", [
+        f"filter 0 drop {ALL} line 1 label 68747470", f"filter 1 drop {ALL} line 2 label 7765622d312e612f623a2a"]),
+    Row('block label ""\nblock\nblock label " "', [
+        f"filter 0 drop {ALL} line 1 label -", f"filter 1 drop {ALL} line 2", f"filter 2 drop {ALL} line 3 label 20"]),
+    Row('block label " a  # b" # c\nblock label "\t{$x\\ ~"\nblock label d # "e\u00e9"', [
+        f"filter 0 drop {ALL} line 1 label 20612020232062", f"filter 1 drop {ALL} line 2 label 097b24785c207e",
+        f"filter 2 drop {ALL} line 3 label 64"]),
+    Row('block label a\nblock label "caf\u00e9"', "line 2: bad byte"),
+    Row('block label "a\x7f"', "line 1: bad byte"),
+    Row(f'block label "{"a" * 300}"\nblock', [f"filter 0 drop {ALL} line 1 label {'61' * 300}",
+                                              f"filter 1 drop {ALL} line 2"]),
+    # all rules that lists make of one have its label
+    Row("block label c\nblock from { 10.0.0.1, 10.0.0.2 } to port { 80, 443 } label a\nblock label b", [
+        f"filter 0 drop {ALL} line 1 label 63",
+        "filter 1 drop from 10.0.0.1/32 to any port =80 line 2 label 61",
+        "filter 2 drop from 10.0.0.1/32 to any port =443 line 2 label 61",
+        "filter 3 drop from 10.0.0.2/32 to any port =80 line 2 label 61",
+        "filter 4 drop from 10.0.0.2/32 to any port =443 line 2 label 61",
+        f"filter 5 drop {ALL} line 3 label 62"]),
+    # so have those in copies of an anchor
+    Row("block label a\nanchor on { em0, em1 } {\nblock label b\nblock\nblock proto { tcp, udp } label c\n}\n"
+        "block label d", [
+            f"filter 0 drop {ALL} line 1 label 61", f"anchor 0 rules 1 4 on em0 {ALL}",
+            f"filter 1 drop {ALL} line 3 label 62 anchors 0", f"filter 2 drop {ALL} line 4 anchors 0",
+            f"filter 3 drop proto 6 {ALL} line 5 label 63 anchors 0",
+            f"filter 4 drop proto 17 {ALL} line 5 label 63 anchors 0", f"anchor 1 rules 5 8 on em1 {ALL}",
+            f"filter 5 drop {ALL} line 3 label 62 anchors 1", f"filter 6 drop {ALL} line 4 anchors 1",
+            f"filter 7 drop proto 6 {ALL} line 5 label 63 anchors 1",
+            f"filter 8 drop proto 17 {ALL} line 5 label 63 anchors 1", f"filter 9 drop {ALL} line 7 label 64"]),
+    # and in copies within copies; those behind an inner anchor keep their own
+    Row("anchor proto { tcp, udp } {\nblock label a\nanchor on { em0, em1 } {\nblock label b\nblock\n}\n"
+        "block label c\n}\nblock label d\nblock", [
+            f"anchor 0 rules 0 5 proto 6 {ALL}", f"filter 0 drop {ALL} line 2 label 61 anchors 0",
+            f"anchor 1 inside 0 rules 1 2 on em0 {ALL}", f"filter 1 drop {ALL} line 4 label 62 anchors 0 1",
+            f"filter 2 drop {ALL} line 5 anchors 0 1", f"anchor 2 inside 0 rules 3 4 on em1 {ALL}",
+            f"filter 3 drop {ALL} line 4 label 62 anchors 0 2", f"filter 4 drop {ALL} line 5 anchors 0 2",
+            f"filter 5 drop {ALL} line 7 label 63 anchors 0", f"anchor 3 rules 6 11 proto 17 {ALL}",
+            f"filter 6 drop {ALL} line 2 label 61 anchors 3", f"anchor 4 inside 3 rules 7 8 on em0 {ALL}",
+            f"filter 7 drop {ALL} line 4 label 62 anchors 3 4", f"filter 8 drop {ALL} line 5 anchors 3 4",
+            f"anchor 5 inside 3 rules 9 10 on em1 {ALL}", f"filter 9 drop {ALL} line 4 label 62 anchors 3 5",
+            f"filter 10 drop {ALL} line 5 anchors 3 5", f"filter 11 drop {ALL} line 7 label 63 anchors 3",
+            f"filter 12 drop {ALL} line 9 label 64", f"filter 13 drop {ALL} line 10"]),
+    # anchors without rules have no part in it
+    Row("block label a\nanchor {\n}\nanchor proto { tcp, udp } {\nanchor {\n}\n}\nanchor e\nblock label b\n"
+        "anchor {\nanchor {\n}\nblock label c\n}\nblock label d", [
+            f"filter 0 drop {ALL} line 1 label 61", f"filter 1 drop {ALL} line 9 label 62",
+            f"anchor 0 rules 2 2 {ALL}", f"filter 2 drop {ALL} line 13 label 63 anchors 0",
+            f"filter 3 drop {ALL} line 15 label 64"]),
+    # more labels than a byte counts
+    Row("".join(f"block label r{number}\n" for number in range(300)), [
+        f"filter {number} drop {ALL} line {number + 1} label {f'r{number}'.encode().hex()}" for number in range(300)]),
+)
+LINES = (
+    # a rule has the line of its first word
+    Row("\n# c\n\nblock \\\n to \\\n10.0.0.1 \\\nlabel a\nblock", [
+        "filter 0 drop from any to 10.0.0.1/32 line 4 label 61", f"filter 1 drop {ALL} line 8"]),
+    Row(" \\\n \\\n block\n# c \\\nblock\nblock", [f"filter 0 drop {ALL} line 3", f"filter 1 drop {ALL} line 6"]),
+    Row("block to {\n10.0.0.1\n\n10.0.0.2 # c\n}\r\n\r\nblock", [
+        "filter 0 drop from any to 10.0.0.1/32 line 1", "filter 1 drop from any to 10.0.0.2/32 line 1",
+        f"filter 2 drop {ALL} line 7"]),
+    # neither that of a macro's definition, nor that of its use
+    Row('x = "{ 80 \\\n443 }"\nblock to \\\nport $x\nblock', [
+        f"filter 0 drop {ALL} port =80 line 3", f"filter 1 drop {ALL} port =443 line 3",
+        f"filter 2 drop {ALL} line 5"]),
+    Row("anchor on { em0,\nem1 } \\\n{\n\nblock \\\nall\n\nblock\n}\nblock", [
+        f"anchor 0 rules 0 1 on em0 {ALL}", f"filter 0 drop {ALL} line 5 anchors 0",
+        f"filter 1 drop {ALL} line 8 anchors 0", f"anchor 1 rules 2 3 on em1 {ALL}",
+        f"filter 2 drop {ALL} line 5 anchors 1", f"filter 3 drop {ALL} line 8 anchors 1",
+        f"filter 4 drop {ALL} line 10"]),
+    Row("\nrdr to port {\n80, 443 } \\\n-> \\\n10.0.0.1\nbinat from 10.0.0.5 -> em0\n\nno \\\nrdr\nnat -> em0 # c\n"
+        'nat-anchor "a"\nno nat\nbinat \\\nfrom 10.0.0.6 -> em0\nblock', [
+            f"nat 4 {ALL} -> 192.0.2.1 line 10", f"nat 5 no {ALL} line 12",
+            f"rdr 0 {ALL} port =80 -> 10.0.0.1 line 2", f"rdr 1 {ALL} port =443 -> 10.0.0.1 line 2",
+            f"rdr 3 no {ALL} line 8", "binat 2 from 10.0.0.5/32 to any -> 192.0.2.1 line 6",
+            "binat 6 from 10.0.0.6/32 to any -> 192.0.2.1 line 13",
+            f"filter 0 drop {ALL} line 15"]),
 )
 OPTIONS = (
-    Row("pass all", [f"filter 0 pass {ALL}{STATE}"]),
+    Row("pass all", [f"filter 0 pass {ALL}{STATE} line 1"]),
     Row("set timeout { tcp.first 5, other.multiple 7 }\nset timeout { interval 3, tcp.first 6 }\nset limit states 10\n"
         "set limit { states 20, frags 30 }\nset block-policy return\nset block-policy drop\nset state-policy floating\n"
         "set state-policy if-bound\nset hostid 2\nset hostid 3\nset skip on lo0\nset skip on { em1, lo0 }",
@@ -174,32 +269,32 @@ OPTIONS = (
     Row("set timeout { tcp.first 5,\n  icmp.error 030 }\n\n", ["timeout tcp.first 5", "timeout icmp.error 30"]),
 )
 RULES = (
-    Row("pass all flags any", [f"filter 0 pass {ALL} state floating"]),
-    Row("pass all flags S/SA", [f"filter 0 pass {ALL} flags 2 18 state floating"]),
-    Row("pass all no state", [f"filter 0 pass {ALL}"]),
-    Row("pass all keep state (if-bound)", [f"filter 0 pass {ALL} flags 2 18 default state if-bound"]),
+    Row("pass all flags any", [f"filter 0 pass {ALL} state floating line 1"]),
+    Row("pass all flags S/SA", [f"filter 0 pass {ALL} flags 2 18 state floating line 1"]),
+    Row("pass all no state", [f"filter 0 pass {ALL} line 1"]),
+    Row("pass all keep state (if-bound)", [f"filter 0 pass {ALL} flags 2 18 default state if-bound line 1"]),
     Row("set state-policy if-bound\npass all",
-        ["state-policy if-bound", f"filter 0 pass {ALL} flags 2 18 default state if-bound"]),
-    Row("pass all keep state (max 1)", [f"filter 0 pass {ALL}{STATE} max 1"]),
+        ["state-policy if-bound", f"filter 0 pass {ALL} flags 2 18 default state if-bound line 2"]),
+    Row("pass all keep state (max 1)", [f"filter 0 pass {ALL}{STATE} max 1 line 1"]),
     Row("set state-policy if-bound\npass all keep state (max 010)",
-        ["state-policy if-bound", f"filter 0 pass {ALL} flags 2 18 default state if-bound max 10"]),
+        ["state-policy if-bound", f"filter 0 pass {ALL} flags 2 18 default state if-bound max 10 line 2"]),
     Row("pass flags any keep state (max 4294967295 no-sync, if-bound) allow-opts",
-        [f"filter 0 pass {ALL} state if-bound no-sync max 4294967295 allow-opts"]),
+        [f"filter 0 pass {ALL} state if-bound no-sync max 4294967295 allow-opts line 1"]),
     # each of the rules has the limit for itself
     Row("anchor on { em0, em1 } {\npass proto { tcp, udp } keep state (no-sync max 7)\n}", [
-        f"anchor 0 rules 0 1 on em0 {ALL}", f"filter 0 pass proto 6 {ALL}{STATE} no-sync max 7 anchors 0",
-        f"filter 1 pass proto 17 {ALL}{STATE} no-sync max 7 anchors 0",
-        f"anchor 1 rules 2 3 on em1 {ALL}", f"filter 2 pass proto 6 {ALL}{STATE} no-sync max 7 anchors 1",
-        f"filter 3 pass proto 17 {ALL}{STATE} no-sync max 7 anchors 1"]),
+        f"anchor 0 rules 0 1 on em0 {ALL}", f"filter 0 pass proto 6 {ALL}{STATE} no-sync max 7 line 2 anchors 0",
+        f"filter 1 pass proto 17 {ALL}{STATE} no-sync max 7 line 2 anchors 0",
+        f"anchor 1 rules 2 3 on em1 {ALL}", f"filter 2 pass proto 6 {ALL}{STATE} no-sync max 7 line 2 anchors 1",
+        f"filter 3 pass proto 17 {ALL}{STATE} no-sync max 7 line 2 anchors 1"]),
     # on a rule that keeps no state it has no effect
-    Row("block all keep state (max 1)", [f"filter 0 drop {ALL}"]),
-    Row("block return all keep state (if-bound, max 1)", [f"filter 0 return {ALL}"]),
+    Row("block all keep state (max 1)", [f"filter 0 drop {ALL} line 1"]),
+    Row("block return all keep state (if-bound, max 1)", [f"filter 0 return {ALL} line 1"]),
     Row("block all keep state (max 0)", "line 1: bad number"),
-    Row("block all", [f"filter 0 drop {ALL}"]),
-    Row("block return all", [f"filter 0 return {ALL}"]),
-    Row("set block-policy return\nblock all", ["block-policy return", f"filter 0 return {ALL}"]),
+    Row("block all", [f"filter 0 drop {ALL} line 1"]),
+    Row("block return all", [f"filter 0 return {ALL} line 1"]),
+    Row("set block-policy return\nblock all", ["block-policy return", f"filter 0 return {ALL} line 2"]),
     Row('block return in log quick on em0 all keep state (floating no-sync) label "a b" allow-opts',
-        [f"filter 0 return in quick on em0 {ALL} allow-opts"]),
+        [f"filter 0 return in quick on em0 {ALL} allow-opts line 1 label 612062"]),
 )
 MANY = "pass from {" + " 10.0.0.1" * 256 + " } to {" + " 10.0.0.1" * 256 + " }"
 TOO_MANY = (
@@ -215,15 +310,15 @@ TRANSLATION = (
         "nat on em0 from { 10.0.0.0/8, 172.16.0.0/12 } to any -> em0 port 1024:2048 static-port\n"
         'nat-anchor "ftp"\nbinat on em0 from 10.0.0.5 to any -> 192.0.2.9/32\n'
         "rdr on em0 from any to any -> 10.0.0.2 port ssh\n", [
-            "nat 0 no on em0 from 10.0.0.7/32 to any",
-            "nat 2 on em0 from 10.0.0.0/8 to any -> 192.0.2.1 port 1024:2048 static-port",
-            "nat 3 on em0 from 172.16.0.0/12 to any -> 192.0.2.1 port 1024:2048 static-port",
-            "rdr 1 pass on em0 proto 6 from any to 192.0.2.1/32 port 2000:2999 -> 10.0.0.1 port 4000:*",
-            f"rdr 5 on em0 {ALL} -> 10.0.0.2 port 22",
-            "binat 4 on em0 from 10.0.0.5/32 to any -> 192.0.2.9"]),
+            "nat 0 no on em0 from 10.0.0.7/32 to any line 1",
+            "nat 2 on em0 from 10.0.0.0/8 to any -> 192.0.2.1 port 1024:2048 static-port line 3",
+            "nat 3 on em0 from 172.16.0.0/12 to any -> 192.0.2.1 port 1024:2048 static-port line 3",
+            "rdr 1 pass on em0 proto 6 from any to 192.0.2.1/32 port 2000:2999 -> 10.0.0.1 port 4000:* line 2",
+            f"rdr 5 on em0 {ALL} -> 10.0.0.2 port 22 line 6",
+            "binat 4 on em0 from 10.0.0.5/32 to any -> 192.0.2.9 line 5"]),
     Row("rdr pass on em0 proto tcp from any to 192.0.2.1 port 2000:2999 -> 10.0.0.1 port 4000:*",
-        ["rdr 0 pass on em0 proto 6 from any to 192.0.2.1/32 port 2000:2999 -> 10.0.0.1 port 4000:*"]),
-    Row("nat on em0 from any to any -> em0", [f"nat 0 on em0 {ALL} -> 192.0.2.1"]),
+        ["rdr 0 pass on em0 proto 6 from any to 192.0.2.1/32 port 2000:2999 -> 10.0.0.1 port 4000:* line 1"]),
+    Row("nat on em0 from any to any -> em0", [f"nat 0 on em0 {ALL} -> 192.0.2.1 line 1"]),
     Row("nat from any to any -> em0:network", "line 1: left out: pool"),
     Row("nat from any to any -> gateway", "line 1: left out: host name"),
     Row("nat from any to any -> $x", "line 1: undefined macro"),
@@ -255,15 +350,15 @@ SOURCES = (("{ 10.0.0.1 }", "left out: pool"), ("<nowhere>", "bad address"))
 
 
 def target_row(before, target, answer, line):
-    """A rule to a target whose fault, if that is the answer, stands on this line."""
-    expected = [f"nat 0 {ALL} -> {answer}"] if answer[0].isdigit() else f"line {line}: {answer}"
+    """A rule on this line to a target, which is at fault or not."""
+    expected = [f"nat 0 {ALL} -> {answer} line {line}"] if answer[0].isdigit() else f"line {line}: {answer}"
     return Row(f"{before}nat from any to any -> {target}", expected)
 
 
 def rows():
     """All rows."""
-    for group in (PROTOCOLS, PORTS, REPLACED, FIRST_FAULTS, LONG_NAMES, TABLES, LISTS, ANCHORS, OPTIONS, RULES,
-                  TOO_MANY, TRANSLATION):
+    for group in (PROTOCOLS, PORTS, REPLACED, FIRST_FAULTS, LONG_NAMES, TABLES, LISTS, ANCHORS, LABELS, LINES, OPTIONS,
+                  RULES, TOO_MANY, TRANSLATION):
         yield from group
     for value, use, kind in VALUES:
         yield Row(f'x = "{value}"\nblock from {{ 10.0.0.1,\n{use} }}', f"line 3: {kind}")
@@ -272,7 +367,7 @@ def rows():
     for value, answer in FREE_WORDS:
         yield Row(f'x = "{value}"\nset debug $x', answer)
     for form, network in FORMS:
-        yield Row(f"block from {form}", sources_of(network))
+        yield Row(f"block from {form}", sources_of(1, network))
     for form in NO_FORMS:
         yield Row(f"block from {form}", "line 1: left out: host name")
     for value, use, answer in TARGETS:

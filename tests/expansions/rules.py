@@ -59,12 +59,17 @@ class FlatRule:
     # how many states of it there may be, None if it keeps none, or any number of them
     most: int | None
     allow_opts: bool
+    # of its first word
+    line: int
+    label: str | None
     # places of the anchors round it, the outermost first
     anchors: tuple
 
 
 class FlatTranslation(NamedTuple):
     number: int
+    # of its first word
+    line: int
     is_no_rule: bool
     passes: bool
     match: Match
@@ -191,7 +196,7 @@ class Rules:
             binding = rule.state_options.binding or policies["state-policy"]
             no_sync, most = rule.state_options.no_sync, rule.state_options.most
         return FlatRule(action, rule.direction, rule.quick, match, None if flags == ANY else flags, has_default_flags,
-                        binding, no_sync, most, rule.allow_opts, anchors)
+                        binding, no_sync, most, rule.allow_opts, rule.line, rule.label, anchors)
 
     # Translation
 
@@ -233,5 +238,5 @@ class Rules:
             ports = rule.target.ports if rule.target else None
             keeps_port = bool(rule.target) and rule.target.keeps_port
             self.translation[rule.kind].append(FlatTranslation(
-                self.translation_count, rule.is_no_rule, rule.passes, match, target, ports, keeps_port))
+                self.translation_count, rule.line, rule.is_no_rule, rule.passes, match, target, ports, keeps_port))
             self.translation_count += 1

@@ -163,7 +163,7 @@ def read_rule_option(cursor, name, rule):
     elif name == "allow-opts":
         rule.allow_opts = True
     elif name == "label":
-        read_title(cursor)
+        rule.label = read_title(cursor)
     else:
         cursor.demand(PLAIN, "state")
         rule.keeps_state = name == "keep"

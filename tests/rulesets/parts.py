@@ -64,10 +64,10 @@ def sees_title(cursor):
 
 
 def read_title(cursor):
-    """How an anchor or a label is called: a quoted text, maybe empty, or a free word."""
+    """How an anchor or a label is called: a quoted text, maybe empty, or a free word. Its quotes don't belong to it."""
     if not sees_title(cursor):
         raise cursor.refused()
-    cursor.take()
+    return cursor.take().text
 
 
 def read_table_name(cursor):

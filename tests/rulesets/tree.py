@@ -123,6 +123,8 @@ class FilterRule:
     keeps_state: bool | None = None
     state_options: StateOptions = field(default_factory=StateOptions)
     allow_opts: bool = False
+    # as it is written, without the quotes
+    label: str | None = None
 
 
 @dataclass

@@ -57,6 +57,18 @@ fn put_state(out: &mut String, state: Option<StateRule>) -> Result<(), AllocErro
     }
 }
 
+/// The label of a rule, if it has one: its bytes in hexadecimal digits, `-` where there are none.
+fn put_label(out: &mut String, label: Option<&[u8]>) -> Result<(), AllocError> {
+    let Some(text) = label else {
+        return Ok(());
+    };
+    out.push_str(word_if(text.is_empty(), " label -", " label "))?;
+    for byte in text {
+        write!(out, "{byte:02x}")?;
+    }
+    Ok(())
+}
+
 /// The anchors round a rule.
 fn put_round(out: &mut String, round: &[Begun]) -> Result<(), AllocError> {
     out.push_str(word_if(round.is_empty(), "", " anchors"))?;
@@ -71,6 +83,7 @@ fn put_rule(
     names: &[&[u8]],
     number: usize,
     rule: &FlatRule,
+    label: Option<&[u8]>,
 ) -> Result<(), AllocError> {
     let action = action_word(rule.action);
     let direction = direction_word(rule.direction);
@@ -79,7 +92,9 @@ fn put_rule(
     put_match(out, names, rule.packet)?;
     put_flags(out, rule.flags)?;
     put_state(out, rule.state)?;
-    out.push_str(word_if(rule.allow_opts, " allow-opts", ""))
+    out.push_str(word_if(rule.allow_opts, " allow-opts", ""))?;
+    write!(out, " line {}", rule.line)?;
+    put_label(out, label)
 }
 
 fn put_anchor(
@@ -143,7 +158,7 @@ pub(crate) fn put_rules(
             })?;
             rest = behind;
         }
-        put_rule(out, names, number, rule)?;
+        put_rule(out, names, number, rule, ruleset.label_of(rule))?;
         put_round(out, round.as_slice())?;
     }
     if !rest.is_empty() {

@@ -37,7 +37,7 @@ pub(crate) fn put_translations(
             }
             out.push_str(word_if(target.static_port, " static-port", ""))?;
         }
-        out.push('\n')?;
+        writeln!(out, " line {}", rule.line)?;
     }
     for rule in translations.rdrs.as_slice() {
         put_translation(out, names, "rdr", rule)?;
@@ -49,14 +49,14 @@ pub(crate) fn put_translations(
                 PortChange::From(port) => write!(out, " port {port}:*")?,
             }
         }
-        out.push('\n')?;
+        writeln!(out, " line {}", rule.line)?;
     }
     for rule in translations.binats.as_slice() {
         put_translation(out, names, "binat", rule)?;
         if let Some(address) = rule.target {
             put_target(out, address.0)?;
         }
-        out.push('\n')?;
+        writeln!(out, " line {}", rule.line)?;
     }
     Ok(())
 }
