@@ -34,10 +34,10 @@ use Rattle.pfr_packet.specs.Outcomes.{blocked, without_leave}
 use Rattle.pfr_packet.specs.Passages.{judged, judged_kept}
 use Rattle.pfr_states.specs.Answers.{found_in, has_room_in, purged_at}
 use Rattle.pfr_packet.specs.Plan.{FilterAnswer, Plan, done, filter_answer, outcome_of}
-use Rattle.pfr_packet.specs.Steps.{by_connection, by_embedded, opened, opening, packet_plan, passed_over, plan, step_of, subject_plan}
+use Rattle.pfr_packet.specs.Steps.{answer_for, by_connection, by_embedded, opened, opening, packet_plan, passed_over, plan, step_of, subject_plan}
 use Rattle.pfr_packet.specs.Verdicts.{lets_pass}
 use Rattle.pfr_packet.proofs.ChangeLemmas.{passing}
-use Rattle.pfr_packet.proofs.OpeningLemmas.{answer_in, going_way, judged_writes_nothing, opening_way}
+use Rattle.pfr_packet.proofs.OpeningLemmas.{going_way, judged_writes_nothing, opening_way}
 
 -- what is written is of this packet
 abbrev IsOf : Packet → Option Change → Type 0
@@ -100,7 +100,7 @@ unwritten_writes packet outcome is = subst (IsOf packet) (sym is) tt
 
 opening_writes : (job : RunJob) (number : ℕ) (clock : Clock) (table : StateTable) (packet : Packet) (direction : Direction) (key : Key) → Writes packet (outcome_of table (opening job number clock packet direction key))
 opening_writes job number clock table packet direction key = opening_way job number clock table packet direction (Writes packet) (record {
-  goes = λ visits passage. (let answer = answer_in job.rules table direction packet passage in going_way job number clock table packet direction (Writes packet) visits passage
+  goes = λ visits passage. (let answer = answer_for job.rules table direction packet passage in going_way job number clock table packet direction (Writes packet) visits passage
       (opened_writes job number clock table packet direction passage (judged job.rules answer direction packet passage visits)
       (unwritten_writes packet (judged job.rules answer direction packet passage visits) (judged_writes_nothing job.rules answer direction packet passage visits)) (judged_kept job.rules answer direction packet passage)));
   has_no_port = λ rule visits. tt;

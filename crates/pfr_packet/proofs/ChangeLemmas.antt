@@ -40,11 +40,11 @@ use Rattle.pfr_packet.specs.Outcomes.{blocked, by_state, without_leave}
 use Rattle.pfr_packet.specs.Passages.{judged, judged_kept}
 use Rattle.pfr_states.specs.Answers.{found_in, has_room_in, purged_at}
 use Rattle.pfr_packet.specs.Plan.{FilterAnswer, Plan, done, filter_answer, outcome_of}
-use Rattle.pfr_packet.specs.Steps.{by_connection, by_embedded, opened, opening, packet_plan, passed_over, plan, step_of, subject_plan}
+use Rattle.pfr_packet.specs.Steps.{answer_for, by_connection, by_embedded, opened, opening, packet_plan, passed_over, plan, step_of, subject_plan}
 use Rattle.pfr_packet.specs.Verdicts.{lets_pass}
 use Rattle.pfr_packet.proofs.FreeLemmas.{AreApart, made_free, removed_free, touched_free}
 use Rattle.pfr_packet.proofs.Members.{found_there, from_filter}
-use Rattle.pfr_packet.proofs.OpeningLemmas.{answer_in, going_way, judged_changes_nothing, opening_way}
+use Rattle.pfr_packet.proofs.OpeningLemmas.{going_way, judged_changes_nothing, opening_way}
 
 -- both keys of a state are free, and there is room for it
 pub record IsFree (table : StateTable) (state : State) : Type 0 where
@@ -178,7 +178,7 @@ opened_stands job number clock table packet direction passage outcome h (Some ru
 
 opening_stands : (job : RunJob) (number : ℕ) (clock : Clock) (table : StateTable) (packet : Packet) (direction : Direction) (key : Key) → Stands number clock table (outcome_of table (opening job number clock packet direction key))
 opening_stands job number clock table packet direction key = opening_way job number clock table packet direction (Stands number clock table) (record {
-  goes = λ visits passage. (let answer = answer_in job.rules table direction packet passage in going_way job number clock table packet direction (Stands number clock table) visits passage
+  goes = λ visits passage. (let answer = answer_for job.rules table direction packet passage in going_way job number clock table packet direction (Stands number clock table) visits passage
       (opened_stands job number clock table packet direction passage (judged job.rules answer direction packet passage visits)
       (unchanged_stands number clock table (judged job.rules answer direction packet passage visits) (judged_changes_nothing job.rules answer direction packet passage visits)) (judged_kept job.rules answer direction packet passage)));
   has_no_port = λ rule visits. tt;

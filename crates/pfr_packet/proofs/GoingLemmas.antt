@@ -18,7 +18,7 @@ use Rattle.pfr_states.specs.Answers.{found_in}
 use Rattle.pfr_packet.specs.declared.evaluation.Arrival.{Arrival}
 use Rattle.pfr_packet.specs.declared.passage.Passage.{Passage}
 use Rattle.pfr_packet.specs.Plan.{FilterAnswer, Goes, GoesUpTo, Plan, ask_at, filter_answer, no_answer, questions_of}
-use Rattle.pfr_packet.specs.Steps.{answer_for, asked_for, behind_passage, going_on, going_plan, judged_outcome, kept_rules, opened_plan, unless_passed}
+use Rattle.pfr_packet.specs.Steps.{asked_for, behind_passage, going_on, going_plan, judged_for, kept_for, opened_plan, unless_passed}
 
 -- what was asked stays asked
 abbrev pub Keeps : (Question → Type 0) → (Question → Type 0) → Type 0
@@ -71,7 +71,7 @@ pass_goes table rules packet direction next outcome asked after false all kept g
 -- a packet goes through by a passage: the filter is asked, unless it isn't filtered, and then the rest
 pub going_goes : (arrival : Arrival) (table : StateTable) (visits : List ℕ) (passage : Passage) (outcome : Outcome) (asked after : Question → Type 0)
     → All asked (asked_for arrival table passage) → Keeps asked after
-    → Goes table (opened_plan arrival passage (judged_outcome arrival (answer_for arrival table passage) passage visits) (kept_rules arrival (answer_for arrival table passage) passage)) outcome after
+    → Goes table (opened_plan arrival passage (judged_for arrival table passage visits) (kept_for arrival table passage)) outcome after
     → Goes table (going_plan arrival visits passage) outcome after
 going_goes arrival table visits passage outcome asked after all kept goes =
     pass_goes table arrival.job.now.rules (behind_passage arrival passage) arrival.direction (going_on arrival.job.now arrival.number arrival.clock arrival.packet.now arrival.direction visits passage) outcome asked after passage.passes all kept goes

@@ -1,11 +1,15 @@
+pub mod AnswerLemmas
+pub mod BackLemmas
 pub mod BytesLemmas
 pub mod ChangeLemmas
+pub mod ConnectionLemmas
 pub mod FreeLemmas
 pub mod GoingLemmas
 pub mod LimitLemmas
 pub mod Local
 pub mod Members
 pub mod OpeningLemmas
+pub mod PassageLemmas
 pub mod PickLemmas
 pub mod RuleLemmas
 pub mod SameLemmas

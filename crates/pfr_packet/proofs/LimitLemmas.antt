@@ -19,7 +19,7 @@ use Rattle.pfr_headers.specs.declared.transport.Transport.TheVariants as transpo
 use Rattle.pfr_headers.specs.Translated.{message_with, transport_with}
 use Rattle.pfr_headers.specs.Ways.{direction_of}
 use Rattle.pfr_criteria.specs.Transports.{message_opens, opens_connection}
-use Rattle.pfr_rules.specs.Filter.{deciding, decision_by, limit_for, most_of, rooms_in}
+use Rattle.pfr_rules.specs.Filter.{deciding, decision_by, most_of, rooms_in}
 use Rattle.pfr_rules.proofs.RoomLemmas.{decides_with_room}
 use Rattle.pfr_track.specs.declared.key.Key.{Key}
 use Rattle.pfr_track.specs.declared.outcome.Touch.{Touch}
@@ -42,9 +42,9 @@ use Rattle.pfr_packet.specs.Keys.{message_subject, subject_by, translated_end}
 use Rattle.pfr_packet.specs.Outcomes.{unseen}
 use Rattle.pfr_packet.specs.Passages.{behind, by_way, judged, nat_passed, unfiltered}
 use Rattle.pfr_packet.specs.Plan.{FilterAnswer, done, filter_answer, no_answer, outcome_of}
-use Rattle.pfr_packet.specs.Steps.{passed_over, plan, step_of}
+use Rattle.pfr_packet.specs.Steps.{answer_for, passed_over, plan, step_of}
 use Rattle.pfr_packet.proofs.ChangeLemmas.{passing}
-use Rattle.pfr_packet.proofs.OpeningLemmas.{answer_in, either_blocked, filtered_way, judged_changes_nothing, lacks_leave}
+use Rattle.pfr_packet.proofs.OpeningLemmas.{either_blocked, filtered_way, judged_changes_nothing, lacks_leave}
 use Rattle.pfr_packet.proofs.RuleLemmas.{filtered_rule, judged_says}
 use Rattle.pfr_packet.proofs.WayLemmas.{IsFirst, judged_in, kept_in, step_way}
 
@@ -95,7 +95,7 @@ names_by rules direction packet passage visits answer false = filtered_rule rule
 
 -- what becomes of the packet names the rule that decides
 judged_names : (rules : Ruleset) (table : StateTable) (direction : Direction) (packet : Packet) (passage : Passage) (visits : List ℕ)
-    → (judged rules (answer_in rules table direction packet passage) direction packet passage visits).rule ≡ (answer_in rules table direction packet passage).decision.rule
+    → (judged rules (answer_for rules table direction packet passage) direction packet passage visits).rule ≡ (answer_for rules table direction packet passage).decision.rule
 judged_names rules table direction packet passage visits = names_by rules direction packet passage visits (filter_answer rules table (behind direction passage packet) direction) passage.passes
 
 -- where one is named the filter was asked
@@ -115,7 +115,7 @@ limit_is rule most false is most_is = absurd (cc is)
 
 -- a rule by which a state is made has room
 has_room : (job : RunJob) (table : StateTable) (packet : Packet) (direction : Direction) (passage : Passage) (by : RuleNumber) (rule : FlatRule) (most : ℕ) → opens_connection packet.transport ≡ true
-    → (answer_in job.rules table direction packet passage).decision.rule ≡ Some by → slice_get job.rules.filter.rules by.0 ≡ Some rule → most_of rule.state ≡ Some most → has_rule_room_in table by.0 most ≡ true
+    → (answer_for job.rules table direction packet passage).decision.rule ≡ Some by → slice_get job.rules.filter.rules by.0 ≡ Some rule → most_of rule.state ≡ Some most → has_rule_room_in table by.0 most ≡ true
 has_room job table packet direction passage by rule most opens named at most_is =
     let other : Packet = behind direction passage packet in
     let asked = asked_by (filter_answer job.rules table other direction) by passage.passes named in
@@ -147,7 +147,7 @@ tracked_room rules table direction packet state touch.Removed = tt
 made_room : (job : RunJob) (table : StateTable) (packet : Packet) (direction : Direction) (passage : Passage) (visits : List ℕ) (state : State) → IsFirst table packet direction → kept_in job table packet direction passage ≡ Some state.rules
     → RoomIf job.rules table (Some (Made state))
 made_room job table packet direction passage visits state first kept by rule most filter_is at most_is =
-    let answer = answer_in job.rules table direction packet passage in
+    let answer = answer_for job.rules table direction packet passage in
     let said = judged_says job.rules answer direction packet passage visits state.rules kept in
     let named : answer.decision.rule ≡ Some by = sym (judged_names job.rules table direction packet passage visits) ∙ sym said.filter ∙ filter_is in
     has_room job table packet direction passage by rule most (connection_opens direction packet packet.transport first.key first.subject_is) named at most_is
@@ -167,7 +167,7 @@ view_room job number clock (Ipv4 packet) table =
       by_rules = λ none. filtered_way job.rules (filter_answer job.rules now packet direction) packet direction (HasRoom job.rules now) (λ free. tt) tt;
       by_error = λ key state is found. either_blocked (HasRoom job.rules now) _ reason.IpOption (passing direction packet state reason.StateError None) (λ free. tt) tt;
       by_state = λ key state t is found. tracked_room job.rules now direction packet state t;
-      goes = λ passage visits first. unchanged job.rules now (judged_in job now packet direction passage visits) (judged_changes_nothing job.rules (answer_in job.rules now direction packet passage) direction packet passage visits);
+      goes = λ passage visits first. unchanged job.rules now (judged_in job now packet direction passage visits) (judged_changes_nothing job.rules (answer_for job.rules now direction packet passage) direction packet passage visits);
       makes = λ passage visits state first passes kept. made_room job now packet direction passage visits state first kept;
       has_no_place = λ passage visits first. tt;
       has_no_room = λ passage visits first full. tt;

@@ -1,5 +1,5 @@
 -- An evaluation over another table that gives the same answers.
-use Rattle.std.proofs.Common.{◌≡◌, Bool, List, Option, ◌∷◌, ◌++◌, refl, sym, ap, subst}
+use Rattle.std.proofs.Common.{◌≡◌, Bool, Option, ◌∷◌, ◌++◌, refl, sym, ap, subst}
 use Rattle.std.specs.List.{All}
 use Rattle.std.proofs.lemmas.List.Elements.{All-head, All-tail, All-weaker}
 use Rattle.pfr_net.specs.declared.direction.Direction.{Direction}

@@ -26,7 +26,7 @@ use Rattle.pfr_packet.specs.Passages.{behind, by_way, exhausted, judged, mapped_
 use Rattle.pfr_packet.specs.Picks.{picking, ports_for, tries, wire_with, word_of}
 use Rattle.pfr_states.specs.Answers.{found_in}
 use Rattle.pfr_packet.specs.Plan.{FilterAnswer, Plan, filter_answer, no_answer, outcome_of}
-use Rattle.pfr_packet.specs.Steps.{by_end, by_hit, by_pick, going, going_on, opening, unless_passed}
+use Rattle.pfr_packet.specs.Steps.{answer_for, by_end, by_hit, by_pick, going, going_on, opening, unless_passed}
 use Rattle.pfr_packet.specs.Verdicts.{lets_pass}
 
 -- ---- what the filter makes of a packet
@@ -87,10 +87,6 @@ judged_writes_nothing rules answer direction packet passage visits =
 
 -- ---- the filter's answer behind a passage
 
--- what the filter answers for a packet behind a passage, which isn't asked where the packet isn't filtered
-abbrev pub answer_in : Ruleset → StateTable → Direction → Packet → Passage → FilterAnswer
-answer_in rules table direction packet passage = cond passage.passes no_answer (filter_answer rules table (behind direction passage packet) direction)
-
 by_pass : (rules : Ruleset) (table : StateTable) (packet : Packet) (direction : Direction) (P : Outcome → Type 0) (next : FilterAnswer → Plan) (passes : Bool)
     → P (outcome_of table (next (cond passes no_answer (filter_answer rules table packet direction)))) → P (outcome_of table (unless_passed rules packet direction passes next))
 by_pass rules table packet direction P next true h = h
@@ -98,7 +94,7 @@ by_pass rules table packet direction P next false h = h
 
 -- what holds of a packet that goes on by the filter's answer holds of one that goes through by the passage
 pub going_way : (job : RunJob) (number : ℕ) (clock : Clock) (table : StateTable) (packet : Packet) (direction : Direction) (P : Outcome → Type 0) (visits : List ℕ) (passage : Passage)
-    → P (outcome_of table (going_on job number clock packet direction visits passage (answer_in job.rules table direction packet passage))) → P (outcome_of table (going job number clock packet direction visits passage))
+    → P (outcome_of table (going_on job number clock packet direction visits passage (answer_for job.rules table direction packet passage))) → P (outcome_of table (going job number clock packet direction visits passage))
 going_way job number clock table packet direction P visits passage h =
     by_pass job.rules table (behind direction passage packet) direction P (going_on job number clock packet direction visits passage) passage.passes h
 

@@ -1,5 +1,5 @@
 -- By which rules a state is made.
-use Rattle.std.proofs.Common.{◌≡◌, ◌&&◌, ℕ, Bool, true, false, not, Option, Some, None, List, slice_get, cond, refl, sym, ap, ◌∙◌, subst}
+use Rattle.std.proofs.Common.{◌≡◌, ℕ, Bool, true, false, not, Option, Some, None, List, slice_get, cond, refl, sym, ◌∙◌, subst}
 use Rattle.pfr_net.specs.declared.direction.Direction.{Direction}
 use Rattle.pfr_net.specs.declared.rule_number.RuleNumber.{RuleNumber}
 use Rattle.pfr_ruleset.specs.declared.flat.FlatRule.{FlatRule}
@@ -8,7 +8,6 @@ use Rattle.pfr_ruleset.specs.declared.ruleset.Ruleset.{Ruleset}
 use Rattle.pfr_headers.specs.declared.packet.Packet.{Packet}
 use Rattle.pfr_headers.specs.declared.packet.View.{View}
 use Rattle.pfr_headers.specs.declared.packet.View.TheVariants.{Ipv4, Skip, Short}
-use Rattle.pfr_headers.specs.View.{has_options}
 use Rattle.pfr_headers.specs.Ways.{direction_of}
 use Rattle.pfr_track.specs.declared.key.Key.{Key}
 use Rattle.pfr_track.specs.declared.outcome.Touch.{Touch}
@@ -38,9 +37,9 @@ use Rattle.pfr_packet.specs.Outcomes.{by_state}
 use Rattle.pfr_packet.specs.Passages.{behind, by_way, judged, judged_kept, kept_behind, kept_by_way, nat_passed, unfiltered}
 use Rattle.pfr_states.specs.Answers.{found_in, has_room_in, purged_at}
 use Rattle.pfr_packet.specs.Plan.{FilterAnswer, Plan, done, filter_answer, outcome_of}
-use Rattle.pfr_packet.specs.Steps.{by_connection, by_embedded, opened, opening, packet_plan, passed_over, plan, step_of, subject_plan}
+use Rattle.pfr_packet.specs.Steps.{answer_for, by_connection, by_embedded, opened, opening, packet_plan, passed_over, plan, step_of, subject_plan}
 use Rattle.pfr_packet.specs.Verdicts.{lets_pass}
-use Rattle.pfr_packet.proofs.OpeningLemmas.{answer_in, either_blocked, going_way, filtered_way, judged_changes_nothing, lacks_leave, opening_way}
+use Rattle.pfr_packet.proofs.OpeningLemmas.{either_blocked, going_way, filtered_way, judged_changes_nothing, lacks_leave, opening_way}
 
 -- ---- what a rule keeps
 
@@ -160,7 +159,7 @@ opened_told job answer number clock table packet direction visits passage (Some 
 
 opening_told : (job : RunJob) (number : ℕ) (clock : Clock) (table : StateTable) (packet : Packet) (direction : Direction) (key : Key) → Told job.rules.filter.rules (outcome_of table (opening job number clock packet direction key))
 opening_told job number clock table packet direction key = opening_way job number clock table packet direction (Told job.rules.filter.rules) (record {
-  goes = λ visits passage. (let answer = answer_in job.rules table direction packet passage in going_way job number clock table packet direction (Told job.rules.filter.rules) visits passage
+  goes = λ visits passage. (let answer = answer_for job.rules table direction packet passage in going_way job number clock table packet direction (Told job.rules.filter.rules) visits passage
       (opened_told job answer number clock table packet direction visits passage (judged_kept job.rules answer direction packet passage) refl));
   has_no_port = λ rule visits. tt;
 }) key

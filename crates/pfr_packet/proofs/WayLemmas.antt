@@ -43,10 +43,10 @@ use Rattle.pfr_packet.specs.Outcomes.{blocked, none_visited, without_leave}
 use Rattle.pfr_packet.specs.Passages.{behind, exhausted, judged, judged_kept}
 use Rattle.pfr_states.specs.Answers.{found_in, has_room_in, purged_at}
 use Rattle.pfr_packet.specs.Plan.{FilterAnswer, Plan, done, filter_answer, outcome_of}
-use Rattle.pfr_packet.specs.Steps.{asked_of, by_connection, by_embedded, opened, packet_plan, passed_over, plan, step_of, subject_plan}
+use Rattle.pfr_packet.specs.Steps.{answer_for, asked_of, by_connection, by_embedded, opened, packet_plan, passed_over, plan, step_of, subject_plan}
 use Rattle.pfr_packet.specs.Verdicts.{lets_pass}
 use Rattle.pfr_packet.proofs.ChangeLemmas.{found_in_states, passing}
-use Rattle.pfr_packet.proofs.OpeningLemmas.{answer_in, behind_options, either_blocked, filtered_way, going_way, judged_way, judged_writes_nothing, opening_way}
+use Rattle.pfr_packet.proofs.OpeningLemmas.{behind_options, either_blocked, filtered_way, going_way, judged_way, judged_writes_nothing, opening_way}
 
 -- no state is found for the packet
 abbrev pub NoneFound : StateTable → Packet → Direction → Type 0
@@ -54,11 +54,11 @@ NoneFound table packet direction = (key : Key) → ((subject_of direction packet
 
 -- what becomes of the first packet of a connection behind a passage
 abbrev pub judged_in : RunJob → StateTable → Packet → Direction → Passage → List ℕ → Outcome
-judged_in job table packet direction passage visits = judged job.rules (answer_in job.rules table direction packet passage) direction packet passage visits
+judged_in job table packet direction passage visits = judged job.rules (answer_for job.rules table direction packet passage) direction packet passage visits
 
 -- what the state says of its rules that it may make
 abbrev pub kept_in : RunJob → StateTable → Packet → Direction → Passage → Option StateRules
-kept_in job table packet direction passage = judged_kept job.rules (answer_in job.rules table direction packet passage) direction packet passage
+kept_in job table packet direction passage = judged_kept job.rules (answer_for job.rules table direction packet passage) direction packet passage
 
 -- it is the first packet of its connection
 pub record IsFirst (table : StateTable) (packet : Packet) (direction : Direction) : Type 0 where
@@ -227,10 +227,10 @@ filtered_lacks job table packet direction =
     filtered_way job.rules answer packet direction (LacksRoom table) (λ free is. absurd (reason_by answer.decision is)) (λ is. absurd (cc is))
 
 judged_lacks : (job : RunJob) (table : StateTable) (packet : Packet) (direction : Direction) (passage : Passage) (visits : List ℕ) → LacksRoom table (judged_in job table packet direction passage visits)
-judged_lacks job table packet direction passage visits = judged_way job.rules (answer_in job.rules table direction packet passage) direction packet passage visits (LacksRoom table) (record {
+judged_lacks job table packet direction passage visits = judged_way job.rules (answer_for job.rules table direction packet passage) direction packet passage visits (LacksRoom table) (record {
   passed = λ free is. absurd (cc is);
   passed_blocked = λ is. absurd (cc is);
-  decides = λ free is. absurd (reason_by (answer_in job.rules table direction packet passage).decision is);
+  decides = λ free is. absurd (reason_by (answer_for job.rules table direction packet passage).decision is);
   decides_blocked = λ is. absurd (cc is);
 })
 
@@ -270,7 +270,7 @@ unwritten_of job number clock packet table =
       by_rules = λ none. filtered_way job.rules (filter_answer job.rules (purged_at clock table) packet direction) packet direction Unwritten (λ free stops. refl) (λ stops. refl);
       by_error = λ key state is found. either_blocked Unwritten _ reason.IpOption (passing direction packet state reason.StateError None) (λ free stops. absurd (cc stops)) (λ stops. refl);
       by_state = λ key state t is found. tracked_unwritten direction packet state t;
-      goes = λ passage visits first stops. judged_writes_nothing job.rules (answer_in job.rules (purged_at clock table) direction packet passage) direction packet passage visits;
+      goes = λ passage visits first stops. judged_writes_nothing job.rules (answer_for job.rules (purged_at clock table) direction packet passage) direction packet passage visits;
       makes = λ passage visits state first passes kept stops. (let both : true ≡ false = sym passes ∙ stops in absurd (cc both));
       has_no_place = λ passage visits first stops. refl;
       has_no_room = λ passage visits first full stops. refl;
@@ -323,10 +323,10 @@ no_options false none is = cc is
 judged_rule : (job : RunJob) (table : StateTable) (packet : Packet) (direction : Direction) (passage : Passage) (visits : List ℕ) → has_options packet ≡ true → lets_pass (judged_in job table packet direction passage visits).verdict ≡ true
     → RuleWithLeave job.rules.filter.rules (judged_in job table packet direction passage visits).rule
 judged_rule job table packet direction passage visits options lets =
-    judged_way job.rules (answer_in job.rules table direction packet passage) direction packet passage visits (λ o. lets_pass o.verdict ≡ true → RuleWithLeave job.rules.filter.rules o.rule) (record {
+    judged_way job.rules (answer_for job.rules table direction packet passage) direction packet passage visits (λ o. lets_pass o.verdict ≡ true → RuleWithLeave job.rules.filter.rules o.rule) (record {
       passed = λ free passes. absurd (no_options (has_options packet) free options);
       passed_blocked = λ passes. absurd (cc passes);
-      decides = λ free passes. rule_with_leave job.rules.filter.rules (answer_in job.rules table direction packet passage).decision.rule
+      decides = λ free passes. rule_with_leave job.rules.filter.rules (answer_for job.rules table direction packet passage).decision.rule
           (third_false _ _ _ free passes (behind_options direction passage packet ∙ options));
       decides_blocked = λ passes. absurd (cc passes);
     }) lets

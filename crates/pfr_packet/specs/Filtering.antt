@@ -11,6 +11,7 @@ use Rattle.pfr_ruleset.specs.declared.ruleset.Ruleset.{Ruleset}
 use Rattle.pfr_headers.specs.declared.packet.Packet.{Packet}
 use Rattle.pfr_rules.specs.declared.decision.Decision.{Decision}
 use Rattle.pfr_track.specs.declared.state.StateRules.{StateRules}
+use Rattle.pfr_states.specs.States.{StateTable}
 use Rattle.pfr_packet.specs.declared.filtering.Conduct.{Conduct}
 use Rattle.pfr_packet.specs.declared.outcome.Outcome.{Outcome}
 use Rattle.pfr_packet.specs.declared.verdict.Reason.{Reason}
@@ -18,7 +19,7 @@ use Rattle.pfr_packet.specs.declared.verdict.Reason.TheVariants as reason
 use Rattle.pfr_packet.specs.declared.verdict.Verdict.{Verdict}
 use Rattle.pfr_packet.specs.declared.verdict.Verdict.TheVariants as verdict
 use Rattle.pfr_packet.specs.Outcomes.{without_leave}
-use Rattle.pfr_packet.specs.Plan.{FilterAnswer}
+use Rattle.pfr_packet.specs.Plan.{FilterAnswer, filter_answer}
 
 abbrev pub verdict_of : FilterAction → Verdict
 verdict_of action.Pass = verdict.Pass
@@ -78,3 +79,13 @@ allows_options rules answer = (conduct_of rules.filter.rules answer.decision.rul
 -- what the state says of its rules that the deciding rule keeps
 unfoldable pub kept : Ruleset → FilterAnswer → Option StateRules
 kept rules answer = (conduct_of rules.filter.rules answer.decision.rule).kept
+
+-- all three, where a table says which rules have room
+abbrev pub filtered_over : Ruleset → StateTable → Packet → Direction → Outcome
+filtered_over rules table packet direction = filtered rules (filter_answer rules table packet direction) packet direction
+
+abbrev pub leave_over : Ruleset → StateTable → Packet → Direction → Bool
+leave_over rules table packet direction = allows_options rules (filter_answer rules table packet direction)
+
+abbrev pub kept_over : Ruleset → StateTable → Packet → Direction → Option StateRules
+kept_over rules table packet direction = kept rules (filter_answer rules table packet direction)

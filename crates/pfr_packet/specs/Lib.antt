@@ -1,3 +1,4 @@
+pub mod Connections
 pub mod Filtering
 pub mod Found
 pub mod Job

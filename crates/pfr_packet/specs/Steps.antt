@@ -39,7 +39,7 @@ use Rattle.pfr_packet.specs.declared.passage.Passage.{Passage}
 use Rattle.pfr_packet.specs.declared.outcome.Outcome.{Outcome}
 use Rattle.pfr_packet.specs.declared.verdict.Reason.TheVariants as reason
 use Rattle.pfr_packet.specs.declared.verdict.Verdict.TheVariants as verdict
-use Rattle.pfr_packet.specs.Filtering.{filtered}
+use Rattle.pfr_packet.specs.Filtering.{filtered, filtered_over, kept_over, leave_over}
 use Rattle.pfr_packet.specs.Found.{embedded, tracked}
 use Rattle.pfr_packet.specs.Job.{RunJob, is_skipped, timeouts_of}
 use Rattle.pfr_packet.specs.Keys.{side_of, subject_of}
@@ -77,6 +77,10 @@ opened job number clock packet direction passage outcome (Some rules) =
     if lets_pass outcome.verdict
     then making packet (made (record { 0 = number }) packet direction passage.wire passage.stack rules clock (timeouts_of job)) outcome
     else done outcome
+
+-- what the filter answers for a packet behind a passage over a table, unless the packet isn't filtered
+abbrev pub answer_for : Ruleset → StateTable → Direction → Packet → Passage → FilterAnswer
+answer_for rules table direction packet passage = if passage.passes then no_answer else filter_answer rules table (behind direction passage packet) direction
 
 -- the filter is asked, unless the packet isn't filtered
 abbrev pub unless_passed : Ruleset → Packet → Direction → Bool → (FilterAnswer → Plan) → Plan
@@ -143,14 +147,6 @@ alone_plan arrival = alone arrival.job.now arrival.packet.now arrival.direction
 abbrev pub behind_passage : Arrival → Passage → Packet
 behind_passage arrival passage = behind arrival.direction passage arrival.packet.now
 
--- the filter's answer for the packet behind a passage, over a table
-abbrev pub answer_behind : Arrival → StateTable → Passage → FilterAnswer
-answer_behind arrival table passage = filter_answer arrival.job.now.rules table (behind_passage arrival passage) arrival.direction
-
--- the same, unless the packet isn't filtered
-abbrev pub answer_for : Arrival → StateTable → Passage → FilterAnswer
-answer_for arrival table passage = if passage.passes then no_answer else answer_behind arrival table passage
-
 -- what is asked for it of the rooms of rules
 abbrev pub asked_behind : Arrival → StateTable → Passage → List Question
 asked_behind arrival table passage = rooms_asked arrival.job.now.rules (rooms_in table) (behind_passage arrival passage) arrival.direction
@@ -158,17 +154,29 @@ asked_behind arrival table passage = rooms_asked arrival.job.now.rules (rooms_in
 abbrev pub asked_for : Arrival → StateTable → Passage → List Question
 asked_for arrival table passage = if passage.passes then [] else asked_behind arrival table passage
 
-abbrev pub judged_outcome : Arrival → FilterAnswer → Passage → List ℕ → Outcome
-judged_outcome arrival answer passage visits = judged arrival.job.now.rules answer arrival.direction arrival.packet.now passage visits
+-- what the filter makes of it there over a table, whether the rule that decides allows IP options, and what the state says of its
+-- rules that this rule keeps
+abbrev pub filtered_behind : Arrival → StateTable → Passage → Outcome
+filtered_behind arrival table passage = filtered_over arrival.job.now.rules table (behind_passage arrival passage) arrival.direction
 
-abbrev pub kept_rules : Arrival → FilterAnswer → Passage → Option StateRules
-kept_rules arrival answer passage = judged_kept arrival.job.now.rules answer arrival.direction arrival.packet.now passage
+abbrev pub leave_behind : Arrival → StateTable → Passage → Bool
+leave_behind arrival table passage = leave_over arrival.job.now.rules table (behind_passage arrival passage) arrival.direction
+
+abbrev pub rules_behind : Arrival → StateTable → Passage → Option StateRules
+rules_behind arrival table passage = kept_over arrival.job.now.rules table (behind_passage arrival passage) arrival.direction
+
+-- what becomes of it behind a passage over a table, which isn't filtered where the passage lets it pass, and what the state says of
+-- its rules that it may make
+abbrev pub judged_for : Arrival → StateTable → Passage → List ℕ → Outcome
+judged_for arrival table passage visits =
+    judged arrival.job.now.rules (answer_for arrival.job.now.rules table arrival.direction arrival.packet.now passage) arrival.direction arrival.packet.now passage visits
+
+abbrev pub kept_for : Arrival → StateTable → Passage → Option StateRules
+kept_for arrival table passage =
+    judged_kept arrival.job.now.rules (answer_for arrival.job.now.rules table arrival.direction arrival.packet.now passage) arrival.direction arrival.packet.now passage
 
 abbrev pub opened_plan : Arrival → Passage → Outcome → Option StateRules → Plan
 opened_plan arrival passage outcome kept = opened arrival.job.now arrival.number arrival.clock arrival.packet.now arrival.direction passage outcome kept
-
-abbrev pub filtered_behind : Arrival → FilterAnswer → Passage → Outcome
-filtered_behind arrival answer passage = filtered arrival.job.now.rules answer (behind_passage arrival passage) arrival.direction
 
 abbrev pub pick_plan : Arrival → List ℕ → Key → Hit → NatAddress → Plan
 pick_plan arrival visits key hit target = by_end arrival.job.now arrival.number arrival.clock arrival.packet.now arrival.direction visits key hit (Picked target)

@@ -2,8 +2,6 @@
 ghost use Rattle.std.specs.Prelude.{◌≡◌, IfOk, OnOk};
 ghost use Rattle.std.specs.List.{All};
 ghost use Rattle.pfr_states.specs.declared.question.Question.{Question};
-ghost use Rattle.pfr_packet.specs.Filtering.{allows_options, kept};
-ghost use Rattle.pfr_packet.specs.Job.{timeouts_of};
 ghost use Rattle.pfr_packet.specs.Outcomes.{fresh};
 ghost use Rattle.pfr_packet.specs.Passages.{by_way};
 ghost use Rattle.pfr_packet.specs.Plan.{Goes};
@@ -125,8 +123,8 @@ impl Arrival<'_> {
     ) -> Result<Option<StateRules>, AllocError>
         requires { outcome.old ≡ fresh }
         ensures seen { A.seen answers.new ≡ A.seen answers.old }
-        ensures outcome { OnOk result (outcome.new ≡ spec.judged_outcome self.now (spec.answer_for self.now (A.seen answers.old) passage.now) passage.now visits) }
-        ensures rules { IfOk result (λ kept. kept ≡ spec.kept_rules self.now (spec.answer_for self.now (A.seen answers.old) passage.now) passage.now) }
+        ensures outcome { OnOk result (outcome.new ≡ spec.judged_for self.now (A.seen answers.old) passage.now visits) }
+        ensures rules { IfOk result (λ kept. kept ≡ spec.kept_for self.now (A.seen answers.old) passage.now) }
         ensures asked { OnOk result (All (A.asked answers.new) (spec.asked_for self.now (A.seen answers.old) passage.now)) }
         ensures kept { (question : Question) → A.asked answers.old question → A.asked answers.new question }
     {
@@ -155,9 +153,9 @@ impl Arrival<'_> {
     ) -> Result<Conduct, AllocError>
         requires { outcome.old ≡ fresh }
         ensures seen { A.seen answers.new ≡ A.seen answers.old }
-        ensures outcome { OnOk result (outcome.new ≡ spec.filtered_behind self.now (spec.answer_behind self.now (A.seen answers.old) passage.now) passage.now) }
-        ensures leave { IfOk result (λ conduct. conduct.allows_options ≡ allows_options self.now.job.now.rules (spec.answer_behind self.now (A.seen answers.old) passage.now)) }
-        ensures rules { IfOk result (λ conduct. conduct.kept ≡ kept self.now.job.now.rules (spec.answer_behind self.now (A.seen answers.old) passage.now)) }
+        ensures outcome { OnOk result (outcome.new ≡ spec.filtered_behind self.now (A.seen answers.old) passage.now) }
+        ensures leave { IfOk result (λ conduct. conduct.allows_options ≡ spec.leave_behind self.now (A.seen answers.old) passage.now) }
+        ensures rules { IfOk result (λ conduct. conduct.kept ≡ spec.rules_behind self.now (A.seen answers.old) passage.now) }
         ensures asked { OnOk result (All (A.asked answers.new) (spec.asked_behind self.now (A.seen answers.old) passage.now)) }
         ensures kept { (question : Question) → A.asked answers.old question → A.asked answers.new question }
     {

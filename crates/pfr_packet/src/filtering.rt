@@ -5,7 +5,6 @@ ghost use Rattle.pfr_rules.specs.Filter.{rooms_asked, rooms_in};
 ghost use Rattle.pfr_states.specs.declared.question.Question.{Question};
 ghost use Rattle.pfr_packet.specs.Filtering as spec;
 ghost use Rattle.pfr_packet.specs.Outcomes.{fresh};
-ghost use Rattle.pfr_packet.specs.Plan.{filter_answer};
 
 use crate::outcome::Outcome;
 use crate::verdict::{Reason, Verdict};
@@ -106,9 +105,9 @@ pub(crate) fn filter_into<R: RuleRoom>(
 ) -> Result<Conduct, AllocError>
     requires { outcome.old ≡ fresh }
     ensures seen { R.seen rooms.new ≡ R.seen rooms.old }
-    ensures outcome { OnOk result (outcome.new ≡ spec.filtered rules.now (filter_answer rules.now (R.seen rooms.old) packet.now direction) packet.now direction) }
-    ensures leave { IfOk result (λ conduct. conduct.allows_options ≡ spec.allows_options rules.now (filter_answer rules.now (R.seen rooms.old) packet.now direction)) }
-    ensures rules { IfOk result (λ conduct. conduct.kept ≡ spec.kept rules.now (filter_answer rules.now (R.seen rooms.old) packet.now direction)) }
+    ensures outcome { OnOk result (outcome.new ≡ spec.filtered_over rules.now (R.seen rooms.old) packet.now direction) }
+    ensures leave { IfOk result (λ conduct. conduct.allows_options ≡ spec.leave_over rules.now (R.seen rooms.old) packet.now direction) }
+    ensures rules { IfOk result (λ conduct. conduct.kept ≡ spec.kept_over rules.now (R.seen rooms.old) packet.now direction) }
     ensures asked { OnOk result (All (R.asked rooms.new) (rooms_asked rules.now (rooms_in (R.seen rooms.old)) packet.now direction)) }
     ensures kept { (question : Question) → R.asked rooms.old question → R.asked rooms.new question }
 {

@@ -1,4 +1,5 @@
 //! Laws of the definitions, each the contract of a function that does nothing.
+ghost use Rattle.pfr_packet.specs.Connections.{AnswersAreBroughtBack, AnswersGoBack, StateKnowsBothSides};
 ghost use Rattle.pfr_packet.specs.Laws.{BlockedIsNotWritten, BlockedOnlyRemoves, ChangesAreOfTheNamed, EachPortOnce, FirstFreeIsPicked, LimitBlocksWhereReached, MadeByTheRulesNamed, MadeWhereItsRuleHasRoom, NoChangeIsRefused, NoRuleBehindAState, NoneWhereAllAreTaken, OpensNoConnection, OptionsPassByLeave, PassedOverChangesNothing, SameAnswersGiveTheSame, WrittenIsOfThePacket};
 ghost use Rattle.pfr_packet.specs.Steps.{asked_of, step_of};
 
@@ -42,6 +43,24 @@ pub fn states_are_made_by_the_rules_named()
 /// says, once the states are gone whose deadline has come.
 pub fn states_are_made_where_their_rule_has_room()
     ensures { MadeWhereItsRuleHasRoom }
+{}
+
+/// The state that a packet makes knows its connection on both sides of the firewall: the captured packet goes between
+/// the ends of the state's key on its own side, and the packet as it is sent on between those of the other key.
+pub fn a_state_knows_both_sides()
+    ensures { StateKnowsBothSides }
+{}
+
+/// A packet of the same protocol that goes back from where a packet was sent to finds the state that the packet made.
+/// With what the state writes into it, it goes from where the packet was going to where the packet came from.
+pub fn answers_go_back()
+    ensures { AnswersGoBack }
+{}
+
+/// Such an answer is evaluated by that state, as long as the state lives: it names the state, and if it passes it is
+/// sent on from where the packet was going to where the packet came from.
+pub fn answers_are_brought_back()
+    ensures { AnswersAreBroughtBack }
 {}
 
 /// What is written into a packet's bytes is made for that packet.

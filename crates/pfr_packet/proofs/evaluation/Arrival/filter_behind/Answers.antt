@@ -1,4 +1,4 @@
-use Rattle.std.proofs.Common.{◌≡◌, ◌∙◌, OnOk, Option, None, Some, sym, subst}
+use Rattle.std.proofs.Common.{◌∙◌, OnOk, Option, sym, subst}
 use Rattle.std.specs.List.{All}
 use Rattle.pfr_ruleset.specs.declared.ruleset.Ruleset.{Ruleset}
 use Rattle.pfr_headers.specs.declared.packet.Packet.{Packet}
