@@ -1,0 +1,10 @@
+pub mod LeastLemmas
+pub mod MergeLemmas
+pub mod MergeReadingLemmas
+pub mod MergedLemmas
+pub mod OrderLemmas
+pub mod PlaceLemmas
+pub mod RefillAllLemmas
+pub mod RefillLemmas
+pub mod SetLemmas
+pub mod StoppedLemmas

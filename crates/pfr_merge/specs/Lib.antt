@@ -1,0 +1,6 @@
+pub mod Arrivals
+pub mod Laws
+pub mod MergeReading
+pub mod MergeStepping
+pub mod MergedCaptures
+pub mod Merging

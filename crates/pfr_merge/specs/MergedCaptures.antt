@@ -1,0 +1,113 @@
+-- What a merge says of the captures that it reads.
+use Rattle.std.specs.Prelude.{◌≡◌, ℕ, List, [], ◌∷◌, ◌++◌, length, map, Some, None, slice_get, slice_set, Err, ⊤}
+use Rattle.pfr_capture.specs.declared.capture.CaptureError.{CaptureError}
+use Rattle.pfr_capture.specs.declared.capture.CaptureError.TheVariants.{Read, RecordTooLong}
+use Rattle.pfr_capture.specs.declared.capture.Tail.{Tail}
+use Rattle.pfr_capture.specs.declared.capture.Tail.TheVariants.{Clean}
+use Rattle.pfr_capture.specs.Reading.{HasGiven, Reading, tail_of}
+use Rattle.pfr_capture.specs.Records.{IsCapture}
+use Rattle.pfr_merge.specs.Arrivals.{Arrived, Captured, Event, came, events_from, refused}
+use Rattle.pfr_merge.specs.Merging.{merged}
+use Rattle.pfr_merge.specs.MergeReading.{AreOver, HasMerged, LacksRecordAt, MayFollowAll, MergesOn, NoneRefused, StopsAt, Waiting, joined, merged_tail, none_waits, tail_with}
+
+-- each text is the capture at its place
+abbrev pub AreCaptures : List (List ℕ) → List Captured → Type 0
+AreCaptures [] [] = ⊤
+AreCaptures (text ∷ texts) (c ∷ captures) = IsCapture text c.form c.records c.ending × AreCaptures texts captures
+AreCaptures _ _ = ⊥
+
+-- all events of several captures, in the order of their merge
+abbrev pub all_events : List Captured → List Event
+all_events captures = merged (events_from 0 captures)
+
+-- how they end: cut if one of them is
+abbrev pub tail_of_all : List Captured → Tail
+tail_of_all [] = Clean
+tail_of_all (c ∷ captures) = tail_with (tail_of (Some c.ending)) (tail_of_all captures)
+
+-- the merge begins with these records
+abbrev pub BeginsWith : List Captured → List Arrived → Type 0
+BeginsWith captures given = (rest : List Event) × (all_events captures ≡ map came given ++ rest)
+
+-- the merge has these records, and then the capture at a place is refused; what stands behind that is never given
+abbrev pub StopsBehind : List Captured → List Arrived → ℕ → CaptureError → Type 0
+StopsBehind captures given place e = (rest : List Event) × (all_events captures ≡ map came given ++ refused place e ∷ rest)
+
+-- ---- from a merge's readers to its captures. The captures begin with the bytes read, and the others may follow.
+
+-- there are such captures, whatever follows
+abbrev pub ReadsCaptures : Type 0
+ReadsCaptures =
+    (ws : List Waiting) (reads mores : List (List ℕ)) (given : List Arrived)
+    → HasMerged ws reads given
+    → length mores ≡ length ws
+    → (captures : List Captured) × AreCaptures (joined reads mores) captures
+
+-- of several captures, the records given so far are the beginning
+abbrev pub GivenIsTheBeginning : Type 0
+GivenIsTheBeginning =
+    (ws : List Waiting) (reads mores : List (List ℕ)) (given : List Arrived) (captures : List Captured)
+    → HasMerged ws reads given
+    → MayFollowAll ws mores
+    → AreCaptures (joined reads mores) captures
+    → BeginsWith captures given
+
+-- once all captures are over, they are all records of them, and the merge tells how they end
+abbrev pub GivenIsAll : Type 0
+GivenIsAll =
+    (ws : List Waiting) (reads mores : List (List ℕ)) (given : List Arrived) (captures : List Captured)
+    → HasMerged ws reads given
+    → MayFollowAll ws mores
+    → AreCaptures (joined reads mores) captures
+    → AreOver ws
+    → (all_events captures ≡ map came given) × (tail_of_all captures ≡ merged_tail ws)
+
+-- where a record was too long, they are those before that refusal
+abbrev pub GivenIsAllBeforeTooLong : Type 0
+GivenIsAllBeforeTooLong =
+    (ws : List Waiting) (reads mores : List (List ℕ)) (given : List Arrived) (captures : List Captured) (place asked : ℕ)
+    → HasMerged ws reads given
+    → MayFollowAll ws mores
+    → AreCaptures (joined reads mores) captures
+    → StopsAt ws (place, RecordTooLong asked)
+    → StopsBehind captures given place (RecordTooLong asked)
+
+-- Where a read failed, they are those before the failure. It ends its capture behind the bytes that came of it: the text at its place is
+-- those bytes, and the capture there is refused for the read.
+abbrev pub GivenIsAllBeforeFailure : Type 0
+GivenIsAllBeforeFailure =
+    (ws : List Waiting) (reads mores : List (List ℕ)) (given : List Arrived) (captures : List Captured) (place : ℕ) (c : Captured)
+    → HasMerged ws reads given
+    → MayFollowAll ws mores
+    → AreCaptures (joined reads mores) captures
+    → StopsAt ws (place, Read)
+    → LacksRecordAt ws (place, Read)
+    → slice_get mores place ≡ Some []
+    → slice_get captures place ≡ Some c
+    → StopsBehind (slice_set captures place (record c { ending = Err Read })) given place Read
+
+-- ---- several calls
+
+-- two calls of a merge, one after the other, read on as one does that gives the records of both
+abbrev pub CallsFollow : Type 0
+CallsFollow =
+    (olds mids news : List Waiting) (befores middles lefts : List (List ℕ)) (one other : List Arrived)
+    → MergesOn olds mids befores middles one
+    → MergesOn mids news middles lefts other
+    → MergesOn olds news befores lefts (one ++ other)
+
+-- ---- the beginning
+
+-- readers have read these bytes and given no record yet
+abbrev pub HaveBegun : List Reading → List (List ℕ) → Type 0
+HaveBegun [] [] = ⊤
+HaveBegun (reading ∷ readings) (read ∷ reads) = (reading.over ≡ None) × HasGiven reading read [] × HaveBegun readings reads
+HaveBegun _ _ = ⊥
+
+-- a merge of such readers has given no record, none of them was refused, and any bytes may follow
+abbrev pub MergeBegins : Type 0
+MergeBegins =
+    (readings : List Reading) (reads mores : List (List ℕ))
+    → HaveBegun readings reads
+    → length mores ≡ length readings
+    → HasMerged (map none_waits readings) reads [] × NoneRefused (map none_waits readings) × MayFollowAll (map none_waits readings) mores

@@ -1,0 +1,112 @@
+//! One of the captures of a merge.
+ghost use Rattle.std.specs.Prelude.{◌≡◌, ◌⊎◌, IsTrue, None, Err, IfErr, IfSome, IsOk, OnOk};
+ghost use Rattle.std.specs.Option.{option_map};
+ghost use Rattle.pfr_capture.specs.Reading.{FieldsOf, LacksRecord, NextFails, bytes_of, tail_of};
+ghost use Rattle.pfr_capture.specs.declared.capture.CaptureError.{CaptureError};
+ghost use Rattle.pfr_merge.specs.MergeReading.{IsSettled, IsStopped, Refilled, time_in};
+
+use crate::time::{Time, nanoseconds};
+use pfr_capture::{Capture, CaptureError, Record, Source, Tail};
+use std::marker::Model;
+
+/// A capture, and its record that waits for its turn.
+#[derive(Drop)]
+pub struct Input {
+    capture: Capture,
+    head: Option<Record>,
+}
+
+impl Model for Input {
+    ghost use Rattle.std.specs.Prelude.{◌≡◌, IfSome, None};
+    ghost use Rattle.std.specs.Option.{option_map};
+    ghost use Rattle.pfr_capture.specs.Reading.{FieldsOf, bytes_of};
+    ghost use Rattle.pfr_merge.specs.MergeReading.{Waiting};
+
+    ghost Value = { Waiting };
+
+    ghost view = { λ a. record { reading = a.capture; head = option_map bytes_of a.head } };
+
+    ghost invariant = { λ a. IfSome a.head (λ r. FieldsOf a.capture.form r × (a.capture.over ≡ None)) };
+}
+
+impl Input {
+    /// A capture of which no record waits.
+    pub fn new(capture: Capture) -> Input
+        ensures { result ≡ record { reading = capture; head = None } }
+    {
+        Input {
+            capture,
+            head: None,
+        }
+    }
+
+    /// Reads the next record, unless one waits.
+    pub fn refill<S: Source>(&mut self, source: &mut S) -> Result<(), CaptureError>
+        ensures told { S.told source.new ≡ S.told source.old }
+        ensures reads { IsTrue (S.told source.old) → Refilled self.old self.new (S.unread source.old) (S.unread source.new) }
+        ensures form { self.new.reading.form ≡ self.old.reading.form }
+        ensures header { self.new.reading.header ≡ self.old.reading.header }
+        ensures settled { OnOk result (IsSettled self.new) }
+        ensures stopped { IfErr result (λ e. IsStopped e self.new) }
+        ensures stays { IsSettled self.old → IsOk result × (self.new ≡ self.old) × (source.new ≡ source.old) }
+        ensures again { (e : CaptureError) → IsStopped e self.old → (result ≡ Err e) × (self.new ≡ self.old) × (source.new ≡ source.old) }
+        ensures ends { IfErr result (λ e. (self.old.reading.over ≡ None) ⊎ IsStopped e self.old) }
+        ensures ok { OnOk result (S.failures source.new ≡ S.failures source.old) }
+        ensures lacks { self.old.reading.over ≡ None → IfErr result (LacksRecord self.new.reading) }
+        ensures failed { self.old.reading.over ≡ None → IfErr result (λ e. NextFails e (S.failures source.old) (S.failures source.new)) }
+    {
+        if self.head.is_some() {
+            return Ok(());
+        }
+        match self.capture.next(source) {
+            Ok(found) => {
+                self.head = found;
+                Ok(())
+            }
+            Err(e) => Err(e),
+        }
+    }
+
+    /// The capture.
+    pub fn capture(&self) -> &Capture
+        ensures { result.now ≡ self.now.reading }
+    {
+        &self.capture
+    }
+
+    /// Takes a record of it back that isn't needed any more.
+    pub fn give_back(&mut self, packet: Record)
+        ensures { self.new ≡ self.old }
+    {
+        self.capture.give_back(packet);
+    }
+
+    /// How the capture ends, as far as it was read.
+    pub fn tail(&self) -> Tail
+        ensures { result ≡ tail_of self.now.reading.over }
+    {
+        self.capture.tail()
+    }
+
+    /// When the record that waits was captured.
+    pub fn time(&self) -> Option<Time>
+        ensures { result ≡ time_in self.now }
+    {
+        match &self.head {
+            None => None,
+            Some(record) => Some(Time {
+                seconds: record.seconds,
+                nanoseconds: nanoseconds(self.capture.form().resolution, record.fraction),
+            }),
+        }
+    }
+
+    /// Takes the record that waits.
+    pub fn take(&mut self) -> Option<Record>
+        ensures taken { option_map bytes_of result ≡ self.old.head }
+        ensures fields { IfSome result (FieldsOf self.old.reading.form) }
+        ensures rest { self.new ≡ record self.old { head = None } }
+    {
+        self.head.take()
+    }
+}
