@@ -1,5 +1,5 @@
 //! A device over bytes in memory, which can be told to move few bytes a call and to fail.
-ghost use Rattle.std.specs.Prelude.{◌≡◌, ◌≤◌, ◌<◌, ◌+◌, ◌-◌, ◌++◌, List, ℕ, Bool, true, [], length, min, drop, vec_len, IsTrue, IfOk, IsErr, OnOk, None, Some};
+ghost use Rattle.std.specs.Prelude.{◌≡◌, ◌≤◌, ◌<◌, ◌+◌, ◌-◌, ◌++◌, true, [], length, min, drop, IsTrue, IfOk, IsErr, None, Some};
 ghost use Rattle.pfr_capture.specs.Device.{moved, one_more, after_read, after_write};
 ghost use Rattle.pfr_capture.specs.Memory.{fails_first, after_call};
 

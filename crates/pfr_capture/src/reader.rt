@@ -1,5 +1,5 @@
 //! The reader of captures.
-ghost use Rattle.std.specs.Prelude.{◌≡◌, ◌≤◌, ◌+◌, ◌^◌, ◌++◌, [], take, drop, length, None, IsTrue, IfOk, IfErr, IfNone, IfSome, OnOk, OnErr};
+ghost use Rattle.std.specs.Prelude.{◌≡◌, ◌≤◌, ◌+◌, ◌^◌, ◌++◌, [], take, drop, length, None, IsTrue, IfOk, IfErr, IfSome, OnOk, OnErr};
 ghost use Rattle.pfr_capture.specs.Ahead.{CameBehind};
 ghost use Rattle.pfr_capture.specs.Header.{form_of, is_known_link, link_of, magic_of, resolution_of, version_of};
 ghost use Rattle.pfr_capture.specs.Reading.{Answers, EndsReading, FieldsOf, Gave, LacksRecord, NextFails, OpenFails, Opens, ReadsOn, Refuses, RefusesHeader, StopsEarly, answer_again, given_by, tail_of};

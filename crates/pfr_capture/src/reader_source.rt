@@ -1,6 +1,6 @@
 //! A source over one of std's readers. It doesn't tell its bytes: nothing can promise what a file, a socket
 //! or a terminal gives. It hands on what the reader gave, and counts its failures.
-ghost use Rattle.std.specs.Prelude.{◌≡◌, ◌≤◌, List, ℕ, Bool, false, [], length, IfOk};
+ghost use Rattle.std.specs.Prelude.{◌≡◌, ◌≤◌, false, [], length, IfOk};
 ghost use Rattle.std.specs.Io.KnownBytes.{ReadConsumes};
 ghost use Rattle.pfr_capture.specs.Device.{after_read};
 

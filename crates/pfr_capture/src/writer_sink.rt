@@ -1,6 +1,6 @@
 //! A sink over one of std's writers. It doesn't tell its bytes: nothing can promise what a file, a socket
 //! or a terminal holds. It hands on what it is given, and counts its failures.
-ghost use Rattle.std.specs.Prelude.{◌≡◌, ◌≤◌, List, ℕ, Bool, false, [], length, IfOk};
+ghost use Rattle.std.specs.Prelude.{◌≡◌, ◌≤◌, false, [], length, IfOk};
 ghost use Rattle.std.specs.Io.KnownBytes.{WriteAppends};
 ghost use Rattle.pfr_capture.specs.Device.{after_write};
 

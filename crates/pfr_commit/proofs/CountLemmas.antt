@@ -11,6 +11,7 @@ use Rattle.pfr_headers.specs.declared.packet.View.{View}
 use Rattle.pfr_headers.specs.declared.packet.View.TheVariants.{Ipv4, Skip, Short}
 use Rattle.pfr_headers.specs.View.{view_of}
 use Rattle.pfr_rules.specs.Counts.{added, raised}
+use Rattle.pfr_states.specs.States.{names_rule}
 use Rattle.pfr_packet.specs.declared.outcome.Outcome.{Outcome}
 use Rattle.pfr_packet.specs.declared.verdict.Reason.{Reason}
 use Rattle.pfr_packet.specs.declared.verdict.Reason.TheVariants as reason
@@ -21,7 +22,7 @@ use Rattle.pfr_commit.specs.declared.counters.Counters.{Counters}
 use Rattle.pfr_commit.specs.declared.counters.Totals.{Totals}
 use Rattle.pfr_commit.specs.Counters.{added_to, counted, counts_for_rules, length_of, no_totals, with_named, with_verdict}
 use Rattle.pfr_commit.specs.Lines.{verdict_line}
-use Rattle.pfr_commit.specs.Runs.{RuleKind, Taken, bytes_for, capped, comes_to, counters_of, counts_for, is_rule, is_same_verdict, named_by, next_taken, number_of, reason_counts, taken_after, taken_in, total_length_of, total_of, visited_of, visits_to}
+use Rattle.pfr_commit.specs.Runs.{RuleKind, Taken, bytes_for, capped, comes_to, counters_of, counts_for, is_same_verdict, named_by, next_taken, number_of, reason_counts, taken_after, taken_in, total_length_of, total_of, visited_of, visits_to}
 use Rattle.pfr_commit.specs.Runs.RuleKind.{filter_rule, translation_rule}
 use Rattle.pfr_commit.specs.World.{Frame, World, after, opening, packet_text, with_outcome, world_after, world_of}
 use Rattle.pfr_commit.proofs.WorldLemmas.{world_count}
@@ -167,7 +168,7 @@ unfolding added
 length_added None amount counts = refl
 length_added (Some rule) amount counts = length-set counts rule.0 _
 
-added_at : (rule : Option RuleNumber) (amount k : ℕ) (counts : List ℕ) → k < length counts → get_or counts k 0 ≤ 2 ^ 64 - 1 → get_or (added_to rule amount counts) k 0 ≡ capped (get_or counts k 0 + cond (is_rule k rule) amount 0)
+added_at : (rule : Option RuleNumber) (amount k : ℕ) (counts : List ℕ) → k < length counts → get_or counts k 0 ≤ 2 ^ 64 - 1 → get_or (added_to rule amount counts) k 0 ≡ capped (get_or counts k 0 + cond (names_rule k rule) amount 0)
 unfolding added
 added_at None amount k counts below few = omega arith
 added_at (Some rule) amount k counts below few = elim (cases_Bool (rule.0 == k)) [
@@ -206,7 +207,7 @@ length_counted : (kind : RuleKind) (outcome : Outcome) (amount : ℕ) (counts : 
 length_counted kind outcome amount counts = elim (cases_Bool (counts_for_rules outcome.reason)) [ inl it ↦ rw it (length_added (named_by kind outcome) amount counts) | inr not_it ↦ rw not_it refl ]
 
 counted_at : (kind : RuleKind) (outcome : Outcome) (amount k : ℕ) (counts : List ℕ) → k < length counts → get_or counts k 0 ≤ 2 ^ 64 - 1
-    → get_or (counted_to kind outcome amount counts) k 0 ≡ capped (get_or counts k 0 + cond (reason_counts outcome.reason && is_rule k (named_by kind outcome)) amount 0)
+    → get_or (counted_to kind outcome amount counts) k 0 ≡ capped (get_or counts k 0 + cond (reason_counts outcome.reason && names_rule k (named_by kind outcome)) amount 0)
 counted_at kind outcome amount k counts below few = elim (cases_Bool (counts_for_rules outcome.reason)) [
   | inl it ↦ rw (same_reasons outcome.reason, it) (added_at (named_by kind outcome) amount k counts below few)
   | inr not_it ↦ rw (same_reasons outcome.reason, not_it) (let same : get_or counts k 0 ≡ capped (get_or counts k 0 + 0) = omega arith in same)

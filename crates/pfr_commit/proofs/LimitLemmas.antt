@@ -1,10 +1,9 @@
 -- Rules keep to their max.
-use Rattle.std.proofs.Common.{◌≡◌, ◌≤◌, ◌<◌, ◌+◌, ◌∙◌, ℕ, Bool, true, false, not, if◌then◌else◌, List, [], ◌∷◌, length, nat_lt, Option, Some, None, slice_get, inl, inr, refl, sym, ap, arith}
+use Rattle.std.proofs.Common.{◌≡◌, ◌≤◌, ◌<◌, ◌+◌, ◌∙◌, ℕ, Bool, true, not, if◌then◌else◌, List, [], ◌∷◌, length, nat_lt, Option, Some, None, slice_get, inl, inr, refl, sym, ap, arith}
 use Rattle.std.specs.List.{Contains, filter}
 use Rattle.std.proofs.lemmas.Bool.{cases_Bool, eqb-true}
 use Rattle.pfr_net.specs.declared.rule_number.RuleNumber.{RuleNumber}
 use Rattle.pfr_ruleset.specs.declared.flat.FlatRule.{FlatRule}
-use Rattle.pfr_headers.specs.declared.packet.View.{View}
 use Rattle.pfr_headers.specs.View.{view_of}
 use Rattle.pfr_rules.specs.Filter.{most_of}
 use Rattle.pfr_track.specs.declared.state.State.{State}
@@ -14,14 +13,13 @@ use Rattle.pfr_track.specs.declared.time.Clock.{Clock}
 use Rattle.pfr_states.specs.declared.change.TableChange.{TableChange}
 use Rattle.pfr_states.specs.declared.change.TableChange.TheVariants.{Made, Touched, Removed}
 use Rattle.pfr_states.specs.Answers.{purged_at}
-use Rattle.pfr_states.specs.States.{IsTable, StateTable, count_of_rule, is_number, is_of_rule, lives, names_rule, purged, rise, with_change, with_state, with_touched}
+use Rattle.pfr_states.specs.States.{IsTable, StateTable, count_of_rule, is_number, is_of_rule, lives, names_rule, rise, with_change, with_state, with_touched}
 use Rattle.pfr_states.proofs.FilterLemmas.{rise_filter}
 use Rattle.pfr_states.proofs.FindLemmas.{one_number}
 use Rattle.pfr_states.proofs.Membership.{here, there}
 use Rattle.pfr_packet.specs.declared.outcome.Outcome.{Outcome}
 use Rattle.pfr_packet.specs.Job.{RunJob}
 use Rattle.pfr_packet.specs.Laws.{IsOwnChange, MadeWhereItsRuleHasRoom}
-use Rattle.pfr_packet.specs.Steps.{step_of}
 use Rattle.pfr_telling.specs.Telling.{changed}
 use Rattle.pfr_commit.specs.Runs.{next_taken}
 use Rattle.pfr_commit.specs.World.{Frame, World, after, with_outcome, world_after}

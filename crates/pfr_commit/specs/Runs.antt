@@ -1,5 +1,5 @@
 -- The packets of a run one by one, and what each of them came to.
-use Rattle.std.specs.Prelude.{◌≡◌, ℕ, ◌+◌, ◌-◌, ◌^◌, ◌==◌, ◌&&◌, ◌||◌, min, Bool, true, false, if◌then◌else◌, List, [], ◌∷◌, Option, Some, None, codes}
+use Rattle.std.specs.Prelude.{◌≡◌, ℕ, ◌+◌, ◌-◌, ◌^◌, ◌==◌, ◌&&◌, ◌||◌, min, Bool, true, false, if◌then◌else◌, List, [], ◌∷◌, Option, Some, codes}
 use Rattle.std.specs.List.{Contains, count_by}
 use Rattle.std.specs.Str.{bytes_eq}
 use Rattle.pfr_net.specs.declared.rule_number.RuleNumber.{RuleNumber}
@@ -9,6 +9,7 @@ use Rattle.pfr_headers.specs.declared.packet.View.TheVariants.{Ipv4}
 use Rattle.pfr_headers.specs.View.{view_of}
 use Rattle.pfr_track.specs.declared.time.Clock.{Clock}
 use Rattle.pfr_track.specs.declared.state.State.{State}
+use Rattle.pfr_states.specs.States.{names_rule}
 use Rattle.pfr_packet.specs.declared.outcome.Outcome.{Outcome}
 use Rattle.pfr_packet.specs.declared.verdict.Reason.{Reason}
 use Rattle.pfr_packet.specs.declared.verdict.Verdict.{Verdict}
@@ -80,10 +81,6 @@ total_of verdict.Skip totals = totals.skipped
 abbrev pub comes_to : Verdict → Taken → Bool
 comes_to verdict packet = is_same_verdict packet.outcome.verdict verdict
 
-abbrev pub is_rule : ℕ → Option RuleNumber → Bool
-is_rule rule None = false
-is_rule rule (Some named) = named.0 == rule
-
 -- the reasons that count for a rule, by their words in the line
 abbrev pub reason_counts : Reason → Bool
 reason_counts reason =
@@ -110,7 +107,7 @@ named_by translation_rule outcome = outcome.translation
 
 -- its line names the rule, and for a reason that counts
 abbrev pub counts_for : RuleKind → ℕ → Taken → Bool
-counts_for kind rule packet = reason_counts packet.outcome.reason && is_rule rule (named_by kind packet.outcome)
+counts_for kind rule packet = reason_counts packet.outcome.reason && names_rule rule (named_by kind packet.outcome)
 
 -- the total length of an IPv4 packet; what is none, or was cut, has none
 abbrev pub total_length_of : View → ℕ

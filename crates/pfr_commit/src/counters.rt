@@ -1,6 +1,5 @@
 //! What is counted in a run.
 ghost use Rattle.std.specs.Prelude.{◌≡◌, get_or, replicate, IfOk};
-ghost use Rattle.pfr_rules.specs.Counts.{added};
 ghost use Rattle.pfr_commit.specs.Counters as spec;
 
 use pfr_headers::View;

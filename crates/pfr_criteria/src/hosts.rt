@@ -1,6 +1,5 @@
 //! Addresses.
-ghost use Rattle.std.specs.Prelude.{◌≡◌, ◌≤◌};
-ghost use Rattle.std.specs.Option.{option_copied};
+ghost use Rattle.std.specs.Prelude.{◌≡◌};
 ghost use Rattle.pfr_criteria.specs.Hosts as spec;
 
 use pfr_net::Ipv4Address;

@@ -1,6 +1,5 @@
 //! Ports, TCP flags and ICMP types, and which packets open connections.
-ghost use Rattle.std.specs.Prelude.{◌≡◌, ◌<◌, ◌≤◌};
-ghost use Rattle.std.specs.Option.{option_map};
+ghost use Rattle.std.specs.Prelude.{◌≡◌, ◌<◌};
 ghost use Rattle.pfr_criteria.specs.Transports as spec;
 
 use pfr_headers::{IcmpMessage, Transport};

@@ -1,5 +1,5 @@
 //! The names of services(5).
-ghost use Rattle.std.specs.Prelude.{◌≡◌, ◌≤◌, ◌∷◌, ◌++◌, [], length, drop, map, option_map, IfOk, OnOk};
+ghost use Rattle.std.specs.Prelude.{◌≡◌, ◌≤◌, ◌∷◌, ◌++◌, [], length, option_map, IfOk, OnOk};
 ghost use Rattle.pfr_given.specs.Entries as entries;
 ghost use Rattle.pfr_given.specs.Services as spec;
 ghost use Rattle.pfr_given.specs.Texts as texts;

@@ -1,5 +1,5 @@
 //! Rewriting packets in place.
-ghost use Rattle.std.specs.Prelude.{◌≡◌, ◌≤◌, ◌<◌, ◌+◌, ◌⊎◌, length, Some};
+ghost use Rattle.std.specs.Prelude.{◌≡◌, ◌≤◌, ◌<◌, ◌+◌, length, Some};
 ghost use Rattle.pfr_headers.specs.declared.packet.View.TheVariants.{Ipv4};
 ghost use Rattle.pfr_headers.specs.Checksum.{difference_of, with_words};
 ghost use Rattle.pfr_headers.specs.Rewriting.{address_place, address_words, behind_words, echo_words, end_address, error_words, header_words, inner_words, other_end, outer_words, packet_words, port_place, rewritten, tcp_words, embedded_in, embedded_words, udp_words, words_of};

@@ -1,5 +1,5 @@
 //! What stands behind an IPv4 header.
-ghost use Rattle.std.specs.Prelude.{◌≡◌, ◌≤◌, ◌/◌, ◌%◌, ◌==◌, length, drop, slice_index, None, if◌then◌else◌};
+ghost use Rattle.std.specs.Prelude.{◌≡◌, ◌/◌, ◌%◌, ◌==◌, length, None, if◌then◌else◌};
 ghost use Rattle.pfr_headers.specs.TcpOptions.{scale_of};
 ghost use Rattle.pfr_headers.specs.Transport.{has_tcp, tcp_of, transport_of, udp_of};
 

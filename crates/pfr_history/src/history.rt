@@ -57,7 +57,6 @@ impl<E> Plain<Snapshot<E>, E, u64> for Add {
 
 /// Which list it is. A call of a program picks it.
 pub trait Naming {
-    ghost use Rattle.std.specs.Prelude.{ℕ};
     ghost use Rattle.logbook.specs.Pages.{Book};
 
     ghost history: { Book };

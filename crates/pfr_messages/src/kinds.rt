@@ -1,5 +1,5 @@
 //! The kinds of records that messages have.
-ghost use Rattle.std.specs.Prelude.{◌≡◌, ◌++◌, OnOk, true};
+ghost use Rattle.std.specs.Prelude.{◌≡◌, OnOk, true};
 ghost use Rattle.pfr_messages.specs.Fields.{Gives, Puts};
 ghost use Rattle.pfr_messages.specs.Messages as spec;
 

@@ -1,6 +1,5 @@
 //! Records at the front of bytes.
-ghost use Rattle.std.specs.Prelude.{◌≡◌};
-ghost use Rattle.pfr_messages.specs.Fields.{Gives, padded_at};
+ghost use Rattle.pfr_messages.specs.Fields.{Gives};
 ghost use Rattle.pfr_messages.specs.Records as spec;
 
 use crate::fault::Fault;

@@ -1,5 +1,5 @@
 //! The sections of a message: records of a kind behind their header.
-ghost use Rattle.std.specs.Prelude.{◌≡◌, length, None};
+ghost use Rattle.std.specs.Prelude.{◌≡◌, None};
 ghost use Rattle.pfr_messages.specs.Fields.{Gives};
 ghost use Rattle.pfr_messages.specs.Messages as spec;
 

@@ -1,5 +1,5 @@
 //! Records as bytes, each put behind what was written.
-ghost use Rattle.std.specs.Prelude.{◌≡◌, ◌≤◌, ◌∷◌, ◌++◌, [], OnOk, true};
+ghost use Rattle.std.specs.Prelude.{◌≡◌, ◌≤◌, ◌∷◌, [], OnOk, true};
 ghost use Rattle.std.specs.Int.{to_be_bytes, w8, w16, w32, w64};
 ghost use Rattle.pfr_messages.specs.Fields as fields;
 ghost use Rattle.pfr_messages.specs.Fields.{Puts, zeros};

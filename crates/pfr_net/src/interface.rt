@@ -1,5 +1,5 @@
 //! Names of interfaces.
-ghost use Rattle.std.specs.Prelude.{◌≡◌, ◌<◌, ◌≤◌, length};
+ghost use Rattle.std.specs.Prelude.{◌≡◌};
 ghost use Rattle.pfr_net.specs.Interfaces as spec;
 
 /// The longest name of an interface, in bytes.

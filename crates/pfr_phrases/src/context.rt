@@ -1,5 +1,5 @@
 //! Where a word stands in its statement.
-ghost use Rattle.std.specs.Prelude.{◌≡◌, ◌≤◌, length};
+ghost use Rattle.std.specs.Prelude.{◌≡◌};
 ghost use Rattle.pfr_phrases.specs.Contexts as spec;
 
 use crate::options::{Group, are_all_left_out};

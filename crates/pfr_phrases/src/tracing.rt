@@ -1,5 +1,5 @@
 //! Where the bytes of a text that changes made stand in the other one.
-ghost use Rattle.std.specs.Prelude.{◌≡◌, ◌++◌, [], ◌∷◌, IfOk, OnOk};
+ghost use Rattle.std.specs.Prelude.{◌≡◌, IfOk};
 ghost use Rattle.pfr_phrases.specs.Tracing as spec;
 
 use crate::applying::{NewText, between};

@@ -1,5 +1,5 @@
 //! Flags that say what the text of a ruleset can't.
-ghost use Rattle.std.specs.Prelude.{◌≡◌, IfSome, option_map};
+ghost use Rattle.std.specs.Prelude.{◌≡◌, option_map};
 ghost use Rattle.pfr_prepare.specs.Flags as spec;
 
 use pfr_net::Net;

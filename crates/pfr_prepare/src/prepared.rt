@@ -1,5 +1,5 @@
 //! Texts that are to be read, and where their lines come from.
-ghost use Rattle.std.specs.Prelude.{◌≡◌, [], ◌∷◌};
+ghost use Rattle.std.specs.Prelude.{◌≡◌, []};
 ghost use Rattle.pfr_prepare.specs.Lines as spec;
 
 use pfr_adapt::{Piece, old_place};

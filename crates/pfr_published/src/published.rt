@@ -1,5 +1,5 @@
 //! The thread that changes the table.
-ghost use Rattle.std.specs.Prelude.{◌≡◌, ◌^◌, ◌<◌, ◌++◌, [], ◌∷◌, length, IfOk, IsErr, IsTrue, MatchOption, MatchResult, true, false};
+ghost use Rattle.std.specs.Prelude.{◌≡◌, ◌^◌, ◌<◌, ◌++◌, [], length, IfOk, IsErr, IsTrue, MatchOption, MatchResult, true, false};
 ghost use Rattle.std.specs.Arc.{arc_value};
 ghost use Rattle.pfr_states.specs.States.{table_of};
 ghost use Rattle.pfr_published.specs.Entries.{entry_at};

@@ -3,7 +3,6 @@ ghost use Rattle.std.specs.Prelude.{◌≡◌, ◌↔◌, ◌<◌, true, IsTrue,
 ghost use Rattle.std.specs.List.{HoldsAt};
 ghost use Rattle.pfr_states.specs.declared.question.Question.TheVariants.{At, Room};
 ghost use Rattle.pfr_states.specs.Answers.{found_in, has_room_in, purged_at};
-ghost use Rattle.pfr_states.specs.States.{StateTable};
 ghost use Rattle.pfr_record.specs.declared.answer.Answer.TheVariants.{Found, HasRoom};
 ghost use Rattle.pfr_record.specs.Record.{Agrees, IsKept, Keeps, answer_of};
 ghost use Rattle.pfr_record.specs.Record as spec;

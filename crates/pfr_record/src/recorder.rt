@@ -22,8 +22,6 @@ pub(crate) struct Recorder<'a> {
 }
 
 impl<'a> Recorder<'a> {
-    ghost use Rattle.std.specs.Prelude.{[]};
-
     /// Nothing was asked so far.
     pub(crate) fn new(alloc: Global, table: &'a Table, clock: Clock) -> Recorder<'a>
         ensures seen { purged_at result.clock result.table.now ≡ purged_at clock table.now }

@@ -1,5 +1,5 @@
 //! What is rewritten of a whole text.
-ghost use Rattle.std.specs.Prelude.{◌≡◌, ◌≤◌, ◌++◌, [], length, IfOk, OnOk};
+ghost use Rattle.std.specs.Prelude.{◌≡◌, ◌++◌, IfOk, OnOk};
 ghost use Rattle.pfr_rewrite.specs.Whole as spec;
 
 use crate::antispoof::antispoof_here;

@@ -1,5 +1,5 @@
 //! The rules that may hold for a packet, by what they pin.
-ghost use Rattle.std.specs.Prelude.{◌≡◌, ◌<◌, ◌≤◌, length};
+ghost use Rattle.std.specs.Prelude.{◌<◌, ◌≤◌, length};
 ghost use Rattle.pfr_rules.specs.Candidates as spec;
 
 use pfr_criteria::pins_in;

@@ -1,5 +1,5 @@
 //! The walk over the rules.
-ghost use Rattle.std.specs.Prelude.{◌≡◌, ◌<◌, ◌≤◌, ◌+◌, if◌then◌else◌, length, Some, IfOk, OnOk};
+ghost use Rattle.std.specs.Prelude.{◌≡◌, ◌<◌, ◌+◌, if◌then◌else◌, length, Some, IfOk, OnOk};
 ghost use Rattle.std.specs.List.{All, slice_get, slice_index_or};
 ghost use Rattle.std.specs.Option.{ForSome, option_copied};
 ghost use Rattle.pfr_states.specs.declared.question.Question.{Question};

@@ -1,5 +1,5 @@
 //! Words that are written otherwise by what is known beside them: what is given, the macros and the tables of a text.
-ghost use Rattle.std.specs.Prelude.{◌≡◌, ◌≤◌, ◌++◌, length, true, IfOk, IfSome, OnOk};
+ghost use Rattle.std.specs.Prelude.{◌≡◌, ◌≤◌, length, true, IfOk, IfSome, OnOk};
 ghost use Rattle.pfr_spelling.specs.Known as spec;
 
 use crate::macros::{Macro, Spelled, define, is_plain, spelled_out, used_value};

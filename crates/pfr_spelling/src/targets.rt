@@ -1,5 +1,5 @@
 //! Targets of several addresses.
-ghost use Rattle.std.specs.Prelude.{◌≡◌, ◌≤◌, ◌++◌, length, IfOk, IfSome, OnOk};
+ghost use Rattle.std.specs.Prelude.{◌≡◌, ◌≤◌, length, IfOk, IfSome};
 ghost use Rattle.pfr_spelling.specs.Targets as spec;
 
 use crate::known::{Known, Replaced, text_change};

@@ -1,5 +1,5 @@
 //! States at their places, which are found by their keys and by their numbers, and counted by their filter rules.
-ghost use Rattle.std.specs.Prelude.{◌≡◌, ◌<◌, ◌∷◌, [], length, None, Some, true, false, IfOk, IfSome, OnOk, OnErr};
+ghost use Rattle.std.specs.Prelude.{◌≡◌, ◌<◌, [], length, None, Some, true, false, IfOk, IfSome, OnOk, OnErr};
 ghost use Rattle.std.specs.List.{list_any};
 ghost use Rattle.std.specs.Option.{option_copied};
 ghost use Rattle.pfr_index.specs.Index.{Entry, with_entry, without_entry};

@@ -1,5 +1,5 @@
 -- A text on its way to a sink, and how a run ends behind it.
-use Rattle.std.proofs.Common.{◌≡◌, ◌∙◌, ℕ, Bool, IsTrue, List, [], ◌∷◌, ◌++◌, Result, Ok, Err, OnErr, refl, ap, subst, sym}
+use Rattle.std.proofs.Common.{◌≡◌, ◌∙◌, ℕ, Bool, List, [], ◌∷◌, ◌++◌, Result, Ok, Err, OnErr, ap, subst, sym}
 use Rattle.std.proofs.lemmas.List.{append-nil, append_assoc}
 use Rattle.pfr_capture.specs.Device.{Added, GrewByPart}
 use Rattle.pfr_standby.specs.Standby.{Standing}

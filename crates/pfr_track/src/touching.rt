@@ -1,5 +1,5 @@
 //! Packets of a connection that has a state.
-ghost use Rattle.std.specs.Prelude.{◌≡◌, ◌==◌};
+ghost use Rattle.std.specs.Prelude.{◌≡◌};
 ghost use Rattle.pfr_track.specs.Tcp as tcp;
 ghost use Rattle.pfr_track.specs.Tracking as spec;
 

@@ -1,5 +1,5 @@
 //! Which braces are closed.
-ghost use Rattle.std.specs.Prelude.{◌≡◌, ◌<◌, ◌≤◌, ◌+◌, length};
+ghost use Rattle.std.specs.Prelude.{◌≡◌, ◌<◌, ◌+◌};
 ghost use Rattle.pfr_words.specs.Words as spec;
 
 use crate::sign::{Sign, same_sign};

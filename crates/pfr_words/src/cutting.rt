@@ -1,5 +1,5 @@
 //! Where the pieces of a text end.
-ghost use Rattle.std.specs.Prelude.{◌≡◌, ◌≢◌, ◌<◌, ◌≤◌, ◌+◌, length, slice_index, drop, true};
+ghost use Rattle.std.specs.Prelude.{◌≡◌, ◌≢◌, ◌<◌, ◌≤◌, ◌+◌, length, slice_index, true};
 ghost use Rattle.pfr_words.specs.Words as spec;
 
 use crate::names::is_name_byte;

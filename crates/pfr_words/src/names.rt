@@ -1,5 +1,5 @@
 //! The words that a ruleset text gives a meaning, none of which may be the name of a macro or a table.
-ghost use Rattle.std.specs.Prelude.{◌≡◌, length, map};
+ghost use Rattle.std.specs.Prelude.{◌≡◌, map};
 ghost use Rattle.pfr_words.specs.Names as spec;
 
 /// The words of pf.conf(5)'s grammar.

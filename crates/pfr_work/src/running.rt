@@ -1,5 +1,5 @@
 //! A run with workers, between two turns.
-ghost use Rattle.std.specs.Prelude.{◌≡◌, [], length, map, List, Some};
+ghost use Rattle.std.specs.Prelude.{◌≡◌, [], length, map, Some};
 ghost use Rattle.pfr_work.specs.Running.{AllRoom, HasRoom, claims_in};
 ghost use Rattle.pfr_work.specs.Turns.{ComesAfter, Extends};
 

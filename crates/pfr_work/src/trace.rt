@@ -1,6 +1,5 @@
 //! What a run leaves beside its outputs.
 ghost use Rattle.std.specs.Prelude.{◌≡◌, IfSome};
-ghost use Rattle.std.specs.Option.{option_map};
 ghost use Rattle.pfr_states.specs.States.{table_of};
 ghost use Rattle.pfr_published.specs.Ends.{list_of};
 

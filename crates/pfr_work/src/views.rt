@@ -1,5 +1,5 @@
 //! The views of the records of a batch.
-ghost use Rattle.std.specs.Prelude.{◌≡◌, IfOk};
+ghost use Rattle.std.specs.Prelude.{IfOk};
 ghost use Rattle.std.specs.List.{AllZip};
 ghost use Rattle.pfr_feed.specs.Batches.{IsViewOf};
 

@@ -1,7 +1,5 @@
 -- Batches of a history by their numbers.
-use Rattle.std.proofs.Common.{◌≡◌, ◌∙◌, ℕ, zero, suc, Some, None, Option, List, [], ◌∷◌, ◌++◌, refl, sym, ap, subst}
-use Rattle.std.specs.List.{slice_get}
-use Rattle.std.specs.Option.{option_map}
+use Rattle.std.proofs.Common.{◌≡◌, ◌∙◌, ℕ, zero, suc, Some, None, Option, List, [], ◌∷◌, ◌++◌, sym, ap, subst}
 use mathlib.Core.List.{IsPrefix}
 use Rattle.pfr_claims.specs.Batches.{Batch}
 use Rattle.pfr_workers.specs.declared.opening.OpenedClaims.{OpenedClaims}

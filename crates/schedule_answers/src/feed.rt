@@ -1,5 +1,4 @@
 //! Batches that are given one after the other, each in its turn.
-ghost use Rattle.std.specs.Prelude.{◌≡◌, ◌≤◌, ◌^◌};
 
 use crate::schedule::{Call, Schedule};
 use pfr_capture::Record;

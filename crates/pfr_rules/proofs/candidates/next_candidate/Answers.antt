@@ -1,7 +1,6 @@
-use Rattle.std.proofs.Common.{◌≡◌, ◌<◌, ◌≤◌, ℕ, length, set, ap, subst, sym, rules, arith}
+use Rattle.std.proofs.Common.{◌≡◌, ◌≤◌, ℕ, length, ap, subst, rules, arith}
 use Rattle.std.specs.List.{slice_index_or}
 use Rattle.pfr_chains.specs.Chains.{IsNext}
-use Rattle.pfr_rules.specs.Candidates.{IsCandidate}
 use Rattle.pfr_rules.proofs.CandidateLemmas.{unpinned_on}
 use Rattle.pfr_rules.proofs.candidates.next_candidate.Goals as goal
 

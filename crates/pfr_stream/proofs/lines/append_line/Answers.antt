@@ -1,4 +1,4 @@
-use Rattle.std.proofs.Common.{◌≡◌, ◌∙◌, IsTrue, subst, sym}
+use Rattle.std.proofs.Common.{◌∙◌, IsTrue, subst, sym}
 use Rattle.std.proofs.lemmas.Result.{on_ok_weaker, on_err_weaker}
 use Rattle.pfr_stream.proofs.WritingLemmas.{appends_both, breaks_longer, breaks_second, on_err}
 use Rattle.pfr_stream.specs.Lines.{ends_part, keys_part, line}

@@ -1,4 +1,4 @@
-use Rattle.std.proofs.Common.{◌∙◌, Result, Ok, Err, OnOk, OnErr, refl}
+use Rattle.std.proofs.Common.{rules, ◌≡◌, ◌<◌, ◌∙◌, ℕ, zero, suc, Result, Ok, Err, OnOk, OnErr, refl, arith}
 use Rattle.pfr_commit.specs.Books.{job_of}
 use Rattle.pfr_work.proofs.EndLemmas.{alone_refused, alone_well}
 use Rattle.pfr_work.proofs.run.run_workers.Goals as goal
@@ -24,3 +24,12 @@ returns-then-workers-eq0-clause-err g c =
     on_err _ _ c.run_alone-book.result.2
     (alone_refused g.F.Feed.transitions (job_of c.args.book) c.args.workers c.args.feed c.run_alone-book.result.0 c.run_alone-book.result.1 _ c.if-workers-eq0.true (none.openings ∙ c.new-openings.ensures) none.batches.0 none.batches.1 (rw none.published refl))
     c.run_alone-book.ensures.err
+
+positive : (n : ℕ) → (n ≡ 0 → ⊥) → 0 < n
+positive zero some = absurd (some refl)
+positive (suc n) some = omega arith
+
+pub scoped-requires : goal.scoped-requires
+scoped-requires g c =
+    let some : 0 < c.args.workers = positive c.args.workers c.if-workers-eq0.false in
+    record { at = λ a. search (rules, some) }
