@@ -117,8 +117,7 @@ fn flat_rule(setting: Setting, label: Option<u16>, rule: &FilterRule<'_>) -> Fla
     }
 }
 
-/// Puts a rule's label behind the others, if one is written, and answers its place. There are at most as many as there may
-/// be rules.
+/// Puts a rule's label behind the others, if one is written, and answers its place. The 65537th is `TooMany` at `line`.
 fn add_label(
     alloc: Global,
     labels: &mut Items<Label>,
@@ -443,8 +442,7 @@ fn add_anchor(
     Ok(())
 }
 
-/// What a body's statements come to behind rules with these labels. In each of them at most so many anchors stand in one
-/// another.
+/// The rules of a body's statements, behind rules with these labels. Up to `depth` anchors may stand in one another.
 #[cycle(nest)]
 fn body_of(
     alloc: Global,
@@ -465,7 +463,7 @@ fn body_of(
     Ok(out)
 }
 
-/// The rules of a statement in which at most so many anchors stand in one another.
+/// The rules of a statement. Up to `depth` anchors may stand in one another.
 #[cycle(nest)]
 #[tactic(auto, using(crate::proofs::Depths::rule, crate::proofs::Depths::deepest, crate::proofs::Depths::deeper, crate::proofs::Depths::labels_go_in))]
 pub(crate) fn add_statement(
