@@ -1,7 +1,7 @@
 -- The readers of options and filter rules have their faults on lines of the text.
 use Rattle.std.proofs.Common.{ℕ, Bool, List, Option, Some, None, Err}
 use Rattle.pfr_ruleset.specs.declared.policy.BlockPolicy.{BlockPolicy}
-use Rattle.pfr_ruleset.specs.declared.policy.Binding.{Binding}
+use Rattle.pfr_ruleset.specs.declared.policy.StatePolicy.{StatePolicy}
 use Rattle.pfr_terms.specs.declared.error.ConfError.{ConfError}
 use Rattle.pfr_terms.specs.declared.name.Name.{Name}
 use Rattle.pfr_terms.specs.declared.name.MacroUse.{MacroUse}
@@ -50,9 +50,9 @@ block_policy_keeps : {n : ℕ} → Keeps n policies.block_policy
 unfolding policies.block_policy
 block_policy_keeps = search reading
 
-binding_keeps : {n : ℕ} → Keeps n policies.binding
-unfolding policies.binding
-binding_keeps = search reading
+state_policy_keeps : {n : ℕ} → Keeps n policies.state_policy
+unfolding policies.state_policy
+state_policy_keeps = search reading
 
 pub keeps_end_of_line : {n : ℕ} → Keeps n policies.end_of_line
 unfolding policies.end_of_line
@@ -106,13 +106,13 @@ block_policy_option_keeps : {n : ℕ} → Keeps n options.block_policy_option
 unfolding options.block_policy_option
 block_policy_option_keeps = search (reading, block_policy_keeps, block_policy_by_keeps)
 
-state_policy_by_keeps : {n : ℕ} (found : Option Binding) → Keeps n (options.state_policy_by found)
+state_policy_by_keeps : {n : ℕ} (found : Option StatePolicy) → Keeps n (options.state_policy_by found)
 state_policy_by_keeps (Some found) = search reading
 state_policy_by_keeps None = search reading
 
 state_policy_option_keeps : {n : ℕ} → Keeps n options.state_policy_option
 unfolding options.state_policy_option
-state_policy_option_keeps = search (reading, binding_keeps, state_policy_by_keeps)
+state_policy_option_keeps = search (reading, state_policy_keeps, state_policy_by_keeps)
 
 host_id_by_keeps : {n : ℕ} (found : Option ℕ) → Keeps n (options.host_id_by found)
 host_id_by_keeps None = search reading
@@ -172,17 +172,17 @@ eat_if_keeps : {n : ℕ} (may_come : Bool) (word : List ℕ) → Keeps n (rule_o
 unfolding rule_options.eat_if
 eat_if_keeps may_come word = search reading
 
-with_binding_keeps : {n : ℕ} (found : StateOptions) (binding : Option Binding) → Keeps n (rule_options.with_binding found binding)
-with_binding_keeps found (Some binding) = search reading
-with_binding_keeps found None = timeout_refusal_keeps
+with_policy_keeps : {n : ℕ} (found : StateOptions) (policy : Option StatePolicy) → Keeps n (rule_options.with_policy found policy)
+with_policy_keeps found (Some policy) = search reading
+with_policy_keeps found None = timeout_refusal_keeps
 
-binding_option_keeps : {n : ℕ} (found : StateOptions) → Keeps n (rule_options.binding_option found)
-unfolding rule_options.binding_option
-binding_option_keeps found = search (reading, timeout_refusal_keeps, binding_keeps, with_binding_keeps)
+policy_option_keeps : {n : ℕ} (found : StateOptions) → Keeps n (rule_options.policy_option found)
+unfolding rule_options.policy_option
+policy_option_keeps found = search (reading, timeout_refusal_keeps, state_policy_keeps, with_policy_keeps)
 
 most_option_keeps : {n : ℕ} (found : StateOptions) → Keeps n (rule_options.most_option found)
 unfolding rule_options.most_option
-most_option_keeps found = search (reading, eat_if_keeps, keeps_number_in, binding_option_keeps)
+most_option_keeps found = search (reading, eat_if_keeps, keeps_number_in, policy_option_keeps)
 
 state_option_keeps : {n : ℕ} (found : StateOptions) → Keeps n (rule_options.state_option found)
 unfolding rule_options.state_option

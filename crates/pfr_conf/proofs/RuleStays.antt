@@ -2,7 +2,7 @@
 use Rattle.std.proofs.Common.{ℕ, suc, Bool, true, false, if◌then◌else◌, not, List, Option, Some, None, Err, codes, refl}
 use Rattle.pfr_net.specs.declared.direction.Direction.{Direction}
 use Rattle.pfr_ruleset.specs.declared.policy.BlockPolicy.{BlockPolicy}
-use Rattle.pfr_ruleset.specs.declared.policy.Binding.{Binding}
+use Rattle.pfr_ruleset.specs.declared.policy.StatePolicy.{StatePolicy}
 use Rattle.pfr_words.specs.declared.sign.Sign.TheVariants as s
 use Rattle.pfr_terms.specs.declared.name.Name.{Name}
 use Rattle.pfr_terms.specs.declared.name.Written.{Written}
@@ -67,9 +67,9 @@ block_policy_stays : {inside sees : Bool} {count : ℕ} → Stays inside inside 
 unfolding policies.block_policy
 block_policy_stays = stays_found _ (stays_pure _) (stays_found _ (stays_pure _) (stays_pure _))
 
-binding_stays : {inside sees : Bool} {count : ℕ} → Stays inside inside 0 sees is_there count policies.binding policies.binding
-unfolding policies.binding
-binding_stays = stays_found _ (stays_pure _) (stays_found _ (stays_pure _) (stays_pure_told None refl))
+state_policy_stays : {inside sees : Bool} {count : ℕ} → Stays inside inside 0 sees is_there count policies.state_policy policies.state_policy
+unfolding policies.state_policy
+state_policy_stays = stays_found _ (stays_pure _) (stays_found _ (stays_pure _) (stays_pure_told None refl))
 
 -- ---- timeouts and limits
 
@@ -117,13 +117,13 @@ block_policy_option_stays : {inside sees : Bool} {count : ℕ} → Stays inside 
 unfolding options.block_policy_option
 block_policy_option_stays = stays_then block_policy_stays block_policy_by_stays
 
-state_policy_by_stays : {inside : Bool} {count : ℕ} (found : Option Binding) → Stays inside inside 0 false (λ (option : SetOption). false) count (options.state_policy_by found) (options.state_policy_by found)
+state_policy_by_stays : {inside : Bool} {count : ℕ} (found : Option StatePolicy) → Stays inside inside 0 false (λ (option : SetOption). false) count (options.state_policy_by found) (options.state_policy_by found)
 state_policy_by_stays (Some found) = stays_pure _
 state_policy_by_stays None = stays_refuse
 
 state_policy_option_stays : {inside sees : Bool} {count : ℕ} → Stays inside inside 0 sees (λ (option : SetOption). false) count options.state_policy_option options.state_policy_option
 unfolding options.state_policy_option
-state_policy_option_stays = stays_then (stays_any is_there binding_stays) state_policy_by_stays
+state_policy_option_stays = stays_then (stays_any is_there state_policy_stays) state_policy_by_stays
 
 host_id_by_stays : {inside : Bool} {count : ℕ} {eaten : SetOption → Bool} (number : ℕ) → Stays inside inside 0 true eaten count (options.host_id_by (Some number)) (options.host_id_by (Some number))
 host_id_by_stays number = stays_if _ (stays_first stays_taken (λ done. stays_pure (o.HostId number))) (stays_faulty BadNumber)
@@ -185,17 +185,17 @@ found_if : {B : Type 0} {before to sees : Bool} {closing count : ℕ} {eaten : B
     → Stays before to closing sees eaten count (rule_options.eat_if may_come word >>= (λ found. if found then p else q)) (rule_options.eat_if may_come word >>= (λ found. if found then p' else q'))
 found_if may_come word one other = stays_by_test_so (λ found. found) (eat_if_stays may_come word) (either_found one other)
 
-with_binding_stays : {inside : Bool} {count : ℕ} (eaten : StateOptions → Bool) (found : StateOptions) (binding : Option Binding) → Stays inside inside 0 false (λ b. if is_there binding then false else eaten b) count (rule_options.with_binding found binding) (rule_options.with_binding found binding)
-with_binding_stays eaten found (Some binding) = stays_pure _
-with_binding_stays eaten found None = timeout_refusal_stays
+with_policy_stays : {inside : Bool} {count : ℕ} (eaten : StateOptions → Bool) (found : StateOptions) (policy : Option StatePolicy) → Stays inside inside 0 false (λ b. if is_there policy then false else eaten b) count (rule_options.with_policy found policy) (rule_options.with_policy found policy)
+with_policy_stays eaten found (Some policy) = stays_pure _
+with_policy_stays eaten found None = timeout_refusal_stays
 
-binding_option_stays : {inside sees : Bool} {count : ℕ} {eaten : StateOptions → Bool} (found : StateOptions) → Stays inside inside 0 sees eaten count (rule_options.binding_option found) (rule_options.binding_option found)
-unfolding rule_options.binding_option
-binding_option_stays found = stays_if _ timeout_refusal_stays (stays_by_test_so is_there binding_stays (with_binding_stays _ found))
+policy_option_stays : {inside sees : Bool} {count : ℕ} {eaten : StateOptions → Bool} (found : StateOptions) → Stays inside inside 0 sees eaten count (rule_options.policy_option found) (rule_options.policy_option found)
+unfolding rule_options.policy_option
+policy_option_stays found = stays_if _ timeout_refusal_stays (stays_by_test_so is_there state_policy_stays (with_policy_stays _ found))
 
 most_option_stays : {inside sees : Bool} {count : ℕ} {eaten : StateOptions → Bool} (found : StateOptions) → Stays inside inside 0 sees eaten count (rule_options.most_option found) (rule_options.most_option found)
 unfolding rule_options.most_option
-most_option_stays found = found_if _ _ (stays_then (stays_number_in 1 4294967295) (λ most. stays_pure _)) (binding_option_stays found)
+most_option_stays found = found_if _ _ (stays_then (stays_number_in 1 4294967295) (λ most. stays_pure _)) (policy_option_stays found)
 
 state_option_stays : {inside sees : Bool} {count : ℕ} {eaten : StateOptions → Bool} (found : StateOptions) → Stays inside inside 0 sees eaten count (rule_options.state_option found) (rule_options.state_option found)
 unfolding rule_options.state_option

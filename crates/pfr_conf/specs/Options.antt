@@ -2,7 +2,7 @@
 use Rattle.std.specs.Prelude.{ℕ, ◌+◌, ◌-◌, ◌*◌, ◌==◌, ◌&&◌, not, min, nat_le, if◌then◌else◌, List, [], ◌∷◌, ◌++◌, length, drop, slice_index, Option, Some, None, Err, codes}
 use Rattle.pfr_net.specs.Notation.{number}
 use Rattle.pfr_ruleset.specs.declared.policy.BlockPolicy.{BlockPolicy}
-use Rattle.pfr_ruleset.specs.declared.policy.Binding.{Binding}
+use Rattle.pfr_ruleset.specs.declared.policy.StatePolicy.{StatePolicy}
 use Rattle.pfr_words.specs.Names.{entry_of}
 use Rattle.pfr_terms.specs.declared.error.ConfError.{ConfError}
 use Rattle.pfr_terms.specs.declared.error.ConfErrorKind.TheVariants.{LeftOut, BadNumber}
@@ -17,7 +17,7 @@ use Rattle.pfr_conf.specs.declared.options.SetOption.{SetOption}
 use Rattle.pfr_conf.specs.declared.options.SetOption.TheVariants as o
 use Rattle.pfr_conf.specs.declared.options.OptionWord.{OptionWord}
 use Rattle.pfr_conf.specs.declared.options.OptionWord.TheVariants as word
-use Rattle.pfr_conf.specs.Policies.{block_policy, binding}
+use Rattle.pfr_conf.specs.Policies.{block_policy, state_policy}
 use Rattle.pfr_conf.specs.Settings.{timeout_setting, limit_setting}
 
 -- the words that name an option (pf.conf(5), "Options")
@@ -49,12 +49,12 @@ block_policy_by None = refuse
 unfoldable pub block_policy_option : Parser SetOption
 block_policy_option = block_policy >>= block_policy_by
 
-abbrev pub state_policy_by : Option Binding → Parser SetOption
+abbrev pub state_policy_by : Option StatePolicy → Parser SetOption
 state_policy_by (Some found) = pure (o.StatePolicy found)
 state_policy_by None = refuse
 
 unfoldable pub state_policy_option : Parser SetOption
-state_policy_option = binding >>= state_policy_by
+state_policy_option = state_policy >>= state_policy_by
 
 -- ---- the host's number
 

@@ -4,8 +4,8 @@ use Rattle.pfr_net.specs.declared.direction.Direction.{Direction}
 use Rattle.pfr_net.specs.declared.direction.Direction.TheVariants.{In, Out}
 use Rattle.pfr_ruleset.specs.declared.policy.BlockPolicy.{BlockPolicy}
 use Rattle.pfr_ruleset.specs.declared.policy.BlockPolicy.TheVariants as policy
-use Rattle.pfr_ruleset.specs.declared.policy.Binding.{Binding}
-use Rattle.pfr_ruleset.specs.declared.policy.Binding.TheVariants.{IfBound, Floating}
+use Rattle.pfr_ruleset.specs.declared.policy.StatePolicy.{StatePolicy}
+use Rattle.pfr_ruleset.specs.declared.policy.StatePolicy.TheVariants.{IfBound, Floating}
 use Rattle.pfr_terms.specs.Input.{Parser, ◌>>=◌, pure, refuse, taken, at_line_end, eat_word}
 
 unfoldable pub direction : Parser (Option Direction)
@@ -22,8 +22,8 @@ block_policy = do
     is_return ← eat_word (codes "return")
     if is_return then pure (Some policy.Return) else pure None)
 
-unfoldable pub binding : Parser (Option Binding)
-binding = do
+unfoldable pub state_policy : Parser (Option StatePolicy)
+state_policy = do
   is_bound ← eat_word (codes "if-bound")
   if is_bound then pure (Some IfBound) else (do
     is_floating ← eat_word (codes "floating")

@@ -1,7 +1,7 @@
 -- What may stand behind the hosts of a filter rule.
 use Rattle.std.specs.Prelude.{ℕ, Bool, true, false, not, if◌then◌else◌, List, Option, Some, None, Err, codes}
 use Rattle.std.specs.Option.{is_none, is_some}
-use Rattle.pfr_ruleset.specs.declared.policy.Binding.{Binding}
+use Rattle.pfr_ruleset.specs.declared.policy.StatePolicy.{StatePolicy}
 use Rattle.pfr_words.specs.declared.sign.Sign.TheVariants as s
 use Rattle.pfr_terms.specs.Input.{Parser, ◌>>=◌, pure, loop, number_in, eat_word, eat_sign, expect_word}
 use Rattle.pfr_terms.specs.Lists.{written, list}
@@ -11,7 +11,7 @@ use Rattle.pfr_conf.specs.declared.rule_options.StateKeeping.{StateKeeping}
 use Rattle.pfr_conf.specs.declared.rule_options.StateKeeping.TheVariants.{No, Keep}
 use Rattle.pfr_conf.specs.declared.rule_options.RuleOptions as R
 use Rattle.pfr_conf.specs.Names.{some_name}
-use Rattle.pfr_conf.specs.Policies.{binding}
+use Rattle.pfr_conf.specs.Policies.{state_policy}
 use Rattle.pfr_conf.specs.Settings.{timeout_refusal}
 
 -- past the word, if it comes next and may still come
@@ -20,19 +20,19 @@ eat_if may_come word = if may_come then eat_word word else pure false
 
 -- ---- states
 
-abbrev pub with_binding : StateOptions → Option Binding → Parser StateOptions
-with_binding found (Some binding) = pure (record found { binding = Some binding })
-with_binding found None = λ i. Err (timeout_refusal i)
+abbrev pub with_policy : StateOptions → Option StatePolicy → Parser StateOptions
+with_policy found (Some policy) = pure (record found { policy = Some policy })
+with_policy found None = λ i. Err (timeout_refusal i)
 
 -- no option of a state comes twice, and `if-bound` and `floating` don't come both
-unfoldable pub binding_option : StateOptions → Parser StateOptions
-binding_option found = if is_some found.binding then (λ i. Err (timeout_refusal i)) else (binding >>= with_binding found)
+unfoldable pub policy_option : StateOptions → Parser StateOptions
+policy_option found = if is_some found.policy then (λ i. Err (timeout_refusal i)) else (state_policy >>= with_policy found)
 
 -- `max` says how many states of the rule there may be
 unfoldable pub most_option : StateOptions → Parser StateOptions
 most_option found = do
   is_most ← eat_if (is_none found.most) (codes "max")
-  if is_most then (do most ← number_in 1 4294967295; pure (record found { most = Some most })) else binding_option found
+  if is_most then (do most ← number_in 1 4294967295; pure (record found { most = Some most })) else policy_option found
 
 unfoldable pub state_option : StateOptions → Parser StateOptions
 state_option found = do
@@ -48,7 +48,7 @@ state_option_more more found = do
     more found')
 
 abbrev pub no_state_options : StateOptions
-no_state_options = record { no_sync = false; most = None; binding = None }
+no_state_options = record { no_sync = false; most = None; policy = None }
 
 abbrev pub state_options : Parser StateOptions
 state_options = loop state_option_more no_state_options

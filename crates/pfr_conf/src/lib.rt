@@ -26,7 +26,7 @@ pub use options::SetOption;
 pub use pfr_items::Items;
 pub use pfr_net::{Direction, Ipv4Address, Net, Protocol};
 pub use pfr_ruleset::{
-    Binding, BlockPolicy, Comparison, FlagSet, IcmpMatch, PortMatch, RangeOperator,
+    BlockPolicy, Comparison, FlagSet, IcmpMatch, PortMatch, RangeOperator, StatePolicy,
 };
 pub use pfr_terms::{
     Address, AddressMatch, ConfError, ConfErrorKind, Criteria, FlagsMatch, Host, Hosts,

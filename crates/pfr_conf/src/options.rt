@@ -3,11 +3,11 @@ ghost use Rattle.std.specs.Prelude.{◌≡◌, ◌≤◌, ◌++◌, codes, IfOk,
 ghost use Rattle.pfr_terms.specs.Input.{Reads, Refuses};
 ghost use Rattle.pfr_conf.specs.Options as spec;
 
-use crate::policy::{binding_ahead, block_policy_ahead};
+use crate::policy::{block_policy_ahead, state_policy_ahead};
 use crate::settings::{LimitSetting, TimeoutSetting};
 use pfr_items::Items;
 use pfr_net::notation::{TOO_LARGE, number};
-use pfr_ruleset::{Binding, BlockPolicy};
+use pfr_ruleset::{BlockPolicy, StatePolicy};
 use pfr_terms::lists::{Item, list};
 use pfr_terms::{ConfError, ConfErrorKind, InterfaceName, LeftOutName, Name, Reader, Written};
 use pfr_words::Bytes;
@@ -23,8 +23,8 @@ pub enum SetOption<'a> {
     Limits(Items<LimitSetting>),
     /// What `block` alone does.
     BlockPolicy(BlockPolicy),
-    /// The binding of states whose rule has none.
-    StatePolicy(Binding),
+    /// The policy of states whose rule has none.
+    StatePolicy(StatePolicy),
     /// The number by which this firewall's states are known to others, from 1 to 4294967295.
     HostId(u32),
     /// `optimization normal`
@@ -112,8 +112,8 @@ fn block_policy<'a>(alloc: Global, reader: &mut Reader<'_, 'a>) -> Result<SetOpt
 fn state_policy<'a>(alloc: Global, reader: &mut Reader<'_, 'a>) -> Result<SetOption<'a>, ConfError>
     ensures { Reads (spec.state_policy_option reader.old) result reader.new }
 {
-    match binding_ahead(reader) {
-        Some(binding) => Ok(SetOption::StatePolicy(binding)),
+    match state_policy_ahead(reader) {
+        Some(policy) => Ok(SetOption::StatePolicy(policy)),
         None => Err(reader.refuse(alloc)),
     }
 }

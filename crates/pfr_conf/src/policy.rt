@@ -4,7 +4,7 @@ ghost use Rattle.pfr_terms.specs.Input.{Reads};
 ghost use Rattle.pfr_conf.specs.Policies as spec;
 
 use pfr_net::Direction;
-use pfr_ruleset::{Binding, BlockPolicy};
+use pfr_ruleset::{BlockPolicy, StatePolicy};
 use pfr_terms::{ConfError, Reader};
 use std::alloc::Global;
 
@@ -39,15 +39,15 @@ pub(crate) fn block_policy_ahead(reader: &mut Reader<'_, '_>) -> Option<BlockPol
 }
 
 /// `if-bound` or `floating`, if one comes next.
-#[tactic(auto, unfolding(crate::specs::Policies::binding))]
-pub(crate) fn binding_ahead(reader: &mut Reader<'_, '_>) -> Option<Binding>
-    ensures { spec.binding reader.old ≡ Ok (result, reader.new) }
+#[tactic(auto, unfolding(crate::specs::Policies::state_policy))]
+pub(crate) fn state_policy_ahead(reader: &mut Reader<'_, '_>) -> Option<StatePolicy>
+    ensures { spec.state_policy reader.old ≡ Ok (result, reader.new) }
 {
     if reader.eat_word(b"if-bound") {
-        return Some(Binding::IfBound);
+        return Some(StatePolicy::IfBound);
     }
     if reader.eat_word(b"floating") {
-        Some(Binding::Floating)
+        Some(StatePolicy::Floating)
     } else {
         None
     }

@@ -5,10 +5,10 @@ ghost use Rattle.pfr_conf.specs.RuleOptions as spec;
 ghost use Rattle.pfr_conf.specs.Statements.{ReadsOnto};
 
 use crate::name::some_name;
-use crate::policy::binding_ahead;
+use crate::policy::state_policy_ahead;
 use crate::settings::timeout_refusal;
 use pfr_items::Items;
-use pfr_ruleset::{Binding, IcmpMatch};
+use pfr_ruleset::{IcmpMatch, StatePolicy};
 use pfr_terms::flags::flags_match;
 use pfr_terms::lists::list;
 use pfr_terms::{ConfError, FlagsMatch, Name, Reader, Written};
@@ -22,14 +22,14 @@ pub struct StateOptions {
     pub no_sync: bool,
     /// How many states of the rule there may be, from 1 to 4294967295.
     pub most: Option<u32>,
-    pub binding: Option<Binding>,
+    pub policy: Option<StatePolicy>,
 }
 
 /// Nothing is written of a state.
 const NO_STATE_OPTIONS: StateOptions = StateOptions {
     no_sync: false,
     most: None,
-    binding: None,
+    policy: None,
 };
 
 /// Whether a rule keeps state.
@@ -58,28 +58,28 @@ fn eat_if(reader: &mut Reader<'_, '_>, may_come: bool, word: &[u8]) -> bool
     may_come && reader.eat_word(word)
 }
 
-/// The binding of a state, which may come once.
-#[tactic(auto, unfolding(crate::specs::RuleOptions::binding_option))]
-fn binding_option(
+/// The policy of a state, which may come once.
+#[tactic(auto, unfolding(crate::specs::RuleOptions::policy_option))]
+fn policy_option(
     alloc: Global,
     reader: &mut Reader<'_, '_>,
     found: StateOptions,
 ) -> Result<StateOptions, ConfError>
-    ensures { Reads (spec.binding_option found reader.old) result reader.new }
+    ensures { Reads (spec.policy_option found reader.old) result reader.new }
 {
-    if found.binding.is_some() {
+    if found.policy.is_some() {
         return Err(timeout_refusal(alloc, reader));
     }
-    match binding_ahead(reader) {
-        Some(binding) => Ok(StateOptions {
-            binding: Some(binding),
+    match state_policy_ahead(reader) {
+        Some(policy) => Ok(StateOptions {
+            policy: Some(policy),
             ..found
         }),
         None => Err(timeout_refusal(alloc, reader)),
     }
 }
 
-/// `max` with its number, which may come once, or the binding of a state.
+/// `max` with its number, which may come once, or the policy of a state.
 #[tactic(auto, unfolding(crate::specs::RuleOptions::most_option))]
 fn most_option(
     alloc: Global,
@@ -95,7 +95,7 @@ fn most_option(
             ..found
         });
     }
-    binding_option(alloc, reader, found)
+    policy_option(alloc, reader, found)
 }
 
 /// One more option of a state.

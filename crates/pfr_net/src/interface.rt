@@ -1,4 +1,4 @@
-//! Names of interfaces.
+//! Interfaces: their names, their places among those of a run, and which of them a state is bound to.
 ghost use Rattle.std.specs.Prelude.{◌≡◌};
 ghost use Rattle.pfr_net.specs.Interfaces as spec;
 
@@ -21,5 +21,31 @@ impl IfName {
         let mut bytes = [0; 16];
         bytes[..len].copy_from_slice(&name[..len]);
         IfName { bytes }
+    }
+}
+
+/// An interface by its place among those of a run, the first of which is 0.
+#[derive(Clone, Copy, Debug, PartialEq, Eq, Hash)]
+pub struct InterfacePlace(pub u8);
+
+/// The interfaces on which packets belong to a state, and those for which a state is looked up (pf.conf(5), "state-policy").
+#[derive(Clone, Copy, Debug, PartialEq, Eq, Hash)]
+pub enum Binding {
+    /// All of them (`floating`).
+    All,
+    /// One alone (`if-bound`).
+    To(InterfacePlace),
+}
+
+impl Binding {
+    /// Whether there is an interface that both have.
+    #[inline]
+    pub fn meets(self, other: Binding) -> bool
+        ensures { result ≡ spec.meets self other }
+    {
+        match (self, other) {
+            (Binding::To(place), Binding::To(other)) => place.0 == other.0,
+            _ => true,
+        }
     }
 }

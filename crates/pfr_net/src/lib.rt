@@ -1,5 +1,5 @@
 //! What rules and the packets that they judge have in common: addresses, networks, ports, the ends of
-//! connections, protocols, directions, names of interfaces, timeouts, numbers of rules, and how addresses and numbers are written.
+//! connections, protocols, directions, interfaces, timeouts, numbers of rules, and how addresses and numbers are written.
 #![tactic(auto)]
 
 pub mod address;
@@ -16,7 +16,7 @@ pub mod timeout;
 pub use address::Ipv4Address;
 pub use direction::Direction;
 pub use endpoint::Endpoint;
-pub use interface::IfName;
+pub use interface::{Binding, IfName, InterfacePlace};
 pub use network::Net;
 pub use port::Port;
 pub use protocol::Protocol;

@@ -3,7 +3,7 @@ use crate::flags::FlagSet;
 use crate::hosts::{HostCriterion, HostSet};
 use crate::icmp::IcmpMatch;
 use crate::interface::InterfaceCriterion;
-use crate::policy::Binding;
+use crate::policy::StatePolicy;
 use crate::port::PortMatch;
 use pfr_net::{Direction, Ipv4Address, Protocol};
 
@@ -58,7 +58,7 @@ pub enum FlagsCriterion {
 /// The state that a rule keeps.
 #[derive(Clone, Copy)]
 pub struct StateRule {
-    pub binding: Binding,
+    pub policy: StatePolicy,
     /// It isn't told to others.
     pub no_sync: bool,
     /// How many states of the rule there may be, from 1 on. None: as many as there may be in all.

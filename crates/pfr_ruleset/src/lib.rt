@@ -43,7 +43,7 @@ pub use index::{Index, MOST_SHAPES};
 pub use interface::{Interface, InterfaceCriterion};
 pub use label::Label;
 pub use options::Options;
-pub use policy::{Binding, BlockPolicy};
+pub use policy::{BlockPolicy, StatePolicy};
 pub use port::{Comparison, PortMatch, RangeOperator};
 pub use ruleset::Ruleset;
 pub use shape::{Pins, Shape};

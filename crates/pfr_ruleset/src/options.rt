@@ -2,7 +2,7 @@
 ghost use Rattle.std.specs.Prelude.{◌≡◌};
 ghost use Rattle.pfr_ruleset.specs.Options as spec;
 
-use crate::policy::{Binding, BlockPolicy};
+use crate::policy::{BlockPolicy, StatePolicy};
 use pfr_items::Items;
 use pfr_net::{IfName, Timeouts};
 use std::alloc::Global;
@@ -14,7 +14,7 @@ pub struct Options {
     /// How many states there may be.
     pub state_limit: u32,
     pub block_policy: BlockPolicy,
-    pub state_policy: Binding,
+    pub state_policy: StatePolicy,
     /// The number by which this firewall's states are known to others.
     pub host_id: u32,
     /// The interfaces whose packets aren't filtered, each as often as it is named.
@@ -30,7 +30,7 @@ impl Options {
             timeouts: Timeouts::new(),
             state_limit: 100000,
             block_policy: BlockPolicy::Drop,
-            state_policy: Binding::Floating,
+            state_policy: StatePolicy::Floating,
             host_id: 1,
             skipped: Items::new(alloc),
         }

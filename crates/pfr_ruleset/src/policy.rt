@@ -9,7 +9,7 @@ pub enum BlockPolicy {
 
 /// On which interfaces a state's packets may come.
 #[derive(Clone, Copy)]
-pub enum Binding {
+pub enum StatePolicy {
     IfBound,
     Floating,
 }
