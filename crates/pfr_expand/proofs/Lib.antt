@@ -1,7 +1,10 @@
 pub mod CountLemmas
 pub mod Depths
+pub mod KeepLemmas
+pub mod NumberLemmas
 pub mod Places
 pub mod PlainLemmas
 pub mod RuleLemmas
 pub mod RulesetLemmas
+pub mod TranslatedLemmas
 pub mod TranslationLemmas

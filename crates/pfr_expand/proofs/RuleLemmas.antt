@@ -7,7 +7,7 @@ use Rattle.std.proofs.lemmas.List.Elements.{All-nil, All-cons, All-head, All-tai
 use Rattle.std.proofs.lemmas.Nat.{mul-le}
 use Rattle.pfr_ruleset.specs.declared.policy.BlockPolicy.{BlockPolicy}
 use Rattle.pfr_ruleset.specs.declared.policy.BlockPolicy.TheVariants as b
-use Rattle.pfr_ruleset.specs.declared.policy.Binding.{Binding}
+use Rattle.pfr_ruleset.specs.declared.policy.StatePolicy.{StatePolicy}
 use Rattle.pfr_ruleset.specs.declared.flat.FlatAnchor.{FlatAnchor}
 use Rattle.pfr_ruleset.specs.declared.flat.FlatRule.{FlatRule}
 use Rattle.pfr_ruleset.specs.declared.flat.PacketMatch.{PacketMatch}
@@ -34,7 +34,7 @@ use Rattle.pfr_flat.specs.Counts.{counted, too_many}
 use Rattle.pfr_flat.specs.Lists.{choices_or_fault, has_long_list, lists_of, product}
 use Rattle.pfr_expand.specs.declared.body.Body.{Body}
 use Rattle.pfr_expand.specs.declared.body.Setting.{Setting}
-use Rattle.pfr_expand.specs.Bodies.{Adding, action_of, anchor_by, and_then, binding_of, body_from, copied_if, counted_anchor, empty_body, flat_anchor, flags_of, flat_rule, has_rules, label_place, labelled_rule, made_if, or_fault, rule_by, rule_of, state_of, statement, statement_by, with_anchor, with_copies, with_copy, with_label, with_made, with_rule}
+use Rattle.pfr_expand.specs.Bodies.{Adding, action_of, anchor_by, and_then, policy_of, body_from, copied_if, counted_anchor, empty_body, flat_anchor, flags_of, flat_rule, has_rules, label_place, labelled_rule, made_if, or_fault, rule_by, rule_of, state_of, statement, statement_by, with_anchor, with_copies, with_copy, with_label, with_made, with_rule}
 use Rattle.pfr_expand.specs.Laws.{AllWritten, AsksAsWritten, AsksFrom, AreByForm, AreInTurn, AreOfAnchor, AreOfFilter, AreOfRule, ArePlain, IsAsWritten, IsLabelled, IsOfRule, IsPlain, KeepsAsWritten, choices_in, combinations_in, copies}
 use Rattle.pfr_expand.proofs.CountLemmas.{AreCounted, combinations_few, is_fault, lists_counted, within}
 use Rattle.pfr_expand.proofs.PlainLemmas.{anchor_exact, rule_asks, rule_exact}
@@ -71,15 +71,15 @@ done_as_written policy (a.Block (Some b.Return)) = refl
 done_as_written b.Drop (a.Block None) = λ passes. cc passes
 done_as_written b.Return (a.Block None) = λ passes. cc passes
 
-bound_as_written : (policy : Binding) (written : Option Binding) → IfSome written (λ (binding : Binding). binding_of policy written ≡ binding)
+bound_as_written : (policy : StatePolicy) (written : Option StatePolicy) → IfSome written (λ (found : StatePolicy). policy_of policy written ≡ found)
 bound_as_written policy None = record {}
 bound_as_written policy (Some written) = refl
 
-kept_as_written : (policy : Binding) (action : Action) (keeping : Option StateKeeping) → KeepsAsWritten action keeping (state_of policy action keeping)
+kept_as_written : (policy : StatePolicy) (action : Action) (keeping : Option StateKeeping) → KeepsAsWritten action keeping (state_of policy action keeping)
 kept_as_written policy (a.Block written) keeping = refl
 kept_as_written policy a.Pass None = (refl, refl)
 kept_as_written policy a.Pass (Some k.No) = refl
-kept_as_written policy a.Pass (Some (k.Keep options)) = (refl, refl, bound_as_written policy options.binding)
+kept_as_written policy a.Pass (Some (k.Keep options)) = (refl, refl, bound_as_written policy options.policy)
 
 asked_as_written : (state : Option StateRule) (written : Option FlagsMatch) → AsksAsWritten written state (flags_of state written)
 asked_as_written None None = refl

@@ -18,19 +18,14 @@ use Rattle.pfr_conf.specs.declared.statement.Statement.{Statement}
 use Rattle.pfr_conf.specs.declared.statement.Statement.TheVariants as s
 use Rattle.pfr_conf.specs.declared.statement.Statements as S
 use Rattle.pfr_conf.specs.declared.table.TableDefinition.{TableDefinition}
-use Rattle.pfr_conf.specs.declared.targets.Target.{Target}
-use Rattle.pfr_conf.specs.declared.targets.Target.TheVariants as target
 use Rattle.pfr_conf.specs.declared.translation.TranslationRule.{TranslationRule}
 use Rattle.pfr_conf.specs.declared.translation.TranslationStatement.{TranslationStatement}
 use Rattle.pfr_conf.specs.declared.translation.TranslationStatement.TheVariants as t
-use Rattle.pfr_elements.specs.declared.scope.Scope.{Scope}
 use Rattle.pfr_elements.specs.declared.value.Draft.{Draft}
 use Rattle.pfr_elements.specs.Elements.{most_elements}
 use Rattle.pfr_elements.specs.Values.{begun}
-use Rattle.pfr_flat.specs.declared.choices.Choices as C
 use Rattle.pfr_flat.specs.Choices.{combinations}
-use Rattle.pfr_flat.specs.Counts.{counted, too_many}
-use Rattle.pfr_flat.specs.Lists.{addresses_in, choices_or_fault, product}
+use Rattle.pfr_flat.specs.Counts.{too_many}
 use Rattle.pfr_flat.specs.Translations.{numbered}
 use Rattle.pfr_expand.specs.declared.body.Body.{Body}
 use Rattle.pfr_expand.specs.declared.expansion.Work.{Work}
@@ -40,11 +35,11 @@ use Rattle.pfr_expand.specs.declared.translation.Change.TheVariants as change
 use Rattle.pfr_expand.specs.Bodies.{empty_body, statement as filter_statement}
 use Rattle.pfr_expand.specs.Laws.{AreInTurn, AreOf, AreOfFilter}
 use Rattle.pfr_expand.specs.Options.{with_option}
-use Rattle.pfr_expand.specs.Rulesets.{and_more, clash_of, expanded, expanded_from, filter_by, filter_if, is_defined, line_of, macro_by, option_by, pieces_from, ruleset_in, setting_of, started, table_by, table_names, translated, translation_by, used_in, with_definition, with_filter, with_set, with_statement, with_table, with_translation, with_translations}
+use Rattle.pfr_expand.specs.Rulesets.{and_more, clash_of, expanded, expanded_from, filter_by, filter_if, is_defined, line_of, macro_by, option_by, pieces_from, ruleset_in, setting_of, started, table_by, table_names, used_in, with_definition, with_filter, with_set, with_statement, with_table, with_translation, with_translations}
 use Rattle.pfr_expand.specs.Tables.{filled, unfilled}
-use Rattle.pfr_expand.specs.Translations.{change_of, lists_by, translation_lists, with_change, with_choices, with_rules}
-use Rattle.pfr_expand.proofs.CountLemmas.{AreCounted, combinations_few, lists_counted, lists_counted_with, sources_counted, within}
+use Rattle.pfr_expand.specs.Translations.{with_rules}
 use Rattle.pfr_expand.proofs.RuleLemmas.{Adds, Reach, reach_on, reach_themselves, statement_adds}
+use Rattle.pfr_expand.proofs.TranslatedLemmas.{few_made, translated_by, within_all}
 
 -- ---- a ruleset on its way
 
@@ -142,29 +137,6 @@ rules_count number line passes (change.Binat to) matches all =
     let long = length-append all.binats (numbered number line passes to matches) in
     omega (arith, own, long)
 
-change_count : (number line : ℕ) (passes : Bool) (c : C.Choices) (found : Result Change ConfError) (all new : Translations) → with_change number line passes c found all ≡ Ok new → translation_count new ≡ translation_count all + length (combinations c)
-change_count number line passes c (Err e) all new is = absurd (cc is)
-change_count number line passes c (Ok found) all new is =
-    let same : with_rules number line passes found (combinations c) all ≡ new = cc is in
-    subst (λ (made : Translations). translation_count made ≡ translation_count all + length (combinations c)) same (rules_count number line passes found (combinations c) all)
-
-choices_count : (scope : Scope) (number : ℕ) (rule : TranslationRule) (found : Result C.Choices ConfError) (all new : Translations) (most : ℕ) → ((c : C.Choices) → found ≡ Ok c → length (combinations c) ≤ most) → with_choices scope number rule found all ≡ Ok new → translation_count new ≤ translation_count all + most
-choices_count scope number rule (Err e) all new most few is = absurd (cc is)
-choices_count scope number rule (Ok c) all new most few is =
-    let least = few c refl in
-    let long = change_count number rule.line rule.passes c (change_of scope rule c.destination_ports) all new is in
-    omega (arith, least, long)
-
-translation_lists_counted : (scope : Scope) (rule : TranslationRule) → AreCounted (translation_lists scope rule)
-unfolding translation_lists
-translation_lists_counted scope rule = by_target rule.target
-  where
-    by_target : (to : Option Target) → AreCounted (lists_by scope rule to)
-    by_target None = lists_counted scope true rule.criteria None
-    by_target (Some (target.Nat to)) = lists_counted scope true rule.criteria None
-    by_target (Some (target.Rdr to)) = lists_counted scope true rule.criteria None
-    by_target (Some (target.Binat host)) = lists_counted_with scope true rule.criteria None _ (sources_counted scope rule.line (addresses_in rule.criteria.hosts.source))
-
 -- with so many rules used up to the limit, and so many more, the limit is met
 within_limit : (rules translations count : ℕ) → min (rules + translations) 65537 + count ≤ 65536 → rules + translations + count ≤ 65536
 within_limit rules translations count few = omega (arith, few)
@@ -176,26 +148,19 @@ pub record Translates (work next : Work) : Type 0 where
   pub few : IsFew work → IsFew next
 
 translation_translates : (rule : TranslationRule) (work next : Work) → with_translation rule work ≡ Ok next → Translates work next
-unfolding with_translation
-translation_translates rule work next is = by_count (counted (used_in work) rule.line (translation_lists work.scope rule) 0 1) refl is
-  where
-    by_choices : (count : ℕ) → counted (used_in work) rule.line (translation_lists work.scope rule) 0 1 ≡ Ok count → (found : Result Translations ConfError) → with_choices work.scope work.translations rule (choices_or_fault (translation_lists work.scope rule)) work.flat.translations ≡ found → translated work count found ≡ Ok next → Translates work next
-    by_choices count count_is (Err e) made_is is = absurd (cc is)
-    by_choices count count_is (Ok all) made_is is =
-        let same : record work { translations = work.translations + count; flat = record work.flat { translations = all } } ≡ next = cc is in
-        let w = within (used_in work) rule.line (translation_lists work.scope rule) 0 1 count count_is in
-        let total = w.is in
-        let limit = within_limit (length work.flat.filter.rules) work.translations count w.few in
-        let more = choices_count work.scope work.translations rule (choices_or_fault (translation_lists work.scope rule)) work.flat.translations all (product (translation_lists work.scope rule)) (λ c found. combinations_few (translation_lists work.scope rule) c (translation_lists_counted work.scope rule) w.short found) made_is in
-        subst (Translates work) same (record {
-          rules = refl;
-          labels = refl;
-          few = λ before. (let least = before.translations in record { all = omega (arith, limit); translations = omega (arith, least, more, total) });
-        })
-
-    by_count : (found : Result ℕ ConfError) → counted (used_in work) rule.line (translation_lists work.scope rule) 0 1 ≡ found → translation_by work rule (translation_lists work.scope rule) found ≡ Ok next → Translates work next
-    by_count (Err e) count_is is = absurd (cc is)
-    by_count (Ok count) count_is is = by_choices count count_is (with_choices work.scope work.translations rule (choices_or_fault (translation_lists work.scope rule)) work.flat.translations) refl is
+translation_translates rule work next is =
+    let made = translated_by rule work next is in
+    let limit = within_limit (length work.flat.filter.rules) work.translations made.count (within_all rule work next made) in
+    let few = few_made rule work next made in
+    let long = rules_count work.translations rule.line rule.passes made.change (combinations made.choices) work.flat.translations in
+    let filtered = ap (λ (rules : List FlatRule). length rules) made.filter in
+    let taken = made.taken in
+    let same = ap translation_count made.rules in
+    record {
+      rules = made.filter;
+      labels = made.labels;
+      few = λ before. (let least = before.translations in record { all = omega (arith, limit, filtered, taken); translations = omega (arith, least, few, long, taken, same) });
+    }
 
 translations_translate : (found : TranslationStatement) (work next : Work) → with_translations found work ≡ Ok next → Translates work next
 translations_translate (t.Anchor found name) work next is =

@@ -1,8 +1,8 @@
 -- The translation rules of a ruleset: each is of a statement.
-use Rattle.std.proofs.Common.{◌≡◌, ◌+◌, ℕ, suc, Bool, true, false, if◌then◌else◌, List, [], ◌∷◌, ◌++◌, All, Contains, slice_index_or, Option, Some, None, IfSome, Result, Ok, Err, append_assoc, refl, sym, ap, subst, arith}
+use Rattle.std.proofs.Common.{◌≡◌, ℕ, suc, Bool, true, false, if◌then◌else◌, List, [], ◌∷◌, All, Contains, slice_index_or, Option, Some, None, IfSome, Result, Ok, Err, refl, sym, ap, subst, ◌∙◌}
 use Rattle.std.proofs.lemmas.Bool.{and_parts}
 use Rattle.std.proofs.lemmas.Option.{slice_get-get_or}
-use Rattle.std.proofs.lemmas.List.Elements.{All-append, All-cons, All-head, All-nil, All-tail, Contains-append_right}
+use Rattle.std.proofs.lemmas.List.Elements.{All-append, All-cons, All-head, All-nil, All-tail}
 use Rattle.pfr_ruleset.specs.declared.interface.Interface.{Interface}
 use Rattle.pfr_net.specs.declared.address.Ipv4Address.{Ipv4Address}
 use Rattle.pfr_ruleset.specs.declared.flat.FlatTranslation.{FlatTranslation}
@@ -10,11 +10,10 @@ use Rattle.pfr_ruleset.specs.declared.flat.PortChange.TheVariants.{From}
 use Rattle.pfr_ruleset.specs.declared.flat.RdrAddress.{RdrAddress}
 use Rattle.pfr_ruleset.specs.declared.port.PortMatch.{PortMatch}
 use Rattle.pfr_ruleset.specs.declared.flat.PacketMatch.{PacketMatch}
-use Rattle.pfr_ruleset.specs.Places.{joined}
 use Rattle.pfr_ruleset.specs.declared.ruleset.Ruleset as R
+use Rattle.pfr_ruleset.specs.Translations.{no_translations}
 use Rattle.pfr_ruleset.specs.declared.translations.Translations.{Translations}
 use Rattle.pfr_terms.specs.declared.error.ConfError.{ConfError}
-use Rattle.pfr_conf.specs.declared.anchor.FilterStatement.{FilterStatement}
 use Rattle.pfr_conf.specs.declared.statement.Statement.{Statement}
 use Rattle.pfr_conf.specs.declared.statement.Statement.TheVariants as s
 use Rattle.pfr_conf.specs.declared.statement.Statements as S
@@ -27,26 +26,20 @@ use Rattle.pfr_conf.specs.declared.targets.Target.TheVariants as target
 use Rattle.pfr_conf.specs.declared.translation.TranslationKind.{TranslationKind}
 use Rattle.pfr_conf.specs.declared.translation.TranslationKind.TheVariants as kind
 use Rattle.pfr_conf.specs.declared.translation.TranslationRule.{TranslationRule}
-use Rattle.pfr_conf.specs.declared.translation.TranslationStatement.{TranslationStatement}
 use Rattle.pfr_conf.specs.declared.translation.TranslationStatement.TheVariants as t
 use Rattle.pfr_elements.specs.declared.scope.Scope.{Scope}
 use Rattle.pfr_elements.specs.Single.{written_single}
 use Rattle.pfr_flat.specs.declared.choices.Choices as C
 use Rattle.pfr_flat.specs.Choices.{combinations}
-use Rattle.pfr_flat.specs.Counts.{counted}
-use Rattle.pfr_flat.specs.Lists.{choices_or_fault}
 use Rattle.pfr_flat.specs.Translations.{all_fit, fits, numbered}
 use Rattle.pfr_flat.proofs.Digits.{choices_at}
-use Rattle.pfr_expand.specs.declared.body.Body.{Body}
-use Rattle.pfr_expand.specs.declared.expansion.Work.{Work}
 use Rattle.pfr_expand.specs.declared.translation.Change.{Change}
 use Rattle.pfr_expand.specs.declared.translation.Change.TheVariants as change
-use Rattle.pfr_expand.specs.Bodies.{empty_body, statement as filter_statement}
 use Rattle.pfr_expand.specs.Laws.{AreOfOnes, IsOfOneOf, MovesWithinPorts}
-use Rattle.pfr_expand.specs.Rulesets.{and_more, expanded, expanded_from, filter_by, filter_if, line_of, ruleset_in, setting_of, started, table_names, translated, translation_by, used_in, with_filter, with_statement, with_translation, with_translations}
-use Rattle.pfr_expand.specs.Translations.{binat_by, change_by, change_of, nat_by, no_change, port_change, port_fault, rdr_by, rdr_if, translation_lists, with_change, with_choices, with_rules}
+use Rattle.pfr_expand.specs.Rulesets.{expanded}
+use Rattle.pfr_expand.specs.Translations.{binat_by, change_by, change_of, nat_by, no_change, port_change, port_fault, rdr_by, rdr_if, with_rules}
 use Rattle.pfr_expand.proofs.PlainLemmas.{chosen}
-use Rattle.pfr_expand.proofs.RulesetLemmas.{Stays, macro_stays, option_stays, table_stays}
+use Rattle.pfr_expand.proofs.KeepLemmas.{EachKeeps, all_stand}
 
 -- ---- moved ports
 
@@ -150,93 +143,20 @@ rules_are_of statements rule there number c (change.Binat to) fit all are = reco
   moved = are.moved;
 }
 
-change_is_of : (statements : List Statement) (rule : TranslationRule) → Contains statements (s.Translation (t.Rule rule)) → (number : ℕ) (c : C.Choices) (found : Result Change ConfError) → ((to : Option RdrAddress) → found ≡ Ok (change.Rdr to) → AllFit to c.destination_ports) → (all new : Translations) → AreOfOnes statements all → with_change number rule.line rule.passes c found all ≡ Ok new → AreOfOnes statements new
-change_is_of statements rule there number c (Err e) fit all new are is = absurd (cc is)
-change_is_of statements rule there number c (Ok found) fit all new are is =
-    let same : with_rules number rule.line rule.passes found (combinations c) all ≡ new = cc is in
-    subst (AreOfOnes statements) same (rules_are_of statements rule there number c found (λ to found_is. fit to (ap Ok found_is)) all are)
-
-choices_are_of : (statements : List Statement) (scope : Scope) (rule : TranslationRule) → Contains statements (s.Translation (t.Rule rule)) → (number : ℕ) (found : Result C.Choices ConfError) (all new : Translations) → AreOfOnes statements all → with_choices scope number rule found all ≡ Ok new → AreOfOnes statements new
-choices_are_of statements scope rule there number (Err e) all new are is = absurd (cc is)
-choices_are_of statements scope rule there number (Ok c) all new are is = change_is_of statements rule there number c (change_of scope rule c.destination_ports) (change_fits scope rule c.destination_ports) all new are is
-
--- ---- one statement
-
--- the translation rules are still of statements
-abbrev Remain : List Statement → Work → Work → Type 0
-Remain statements work next = AreOfOnes statements work.flat.translations → AreOfOnes statements next.flat.translations
-
-translation_remains : (statements : List Statement) (rule : TranslationRule) (work next : Work) → Contains statements (s.Translation (t.Rule rule)) → with_translation rule work ≡ Ok next → Remain statements work next
-unfolding with_translation
-translation_remains statements rule work next there is are = by_count (counted (used_in work) rule.line (translation_lists work.scope rule) 0 1) is
-  where
-    by_choices : (count : ℕ) (found : Result Translations ConfError) → with_choices work.scope work.translations rule (choices_or_fault (translation_lists work.scope rule)) work.flat.translations ≡ found → translated work count found ≡ Ok next → AreOfOnes statements next.flat.translations
-    by_choices count (Err e) made_is is = absurd (cc is)
-    by_choices count (Ok all) made_is is =
-        let same : record work { translations = work.translations + count; flat = record work.flat { translations = all } } ≡ next = cc is in
-        subst (λ (w : Work). AreOfOnes statements w.flat.translations) same (choices_are_of statements work.scope rule there work.translations (choices_or_fault (translation_lists work.scope rule)) work.flat.translations all are made_is)
-
-    by_count : (found : Result ℕ ConfError) → translation_by work rule (translation_lists work.scope rule) found ≡ Ok next → AreOfOnes statements next.flat.translations
-    by_count (Err e) is = absurd (cc is)
-    by_count (Ok count) is = by_choices count (with_choices work.scope work.translations rule (choices_or_fault (translation_lists work.scope rule)) work.flat.translations) refl is
-
-translations_remain : (statements : List Statement) (found : TranslationStatement) (work next : Work) → Contains statements (s.Translation found) → with_translations found work ≡ Ok next → Remain statements work next
-translations_remain statements (t.Anchor found name) work next there is are =
-    let same : work ≡ next = cc is in
-    subst (λ (w : Work). AreOfOnes statements w.flat.translations) same are
-translations_remain statements (t.Rule rule) work next there is are = translation_remains statements rule work next there is are
-
-filter_remains : (statements : List Statement) (x : FilterStatement) (work next : Work) → with_filter x work ≡ Ok next → Remain statements work next
-unfolding with_filter
-filter_remains statements x work next is are = by_body (filter_statement 16 work.scope (setting_of work (line_of x)) x (empty_body work.flat.labels)) is
-  where
-    by_fault : (body : Body) (fault : Option ConfError) → filter_if work body fault ≡ Ok next → AreOfOnes statements next.flat.translations
-    by_fault body (Some e) is = absurd (cc is)
-    by_fault body None is =
-        let same : record work { flat = record work.flat { filter = joined work.flat.filter body.rules body.anchors; labels = body.labels } } ≡ next = cc is in
-        subst (λ (w : Work). AreOfOnes statements w.flat.translations) same are
-
-    by_body : (found : Result Body ConfError) → filter_by work found ≡ Ok next → AreOfOnes statements next.flat.translations
-    by_body (Err e) is = absurd (cc is)
-    by_body (Ok body) is = by_fault body body.fault is
-
-stays_remain : (statements : List Statement) (work next : Work) → Stays work next → Remain statements work next
-stays_remain statements work next stays are = subst (AreOfOnes statements) (sym stays.translations) are
-
-statement_remains : (statements : List Statement) (x : Statement) (work next : Work) → Contains statements x → with_statement x work ≡ Ok next → Remain statements work next
-unfolding with_statement
-statement_remains statements (s.Macro d) work next there is = stays_remain statements work next (macro_stays d work next is)
-statement_remains statements (s.Table d) work next there is = stays_remain statements work next (table_stays d work next is)
-statement_remains statements (s.Option option) work next there is = stays_remain statements work next (option_stays option work next is)
-statement_remains statements (s.Translation found) work next there is = translations_remain statements found work next there is
-statement_remains statements (s.Filter x) work next there is = filter_remains statements x work next is
+-- a translation rule of statements makes rules of them
+rule_is_of : (statements : List Statement) → EachKeeps (λ number. AreOfOnes statements) statements
+rule_is_of statements rule work next there is are =
+    let fit : (to : Option RdrAddress) → is.change ≡ change.Rdr to → AllFit to is.choices.destination_ports = λ to found. change_fits work.scope rule is.choices.destination_ports to (is.is_changed ∙ ap Ok found) in
+    subst (AreOfOnes statements) (sym is.rules) (rules_are_of statements rule there work.translations is.choices is.change fit work.flat.translations are)
 
 -- ---- all statements
 
-all_remain : (before xs : List Statement) (work next : Work) → expanded_from work xs ≡ Ok next → Remain (before ++ xs) work next
-all_remain before [] work next is are =
-    let same : work ≡ next = cc is in
-    subst (λ (w : Work). AreOfOnes (before ++ []) w.flat.translations) same are
-all_remain before (x ∷ xs) work next is are = by_first (λ between. all_remain (before ++ x ∷ []) xs between next) (with_statement x work) refl is
-  where
-    here : Contains (before ++ x ∷ xs) x
-    here = Contains-append_right before (x ∷ xs) x (0, omega arith, refl)
-
-    by_first : ((between : Work) → expanded_from between xs ≡ Ok next → Remain ((before ++ x ∷ []) ++ xs) between next) → (found : Result Work ConfError) → with_statement x work ≡ found → and_more found (λ w. expanded_from w xs) ≡ Ok next
-        → AreOfOnes (before ++ x ∷ xs) next.flat.translations
-    by_first others (Err e) first_is is = absurd (cc is)
-    by_first others (Ok between) first_is is =
-        let first : AreOfOnes (before ++ x ∷ xs) between.flat.translations = statement_remains (before ++ x ∷ xs) x work between here first_is are in
-        let same : (before ++ x ∷ []) ++ xs ≡ before ++ x ∷ xs = append_assoc before (x ∷ []) xs in
-        subst (λ (all : List Statement). AreOfOnes all next.flat.translations) same (others between is (subst (λ (all : List Statement). AreOfOnes all between.flat.translations) (sym same) first))
-
 pub all_of_ones : (statements : S.Statements) (interface : Interface) (r : R.Ruleset) → expanded statements interface ≡ Ok r → AreOfOnes statements.statements r.translations
-unfolding expanded
-all_of_ones statements interface r is = by_work (expanded_from (started interface (table_names statements.statements)) statements.statements) refl is
-  where
-    by_work : (found : Result Work ConfError) → expanded_from (started interface (table_names statements.statements)) statements.statements ≡ found → ruleset_in found ≡ Ok r → AreOfOnes statements.statements r.translations
-    by_work (Err e) work_is is = absurd (cc is)
-    by_work (Ok work) work_is is =
-        let same : work.flat ≡ r = cc is in
-        let all = all_remain [] statements.statements (started interface (table_names statements.statements)) work work_is (record { nats = All-nil (IsOfOneOf statements.statements); rdrs = All-nil (IsOfOneOf statements.statements); binats = All-nil (IsOfOneOf statements.statements); moved = All-nil MovesWithinPorts }) in
-        subst (λ (r : R.Ruleset). AreOfOnes statements.statements r.translations) same all
+all_of_ones statements interface r is =
+    let none : AreOfOnes statements.statements no_translations = record {
+      nats = All-nil (IsOfOneOf statements.statements);
+      rdrs = All-nil (IsOfOneOf statements.statements);
+      binats = All-nil (IsOfOneOf statements.statements);
+      moved = All-nil MovesWithinPorts;
+    } in
+    (all_stand (λ number. AreOfOnes statements.statements) statements interface r (rule_is_of statements.statements) none is).1

@@ -2,7 +2,7 @@
 use Rattle.std.specs.Prelude.{◌≡◌, ℕ, zero, suc, ◌+◌, ◌-◌, ◌==◌, Bool, true, false, not, nat_lt, if◌then◌else◌, List, [], ◌∷◌, ◌++◌, length, map, fold, Option, Some, None, Result, Ok, Err, ◌≢◌}
 use Rattle.pfr_ruleset.specs.declared.policy.BlockPolicy.{BlockPolicy}
 use Rattle.pfr_ruleset.specs.declared.policy.BlockPolicy.TheVariants as b
-use Rattle.pfr_ruleset.specs.declared.policy.Binding.{Binding}
+use Rattle.pfr_ruleset.specs.declared.policy.StatePolicy.{StatePolicy}
 use Rattle.pfr_ruleset.specs.declared.flat.PacketMatch.{PacketMatch}
 use Rattle.pfr_ruleset.specs.declared.flat.FilterAction.{FilterAction}
 use Rattle.pfr_ruleset.specs.declared.flat.FilterAction.TheVariants as action
@@ -53,16 +53,16 @@ action_of policy a.Pass = action.Pass
 action_of policy (a.Block (Some written)) = blocked written
 action_of policy (a.Block None) = blocked policy
 
-abbrev pub binding_of : Binding → Option Binding → Binding
-binding_of policy (Some written) = written
-binding_of policy None = policy
+abbrev pub policy_of : StatePolicy → Option StatePolicy → StatePolicy
+policy_of policy (Some written) = written
+policy_of policy None = policy
 
 -- a pass rule keeps state unless it says that it doesn't; a block rule never does
-abbrev pub state_of : Binding → Action → Option StateKeeping → Option StateRule
+abbrev pub state_of : StatePolicy → Action → Option StateKeeping → Option StateRule
 state_of policy (a.Block written) keeping = None
-state_of policy a.Pass None = Some (record { binding = policy; no_sync = false; most = None })
+state_of policy a.Pass None = Some (record { policy = policy; no_sync = false; most = None })
 state_of policy a.Pass (Some k.No) = None
-state_of policy a.Pass (Some (k.Keep options)) = Some (record { binding = binding_of policy options.binding; no_sync = options.no_sync; most = options.most })
+state_of policy a.Pass (Some (k.Keep options)) = Some (record { policy = policy_of policy options.policy; no_sync = options.no_sync; most = options.most })
 
 -- a rule that keeps state and writes no flags asks for S/SA
 abbrev pub flags_of : Option StateRule → Option FlagsMatch → FlagsCriterion
@@ -193,7 +193,7 @@ abbrev pub statement_by : (AnchorRule → List FilterStatement → Body → Resu
 statement_by anchored scope setting (FilterStatement-F.Rule rule) out = with_rule scope setting rule out
 statement_by anchored scope setting (FilterStatement-F.Anchor anchor body) out = anchored anchor body out
 
--- a statement in which at most so many anchors stand in one another
+-- a statement with at most `depth` anchors in one another
 unfoldable pub statement : ℕ → Scope → Setting → Adding
 statement zero scope setting x out = statement_by (λ anchor body out. Err (record { line = anchor.line; kind = TooDeep })) scope setting (out-FilterStatement x) out
 statement (suc depth) scope setting x out = statement_by (λ anchor body out. with_anchor scope setting anchor (body_from (statement depth scope setting) (empty_body out.labels) body) out) scope setting (out-FilterStatement x) out

@@ -17,6 +17,7 @@ use Rattle.pfr_ruleset.specs.declared.label.Label.{Label}
 use Rattle.pfr_ruleset.specs.declared.ruleset.Ruleset.{Ruleset}
 use Rattle.pfr_ruleset.specs.declared.translations.Translations.{Translations}
 use Rattle.pfr_ruleset.specs.Rulesets.{counts, label_at}
+use Rattle.pfr_ruleset.specs.Translations.{HaveOwnNumbers}
 use Rattle.pfr_terms.specs.declared.address.Address.{Address}
 use Rattle.pfr_terms.specs.declared.address.Address.TheVariants as a
 use Rattle.pfr_terms.specs.declared.flags.FlagsMatch.{FlagsMatch}
@@ -41,6 +42,7 @@ use Rattle.pfr_conf.specs.declared.translation.TranslationRule.{TranslationRule}
 use Rattle.pfr_conf.specs.declared.translation.TranslationStatement.TheVariants.{Rule}
 use Rattle.pfr_flat.specs.Translations.{fits}
 use Rattle.pfr_expand.specs.Rulesets.{expanded}
+use Rattle.pfr_expand.specs.Texts.{ruleset_of}
 
 -- ---- lists as they are written
 
@@ -97,7 +99,7 @@ abbrev pub KeepsAsWritten : Action → Option StateKeeping → Option StateRule 
 KeepsAsWritten (Block written) keeping state = state ≡ None
 KeepsAsWritten Pass (Some No) state = state ≡ None
 KeepsAsWritten Pass None state = IsSomeAnd state (λ kept. (kept.no_sync ≡ false) × (kept.most ≡ None))
-KeepsAsWritten Pass (Some (Keep options)) state = IsSomeAnd state (λ kept. (kept.no_sync ≡ options.no_sync) × (kept.most ≡ options.most) × IfSome options.binding (λ written. kept.binding ≡ written))
+KeepsAsWritten Pass (Some (Keep options)) state = IsSomeAnd state (λ kept. (kept.no_sync ≡ options.no_sync) × (kept.most ≡ options.most) × IfSome options.policy (λ written. kept.policy ≡ written))
 
 -- the flags that it asks for are those that are written; where none are, S/SA if it keeps state
 abbrev pub AsksAsWritten : Option FlagsMatch → Option StateRule → FlagsCriterion → Type 0
@@ -171,7 +173,7 @@ abbrev pub AreByForm : List Label → (List FilterStatement → List FlatRule �
 AreByForm labels AreOfBody (FilterStatement-F.Rule rule) rules = AreOfRule labels rule rules
 AreByForm labels AreOfBody (FilterStatement-F.Anchor anchor body) rules = AreOfAnchor (AreOfBody body) anchor rules
 
--- the rules of a filter rule or an anchor in which at most so many anchors stand in one another
+-- the rules of a filter rule or an anchor, with at most `depth` anchors in one another
 abbrev pub AreOfFilter : List Label → ℕ → FilterStatement → List FlatRule → Type 0
 AreOfFilter labels zero x rules = AreByForm labels (λ body one. ⊥) (out-FilterStatement x) rules
 AreOfFilter labels (suc depth) x rules = AreByForm labels (AreInTurn (AreOfFilter labels depth)) (out-FilterStatement x) rules
@@ -232,3 +234,10 @@ EveryTranslationIsOfAStatement =
     (statements : Statements) (interface : Interface) (r : Ruleset)
     → expanded statements interface ≡ Ok r
     → AreOfOnes statements.statements r.translations
+
+-- the translation rules of a ruleset that a text means have numbers of their own
+abbrev pub TranslationsHaveOwnNumbers : Type 0
+TranslationsHaveOwnNumbers =
+    (text : List ℕ) (interface : Interface) (r : Ruleset)
+    → ruleset_of text interface ≡ Ok r
+    → HaveOwnNumbers r.translations

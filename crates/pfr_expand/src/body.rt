@@ -21,8 +21,8 @@ use pfr_flat::{
 };
 use pfr_items::Items;
 use pfr_ruleset::{
-    Binding, BlockPolicy, FilterAction, FlagsCriterion, FlatAnchor, FlatRule, Label, NO_MATCH,
-    PacketMatch, StateRule, put_anchors,
+    BlockPolicy, FilterAction, FlagsCriterion, FlatAnchor, FlatRule, Label, NO_MATCH, PacketMatch,
+    StatePolicy, StateRule, put_anchors,
 };
 use std::alloc::{AllocError, Global};
 use std::mem::{drop, replace};
@@ -31,7 +31,7 @@ use std::mem::{drop, replace};
 #[derive(Clone, Copy)]
 pub struct Setting {
     pub block_policy: BlockPolicy,
-    pub state_policy: Binding,
+    pub state_policy: StatePolicy,
     pub used: usize,
     pub line: usize,
 }
@@ -68,19 +68,19 @@ fn action_of(policy: BlockPolicy, action: Action) -> FilterAction
 }
 
 /// The state that a rule keeps.
-fn state_of(policy: Binding, action: Action, keeping: Option<StateKeeping>) -> Option<StateRule>
+fn state_of(policy: StatePolicy, action: Action, keeping: Option<StateKeeping>) -> Option<StateRule>
     ensures { result ≡ spec.state_of policy action keeping }
 {
     match (action, keeping) {
         (Action::Block(_), _) => None,
         (Action::Pass, None) => Some(StateRule {
-            binding: policy,
+            policy,
             no_sync: false,
             most: None,
         }),
         (Action::Pass, Some(StateKeeping::No)) => None,
         (Action::Pass, Some(StateKeeping::Keep(options))) => Some(StateRule {
-            binding: options.binding.unwrap_or(policy),
+            policy: options.policy.unwrap_or(policy),
             no_sync: options.no_sync,
             most: options.most,
         }),

@@ -179,22 +179,29 @@ impl<'a> Work<'a> {
         set_option(&mut self.flat.options, alloc, &self.scope, option)
     }
 
-    /// What a filter rule or an anchor comes to behind rules with these labels.
-    fn filter_body(
-        &self,
-        alloc: Global,
-        labels: Items<Label>,
-        statement: &FilterStatement<'_>,
-    ) -> Result<Body, ConfError>
-        ensures made { Gives (bodies.statement 16 self.now.scope (spec.setting_of self.now (spec.line_of statement.now)) statement.now (bodies.empty_body labels)) result }
-        ensures placed { IfOk result (λ body. ArePlaced body.rules body.anchors) }
+    /// What holds for the statement of a line where it says nothing itself.
+    fn setting(&self, line: usize) -> Setting
+        ensures { result ≡ spec.setting_of self.now line }
     {
-        let setting = Setting {
+        Setting {
             block_policy: self.flat.options.block_policy,
             state_policy: self.flat.options.state_policy,
             used: self.used(),
-            line: line_of(statement),
-        };
+            line,
+        }
+    }
+
+    /// What a filter rule or an anchor comes to under a setting, behind rules with these labels.
+    fn filter_body(
+        &self,
+        alloc: Global,
+        setting: Setting,
+        labels: Items<Label>,
+        statement: &FilterStatement<'_>,
+    ) -> Result<Body, ConfError>
+        ensures made { Gives (bodies.statement 16 self.now.scope setting statement.now (bodies.empty_body labels)) result }
+        ensures placed { IfOk result (λ body. ArePlaced body.rules body.anchors) }
+    {
         let mut body = Body::new(alloc, labels);
         add_statement(
             alloc,
@@ -231,8 +238,9 @@ impl<'a> Work<'a> {
         ensures made { Adds (spec.with_filter statement.now self.old) result self.new }
         ensures few { self.new.translations ≡ self.old.translations }
     {
+        let setting = self.setting(line_of(statement));
         let labels = replace(&mut self.flat.labels, Items::new(alloc));
-        let mut body = self.filter_body(alloc, labels, statement)?;
+        let mut body = self.filter_body(alloc, setting, labels, statement)?;
         let added = self.add_body(alloc, &mut body);
         drop(body);
         added

@@ -1,5 +1,5 @@
 //! Laws of the definitions, each the contract of a function that does nothing.
-ghost use Rattle.pfr_expand.specs.Laws.{AtMostAllRules, CountsAreLengths, EveryRuleIsOfOneStatement, EveryTranslationIsOfAStatement};
+ghost use Rattle.pfr_expand.specs.Laws.{AtMostAllRules, CountsAreLengths, EveryRuleIsOfOneStatement, EveryTranslationIsOfAStatement, TranslationsHaveOwnNumbers};
 
 /// A ruleset that statements mean has at most 65536 rules of the filter and of translation together, so their counts
 /// are the lengths of the lists, and no limit of the counts is met.
@@ -20,4 +20,9 @@ pub fn every_flat_rule_is_of_one_statement()
 /// by one distance, all of them stay ports.
 pub fn every_translation_is_of_a_statement()
     ensures { EveryTranslationIsOfAStatement }
+{}
+
+/// In a ruleset that a text means no two translation rules have the same number, be they of one kind or of two.
+pub fn translations_have_numbers_of_their_own()
+    ensures { TranslationsHaveOwnNumbers }
 {}

@@ -4,6 +4,7 @@ pub mod AnchorLemmas
 pub mod AskedLemmas
 pub mod BehindLemmas
 pub mod Numbers
+pub mod OnceLemmas
 pub mod Places
 pub mod RoomLemmas
 pub mod SearchLemmas

@@ -1,7 +1,7 @@
 -- Words of the laws: rulesets that are the same up to a place, or but for one rule or one anchor; packets that go the same
 -- way, and rules that they pass by.
-use Rattle.std.specs.Prelude.{◌≡◌, ◌≢◌, ◌≤◌, ◌+◌, ◌-◌, ℕ, min, Bool, true, false, nat_le, List, ◌∷◌, ◌++◌, length, map, IsSomeAnd, Some, true}
-use Rattle.std.specs.List.{All, Contains, slice_get, filter}
+use Rattle.std.specs.Prelude.{◌≡◌, ◌≢◌, ◌≤◌, ◌+◌, ◌-◌, ◌==◌, ℕ, min, Bool, true, false, nat_le, List, ◌∷◌, ◌++◌, length, map, IsSomeAnd, Some, true}
+use Rattle.std.specs.List.{All, Contains, count_by, slice_get, filter}
 use Rattle.pfr_net.specs.declared.address.Ipv4Address.{Ipv4Address}
 use Rattle.pfr_net.specs.declared.direction.Direction.{Direction}
 use Rattle.pfr_net.specs.declared.direction.Direction.TheVariants.{In, Out}
@@ -13,6 +13,7 @@ use Rattle.pfr_ruleset.specs.declared.flat.PortChange.TheVariants.{From}
 use Rattle.pfr_ruleset.specs.declared.port.Comparison.TheVariants.{Equal}
 use Rattle.pfr_ruleset.specs.declared.port.PortMatch.TheVariants.{Compare, Range}
 use Rattle.pfr_ruleset.specs.declared.port.RangeOperator.TheVariants.{Inclusive}
+use Rattle.pfr_ruleset.specs.Translations.{HaveOwnNumbers}
 use Rattle.pfr_headers.specs.declared.packet.Packet.{Packet}
 use Rattle.pfr_criteria.specs.Laws.{IsBinat}
 use Rattle.pfr_criteria.specs.Packets.{anchor_holds}
@@ -21,7 +22,7 @@ use Rattle.pfr_rules.specs.declared.hit.PortMapping.TheVariants.{Kept}
 use Rattle.pfr_states.specs.declared.question.Question.{Question}
 use Rattle.pfr_states.specs.declared.question.Question.TheVariants.{RuleRoom}
 use Rattle.pfr_rules.specs.Filter.{Rooms, hit, deciding, limit_for, passes, rooms_asked, ruled, visited}
-use Rattle.pfr_rules.specs.Translating.{binat_hit, mapped, mapping}
+use Rattle.pfr_rules.specs.Translating.{binat_hit, mapped, mapping, translations_visited}
 
 -- ---- rulesets that are the same up to a place
 
@@ -185,6 +186,12 @@ NoRoomLetsBy =
     → passes (ruled other packet direction) (slice_get other.filter.rules place) ≡ false
     → GoesTheSameWay flat other rooms packet direction
 
+-- a packet visits no rule twice
+abbrev pub VisitsARuleOnce : Type 0
+VisitsARuleOnce =
+    (flat : Ruleset) (rooms : Rooms) (packet : Packet) (direction : Direction) (rule : ℕ)
+    → count_by (λ number. number == rule) (visited flat rooms packet direction) ≤ 1
+
 -- ---- translation
 
 -- a packet that a `binat` rule holds for gets the target as its source, and what comes in by the rule gets that source back
@@ -211,3 +218,10 @@ OnePortBecomesTheFirst =
     (first port : ℕ)
     → first ≤ 65535
     → mapped (mapping (Some (Compare Equal port)) (From first)) (record { 0 = port }) ≡ record { 0 = first }
+
+-- a packet visits no translation rule twice, if each has a number of its own
+abbrev pub VisitsATranslationRuleOnce : Type 0
+VisitsATranslationRuleOnce =
+    (flat : Ruleset) (packet : Packet) (direction : Direction) (rule : ℕ)
+    → HaveOwnNumbers flat.translations
+    → count_by (λ number. number == rule) (translations_visited flat packet direction) ≤ 1

@@ -1,5 +1,5 @@
 //! Laws of the definitions, each the contract of a function that does nothing.
-ghost use Rattle.pfr_rules.specs.Laws.{AnchorAsksForItsOwn, AnchorLetsNothingIn, BehindAQuickHit, BinatGivesTheSourceBack, DecidesWithRoom, MovedPortsKeepTheirDistance, NoRoomLetsBy, OnePortBecomesTheFirst, QuickWithoutAHit, WhatIsNotAsked, WhatIsNotVisited};
+ghost use Rattle.pfr_rules.specs.Laws.{AnchorAsksForItsOwn, AnchorLetsNothingIn, BehindAQuickHit, BinatGivesTheSourceBack, DecidesWithRoom, MovedPortsKeepTheirDistance, NoRoomLetsBy, OnePortBecomesTheFirst, QuickWithoutAHit, VisitsARuleOnce, VisitsATranslationRuleOnce, WhatIsNotAsked, WhatIsNotVisited};
 
 /// What stands behind a quick rule that hits says nothing of the packet: rules and anchors may be put there or taken out,
 /// also at the end of an anchor that the quick rule stands in.
@@ -45,6 +45,11 @@ pub fn a_rule_without_room_lets_the_packet_by()
     ensures { NoRoomLetsBy }
 {}
 
+/// A packet visits each rule of the filter at most once.
+pub fn a_walk_visits_a_rule_once()
+    ensures { VisitsARuleOnce }
+{}
+
 /// A packet that goes out by a `binat` rule gets the rule's target as its source, with the port that it had. What comes in by the rule
 /// gets that source back as its destination.
 pub fn binat_gives_the_source_back()
@@ -56,4 +61,10 @@ pub fn binat_gives_the_source_back()
 pub fn moved_ports_keep_their_distance()
     ensures range { MovedPortsKeepTheirDistance }
     ensures one { OnePortBecomesTheFirst }
+{}
+
+/// A packet visits each translation rule at most once, if all have numbers of their own, as they have in each ruleset that a text
+/// means.
+pub fn a_walk_visits_a_translation_rule_once()
+    ensures { VisitsATranslationRuleOnce }
 {}
