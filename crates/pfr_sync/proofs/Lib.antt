@@ -15,6 +15,7 @@ pub mod PacketLemmas
 pub mod PartLemmas
 pub mod PlaceLemmas
 pub mod QueueLemmas
+pub mod RecordLemmas
 pub mod RiseLemmas
 pub mod SizeLemmas
 pub mod StandbyLemmas

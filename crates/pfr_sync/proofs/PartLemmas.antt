@@ -47,7 +47,8 @@ joined_from origin parts (e ∷ events) =
 pub parts_joined : (origin : Origin) (events : List Event) → flat_map (λ part. part) (parts_of origin events).closed ++ (parts_of origin events).last ≡ events
 parts_joined origin events = joined_from origin (record { closed = []; last = [] }) events
 
-behind_front : {X : Type 0} (P : X → Type 0) (front xs : List X) → AllByRecursion P (front ++ xs) → AllByRecursion P xs
+-- what holds of all elements holds of those behind the front
+pub behind_front : {X : Type 0} (P : X → Type 0) (front xs : List X) → AllByRecursion P (front ++ xs) → AllByRecursion P xs
 behind_front P [] xs all = all
 behind_front P (x ∷ front) xs all = behind_front P front xs all.1
 

@@ -12,6 +12,9 @@ use Rattle.pfr_headers.specs.declared.packet.View.TheVariants.{Ipv4}
 use Rattle.pfr_headers.specs.declared.transport.Transport.TheVariants.{Other}
 use Rattle.pfr_headers.specs.Checksum.{Verifies, sum_of_words}
 use Rattle.pfr_headers.specs.View.{view_of}
+use Rattle.pfr_messages.specs.declared.records.Insertion.{Insertion}
+use Rattle.pfr_messages.specs.declared.records.Update.{Update}
+use Rattle.pfr_messages.specs.declared.records.Deletion.{Deletion}
 use Rattle.pfr_messages.specs.Messages.{Content}
 use Rattle.pfr_messages.specs.Records.{deletion, insertion, update}
 use Rattle.pfr_standby.specs.declared.kept.Kept.{Kept}
@@ -256,3 +259,54 @@ UpdatesNameTheState =
 abbrev pub DeletionsNameTheState : Type 0
 DeletionsNameTheState =
     (origin : Origin) (state : State) → IsDeletionRecord origin state (deletion.spelling (deletion_of origin state))
+
+-- ---- the events that records tell of
+
+-- the first event of a number is its making
+abbrev pub is_new : ℕ → List Event → Bool
+is_new n [] = false
+is_new n (event ∷ events) = if is_of n event then is_made event else is_new n events
+
+-- an event of a part, after which none of the same state comes there
+pub record IsLastOfItsState (event : Event) (part : List Event) : Type 0 where
+  pub before : List Event
+  pub after : List Event
+  pub is : part ≡ before ++ event ∷ after
+  pub none_follows : list_any (is_of event.state.number.0) after ≡ false
+
+-- A record is made of the clock and the state of an event of a part, the last one of its state there. `makes` is whether the first
+-- event of the state there is its making, `removes` whether the last one is its removal.
+pub record IsOfAnEvent {R : Type 0} (made_of : Clock → State → R) (makes removes : Bool) (part : List Event) (told : R) : Type 0 where
+  pub event : Event
+  pub last : IsLastOfItsState event part
+  pub is : told ≡ made_of event.clock event.state
+  pub begins : is_new event.state.number.0 part ≡ makes
+  pub ends : is_removed event ≡ removes
+
+-- an insertion is of a state whose first event in the part is its making, and whose last one isn't its removal
+abbrev pub IsAnInsertion : Origin → List Event → Insertion → Type 0
+IsAnInsertion origin part told = IsOfAnEvent (insertion_of origin) true false part told
+
+-- an update is of a state whose first event in the part isn't its making, and whose last one isn't its removal
+abbrev pub IsAnUpdate : Origin → List Event → Update → Type 0
+IsAnUpdate origin part told = IsOfAnEvent (update_of origin) false false part told
+
+-- a deletion is of a state whose first event in the part isn't its making, and whose last one is its removal
+abbrev pub IsADeletion : Origin → List Event → Deletion → Type 0
+IsADeletion origin part told = IsOfAnEvent (λ clock. deletion_of origin) false true part told
+
+-- A message tells of a part of events, which follow one another and are all of one clock. Each of its records is of an event of the part.
+pub record TellsOfEvents (origin : Origin) (events : List Event) (content : Content) : Type 0 where
+  pub clock : Clock
+  pub before : List Event
+  pub part : List Event
+  pub after : List Event
+  pub is : events ≡ before ++ part ++ after
+  pub at_clock : All (λ event. event.clock ≡ clock) part
+  pub insertions : All (IsAnInsertion origin part) content.insertions
+  pub updates : All (IsAnUpdate origin part) content.updates
+  pub deletions : All (IsADeletion origin part) content.deletions
+
+-- each record of each message of events is of one of the events
+abbrev pub RecordsAreOfEvents : Type 0
+RecordsAreOfEvents = (origin : Origin) (events : List Event) → All (TellsOfEvents origin events) (messages_of origin events)

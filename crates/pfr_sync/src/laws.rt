@@ -2,7 +2,7 @@
 ghost use Rattle.std.specs.Prelude.{◌≡◌, length, ℕ};
 ghost use Rattle.pfr_net.specs.declared.address.Ipv4Address.{Ipv4Address};
 ghost use Rattle.pfr_sync.specs.Files.{ip_header};
-ghost use Rattle.pfr_sync.specs.Laws.{AStandbyHoldsTheStatesLeft, AStandbyHoldsWhatIsLeft, AStateIsToldOfOnce, ClosedMessagesStay, DeletionsNameTheState, FileHeaderVerifies, FileMessageIsAPacket, InsertionsNameTheState, UpdatesNameTheState};
+ghost use Rattle.pfr_sync.specs.Laws.{AStandbyHoldsTheStatesLeft, AStandbyHoldsWhatIsLeft, AStateIsToldOfOnce, ClosedMessagesStay, DeletionsNameTheState, FileHeaderVerifies, FileMessageIsAPacket, InsertionsNameTheState, RecordsAreOfEvents, UpdatesNameTheState};
 
 pub use pfr_messages::laws::{one_spelling, readable};
 
@@ -47,4 +47,11 @@ pub fn records_name_the_state()
     ensures insertions { InsertionsNameTheState }
     ensures updates { UpdatesNameTheState }
     ensures deletions { DeletionsNameTheState }
+{}
+
+/// Each record of each message of events is of one of the events: of its state, at its clock. A message tells of events that follow
+/// one another, all of one clock, and its record of a state is of the last event of the state among them. A deletion's is the
+/// removal, and no other record's is. Of an insertion's state the first event among them is the making; of others it isn't.
+pub fn records_are_of_events()
+    ensures { RecordsAreOfEvents }
 {}
