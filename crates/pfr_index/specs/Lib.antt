@@ -1,3 +1,4 @@
+pub mod Folds
 pub mod Index
 pub mod Searches
 pub mod Slots

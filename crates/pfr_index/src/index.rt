@@ -1,14 +1,15 @@
 //! Which places stand under which hashes.
 ghost use Rattle.std.specs.Prelude.{◌≡◌, ◌+◌, ◌<◌, ◌≤◌, true, false, OnOk, OnErr, IfOk, IfSome, IfNone};
 ghost use Rattle.std.specs.List.{count_by};
+ghost use Rattle.pfr_index.specs.Folds.{FoldsUnder};
 ghost use Rattle.pfr_index.specs.Index as spec;
 ghost use Rattle.pfr_index.specs.Index.{Entry};
 ghost use Rattle.pfr_index.specs.Slots.{entries_of, is_held};
 ghost use Rattle.pfr_places.specs.declared.place.Place.{Place};
 
 use crate::hash::Hash;
-use crate::search;
 use crate::slot::{Slot, home, leave, put};
+use crate::{folding, search};
 use pfr_places::Place;
 use std::alloc::{AllocError, Global};
 use std::marker::Model;
@@ -137,6 +138,14 @@ impl Index {
         ensures none { IfNone result ((place : Place) → 0 < self.now.times (record { hash = hash; place = place }) → F.post is_it place false) }
     {
         search::find(self.slots.as_slice(), hash, &is_it)
+    }
+
+    /// Goes through the places under a hash, each as often as it stands there, in no order. The step gets what the one before it answered.
+    pub fn fold_under<B, F: Fn(B, Place) -> B>(&self, hash: Hash, start: B, step: F) -> B
+        requires { F.IsAlwaysCallable step }
+        ensures { FoldsUnder (λ before place after. F.post step before place after) start hash self.now.times result }
+    {
+        folding::fold_under(self.slots.as_slice(), hash, start, &step)
     }
 
     /// The index of the entries of some slots, among as many slots as asked for.

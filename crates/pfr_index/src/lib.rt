@@ -1,6 +1,7 @@
 //! The places of values by hashes of their keys.
 #![tactic(auto)]
 
+mod folding;
 pub mod hash;
 pub mod index;
 mod search;

@@ -1,9 +1,10 @@
 -- What is found in a list of states of which one at most passes a test.
-use Rattle.std.proofs.Common.{◌≡◌, Bool, true, false, not, nat_lt, List, [], ◌∷◌, Option, Some, None, sym, refl, ap, ◌∙◌, subst, inl, inr, arith}
+use Rattle.std.proofs.Common.{◌≡◌, ◌≤◌, Bool, true, false, not, nat_lt, List, [], ◌∷◌, Option, Some, None, sym, refl, ap, ◌∙◌, subst, inl, inr, arith}
 use Rattle.std.specs.List.{Contains, filter, find, list_all, list_any}
 use Rattle.std.proofs.lemmas.Bool.{and_parts, both_ways, cases_Bool, cases_order, cond-false, cond-true, eq-eqb, lt-ltb, ltb-true, ne_eqb, or_from, or_parts, true≢false}
 use Rattle.pfr_track.specs.declared.state.State.{State}
 use Rattle.pfr_track.specs.declared.state.StateNumber.{StateNumber}
+use Rattle.pfr_states.specs.Indexed.{IsAnswer}
 use Rattle.pfr_states.specs.States.{are_above, is_number, rise, with_state, with_touched}
 use Rattle.pfr_states.proofs.Membership.{from_filter, here, in_cons, in_none, none_of, there}
 use Rattle.pfr_states.proofs.PutLemmas.{with_behind, with_over}
@@ -11,40 +12,50 @@ use Rattle.pfr_states.proofs.TouchLemmas.{untouched}
 
 -- ---- what an answer says
 
-abbrev pub Answer : {X : Type 0} → (X → Bool) → List X → Option X → Type 0
-Answer {X} p xs None = (a : X) → Contains xs a → p a ≡ false
-Answer p xs (Some x) = Contains xs x × (p x ≡ true)
-
 -- at most one passes
 abbrev pub IsOne : {X : Type 0} → (X → Bool) → List X → Type 0
 IsOne {X} p xs = (a b : X) → Contains xs a → Contains xs b → p a ≡ true → p b ≡ true → a ≡ b
 
-answer_behind : {X : Type 0} (p : X → Bool) (x : X) (xs : List X) (r : Option X) → p x ≡ false → Answer p xs r → Answer p (x ∷ xs) r
+answer_behind : {X : Type 0} (p : X → Bool) (x : X) (xs : List X) (r : Option X) → p x ≡ false → IsAnswer p xs r → IsAnswer p (x ∷ xs) r
 answer_behind p x xs None not_it none = λ a h. elim (in_cons x xs a h) [ inl is ↦ ap p (sym is) ∙ not_it | inr rest ↦ none a rest ]
 answer_behind p x xs (Some y) not_it found = (there x xs y found.0, found.1)
 
-pub answer : {X : Type 0} (p : X → Bool) (xs : List X) → Answer p xs (find p xs)
+pub answer : {X : Type 0} (p : X → Bool) (xs : List X) → IsAnswer p xs (find p xs)
 answer p [] = λ a h. absurd (in_none a h)
 answer {X} p (x ∷ xs) = elim (cases_Bool (p x)) [
-  | inl it_is ↦ subst (λ (r : Option X). Answer p (x ∷ xs) r) (sym (cond-true (p x) (Some x) (find p xs) it_is)) (here x xs, it_is)
-  | inr not_it ↦ subst (λ (r : Option X). Answer p (x ∷ xs) r) (sym (cond-false (p x) (Some x) (find p xs) not_it)) (answer_behind p x xs (find p xs) not_it (answer p xs))
+  | inl it_is ↦ subst (λ (r : Option X). IsAnswer p (x ∷ xs) r) (sym (cond-true (p x) (Some x) (find p xs) it_is)) (here x xs, it_is)
+  | inr not_it ↦ subst (λ (r : Option X). IsAnswer p (x ∷ xs) r) (sym (cond-false (p x) (Some x) (find p xs) not_it)) (answer_behind p x xs (find p xs) not_it (answer p xs))
 ]
 
-same_answer : {X : Type 0} (p : X → Bool) (xs : List X) (r t : Option X) → IsOne p xs → Answer p xs r → Answer p xs t → r ≡ t
+same_answer : {X : Type 0} (p : X → Bool) (xs : List X) (r t : Option X) → IsOne p xs → IsAnswer p xs r → IsAnswer p xs t → r ≡ t
 same_answer p xs None None one a b = refl
 same_answer p xs None (Some y) one a b = absurd (both_ways (p y) (a y b.0) b.1)
 same_answer p xs (Some x) None one a b = absurd (both_ways (p x) (b x a.0) a.1)
 same_answer p xs (Some x) (Some y) one a b = ap Some (one x y a.0 b.0 a.1 b.1)
 
-pub found : {X : Type 0} (p : X → Bool) (xs : List X) (r : Option X) → IsOne p xs → Answer p xs r → find p xs ≡ r
+pub found : {X : Type 0} (p : X → Bool) (xs : List X) (r : Option X) → IsOne p xs → IsAnswer p xs r → find p xs ≡ r
 found p xs r one a = same_answer p xs (find p xs) r one (answer p xs) a
+
+-- if none passes
+pub none_found : {X : Type 0} (p : X → Bool) (xs : List X) → ((a : X) → Contains xs a → p a ≡ false) → find p xs ≡ None
+none_found {X} p xs none = by (find p xs) (answer p xs) where
+  by : (r : Option X) → IsAnswer p xs r → r ≡ None
+  by None so = refl
+  by (Some x) so = absurd (both_ways (p x) (none x so.0) so.1)
+
+-- if this one alone passes
+pub found_only : {X : Type 0} (p : X → Bool) (xs : List X) (a : X) → Contains xs a → p a ≡ true → ((b : X) → Contains xs b → p b ≡ true → a ≡ b) → find p xs ≡ Some a
+found_only {X} p xs a h is only = by (find p xs) (answer p xs) where
+  by : (r : Option X) → IsAnswer p xs r → r ≡ Some a
+  by None so = absurd (both_ways (p a) (so a h) is)
+  by (Some x) so = ap Some (sym (only x so.0 so.1))
 
 -- what is found, is there
 pub found_there : {X : Type 0} (p : X → Bool) (xs : List X) (x : X) → find p xs ≡ Some x → Contains xs x × (p x ≡ true)
-found_there {X} p xs x is = subst (λ (r : Option X). Answer p xs r) is (answer p xs)
+found_there {X} p xs x is = subst (λ (r : Option X). IsAnswer p xs r) is (answer p xs)
 
 pub found_none : {X : Type 0} (p : X → Bool) (xs : List X) → find p xs ≡ None → (a : X) → Contains xs a → p a ≡ false
-found_none {X} p xs is = subst (λ (r : Option X). Answer p xs r) is (answer p xs)
+found_none {X} p xs is = subst (λ (r : Option X). IsAnswer p xs r) is (answer p xs)
 
 pub none_any : {X : Type 0} (p : X → Bool) (xs : List X) → ((a : X) → Contains xs a → p a ≡ false) → list_any p xs ≡ false
 none_any p [] none = refl
@@ -75,6 +86,28 @@ one_number (x ∷ xs) in_order a b ha hb same =
         | inr rest_b ↦ one_number xs parts.1 a b rest_a rest_b same
       ]
     ]
+
+-- what is found has the least number of those that pass
+pub found_least : (p : State → Bool) (xs : List State) (x : State) → rise xs ≡ true → find p xs ≡ Some x → (a : State) → Contains xs a → p a ≡ true → x.number.0 ≤ a.number.0
+found_least p [] x in_order is a h passes = absurd (in_none a h)
+found_least p (y ∷ ys) x in_order is a h passes =
+    let parts = and_parts (are_above y ys) (rise ys) in_order in
+    elim (cases_Bool (p y)) [
+      | inl it_is ↦
+          let same : y ≡ x = ap (λ (r : Option State). or_self r y) (rw it_is at is) in
+          let level : y.number.0 ≡ x.number.0 = ap (λ (s : State). s.number.0) same in
+          elim (in_cons y ys a h) [
+            | inl is_a ↦ (let equal : y.number.0 ≡ a.number.0 = ap (λ (s : State). s.number.0) is_a in omega arith)
+            | inr rest ↦ (let above = ltb-true y.number.0 a.number.0 (above_all y.number y a ys parts.0 rest) in omega arith)
+          ]
+      | inr other ↦ elim (in_cons y ys a h) [
+        | inl is_a ↦ absurd (both_ways (p y) other (ap p is_a ∙ passes))
+        | inr rest ↦ found_least p ys x parts.1 (rw other at is) a rest passes
+      ]
+    ] where
+      or_self : Option State → State → State
+      or_self None s = s
+      or_self (Some t) s = t
 
 -- ---- without a state
 

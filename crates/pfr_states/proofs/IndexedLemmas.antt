@@ -1,23 +1,22 @@
 -- What a table of states answers by the places of the states.
-use Rattle.std.proofs.Common.{◌≡◌, ◌≤◌, ◌∙◌, ◌==◌, ℕ, Bool, true, false, List, [], ◌∷◌, Option, Some, None, sym, refl, ap, inl, inr, arith}
-use Rattle.std.specs.List.{Contains, find, list_any}
+use Rattle.std.proofs.Common.{◌≡◌, ◌≤◌, ◌∙◌, ◌==◌, ℕ, Bool, true, false, is_some, List, Option, Some, None, sym, refl, ap, subst, inl, inr, arith}
+use Rattle.std.specs.List.{Contains, filter, find, list_any}
 use Rattle.std.specs.Option.{option_map}
 use Rattle.std.specs.Ordering.{is_le, nat_cmp}
-use Rattle.std.proofs.lemmas.Bool.{and_parts, cases_Bool, cases_order, eqb-true, le-ltb, ne_eqb}
-use Rattle.pfr_places.specs.Places.{after as after_placed, at, first as first_placed, is_number as is_of_number, of_number, place_of, value_of}
-use Rattle.pfr_track.specs.declared.key.Key.{Key}
+use Rattle.std.proofs.lemmas.Bool.{and_parts, cases_Bool, cases_order, eq-eqb, eqb-true, le-ltb, ne_eqb}
+use Rattle.pfr_places.specs.Places.{after as after_placed, at, first as first_placed, have_own_places, is_number as is_of_number, of_number, place_of, value_of}
+use Rattle.pfr_places.specs.declared.place.Place.{Place}
 use Rattle.pfr_track.specs.declared.state.State.{State}
 use Rattle.pfr_track.specs.declared.state.StateNumber.{StateNumber}
-use Rattle.pfr_states.specs.declared.change.Side.{Side}
 use Rattle.pfr_states.specs.declared.stored.Stored.{Stored}
 use Rattle.pfr_states.specs.Awaited.{is_kept_by, kept_by, waits_by}
-use Rattle.pfr_states.specs.Keyed.{AreNumbered, keyed, states_of}
-use Rattle.pfr_states.specs.States.{after, at as at_key, first, is_number, state_of}
+use Rattle.pfr_states.specs.Keyed.{AreNumbered, IsPlaceOf, passes_at, states_of}
+use Rattle.pfr_states.specs.States.{after, first, is_number, rise, state_of}
 use Rattle.pfr_deadlines.specs.Waits.{Wait}
+use Rattle.pfr_states.proofs.FindLemmas.{found_only, found_there, none_found, one_number, some_any}
 use Rattle.pfr_states.proofs.KeyedChanges.{after_found, first_found, number_found}
-use Rattle.pfr_states.proofs.KeyedLemmas.{Held, find_states, holder, in_states}
-use Rattle.pfr_states.proofs.Membership.{here, none_of, there}
-use Rattle.pfr_states.proofs.OwnKeys.{has_key}
+use Rattle.pfr_states.proofs.KeyedLemmas.{Held, holder, in_states, value_there, who_passes}
+use Rattle.pfr_states.proofs.Membership.{from_filter, none_of}
 
 abbrev pub state_in : Option Stored → Option State
 state_in stored = option_map (λ stored. stored.state) stored
@@ -29,16 +28,64 @@ in_value (Some p) = refl
 pub number_answer : (n : StateNumber) (all : List Held) (result : Option Stored) → AreNumbered all → result ≡ value_of (of_number n.0 all) → state_in result ≡ state_of n (states_of all)
 number_answer n all result numbers is = ap (λ (r : Option Stored). state_in r) is ∙ in_value (of_number n.0 all) ∙ sym (number_found n all numbers)
 
-pub key_answer : (side : Side) (key : Key) (all : List Held) (result : Option Stored) → result ≡ value_of (keyed side key all) → state_in result ≡ at_key side key (states_of all)
-key_answer side key all result is = ap (λ (r : Option Stored). state_in r) is ∙ in_value (keyed side key all) ∙ sym (find_states (has_key side key) all)
+-- a state that is found, by its place
+pub found_answer : (test : State → Bool) (all : List Held) (place : Place) (stored : Stored) → passes_at test place all ≡ true → value_of (at place all) ≡ Some stored → Contains (states_of all) stored.state × (test stored.state ≡ true)
+found_answer test all place stored passed has =
+    let p = who_passes test all place passed in
+    let same : p.0.value ≡ stored = ap (λ (r : Option Stored). or_value r stored) (sym (ap (λ (r : Option Held). value_of r) p.1) ∙ has) in
+    (subst (λ (v : Stored). Contains (states_of all) v.state) same (in_states all p.0 p.2), ap (λ (v : Stored). test v.state) (sym same) ∙ p.3) where
+      or_value : Option Stored → Stored → Stored
+      or_value None v = v
+      or_value (Some w) v = w
 
--- where no place is found, no state is
-pub key_none : (side : Side) (key : Key) (all : List Held) → place_of (keyed side key all) ≡ None → None ≡ at_key side key (states_of all)
-key_none side key all is = key_answer side key all None (no_value (keyed side key all) is)
-  where
-    no_value : (r : Option Held) → place_of r ≡ None → None ≡ value_of r
-    no_value None found = refl
-    no_value (Some p) found = absurd cc
+pub found_nowhere : (test : State → Bool) (all : List Held) (place : Place) → passes_at test place all ≡ true → value_of (at place all) ≡ None → ⊥
+found_nowhere test all place passed none =
+    let p = who_passes test all place passed in
+    let some : value_of (at place all) ≡ Some p.0.value = ap (λ (r : Option Held). value_of r) p.1 in
+    absurd cc
+
+-- whether a state passes, by the place of one
+pub any_by_place : (test : State → Bool) (all : List Held) (result : Option Place) → IsPlaceOf test all result → is_some result ≡ list_any test (states_of all)
+any_by_place test all None none = sym none
+any_by_place test all (Some place) passed = (let p = who_passes test all place passed in sym (some_any test (states_of all) p.0.value.state (in_states all p.0 p.2) p.3))
+
+-- where no place has a number, no state has it
+pub state_absent : (n : StateNumber) (all : List Held) → AreNumbered all → place_of (of_number n.0 all) ≡ None → state_of n (states_of all) ≡ None
+state_absent n all numbers none = number_found n all numbers ∙ by (of_number n.0 all) none where
+  by : (r : Option Held) → place_of r ≡ None → option_map (λ (p : Held). p.value.state) r ≡ None
+  by None none = refl
+  by (Some p) none = absurd cc
+
+-- the state of least number, by its number
+least_state : (p q : State → Bool) (all : List Held) (number : StateNumber) → rise (states_of all) ≡ true → Some number ≡ option_map (λ state. state.number) (find p (filter q (states_of all)))
+    → (s : State) × (state_of number (states_of all) ≡ Some s) × (find p (filter q (states_of all)) ≡ Some s)
+least_state p q all number in_order least = by (find p (filter q (states_of all))) refl least where
+  or_number : Option StateNumber → StateNumber → StateNumber
+  or_number None n = n
+  or_number (Some m) n = m
+
+  by : (found : Option State) → find p (filter q (states_of all)) ≡ found → Some number ≡ option_map (λ state. state.number) found → (s : State) × (state_of number (states_of all) ≡ Some s) × (find p (filter q (states_of all)) ≡ Some s)
+  by None found none = absurd cc
+  by (Some s) found same =
+      let h = from_filter q (states_of all) s (found_there p (filter q (states_of all)) s found).0 in
+      let level : s.number.0 ≡ number.0 = ap (λ (n : Option StateNumber). (or_number n number).0) (sym same) in
+      let of_it : state_of number (states_of all) ≡ Some s = found_only (is_number number) (states_of all) s h.0 (eq-eqb s.number.0 number.0 level)
+      (λ b hb is_b. one_number (states_of all) in_order s b h.0 hb (level ∙ sym (eqb-true b.number.0 number.0 is_b))) in
+      (s, of_it, found)
+
+pub least_answer : (p q : State → Bool) (all : List Held) (number : StateNumber) (place : Place) (r : Option Stored) → AreNumbered all → rise (states_of all) ≡ true → have_own_places all ≡ true → Some number ≡ option_map (λ state. state.number) (find p (filter q (states_of all)))
+    → place_of (of_number number.0 all) ≡ Some place → r ≡ value_of (at place all) → state_in r ≡ find p (filter q (states_of all))
+least_answer p q all number place r numbers in_order places least there is =
+    let s = least_state p q all number in_order least in
+    number_answer number all r numbers (is ∙ value_there all places (is_of_number number.0) place there) ∙ s.1 ∙ sym s.2
+
+pub least_there : (p q : State → Bool) (all : List Held) (number : StateNumber) → AreNumbered all → rise (states_of all) ≡ true → Some number ≡ option_map (λ state. state.number) (find p (filter q (states_of all)))
+    → place_of (of_number number.0 all) ≡ None → ⊥
+least_there p q all number numbers in_order least none =
+    let s = least_state p q all number in_order least in
+    let absent = state_absent number all numbers none in
+    let clash : None ≡ Some s.0 = sym absent ∙ s.1 in
+    absurd cc
 
 pub after_answer : (n : StateNumber) (all : List Held) (result : Option Stored) → AreNumbered all → result ≡ value_of (after_placed n.0 all) → state_in result ≡ after n (states_of all)
 after_answer n all result numbers is = ap (λ (r : Option Stored). state_in r) is ∙ in_value (after_placed n.0 all) ∙ sym (after_found n all numbers)
@@ -81,19 +128,8 @@ not_kept wait (Some value) is = elim (cases_Bool (waits_by wait value)) [ inl it
 
 -- ---- numbers
 
-none_found : {X : Type 0} (p : X → Bool) (xs : List X) → ((x : X) → Contains xs x → p x ≡ false) → find p xs ≡ None
-none_found p [] none = refl
-none_found p (x ∷ xs) none = rw (none x (here x xs)) (none_found p xs (λ y h. none y (there x xs y h)))
-
 pub number_absent : (n : StateNumber) (all : List Held) → AreNumbered all → list_any (is_number n) (states_of all) ≡ false → of_number n.0 all ≡ None
 number_absent n all numbers none = none_found (is_of_number n.0) all (λ p h. ap (λ (m : ℕ). m == n.0) (numbers p h) ∙ none_of (is_number n) (states_of all) p.value.state none (in_states all p h))
-
--- where no place has a number, no state has it
-pub state_absent : (n : StateNumber) (all : List Held) → AreNumbered all → place_of (of_number n.0 all) ≡ None → state_of n (states_of all) ≡ None
-state_absent n all numbers none = number_found n all numbers ∙ by (of_number n.0 all) none where
-  by : (r : Option Held) → place_of r ≡ None → option_map (λ (p : Held). p.value.state) r ≡ None
-  by None none = refl
-  by (Some p) none = absurd cc
 
 -- ---- comparisons
 

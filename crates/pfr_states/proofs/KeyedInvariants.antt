@@ -1,7 +1,10 @@
 -- States at their places with the indexes of their keys and the counts of their rules, after a change.
 use Rattle.std.proofs.Common.{◌≡◌, ◌<◌, ◌≤◌, ◌+◌, ◌-◌, ◌∙◌, ◌==◌, ◌&&◌, ◌||◌, ℕ, true, false, not, nat_lt, List, [], ◌∷◌, Option, Some, None, IfSome, sym, refl, ap, subst, inl, inr, arith}
 use Rattle.std.specs.List.{Contains, list_all, list_any}
-use Rattle.std.proofs.lemmas.Bool.{and_from, and_left, and_parts, and_right, cases_Bool, eq-eqb, eqb-true}
+use Rattle.std.proofs.lemmas.Bool.{and_from, and_left, and_parts, and_right, cases_Bool, eq-eqb, eqb-true, false≢true}
+use Rattle.pfr_net.specs.declared.interface.Binding.{Binding}
+use Rattle.pfr_net.specs.declared.interface.Binding.TheVariants.{All, To}
+use Rattle.pfr_net.specs.Interfaces.{meets}
 use Rattle.pfr_index.specs.Index.{Entry, once, places as limit, with_entry, without_entry}
 use Rattle.pfr_index.specs.declared.hash.Hash.{Hash}
 use Rattle.pfr_places.specs.Places.{at, have_own_places, is_at, of_number, rise as rise_placed, value_of, with_placed, with_value, without as without_placed}
@@ -12,7 +15,7 @@ use Rattle.pfr_track.specs.declared.state.StateNumber.{StateNumber}
 use Rattle.pfr_states.specs.declared.change.Side.{Side}
 use Rattle.pfr_states.specs.declared.change.Side.TheVariants.{Wire, Stack}
 use Rattle.pfr_states.specs.declared.stored.Stored.{Stored}
-use Rattle.pfr_states.specs.Indexed.{have_same_keys, is_like, is_same_rule}
+use Rattle.pfr_states.specs.Indexed.{have_same_keys, have_same_rules, is_like, is_same_binding, is_same_rule}
 use Rattle.pfr_states.specs.KeyHash.{hash_of}
 use Rattle.pfr_states.specs.Keyed.{AreCounted, AreNumbered, AreKeyed, AreStates, IsLike, entry_of, held, states_of, times_on}
 use Rattle.pfr_states.specs.States.{another_shares, is_number, is_same_key, key_on, rise, shares_key}
@@ -108,10 +111,14 @@ pub likes : (a b : State) → is_like a b ≡ true → IsLike a b
 likes a b like = record {
   number = eqb-true a.number.0 b.number.0 (and_parts _ _ like).0;
   keys = λ side. same side;
-  rule = same_rule a.rules.filter b.rules.filter parts.1;
+  rule = same_rule a.rules.filter b.rules.filter of_rules.0;
+  binding = same_binding a.rules.binding b.rules.binding of_rules.1;
 } where
-  parts : (have_same_keys a b ≡ true) × (is_same_rule a.rules.filter b.rules.filter ≡ true)
-  parts = and_parts (have_same_keys a b) (is_same_rule a.rules.filter b.rules.filter) (and_parts (a.number.0 == b.number.0) (have_same_keys a b && is_same_rule a.rules.filter b.rules.filter) like).1
+  parts : (have_same_keys a b ≡ true) × (have_same_rules a b ≡ true)
+  parts = and_parts (have_same_keys a b) (have_same_rules a b) (and_parts (a.number.0 == b.number.0) (have_same_keys a b && have_same_rules a b) like).1
+
+  of_rules : (is_same_rule a.rules.filter b.rules.filter ≡ true) × (is_same_binding a.rules.binding b.rules.binding ≡ true)
+  of_rules = and_parts (is_same_rule a.rules.filter b.rules.filter) (is_same_binding a.rules.binding b.rules.binding) parts.1
 
   both : (is_same_key a.wire b.wire ≡ true) × (is_same_key a.stack b.stack ≡ true)
   both = and_parts (is_same_key a.wire b.wire) (is_same_key a.stack b.stack) parts.0
@@ -119,6 +126,15 @@ likes a b like = record {
   same : (side : Side) → key_on side a ≡ key_on side b
   same Wire = key_is a.wire b.wire both.0
   same Stack = key_is a.stack b.stack both.1
+
+  bound_to : ℕ → Binding
+  bound_to place = To (record { 0 = place })
+
+  same_binding : (first second : Binding) → is_same_binding first second ≡ true → first ≡ second
+  same_binding All All is = refl
+  same_binding (To place) (To other) is = ap bound_to (eqb-true place.0 other.0 is)
+  same_binding All (To other) is = absurd (false≢true is)
+  same_binding (To place) All is = absurd (false≢true is)
 
 -- a state is like another one: none of another number has its keys
 pub like_free : {all : List Held} → AreStates all → (old s : State) → Contains (states_of all) old → IsLike old s → rise (states_of all) ≡ true → another_shares s (states_of all) ≡ false
@@ -129,7 +145,10 @@ like_free {all} are old s h like in_order = none_any (λ (other : State). not (i
   | inr apart ↦ and_right (not (is_number s.number a)) (shares_key s a) apart
 ]) where
   shares_like : (s a : State) → IsLike old s → shares_key s a ≡ shares_key old a
-  shares_like s a like = ap (λ (k : Key). is_same_key k a.wire || is_same_key s.stack a.stack) (sym (like.keys Wire)) ∙ ap (λ (k : Key). is_same_key old.wire a.wire || is_same_key k a.stack) (sym (like.keys Stack))
+  shares_like s a like =
+      ap (λ (b : Binding). meets b a.rules.binding && (is_same_key s.wire a.wire || is_same_key s.stack a.stack)) (sym like.binding)
+      ∙ ap (λ (k : Key). meets old.rules.binding a.rules.binding && (is_same_key k a.wire || is_same_key s.stack a.stack)) (sym (like.keys Wire))
+      ∙ ap (λ (k : Key). meets old.rules.binding a.rules.binding && (is_same_key old.wire a.wire || is_same_key k a.stack)) (sym (like.keys Stack))
 
 pub rise_states : (all : List Held) → AreNumbered all → rise_placed all ≡ true → rise (states_of all) ≡ true
 rise_states [] numbers in_order = refl
@@ -144,7 +163,7 @@ rise_states (x ∷ xs) numbers in_order =
           let parts = and_parts (nat_lt n y.number) (list_all (λ (other : Held). nat_lt n other.number) ys) all in
           and_from (nat_lt n y.value.state.number.0) (list_all (λ (s : State). nat_lt n s.number.0) (states_of ys)) (ap (nat_lt n) (sym (numbers y (here y ys))) ∙ parts.0) (above ys n (λ p h. numbers p (there y ys p h)) parts.1)
 
--- a state of the same number, the same keys and the same rule at a place
+-- a state of the same number, the same keys, the same rule and the same binding at a place
 pub keyed_written : {all : List Held} {wire stack : Entry → ℕ} {counts : List ℕ} → AreKeyed all wire stack counts → (place : Place) (stored : Stored) → IfSome (at place all) (λ p. IsLike p.value.state stored.state)
     → rise_placed (with_value place stored all) ≡ true → have_own_places (with_value place stored all) ≡ true → AreKeyed (with_value place stored all) wire stack counts
 keyed_written {all} {wire} {stack} {counts} are place stored like in_order places = by (at place all) refl like where

@@ -11,11 +11,11 @@ use Rattle.pfr_track.specs.declared.state.State.{State}
 use Rattle.pfr_states.specs.declared.change.Side.{Side}
 use Rattle.pfr_states.specs.declared.stored.Stored.{Stored}
 use Rattle.pfr_states.specs.KeyHash.{hash_of}
-use Rattle.pfr_states.specs.Keyed.{AreNumbered, entry_of, has_key, has_key_at, has_key_by, keyed, states_of, times_on, total}
-use Rattle.pfr_states.specs.States.{have_own_keys, key_on}
-use Rattle.pfr_states.proofs.FindLemmas.{IsOne, found, found_there}
+use Rattle.pfr_states.specs.Keyed.{AreNumbered, entry_of, passes, passes_at, states_of, times_on, total}
+use Rattle.pfr_states.specs.States.{is_same_key, key_on}
+use Rattle.pfr_states.proofs.FindLemmas.{IsOne, found, found_there, none_any}
 use Rattle.pfr_states.proofs.Membership.{here, in_cons, in_none, none_of, there}
-use Rattle.pfr_states.proofs.OwnKeys.{key_is, one_key}
+use Rattle.pfr_states.proofs.OwnKeys.{key_is}
 
 abbrev pub Held : Type 0
 Held = Placed Stored
@@ -170,10 +170,6 @@ same_state all numbers in_order a b ha hb same = one_placed all in_order a b ha 
 
 -- ---- keys
 
-pub one_keyed : (side : Side) (key : Key) (all : List Held) → AreNumbered all → rise_placed all ≡ true → have_own_keys (states_of all) ≡ true → IsOne (has_key side key) all
-one_keyed side key all numbers in_order own = λ a b ha hb is_a is_b.
-    same_state all numbers in_order a b ha hb (ap (λ (s : State). s.number.0) (one_key side key (states_of all) own a.value.state b.value.state (in_states all a ha) (in_states all b hb) is_a is_b))
-
 same_entry : (e : Entry) → is_same e e ≡ true
 same_entry e = rw (eq-eqb e.hash.0 e.hash.0 refl, eq-eqb e.place.0 e.place.0 refl) refl
 
@@ -185,35 +181,35 @@ times_there side (x ∷ xs) p h = elim (in_cons x xs p h) [
 ]
 
 -- an entry of a key, at the place of who has it
-entry_at : (side : Side) (key : Key) (p : Held) → has_key side key p ≡ true → entry_of side p ≡ record { hash = hash_of key; place = p.place }
+entry_at : (side : Side) (key : Key) (p : Held) → is_same_key (key_on side p.value.state) key ≡ true → entry_of side p ≡ record { hash = hash_of key; place = p.place }
 entry_at side key p it_is = ap (λ (k : Key). entry_by k p) (key_is (key_on side p.value.state) key it_is) where
   entry_by : Key → Held → Entry
   entry_by k p = record { hash = hash_of k; place = p.place }
 
--- what an index answers about a key
-module _ (side : Side) (key : Key) (all : List Held) (times : Entry → ℕ) (by_key : (e : Entry) → times e ≡ times_on side all e) (numbers : AreNumbered all) (in_order : rise_placed all ≡ true) (places : have_own_places all ≡ true) (own : have_own_keys (states_of all) ≡ true) where
-  has_by : (place : Place) (r : Option Held) → at place all ≡ r → has_key_by side key r ≡ true → keyed side key all ≡ r
-  has_by place None is has = absurd (false≢true has)
-  has_by place (Some p) is has = found (has_key side key) all (Some p) (one_keyed side key all numbers in_order own) ((found_there (is_at place) all p is).0, has)
+-- who has a key stands under its hash
+pub stands_there : (side : Side) (key : Key) (all : List Held) (p : Held) → Contains all p → is_same_key (key_on side p.value.state) key ≡ true → 0 < times_on side all (record { hash = hash_of key; place = p.place })
+stands_there side key all p h has = subst (λ (e : Entry). 0 < times_on side all e) (entry_at side key p has) (times_there side all p h)
 
-  placed_by : (place : Place) (r : Option Held) → at place all ≡ r → has_key_by side key r ≡ true → place_of r ≡ Some place
-  placed_by place None is has = absurd (false≢true has)
-  placed_by place (Some p) is has = ap (λ (n : ℕ). Some (place_by n)) (eqb-true p.place.0 place.0 (found_there (is_at place) all p is).1) where
-    place_by : ℕ → Place
-    place_by n = record { 0 = n }
+-- who stands at a place where a test is passed
+pub who_passes : (test : State → Bool) (all : List Held) (place : Place) → passes_at test place all ≡ true → (p : Held) × (at place all ≡ Some p) × Contains all p × (test p.value.state ≡ true)
+who_passes test all place passed = by (at place all) refl passed where
+  by : (r : Option Held) → at place all ≡ r → passes test r ≡ true → (p : Held) × (at place all ≡ Some p) × Contains all p × (test p.value.state ≡ true)
+  by None is passed = absurd (false≢true passed)
+  by (Some p) is passed = (p, is, (found_there (is_at place) all p is).0, passed)
 
-  pub key_found : (place : Place) → has_key_at side key place all ≡ true → Some place ≡ place_of (keyed side key all)
-  key_found place has = sym (ap (λ (r : Option Held). place_of r) (has_by place (at place all) refl has) ∙ placed_by place (at place all) refl has)
-
-  pub key_missed : ((place : Place) → 0 < times (record { hash = hash_of key; place = place }) → has_key_at side key place all ≡ false) → keyed side key all ≡ None
-  key_missed missed = found (has_key side key) all None (one_keyed side key all numbers in_order own) (λ p h. elim (cases_Bool (has_key side key p)) [
-    | inl has ↦
-        let count : 0 < times (entry_of side p) = rw (by_key (entry_of side p)) (times_there side all p h) in
-        let none = missed p.place (subst (λ (e : Entry). 0 < times e) (entry_at side key p has) count) in
-        let here : has_key_at side key p.place all ≡ has_key side key p = ap (λ (r : Option Held). has_key_by side key r) (at_there all p places h) in
-        absurd (both_ways (has_key side key p) (sym here ∙ none) has)
-    | inr other ↦ other
-  ])
+-- if no place under a key's hash passes a test that asks for the key, no state does
+pub none_passes : (side : Side) (key : Key) (test : State → Bool) (all : List Held) (times : Entry → ℕ) → ((e : Entry) → times e ≡ times_on side all e) → have_own_places all ≡ true → ((s : State) → test s ≡ true → is_same_key (key_on side s) key ≡ true)
+    → ((place : Place) → 0 < times (record { hash = hash_of key; place = place }) → passes_at test place all ≡ false) → list_any test (states_of all) ≡ false
+none_passes side key test all times by_key places asks missed = none_any test (states_of all) (λ s h. elim (cases_Bool (test s)) [
+  | inl it_is ↦
+      let q = from_states all s h in
+      let passed : test q.0.value.state ≡ true = ap test q.2 ∙ it_is in
+      let entry : Entry = record { hash = hash_of key; place = q.0.place } in
+      let count : 0 < times entry = rw (by_key entry) (stands_there side key all q.0 q.1 (asks q.0.value.state passed)) in
+      let here : passes_at test q.0.place all ≡ test q.0.value.state = ap (λ (r : Option Held). passes test r) (at_there all q.0 places q.1) in
+      absurd (both_ways (test q.0.value.state) (sym here ∙ missed q.0.place count) passed)
+  | inr other ↦ other
+])
 
 -- ---- one more
 

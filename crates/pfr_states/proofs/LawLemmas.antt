@@ -1,10 +1,15 @@
 -- What is left of a table at a later clock, and who has a key.
-use Rattle.std.proofs.Common.{◌≡◌, ◌≤◌, ◌∙◌, Bool, true, not, inl, inr, List, [], ◌∷◌, refl, sym, ap, arith}
+use Rattle.std.proofs.Common.{◌≡◌, ◌≤◌, ◌∙◌, Bool, true, false, not, if◌then◌else◌, inl, inr, List, [], ◌∷◌, Option, Some, refl, sym, ap, arith}
 use Rattle.std.specs.List.{Contains, filter, list_any}
-use Rattle.std.proofs.lemmas.Bool.{and_parts, cases_Bool, false≢true, not-true, lt-ltb, ltb-true}
+use Rattle.std.proofs.lemmas.Bool.{and_parts, and_right, cases_Bool, cond-false, false≢true, not-true, lt-ltb, ltb-true}
+use Rattle.pfr_net.specs.declared.interface.Binding.TheVariants.{To}
+use Rattle.pfr_net.specs.declared.interface.InterfacePlace.{InterfacePlace}
+use Rattle.pfr_net.specs.Interfaces.{meets}
+use Rattle.pfr_track.specs.declared.key.Key.{Key}
 use Rattle.pfr_track.specs.declared.state.State.{State}
 use Rattle.pfr_track.specs.declared.time.Clock.{Clock}
-use Rattle.pfr_states.specs.States.{IsTable, StateTable, have_own_keys, lives, purged, shares_key}
+use Rattle.pfr_states.specs.declared.change.Side.{Side}
+use Rattle.pfr_states.specs.States.{IsTable, StateTable, at, have_own_keys, is_found, is_same_key, key_on, lives, purged, shares_key}
 use Rattle.pfr_states.proofs.KeyLemmas.{shares_turned}
 use Rattle.pfr_states.proofs.Membership.{in_cons, in_none, none_of}
 
@@ -22,6 +27,18 @@ lived first later since state alive = (let below = ltb-true later.0 state.deadli
 
 pub purged_twice : (states : List State) (first later : Clock) → first.0 ≤ later.0 → purged later (purged first states) ≡ purged later states
 purged_twice states first later since = filter_narrower (lives first) (lives later) states (lived first later since)
+
+-- ---- bindings
+
+pub bound_elsewhere : (side : Side) (key : Key) (place : InterfacePlace) (states : List State) → at side key (To place) (filter (λ state. meets state.rules.binding (To place)) states) ≡ at side key (To place) states
+bound_elsewhere side key place [] = refl
+bound_elsewhere side key place (x ∷ xs) = by (bound_elsewhere side key place xs) (meets x.rules.binding (To place)) refl where
+  kept : List State
+  kept = filter (λ state. meets state.rules.binding (To place)) xs
+
+  by : at side key (To place) kept ≡ at side key (To place) xs → (met : Bool) → meets x.rules.binding (To place) ≡ met → at side key (To place) (if met then x ∷ kept else kept) ≡ at side key (To place) (x ∷ xs)
+  by same true is = ap (λ (rest : Option State). if is_found side key (To place) x then Some x else rest) same
+  by same false is = same ∙ sym (cond-false (is_found side key (To place) x) (Some x) (at side key (To place) xs) (and_right (is_same_key (key_on side x) key) (meets x.rules.binding (To place)) is))
 
 -- ---- keys
 

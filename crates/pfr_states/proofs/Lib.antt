@@ -9,6 +9,7 @@ pub mod KeyedChanges
 pub mod KeyedInvariants
 pub mod KeyedLemmas
 pub mod LawLemmas
+pub mod LeastLemmas
 pub mod Membership
 pub mod OwnKeys
 pub mod PurgeLemmas

@@ -1,14 +1,17 @@
--- Who has a key, where no two share one.
-use Rattle.std.proofs.Common.{◌≡◌, ◌∙◌, ℕ, Bool, true, false, List, sym, ap, subst}
+-- Who has a key, if no two that meet on an interface share one.
+use Rattle.std.proofs.Common.{◌≡◌, ◌∙◌, ◌||◌, ℕ, true, List, sym, ap, subst}
 use Rattle.std.specs.List.{Contains}
-use Rattle.std.proofs.lemmas.Bool.{and_parts, eqb-true, or_left, or_right}
+use Rattle.std.proofs.lemmas.Bool.{and_from, and_parts, eqb-true, or_left, or_right}
 use Rattle.pfr_net.specs.declared.endpoint.Endpoint.{Endpoint}
+use Rattle.pfr_net.specs.declared.interface.Binding.{Binding}
+use Rattle.pfr_net.specs.Interfaces.{meets}
 use Rattle.pfr_track.specs.declared.key.Key.{Key}
 use Rattle.pfr_track.specs.declared.state.State.{State}
 use Rattle.pfr_states.specs.declared.change.Side.{Side}
 use Rattle.pfr_states.specs.declared.change.Side.TheVariants.{Wire, Stack}
-use Rattle.pfr_states.specs.States.{have_own_keys, is_same_end, is_same_key, key_on, shares_key}
-use Rattle.pfr_states.proofs.FindLemmas.{IsOne}
+use Rattle.pfr_states.specs.Indexed.{covers}
+use Rattle.pfr_states.specs.States.{have_own_keys, is_found, is_same_end, is_same_key, key_on, shares_key}
+use Rattle.pfr_states.proofs.KeyLemmas.{meets_too}
 use Rattle.pfr_states.proofs.LawLemmas.{one_of}
 
 abbrev end_of : ℕ → ℕ → Endpoint
@@ -29,16 +32,13 @@ key_is a b same =
     ap (λ (n : ℕ). key_of n a.outside a.inside) (eqb-true a.protocol.0 b.protocol.0 parts.0)
     ∙ ap (λ (e : Endpoint). key_of b.protocol.0 e a.inside) (end_is a.outside b.outside ends.0) ∙ ap (λ (e : Endpoint). key_of b.protocol.0 b.outside e) (end_is a.inside b.inside ends.1)
 
-abbrev pub has_key : Side → Key → State → Bool
-has_key side key state = is_same_key (key_on side state) key
+pub shares_side : (side : Side) (a b : State) → meets a.rules.binding b.rules.binding ≡ true → is_same_key (key_on side a) (key_on side b) ≡ true → shares_key a b ≡ true
+shares_side Wire a b met same = and_from (meets a.rules.binding b.rules.binding) (is_same_key a.wire b.wire || is_same_key a.stack b.stack) met (or_left (is_same_key a.wire b.wire) (is_same_key a.stack b.stack) same)
+shares_side Stack a b met same = and_from (meets a.rules.binding b.rules.binding) (is_same_key a.wire b.wire || is_same_key a.stack b.stack) met (or_right (is_same_key a.wire b.wire) (is_same_key a.stack b.stack) same)
 
-pub shares_side : (side : Side) (a b : State) → is_same_key (key_on side a) (key_on side b) ≡ true → shares_key a b ≡ true
-shares_side Wire a b same = or_left (is_same_key a.wire b.wire) (is_same_key a.stack b.stack) same
-shares_side Stack a b same = or_right (is_same_key a.wire b.wire) (is_same_key a.stack b.stack) same
-
-pub one_key : (side : Side) (key : Key) (xs : List State) → have_own_keys xs ≡ true → IsOne (has_key side key) xs
-one_key side key xs own = λ a b ha hb is_a is_b. one_of xs a b own ha hb (shares_side side a b (subst (λ (k : Key). is_same_key (key_on side a) k ≡ true) (sym (key_is (key_on side b) key is_b)) is_a))
-
--- no state has the key that s has on the side
-abbrev pub IsFree : Side → State → List State → Type 0
-IsFree side s xs = (a : State) → Contains xs a → is_same_key (key_on side s) (key_on side a) ≡ false
+-- a state that is found and has all interfaces of the scope is the only one
+pub one_found : (side : Side) (key : Key) (scope : Binding) (xs : List State) → have_own_keys xs ≡ true → (a b : State) → Contains xs a → Contains xs b → covers a.rules.binding scope ≡ true → is_found side key scope a ≡ true → is_found side key scope b ≡ true → a ≡ b
+one_found side key scope xs own a b ha hb all is_a is_b =
+    let of_a = and_parts (is_same_key (key_on side a) key) (meets a.rules.binding scope) is_a in
+    let of_b = and_parts (is_same_key (key_on side b) key) (meets b.rules.binding scope) is_b in
+    one_of xs a b own ha hb (shares_side side a b (meets_too a.rules.binding b.rules.binding scope all of_b.1) (subst (λ (k : Key). is_same_key (key_on side a) k ≡ true) (sym (key_is (key_on side b) key of_b.0)) of_a.0))

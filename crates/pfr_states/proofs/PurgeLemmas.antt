@@ -2,16 +2,18 @@
 use Rattle.std.proofs.Common.{◌≡◌, ◌<◌, ◌∙◌, Bool, true, false, not, is_some, nat_le, List, [], ◌∷◌, length, Option, Some, None, sym, refl, ap, subst, inl, inr}
 use Rattle.std.specs.List.{Contains, filter, list_any}
 use Rattle.std.proofs.lemmas.Bool.{both_ways, cases_Bool, eq-eqb, eqb-true, false_from_ne_true, le-ltb, leb-false, leb-true, lt-ltb}
+use Rattle.pfr_net.specs.declared.interface.Binding.{Binding}
 use Rattle.pfr_track.specs.declared.key.Key.{Key}
 use Rattle.pfr_track.specs.declared.state.State.{State}
 use Rattle.pfr_track.specs.declared.time.Clock.{Clock}
 use Rattle.pfr_states.specs.declared.change.Side.{Side}
 use Rattle.pfr_states.specs.Laws.{AnswersDue, IsFirstDue}
-use Rattle.pfr_states.specs.States.{at, due, have_own_keys, is_number, lives, purged, rise}
-use Rattle.pfr_states.proofs.OwnKeys.{has_key, one_key}
+use Rattle.pfr_states.specs.Indexed.{covers}
+use Rattle.pfr_states.specs.States.{at, due, have_own_keys, is_found, is_number, lives, purged, rise}
+use Rattle.pfr_states.proofs.OwnKeys.{one_found}
 use Rattle.pfr_states.proofs.DueLemmas.{due_first}
 use Rattle.pfr_states.proofs.FilterLemmas.{one_less}
-use Rattle.pfr_states.proofs.FindLemmas.{found, found_none, found_there, none_any, one_filter, one_number, some_any, without}
+use Rattle.pfr_states.proofs.FindLemmas.{found_only, none_any, none_found, one_number, some_any, without}
 use Rattle.pfr_states.proofs.Membership.{from_filter, here, there, to_filter}
 
 kept_all : {X : Type 0} (q : X → Bool) (xs : List X) → ((x : X) → Contains xs x → q x ≡ true) → filter q xs ≡ xs
@@ -56,21 +58,20 @@ some_is_due clock xs = due_by clock xs (due clock xs) (due_first xs clock)
 
 -- ---- who has a key once those are gone whose deadline has come
 
-pub at_gone : (side : Side) (key : Key) (clock : Clock) (xs : List State) (a : State) → have_own_keys xs ≡ true → at side key xs ≡ Some a → nat_le a.deadline.0 clock.0 ≡ true → None ≡ at side key (purged clock xs)
-at_gone side key clock xs a own is come =
-    let h = found_there (has_key side key) xs a is in
+-- a state that is found and has all interfaces of the scope
+pub at_gone : (side : Side) (key : Key) (scope : Binding) (clock : Clock) (xs : List State) (a : State) → have_own_keys xs ≡ true → Contains xs a × (is_found side key scope a ≡ true) → covers a.rules.binding scope ≡ true → nat_le a.deadline.0 clock.0 ≡ true → None ≡ at side key scope (purged clock xs)
+at_gone side key scope clock xs a own h all come =
     let past = leb-true a.deadline.0 clock.0 come in
     let gone : lives clock a ≡ false = le-ltb clock.0 a.deadline.0 past in
-    sym (found (has_key side key) (purged clock xs) None (one_filter (has_key side key) (lives clock) xs (one_key side key xs own)) (λ b inside.
+    sym (none_found (is_found side key scope) (purged clock xs) (λ b inside.
     let parts = from_filter (lives clock) xs b inside in
-    false_from_ne_true (has_key side key b) (λ too. both_ways (lives clock b) (ap (lives clock) (one_key side key xs own b a parts.0 h.0 too h.1) ∙ gone) parts.1)))
+    false_from_ne_true (is_found side key scope b) (λ too. both_ways (lives clock b) (ap (lives clock) (sym (one_found side key scope xs own a b h.0 parts.0 all h.1 too)) ∙ gone) parts.1)))
 
-pub at_alive : (side : Side) (key : Key) (clock : Clock) (xs : List State) (a : State) → have_own_keys xs ≡ true → at side key xs ≡ Some a → nat_le a.deadline.0 clock.0 ≡ false → Some a ≡ at side key (purged clock xs)
-at_alive side key clock xs a own is not_come =
-    let h = found_there (has_key side key) xs a is in
+pub at_alive : (side : Side) (key : Key) (scope : Binding) (clock : Clock) (xs : List State) (a : State) → have_own_keys xs ≡ true → Contains xs a × (is_found side key scope a ≡ true) → covers a.rules.binding scope ≡ true → nat_le a.deadline.0 clock.0 ≡ false → Some a ≡ at side key scope (purged clock xs)
+at_alive side key scope clock xs a own h all not_come =
     let later = leb-false a.deadline.0 clock.0 not_come in
-    sym (found (has_key side key) (purged clock xs) (Some a) (one_filter (has_key side key) (lives clock) xs (one_key side key xs own)) (to_filter (lives clock) xs a h.0 (lt-ltb clock.0 a.deadline.0 later), h.1))
+    sym (found_only (is_found side key scope) (purged clock xs) a (to_filter (lives clock) xs a h.0 (lt-ltb clock.0 a.deadline.0 later)) h.1
+    (λ b inside is. one_found side key scope xs own a b h.0 (from_filter (lives clock) xs b inside).0 all h.1 is))
 
-pub at_none : (side : Side) (key : Key) (clock : Clock) (xs : List State) → have_own_keys xs ≡ true → at side key xs ≡ None → None ≡ at side key (purged clock xs)
-at_none side key clock xs own is =
-    sym (found (has_key side key) (purged clock xs) None (one_filter (has_key side key) (lives clock) xs (one_key side key xs own)) (λ b inside. found_none (has_key side key) xs is b (from_filter (lives clock) xs b inside).0))
+pub at_none : (side : Side) (key : Key) (scope : Binding) (clock : Clock) (xs : List State) → ((a : State) → Contains xs a → is_found side key scope a ≡ false) → None ≡ at side key scope (purged clock xs)
+at_none side key scope clock xs none = sym (none_found (is_found side key scope) (purged clock xs) (λ b inside. none b (from_filter (lives clock) xs b inside).0))

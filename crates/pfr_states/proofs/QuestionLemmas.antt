@@ -4,12 +4,13 @@ use Rattle.std.specs.List.{Contains, find}
 use Rattle.std.proofs.lemmas.Bool.{both_ways, cases_order, false≢true}
 use Rattle.pfr_track.specs.declared.state.State.{State}
 use Rattle.pfr_track.specs.declared.time.Clock.{Clock}
+use Rattle.pfr_states.specs.Indexed.{IsAnswer}
 use Rattle.pfr_states.specs.Laws.{AnswersDue, IsFirstDue}
 use Rattle.pfr_states.specs.States.{due, lives, rise}
 use Rattle.pfr_states.proofs.DueLemmas.{due_first, no_before}
-use Rattle.pfr_states.proofs.FindLemmas.{Answer, answer, one_number}
+use Rattle.pfr_states.proofs.FindLemmas.{answer, one_number}
 
-some_by : {X : Type 0} (p : X → Bool) (xs : List X) (r : Option X) → Answer p xs r → is_some r ≡ true → (a : X) × Contains xs a × (p a ≡ true)
+some_by : {X : Type 0} (p : X → Bool) (xs : List X) (r : Option X) → IsAnswer p xs r → is_some r ≡ true → (a : X) × Contains xs a × (p a ≡ true)
 some_by p xs None answer some = absurd (false≢true some)
 some_by p xs (Some a) answer some = (a, answer.0, answer.1)
 

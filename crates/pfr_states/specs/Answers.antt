@@ -1,5 +1,6 @@
 -- What a table of states answers to the questions of an evaluation.
 use Rattle.std.specs.Prelude.{◌≡◌, ℕ, Bool, Option}
+use Rattle.pfr_net.specs.declared.interface.Binding.{Binding}
 use Rattle.pfr_track.specs.declared.key.Key.{Key}
 use Rattle.pfr_track.specs.declared.state.State.{State}
 use Rattle.pfr_track.specs.declared.time.Clock.{Clock}
@@ -8,9 +9,9 @@ use Rattle.pfr_states.specs.declared.question.Question.{Question}
 use Rattle.pfr_states.specs.declared.question.Question.TheVariants.{At, Room, RuleRoom}
 use Rattle.pfr_states.specs.States.{StateTable, at, has_room, has_rule_room, purged}
 
--- the state with this key on a side
-unfoldable pub found_in : StateTable → Side → Key → Option State
-found_in table side key = at side key table.states
+-- the state with this key on a side, for a scope
+unfoldable pub found_in : StateTable → Side → Key → Binding → Option State
+found_in table side key scope = at side key scope table.states
 
 -- there is room for one more
 unfoldable pub has_room_in : StateTable → Bool
@@ -26,6 +27,6 @@ purged_at clock table = record { states = purged clock table.states; limit = tab
 
 -- two tables give one answer to a question
 abbrev pub SameAnswer : StateTable → StateTable → Question → Type 0
-SameAnswer table other (At side key) = found_in table side key ≡ found_in other side key
+SameAnswer table other (At side key scope) = found_in table side key scope ≡ found_in other side key scope
 SameAnswer table other Room = has_room_in table ≡ has_room_in other
 SameAnswer table other (RuleRoom rule most) = has_rule_room_in table rule.0 most ≡ has_rule_room_in other rule.0 most

@@ -1,34 +1,38 @@
 -- States at their places, what indexes of their keys hold, and how many of them each rule made.
-use Rattle.std.specs.Prelude.{◌≡◌, ◌<◌, ℕ, ◌+◌, Bool, true, false, List, [], ◌∷◌, map, get_or, Option, Some, None}
-use Rattle.std.specs.List.{Contains, find}
+use Rattle.std.specs.Prelude.{◌≡◌, ◌<◌, ℕ, ◌+◌, Bool, true, false, if◌then◌else◌, List, [], ◌∷◌, map, get_or, Option, Some, None}
+use Rattle.std.specs.List.{Contains, list_any}
 use Rattle.pfr_index.specs.Index.{Entry, once, places}
 use Rattle.pfr_places.specs.Places.{Placed, at, have_own_places, rise}
 use Rattle.pfr_places.specs.declared.place.Place.{Place}
-use Rattle.pfr_track.specs.declared.key.Key.{Key}
 use Rattle.pfr_track.specs.declared.state.State.{State}
+use Rattle.pfr_track.specs.declared.state.StateNumber.{StateNumber}
 use Rattle.pfr_states.specs.declared.change.Side.{Side}
 use Rattle.pfr_states.specs.declared.change.Side.TheVariants.{Wire, Stack}
 use Rattle.pfr_states.specs.declared.stored.Stored.{Stored}
 use Rattle.pfr_states.specs.KeyHash.{hash_of}
-use Rattle.pfr_states.specs.States.{count_of_rule, have_own_keys, is_same_key, key_on}
+use Rattle.pfr_states.specs.States.{count_of_rule, have_own_keys, key_on}
 
 abbrev pub states_of : List (Placed Stored) → List State
 states_of all = map (λ placed. placed.value.state) all
 
-abbrev pub has_key : Side → Key → Placed Stored → Bool
-has_key side key placed = is_same_key (key_on side placed.value.state) key
+-- whether the state of one of them passes a test
+abbrev pub passes : (State → Bool) → Option (Placed Stored) → Bool
+passes test None = false
+passes test (Some placed) = test placed.value.state
 
--- the one with this key
-abbrev pub keyed : Side → Key → List (Placed Stored) → Option (Placed Stored)
-keyed side key all = find (has_key side key) all
+-- whether the state at a place does
+abbrev pub passes_at : (State → Bool) → Place → List (Placed Stored) → Bool
+passes_at test place all = passes test (at place all)
 
-abbrev pub has_key_by : Side → Key → Option (Placed Stored) → Bool
-has_key_by side key None = false
-has_key_by side key (Some placed) = has_key side key placed
+-- the place of a state that passes a test; none if no state does
+abbrev pub IsPlaceOf : (State → Bool) → List (Placed Stored) → Option Place → Type 0
+IsPlaceOf test all None = list_any test (states_of all) ≡ false
+IsPlaceOf test all (Some place) = passes_at test place all ≡ true
 
--- whether what stands at a place has this key
-abbrev pub has_key_at : Side → Key → Place → List (Placed Stored) → Bool
-has_key_at side key place all = has_key_by side key (at place all)
+-- the number of the state of one of them, if it passes a test
+abbrev pub number_if : (State → Bool) → Option (Placed Stored) → Option StateNumber
+number_if test None = None
+number_if test (Some placed) = if test placed.value.state then Some placed.value.state.number else None
 
 -- ---- indexes
 
@@ -48,11 +52,12 @@ times_on side all entry = total (λ placed. once (entry_of side placed) entry) a
 abbrev pub held : Stored → Place → Placed Stored
 held stored place = record { number = stored.state.number.0; place = place; value = stored }
 
--- a state has the number, the keys and the filter rule of another one
+-- a state has the number, the keys, the filter rule and the binding of another one
 pub record IsLike (old new : State) : Type 0 where
   pub number : old.number.0 ≡ new.number.0
   pub keys : (side : Side) → key_on side old ≡ key_on side new
   pub rule : old.rules.filter ≡ new.rules.filter
+  pub binding : old.rules.binding ≡ new.rules.binding
 
 -- each stands under its own number
 abbrev pub AreNumbered : List (Placed Stored) → Type 0

@@ -1,11 +1,16 @@
 -- Words of the laws: the answer to which state is due first, what is left where that one is taken out, and the room of rules.
 use Rattle.std.specs.Prelude.{◌≡◌, ℕ, suc, List, ◌∷◌, ◌++◌, length, Option, Some, None, true, false}
-use Rattle.std.specs.List.{Contains, list_any}
+use Rattle.std.specs.List.{Contains, filter, list_any}
+use Rattle.pfr_net.specs.declared.interface.Binding.TheVariants.{To}
+use Rattle.pfr_net.specs.declared.interface.InterfacePlace.{InterfacePlace}
+use Rattle.pfr_net.specs.Interfaces.{meets}
+use Rattle.pfr_track.specs.declared.key.Key.{Key}
 use Rattle.pfr_track.specs.declared.state.State.{State}
 use Rattle.pfr_track.specs.declared.state.StateNumber.{StateNumber}
 use Rattle.pfr_track.specs.declared.time.Clock.{Clock}
 use Rattle.pfr_states.specs.declared.change.TableChange.TheVariants.{Removed}
-use Rattle.pfr_states.specs.States.{IsTable, StateTable, all_due, due, goes_before, has_rule_room, is_of_rule, lives, purged, rise, with_change}
+use Rattle.pfr_states.specs.declared.change.Side.{Side}
+use Rattle.pfr_states.specs.States.{IsTable, StateTable, all_due, at, due, goes_before, has_rule_room, is_of_rule, lives, purged, rise, with_change}
 
 -- a state that is due, and no other one before it
 pub record IsFirstDue (clock : Clock) (states : List State) (first : State) : Type 0 where
@@ -53,6 +58,14 @@ RemovalLeavesATable =
     (table : StateTable) (number : StateNumber)
     → IsTable table
     → IsTable (record { states = with_change (Removed number) table.states; limit = table.limit })
+
+-- ---- bindings
+
+-- a look-up for an interface is answered by the states that are bound to it: those bound elsewhere say nothing of it
+abbrev pub BoundElsewhereSayNothing : Type 0
+BoundElsewhereSayNothing =
+    (side : Side) (key : Key) (place : InterfacePlace) (states : List State)
+    → at side key (To place) (filter (λ state. meets state.rules.binding (To place)) states) ≡ at side key (To place) states
 
 -- ---- the room of a rule
 

@@ -1,9 +1,11 @@
--- A table of states: a finite map from number to state, as the list of its states by rising number, in which no two states share a
--- key, and of which there are at most so many.
+-- A table of states: a finite map from number to state, as the list of its states by rising number, in which no two states that
+-- meet on an interface share a key, and of which there are at most as many as a limit says.
 use Rattle.std.specs.Prelude.{◌≡◌, ℕ, ◌≤◌, ◌==◌, ◌&&◌, ◌||◌, Bool, true, false, not, nat_lt, if◌then◌else◌, List, [], ◌∷◌, length, map, fold, Option, Some, None}
 use Rattle.std.specs.List.{filter, find, list_all, list_any}
 use Rattle.pfr_net.specs.declared.endpoint.Endpoint.{Endpoint}
+use Rattle.pfr_net.specs.declared.interface.Binding.{Binding}
 use Rattle.pfr_net.specs.declared.rule_number.RuleNumber.{RuleNumber}
+use Rattle.pfr_net.specs.Interfaces.{meets}
 use Rattle.pfr_track.specs.declared.key.Key.{Key}
 use Rattle.pfr_track.specs.declared.state.State.{State}
 use Rattle.pfr_track.specs.declared.state.StateNumber.{StateNumber}
@@ -29,9 +31,9 @@ abbrev pub key_on : Side → State → Key
 key_on Wire state = state.wire
 key_on Stack state = state.stack
 
--- two states have one of their keys in common, on the same side
+-- two states have one of their keys in common, on the same side and on an interface to which both are bound
 abbrev pub shares_key : State → State → Bool
-shares_key a b = is_same_key a.wire b.wire || is_same_key a.stack b.stack
+shares_key a b = meets a.rules.binding b.rules.binding && (is_same_key a.wire b.wire || is_same_key a.stack b.stack)
 
 abbrev pub is_number : StateNumber → State → Bool
 is_number number state = state.number.0 == number.0
@@ -76,9 +78,13 @@ purged clock states = filter (lives clock) states
 
 -- ---- questions
 
--- the state with this key
-abbrev pub at : Side → Key → List State → Option State
-at side key states = find (λ state. is_same_key (key_on side state) key) states
+-- a state has this key, and is bound to an interface of the scope
+abbrev pub is_found : Side → Key → Binding → State → Bool
+is_found side key scope state = is_same_key (key_on side state) key && meets state.rules.binding scope
+
+-- the state of least number that is found so
+abbrev pub at : Side → Key → Binding → List State → Option State
+at side key scope states = find (is_found side key scope) states
 
 -- the state of this number
 abbrev pub state_of : StateNumber → List State → Option State

@@ -74,7 +74,7 @@ impl KnownChange {
 /// Why a table doesn't take a change.
 #[derive(Clone, Copy, Debug, PartialEq, Eq, Error)]
 pub enum TableError {
-    /// Another state has one of the state's keys.
+    /// Another state has one of the state's keys, on an interface to which both are bound.
     #[error("key taken")]
     KeyTaken,
     /// There are as many states as there may be.

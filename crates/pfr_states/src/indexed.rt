@@ -17,11 +17,11 @@ use crate::stored::{Found, Stored};
 use pfr_deadlines::{Deadlines, Wait};
 use pfr_index::Guess;
 use pfr_places::Place;
-use pfr_track::{Clock, Key, RuleNumber, State, StateNumber};
+use pfr_track::{Binding, Clock, Key, RuleNumber, State, StateNumber};
 use std::alloc::{AllocError, Global};
 use std::marker::Model;
 
-/// States by their numbers, no two of which share a key. Contracts see the list of states by rising number.
+/// States by their numbers, no two of which share a key on an interface. Contracts see the list of states by rising number.
 ///
 /// Each state waits by a deadline that isn't later than its own. Where its own moves later it stays there until that
 /// deadline comes up, and then waits by its own. So a deadline may be there by which no state waits any more.
@@ -63,14 +63,45 @@ fn have_same_keys(first: &State, second: &State) -> bool
     first.wire == second.wire && first.stack == second.stack
 }
 
-/// Whether two states have the same number, the same keys and the same filter rule.
+/// Whether two bindings are the same.
+#[inline]
+fn is_same_binding(first: Binding, second: Binding) -> bool
+    ensures { result ≡ index.is_same_binding first second }
+{
+    match (first, second) {
+        (Binding::All, Binding::All) => true,
+        (Binding::To(place), Binding::To(other)) => place.0 == other.0,
+        _ => false,
+    }
+}
+
+/// Whether two states were made by the same filter rule and are bound to the same interfaces.
+#[inline]
+fn have_same_rules(first: &State, second: &State) -> bool
+    ensures { result ≡ index.have_same_rules first.now second.now }
+{
+    is_same_rule(first.rules.filter, second.rules.filter)
+        && is_same_binding(first.rules.binding, second.rules.binding)
+}
+
+/// Whether two states have the same number, the same keys, the same filter rule and the same binding.
 #[inline]
 fn is_like(first: &State, second: &State) -> bool
     ensures { result ≡ index.is_like first.now second.now }
 {
-    first.number == second.number
-        && have_same_keys(first, second)
-        && is_same_rule(first.rules.filter, second.rules.filter)
+    first.number == second.number && have_same_keys(first, second) && have_same_rules(first, second)
+}
+
+/// Whether a binding has all interfaces of a scope: no other state than one with such a binding is found by the scope.
+#[inline]
+pub(crate) fn covers(binding: Binding, scope: Binding) -> bool
+    ensures { result ≡ index.covers binding scope }
+{
+    match (binding, scope) {
+        (Binding::All, _) => true,
+        (Binding::To(place), Binding::To(other)) => place.0 == other.0,
+        (Binding::To(_), Binding::All) => false,
+    }
 }
 
 /// Makes room for one more deadline.
@@ -119,9 +150,9 @@ impl IndexedStates {
         }
     }
 
-    /// Where the state with a key on a side stands, if there is one.
-    pub(crate) fn place_at(&self, side: Side, key: &Key) -> Option<Place> {
-        self.keyed.place_at(side, key)
+    /// Where a state that is found stands, if there is one.
+    pub(crate) fn place_at(&self, side: Side, key: &Key, scope: Binding) -> Option<Place> {
+        self.keyed.place_at(side, key, scope)
     }
 
     /// Where the state with a key on a side may stand.
@@ -132,17 +163,30 @@ impl IndexedStates {
 
     /// What [`IndexedStates::place_at`] answers, with a look first where it is guessed to stand.
     #[inline]
-    pub(crate) fn place_by(&self, side: Side, key: &Key, guess: Option<Guess>) -> Option<Place> {
-        self.keyed.place_by(side, key, guess)
+    pub(crate) fn place_by(
+        &self,
+        side: Side,
+        key: &Key,
+        scope: Binding,
+        guess: Option<Guess>,
+    ) -> Option<Place> {
+        self.keyed.place_by(side, key, scope, guess)
     }
 
-    /// The state with a key on a side, with its place. Where a place is named, it is looked for there first.
+    /// A state with a key on a side that is bound to an interface of a scope, with its place; any of them if there are several.
+    /// If a place is named, it is looked for there first.
     #[inline(always)]
-    pub(crate) fn find(&self, side: Side, key: &Key, hint: Option<Place>) -> Option<Found<'_>>
-        ensures state { option_map (λ found. found.state.now) result ≡ spec.at side key.now self.now }
+    pub(crate) fn find(
+        &self,
+        side: Side,
+        key: &Key,
+        scope: Binding,
+        hint: Option<Place>,
+    ) -> Option<Found<'_>>
+        ensures state { index.IsAnswer (spec.is_found side key.now scope) self.now (option_map (λ found. found.state.now) result) }
         ensures own_keys { spec.have_own_keys self.now ≡ true }
     {
-        match self.keyed.place_near(side, key, hint) {
+        match self.keyed.place_near(side, key, scope, hint) {
             Some(place) => match self.keyed.get(place) {
                 Some(stored) => Some(Found {
                     state: &stored.state,
@@ -154,24 +198,24 @@ impl IndexedStates {
         }
     }
 
-    /// The state with a key on a side.
-    pub(crate) fn at(&self, side: Side, key: &Key) -> Option<&State>
-        ensures state { option_copied result ≡ spec.at side key.now self.now }
-        ensures own_keys { spec.have_own_keys self.now ≡ true }
+    /// The state of least number among all that are found at a clock.
+    #[cold]
+    pub(crate) fn find_least(
+        &self,
+        side: Side,
+        key: &Key,
+        scope: Binding,
+        clock: Clock,
+    ) -> Option<Found<'_>>
+        ensures { option_map (λ found. found.state.now) result ≡ spec.at side key.now scope (spec.purged clock self.now) }
     {
-        match self.find(side, key, None) {
-            Some(found) => Some(found.state),
-            None => None,
-        }
-    }
-
-    /// The number of the state with a key on a side.
-    pub(crate) fn number_at(&self, side: Side, key: &Key) -> Option<StateNumber>
-        ensures number { result ≡ index.number_at side key.now self.now }
-        ensures own_keys { spec.have_own_keys self.now ≡ true }
-    {
-        match self.at(side, key) {
-            Some(state) => Some(state.number),
+        let number = self.keyed.least_at(side, key, scope, clock)?;
+        let place = self.keyed.place_of(number)?;
+        match self.keyed.get(place) {
+            Some(stored) => Some(Found {
+                state: &stored.state,
+                place,
+            }),
             None => None,
         }
     }
@@ -341,30 +385,36 @@ impl IndexedStates {
         }
     }
 
-    /// Whether some state has a key in common with this one.
+    /// Whether a state is found.
+    fn is_found(&self, side: Side, key: &Key, scope: Binding) -> bool
+        ensures { result ≡ list_any (spec.is_found side key.now scope) self.now }
+    {
+        self.keyed.place_at(side, key, scope).is_some()
+    }
+
+    /// Whether some state has a key in common with this one, on an interface to which both are bound.
     pub(crate) fn shares_key(&self, state: &State) -> bool
         ensures { result ≡ list_any (spec.shares_key state.now) self.now }
     {
-        self.number_at(Side::Wire, &state.wire).is_some()
-            || self.number_at(Side::Stack, &state.stack).is_some()
+        let scope = state.rules.binding;
+        self.is_found(Side::Wire, &state.wire, scope)
+            || self.is_found(Side::Stack, &state.stack, scope)
     }
 
-    /// Whether a state of another number than this one has a key on a side.
-    fn another_has_key(&self, number: StateNumber, side: Side, key: &Key) -> bool
-        ensures { result ≡ list_any (λ other. not (spec.is_number number other) && spec.is_same_key (spec.key_on side other) key.now) self.now }
+    /// Whether a state of another number than this one is found.
+    fn is_another_found(&self, number: StateNumber, side: Side, key: &Key, scope: Binding) -> bool
+        ensures { result ≡ list_any (index.is_another number side key.now scope) self.now }
     {
-        match self.number_at(side, key) {
-            Some(owner) => owner != number,
-            None => false,
-        }
+        self.keyed.another_at(number, side, key, scope).is_some()
     }
 
-    /// Whether some state of another number has a key in common with this one.
+    /// Whether some state of another number has a key in common with this one, on an interface to which both are bound.
     pub(crate) fn another_shares_key(&self, state: &State) -> bool
         ensures { result ≡ spec.another_shares state.now self.now }
     {
-        self.another_has_key(state.number, Side::Wire, &state.wire)
-            || self.another_has_key(state.number, Side::Stack, &state.stack)
+        let scope = state.rules.binding;
+        self.is_another_found(state.number, Side::Wire, &state.wire, scope)
+            || self.is_another_found(state.number, Side::Stack, &state.stack, scope)
     }
 
     /// Adds a state of a new number with keys that no other one has. Where memory is refused nothing changes.
@@ -420,8 +470,8 @@ impl IndexedStates {
         }
     }
 
-    /// Writes a state over the one at a place where that has its number, its keys and its filter rule, and says whether it did.
-    /// Where memory is refused nothing changes.
+    /// Writes a state over the one at a place if that has its number, its keys, its filter rule and its binding, and says
+    /// whether it did. If memory is refused nothing changes.
     #[inline]
     pub(crate) fn renew(&mut self, state: &State, place: Place) -> Result<bool, AllocError>
         ensures done { IfOk result (λ is_done. is_done ≡ true → self.new ≡ spec.with_touched state.now self.old) }

@@ -4,6 +4,7 @@ ghost use Rattle.std.specs.List.{list_any};
 ghost use Rattle.std.specs.Option.{option_copied};
 ghost use Rattle.pfr_index.specs.Index.{Entry, with_entry, without_entry};
 ghost use Rattle.pfr_places.specs.Places as slab;
+ghost use Rattle.pfr_states.specs.Indexed as lookups;
 ghost use Rattle.pfr_states.specs.Keyed as spec;
 ghost use Rattle.pfr_states.specs.Awaited as awaited;
 ghost use Rattle.pfr_states.specs.KeyHash.{hash_of};
@@ -16,12 +17,12 @@ use crate::stored::Stored;
 use pfr_deadlines::Wait;
 use pfr_index::{Guess, Index};
 use pfr_places::{Place, Places};
-use pfr_track::{Key, RuleNumber, State, StateNumber};
+use pfr_track::{Binding, Clock, Key, RuleNumber, State, StateNumber};
 use std::alloc::{AllocError, Global};
 use std::marker::Model;
 
-/// States under their numbers, no two of which share a key, each at a place of its own where it stays. Contracts see the
-/// list of them by rising number.
+/// States under their numbers, no two of which share a key on an interface, each at a place of its own where it stays.
+/// Contracts see the list of them by rising number.
 #[derive(Drop)]
 pub(crate) struct Keyed {
     places: Places<Stored>,
@@ -54,14 +55,82 @@ fn key_on(state: &State, side: Side) -> &Key
     }
 }
 
-/// Whether what stands at a place has a key on a side.
+/// Whether a state has a key on a side and is bound to an interface of a scope.
 #[inline]
-fn has_key(places: &Places<Stored>, place: Place, side: Side, key: &Key) -> bool
-    ensures { result ≡ spec.has_key_at side key.now place places.now }
+fn is_found(state: &State, side: Side, key: &Key, scope: Binding) -> bool
+    ensures { result ≡ states.is_found side key.now scope state.now }
+{
+    key_on(state, side) == key && state.rules.binding.meets(scope)
+}
+
+/// Whether the state at a place is found.
+#[inline]
+fn is_found_at(places: &Places<Stored>, place: Place, side: Side, key: &Key, scope: Binding) -> bool
+    ensures { result ≡ spec.passes_at (states.is_found side key.now scope) place places.now }
 {
     match places.get(place) {
-        Some(stored) => key_on(&stored.state, side) == key,
+        Some(stored) => is_found(&stored.state, side, key, scope),
         None => false,
+    }
+}
+
+/// Whether the state at a place is found and has another number.
+fn is_another_at(
+    places: &Places<Stored>,
+    place: Place,
+    number: StateNumber,
+    side: Side,
+    key: &Key,
+    scope: Binding,
+) -> bool
+    ensures { result ≡ spec.passes_at (lookups.is_another number side key.now scope) place places.now }
+{
+    match places.get(place) {
+        Some(stored) => {
+            stored.state.number != number && is_found(&stored.state, side, key, scope)
+        }
+        None => false,
+    }
+}
+
+/// The number of the state at a place, if it is found at a clock.
+fn number_alive(
+    places: &Places<Stored>,
+    place: Place,
+    side: Side,
+    key: &Key,
+    scope: Binding,
+    clock: Clock,
+) -> Option<StateNumber>
+    ensures { result ≡ spec.number_if (lookups.is_found_alive side key.now scope clock) (slab.at place places.now) }
+{
+    match places.get(place) {
+        Some(stored) => {
+            let state = &stored.state;
+            if is_found(state, side, key, scope) && !state.deadline.has_come(clock) {
+                Some(state.number)
+            } else {
+                None
+            }
+        }
+        None => None,
+    }
+}
+
+/// The lesser one of two numbers, if there are two.
+fn lesser(least: Option<StateNumber>, other: Option<StateNumber>) -> Option<StateNumber>
+    ensures { result ≡ lookups.lesser least other }
+{
+    match (least, other) {
+        (None, other) => other,
+        (least, None) => least,
+        (Some(number), Some(other)) => {
+            if other < number {
+                Some(other)
+            } else {
+                Some(number)
+            }
+        }
     }
 }
 
@@ -141,10 +210,10 @@ impl Keyed {
         self.index_on(side).guess(hash_of(key))
     }
 
-    /// Where the state with a key on a side stands.
+    /// Where a state with a key on a side stands that is bound to an interface of a scope.
     #[inline(always)]
-    pub(crate) fn place_at(&self, side: Side, key: &Key) -> Option<Place>
-        ensures place { result ≡ slab.place_of (spec.keyed side key.now self.now) }
+    pub(crate) fn place_at(&self, side: Side, key: &Key, scope: Binding) -> Option<Place>
+        ensures place { spec.IsPlaceOf (states.is_found side key.now scope) self.now result }
         ensures states { spec.AreStates self.now }
     {
         let places = &self.places;
@@ -152,8 +221,8 @@ impl Keyed {
         let found = index.find(
             hash_of(key),
             |place| -> bool
-                ensures { result ≡ spec.has_key_at side key.entry.now place places.entry.now }
-            { has_key(places, place, side, key) },
+                ensures { result ≡ spec.passes_at (states.is_found side key.entry.now scope) place places.entry.now }
+            { is_found_at(places, place, side, key, scope) },
         );
         let Some(place) = found else {
             return None;
@@ -161,31 +230,93 @@ impl Keyed {
         Some(place)
     }
 
+    /// Where a state of another number with a key on a side stands that is bound to an interface of a scope.
+    pub(crate) fn another_at(
+        &self,
+        number: StateNumber,
+        side: Side,
+        key: &Key,
+        scope: Binding,
+    ) -> Option<Place>
+        ensures place { spec.IsPlaceOf (lookups.is_another number side key.now scope) self.now result }
+        ensures states { spec.AreStates self.now }
+    {
+        let places = &self.places;
+        let index = self.index_on(side);
+        let found = index.find(
+            hash_of(key),
+            |place| -> bool
+                ensures { result ≡ spec.passes_at (lookups.is_another number side key.entry.now scope) place places.entry.now }
+            { is_another_at(places, place, number, side, key, scope) },
+        );
+        let Some(place) = found else {
+            return None;
+        };
+        Some(place)
+    }
+
+    /// The least number of the states with a key on a side that are bound to an interface of a scope and whose deadline hasn't
+    /// come, by a look at all states under the key's hash.
+    #[cold]
+    pub(crate) fn least_at(
+        &self,
+        side: Side,
+        key: &Key,
+        scope: Binding,
+        clock: Clock,
+    ) -> Option<StateNumber>
+        ensures number { result ≡ lookups.number_at side key.now scope (states.purged clock (spec.states_of self.now)) }
+        ensures states { spec.AreStates self.now }
+    {
+        let places = &self.places;
+        let index = self.index_on(side);
+        let least = index.fold_under(
+            hash_of(key),
+            None,
+            |least, place| -> Option<StateNumber>
+                ensures { result ≡ lookups.lesser least (spec.number_if (lookups.is_found_alive side key.entry.now scope clock) (slab.at place places.entry.now)) }
+            { lesser(least, number_alive(places, place, side, key, scope, clock)) },
+        );
+        least
+    }
+
     /// The same, with a look at a place first, where it may stand.
     #[inline(always)]
-    pub(crate) fn place_near(&self, side: Side, key: &Key, hint: Option<Place>) -> Option<Place>
-        ensures place { result ≡ slab.place_of (spec.keyed side key.now self.now) }
+    pub(crate) fn place_near(
+        &self,
+        side: Side,
+        key: &Key,
+        scope: Binding,
+        hint: Option<Place>,
+    ) -> Option<Place>
+        ensures place { spec.IsPlaceOf (states.is_found side key.now scope) self.now result }
         ensures states { spec.AreStates self.now }
     {
         if let Some(place) = hint {
-            if has_key(&self.places, place, side, key) {
+            if is_found_at(&self.places, place, side, key, scope) {
                 return Some(place);
             }
         }
-        self.place_at(side, key)
+        self.place_at(side, key, scope)
     }
 
     /// The same, with a look first where it is guessed to stand.
     #[inline]
-    pub(crate) fn place_by(&self, side: Side, key: &Key, guess: Option<Guess>) -> Option<Place>
-        ensures place { result ≡ slab.place_of (spec.keyed side key.now self.now) }
+    pub(crate) fn place_by(
+        &self,
+        side: Side,
+        key: &Key,
+        scope: Binding,
+        guess: Option<Guess>,
+    ) -> Option<Place>
+        ensures place { spec.IsPlaceOf (states.is_found side key.now scope) self.now result }
         ensures states { spec.AreStates self.now }
     {
         let hint = match guess {
             Some(guess) => guess.under(hash_of(key)),
             None => None,
         };
-        self.place_near(side, key, hint)
+        self.place_near(side, key, scope, hint)
     }
 
     /// Where the state of a number stands.
@@ -266,7 +397,7 @@ impl Keyed {
         Ok(place)
     }
 
-    /// Writes over the state at a place another one of its number, its keys and its filter rule.
+    /// Writes over the state at a place another one of its number, its keys, its filter rule and its binding.
     #[inline]
     pub(crate) fn write(&mut self, place: Place, stored: Stored)
         requires { IfSome (slab.at place self.old) (λ placed. spec.IsLike placed.value.state stored.state) }

@@ -3,7 +3,7 @@ ghost use Rattle.std.specs.Prelude.{◌≡◌, ◌≤◌, List, [], None, true};
 ghost use Rattle.std.specs.List.{Contains};
 ghost use Rattle.pfr_track.specs.declared.state.State.{State};
 ghost use Rattle.pfr_track.specs.declared.time.Clock.{Clock};
-ghost use Rattle.pfr_states.specs.Laws.{AnswersDue, DueGoesFirst, OneStateLess, OtherRulesSayNothing, PurgeLeavesRoom, PurgeLeavesTheSame, RemovalLeavesATable};
+ghost use Rattle.pfr_states.specs.Laws.{AnswersDue, BoundElsewhereSayNothing, DueGoesFirst, OneStateLess, OtherRulesSayNothing, PurgeLeavesRoom, PurgeLeavesTheSame, RemovalLeavesATable};
 ghost use Rattle.pfr_states.specs.States.{IsTable, StateTable, all_due, due, purged, shares_key};
 
 /// States that were taken out at a clock are taken out at a later one as well: to purge at both is to purge at the later.
@@ -11,9 +11,15 @@ pub fn purge_twice_is_purge_at_the_later()
     ensures { (states : List State) (first later : Clock) → first.0 ≤ later.0 → purged later (purged first states) ≡ purged later states }
 {}
 
-/// No two states of a table have the same key on the wire, or the same one on the stack.
+/// No two states of a table that are bound to one interface have the same key on the wire, or the same one on the stack.
 pub fn one_state_answers_a_key()
     ensures { (table : StateTable) (a b : State) → IsTable table → Contains table.states a → Contains table.states b → shares_key a b ≡ true → a ≡ b }
+{}
+
+/// A state that is bound elsewhere says nothing of a look-up for an interface: whether it is there or not, the answer is the
+/// same.
+pub fn states_bound_elsewhere_say_nothing()
+    ensures { BoundElsewhereSayNothing }
 {}
 
 /// What is due is one of the states whose deadline has come, and no other one goes before it; where nothing is due, no

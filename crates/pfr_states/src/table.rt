@@ -7,16 +7,16 @@ ghost use Rattle.pfr_states.specs.declared.change.TableChange.TheVariants.{Made,
 ghost use Rattle.pfr_states.specs.States as spec;
 
 use crate::change::{Side, TableChange, TableError};
-use crate::indexed::IndexedStates;
+use crate::indexed::{IndexedStates, covers};
 use crate::stored::Found;
 use pfr_index::Guess;
 use pfr_places::Place;
-use pfr_track::{Clock, Key, RuleNumber, State, StateNumber};
+use pfr_track::{Binding, Clock, Key, RuleNumber, State, StateNumber};
 use std::alloc::Global;
 use std::marker::Model;
 
-/// States by their numbers, no two of which share a key, and at most as many as a limit says. Contracts see the list of
-/// states by rising number, and the limit.
+/// States by their numbers, at most as many as a limit says. No two that are bound to one interface share a key. Contracts see
+/// the list of states by rising number, and the limit.
 #[derive(Drop)]
 pub struct Table {
     states: IndexedStates,
@@ -45,7 +45,7 @@ impl Table {
     }
 
     /// How many states there are; those whose deadline has come are counted until they are purged. Their numbers rise, no
-    /// two share a key, and they are at most as many as the limit says.
+    /// two share a key on an interface, and they are at most as many as the limit says.
     pub fn len(&self) -> usize
         ensures count { result ≡ length self.now.states }
         ensures table { spec.IsTable self.now }
@@ -53,32 +53,40 @@ impl Table {
         self.states.len()
     }
 
-    /// The state with this key on a side. One whose deadline has come isn't answered, purged or not.
+    /// The state with this key on a side that is bound to an interface of the scope; of several the one of least number. One
+    /// whose deadline has come isn't answered, purged or not.
     // A call would clear the room for a state first, and copy it.
     #[inline(always)]
-    pub fn at(&self, side: Side, key: &Key, clock: Clock) -> Option<State>
-        ensures { result ≡ spec.at side key.now (spec.purged clock self.now.states) }
+    pub fn at(&self, side: Side, key: &Key, scope: Binding, clock: Clock) -> Option<State>
+        ensures { result ≡ spec.at side key.now scope (spec.purged clock self.now.states) }
     {
-        match self.find_near(side, key, clock, None) {
+        match self.find_near(side, key, scope, clock, None) {
             Some(found) => Some(*found.state),
             None => None,
         }
     }
 
-    /// What [`Table::at`] answers, where it stands: a state is large. Where a place is named, as by [`Table::place_by`], the state
+    /// What [`Table::at`] answers, where it stands: a state is large. If a place is named, as by [`Table::place_by`], the state
     /// is looked for there first, which saves a search; nothing rests on it that it stands there.
+    ///
+    /// Mostly one look is enough: a state that is found and is bound to all interfaces of the scope is the only one. Only if all
+    /// interfaces are asked for and the one that is found is bound to one of them may there be others.
     #[inline(always)]
     pub fn find_near(
         &self,
         side: Side,
         key: &Key,
+        scope: Binding,
         clock: Clock,
         hint: Option<Place>,
     ) -> Option<Found<'_>>
-        ensures { option_map (λ found. found.state.now) result ≡ spec.at side key.now (spec.purged clock self.now.states) }
+        ensures { option_map (λ found. found.state.now) result ≡ spec.at side key.now scope (spec.purged clock self.now.states) }
     {
-        match self.states.find(side, key, hint) {
+        match self.states.find(side, key, scope, hint) {
             Some(found) => {
+                if !covers(found.state.rules.binding, scope) {
+                    return self.states.find_least(side, key, scope, clock);
+                }
                 if found.state.deadline.has_come(clock) {
                     None
                 } else {
@@ -96,11 +104,17 @@ impl Table {
         self.states.guess_at(side, key)
     }
 
-    /// Where the state with this key on a side stands, if there is one, whether its deadline has come or not: a hint for
-    /// [`Table::find_near`]. It is looked for first where it is guessed to stand.
+    /// Where a state with this key on a side stands that is bound to an interface of the scope, if there is one, whether its
+    /// deadline has come or not: a hint for [`Table::find_near`]. It is looked for first where it is guessed to stand.
     #[inline]
-    pub fn place_by(&self, side: Side, key: &Key, guess: Option<Guess>) -> Option<Place> {
-        self.states.place_by(side, key, guess)
+    pub fn place_by(
+        &self,
+        side: Side,
+        key: &Key,
+        scope: Binding,
+        guess: Option<Guess>,
+    ) -> Option<Place> {
+        self.states.place_by(side, key, scope, guess)
     }
 
     /// Whether there is room for one more state once those are gone whose deadline has come.
@@ -210,7 +224,10 @@ impl Table {
     {
         let place = match place {
             Some(place) => Some(place),
-            None => self.states.place_at(Side::Wire, &state.wire),
+            None => {
+                self.states
+                    .place_at(Side::Wire, &state.wire, state.rules.binding)
+            }
         };
         if let Some(place) = place {
             if self.states.renew(state, place)? {
@@ -228,8 +245,8 @@ impl Table {
         self.states.remove(number);
     }
 
-    /// Takes a change over. Where it is refused the table stays as it was: a key that another state has is the first reason,
-    /// too many states the second. States count until they are purged, whether their deadline has come or not. A made or
+    /// Takes a change over. Where it is refused the table stays as it was: a key that another state has on an interface to which
+    /// both are bound is the first reason, too many states the second. States count until they are purged, whether their deadline has come or not. A made or
     /// touched state may be refused memory. A removal is never refused; where no state has the number of a touched or removed
     /// one, the table stays as it was.
     pub fn apply(&mut self, change: TableChange) -> Result<(), TableError>

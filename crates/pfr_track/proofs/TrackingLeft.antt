@@ -66,6 +66,7 @@ left_behind state packet direction clock timeouts ends timeout = record {
   direction = refl;
   wire = refl;
   stack = refl;
+  interface = refl;
   rules = refl;
   made = refl;
   deadline = refl;

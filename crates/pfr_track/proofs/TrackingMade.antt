@@ -1,6 +1,7 @@
 -- The state that a packet makes.
 use Rattle.std.proofs.Common.{refl}
 use Rattle.pfr_net.specs.declared.direction.Direction.{Direction}
+use Rattle.pfr_net.specs.declared.interface.InterfacePlace.{InterfacePlace}
 use Rattle.pfr_net.specs.declared.timeout.Timeouts.{Timeouts}
 use Rattle.pfr_headers.specs.declared.packet.Packet.{Packet}
 use Rattle.pfr_headers.specs.declared.transport.Transport.{Transport}
@@ -21,6 +22,6 @@ ends_fit (transport.Icmp header) = tt
 ends_fit transport.Fragment = record { maker = refl; other = refl }
 ends_fit transport.Other = record { maker = refl; other = refl }
 
-pub new_state : (number : StateNumber) (packet : Packet) (direction : Direction) (wire stack : Key) (rules : StateRules) (clock : Clock) (timeouts : Timeouts)
-    → IsNew packet clock timeouts (made number packet direction wire stack rules clock timeouts)
-new_state number packet direction wire stack rules clock timeouts = record { deadline = refl; ends = ends_fit packet.transport }
+pub new_state : (number : StateNumber) (packet : Packet) (direction : Direction) (interface : InterfacePlace) (wire stack : Key) (rules : StateRules) (clock : Clock) (timeouts : Timeouts)
+    → IsNew packet clock timeouts (made number packet direction interface wire stack rules clock timeouts)
+new_state number packet direction interface wire stack rules clock timeouts = record { deadline = refl; ends = ends_fit packet.transport }

@@ -3,6 +3,7 @@
 use Rattle.std.specs.Prelude.{◌≡◌, ◌≢◌, ◌+◌, ◌^◌, ◌<◌, ◌≤◌, true}
 use Rattle.pfr_net.specs.declared.direction.Direction.{Direction}
 use Rattle.pfr_net.specs.declared.direction.Direction.TheVariants.{In, Out}
+use Rattle.pfr_net.specs.declared.interface.InterfacePlace.{InterfacePlace}
 use Rattle.pfr_net.specs.declared.timeout.Timeouts.{Timeouts}
 use Rattle.pfr_net.specs.Timeouts.{seconds_of}
 use Rattle.pfr_headers.specs.declared.packet.Packet.{Packet}
@@ -38,7 +39,9 @@ pub record IsLeftBy (state : State) (packet : Packet) (way : Direction) (clock :
   pub wire : next.wire ≡ state.wire
   -- and behind the translation
   pub stack : next.stack ≡ state.stack
-  -- made by the same rules
+  -- made on the same interface
+  pub interface : next.interface ≡ state.interface
+  -- by the same rules, so that it is bound as it was
   pub rules : next.rules ≡ state.rules
   -- at the same time
   pub made : next.made ≡ state.made
@@ -187,8 +190,8 @@ OnlyEndedAreRemoved =
 -- a new state waits by its timeout, and its ends are of the packet's kind
 abbrev pub NewStateWaits : Type 0
 NewStateWaits =
-    (number : StateNumber) (packet : Packet) (direction : Direction) (wire stack : Key) (rules : StateRules) (clock : Clock) (timeouts : Timeouts)
-    → IsNew packet clock timeouts (made number packet direction wire stack rules clock timeouts)
+    (number : StateNumber) (packet : Packet) (direction : Direction) (interface : InterfacePlace) (wire stack : Key) (rules : StateRules) (clock : Clock) (timeouts : Timeouts)
+    → IsNew packet clock timeouts (made number packet direction interface wire stack rules clock timeouts)
 
 -- a packet does to a turned state what it does to the state, turned
 abbrev pub BothDirectionsAgree : Type 0

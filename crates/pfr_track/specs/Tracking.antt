@@ -3,6 +3,7 @@
 use Rattle.std.specs.Prelude.{◌+◌, ◌^◌, ◌-◌, Bool, true, false, min, if◌then◌else◌}
 use Rattle.pfr_net.specs.declared.direction.Direction.{Direction}
 use Rattle.pfr_net.specs.declared.direction.Direction.TheVariants.{In, Out}
+use Rattle.pfr_net.specs.declared.interface.InterfacePlace.{InterfacePlace}
 use Rattle.pfr_net.specs.declared.timeout.Timeout.{Timeout}
 use Rattle.pfr_net.specs.declared.timeout.Timeout.TheVariants.{TcpFirst, UdpFirst, UdpSingle, UdpMultiple, IcmpFirst, IcmpError, OtherFirst, OtherSingle, OtherMultiple}
 use Rattle.pfr_net.specs.declared.timeout.Timeouts.{Timeouts}
@@ -60,10 +61,11 @@ first_peers (transport.Icmp header) = (peers.Icmp, IcmpFirst)
 first_peers transport.Fragment = (peers.Other Single Silent, OtherFirst)
 first_peers transport.Other = (peers.Other Single Silent, OtherFirst)
 
-abbrev pub made : StateNumber → Packet → Direction → Key → Key → StateRules → Clock → Timeouts → State
-made number packet direction wire stack rules clock timeouts = record {
+abbrev pub made : StateNumber → Packet → Direction → InterfacePlace → Key → Key → StateRules → Clock → Timeouts → State
+made number packet direction interface wire stack rules clock timeouts = record {
   number = number;
   direction = direction;
+  interface = interface;
   wire = wire;
   stack = stack;
   rules = rules;

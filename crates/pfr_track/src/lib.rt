@@ -23,7 +23,7 @@ pub use key::Key;
 pub use making::make;
 pub use outcome::{Advance, Touch};
 pub use peers::Peers;
-pub use pfr_net::{Endpoint, RuleNumber, Timeout, Timeouts};
+pub use pfr_net::{Binding, Endpoint, InterfacePlace, RuleNumber, Timeout, Timeouts};
 pub use sequence::Sequence;
 pub use state::{State, StateNumber, StateRules, Traffic};
 pub use tcp::{TcpPeer, TcpPeerState};

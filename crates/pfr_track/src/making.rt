@@ -9,7 +9,7 @@ use crate::segment::{maker, unseen};
 use crate::state::{State, StateNumber, StateRules, Traffic};
 use crate::time::{Clock, Deadline};
 use pfr_headers::{Packet, Transport};
-use pfr_net::{Direction, Timeout, Timeouts};
+use pfr_net::{Direction, InterfacePlace, Timeout, Timeouts};
 
 /// What is known of both ends after the first packet of a connection, and its timeout.
 fn first_peers(transport: &Transport) -> (Peers, Timeout)
@@ -29,18 +29,20 @@ fn first_peers(transport: &Transport) -> (Peers, Timeout)
     }
 }
 
-/// The state that a packet makes, whose number is `number`: its keys are `wire` and `stack`, and it counts the packet.
+/// The state that a packet of the interface makes, whose number is `number`: its keys are `wire` and `stack`, and it counts
+/// the packet.
 pub fn make(
     number: StateNumber,
     packet: &Packet,
     direction: Direction,
+    interface: InterfacePlace,
     wire: Key,
     stack: Key,
     rules: StateRules,
     clock: Clock,
     timeouts: &Timeouts,
 ) -> State
-    ensures { result ≡ spec.made number packet.now direction wire stack rules clock timeouts.now }
+    ensures { result ≡ spec.made number packet.now direction interface wire stack rules clock timeouts.now }
 {
     let (peers, timeout) = first_peers(&packet.transport);
     let nothing = Traffic {
@@ -50,6 +52,7 @@ pub fn make(
     State {
         number,
         direction,
+        interface,
         wire,
         stack,
         rules,

@@ -6,7 +6,7 @@ use crate::key::Key;
 use crate::peers::Peers;
 use crate::time::{Clock, Deadline};
 use pfr_headers::Packet;
-use pfr_net::{Direction, RuleNumber, Timeout};
+use pfr_net::{Binding, Direction, InterfacePlace, RuleNumber, Timeout};
 
 /// The number of a state: that of the packet that made it.
 #[derive(Clone, Copy, Debug, PartialEq, Eq, PartialOrd, Ord, Hash)]
@@ -23,6 +23,9 @@ pub struct StateRules {
     pub is_synchronised: bool,
     /// Whether its packets may have IP options: its rule says `allow-opts`.
     pub allows_options: bool,
+    /// On which interfaces its packets belong to it: on all if its policy is `floating`, and on the one that made it if
+    /// that is `if-bound`.
+    pub binding: Binding,
 }
 
 /// Packets and bytes (IP total lengths) that went one way. A count at its last value stays there.
@@ -64,6 +67,8 @@ pub struct State {
     pub made: Clock,
     /// The way of the packet that made it.
     pub direction: Direction,
+    /// The interface of the packet that made it.
+    pub interface: InterfacePlace,
     /// The timeout of which the deadline is.
     pub timeout: Timeout,
 }

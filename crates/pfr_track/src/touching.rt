@@ -152,6 +152,7 @@ pub fn advance(
 ) -> Advance
     ensures touch { spec.as_touch result state.new ≡ spec.touched state.old packet.now direction clock timeouts.now }
     ensures same_rules { (state.new.number ≡ state.old.number) × (state.new.rules ≡ state.old.rules) }
+    ensures same_interface { state.new.interface ≡ state.old.interface }
     ensures same_keys { (state.new.wire ≡ state.old.wire) × (state.new.stack ≡ state.old.stack) }
 {
     let is_forth = is_same_way(direction, state.direction);

@@ -1,19 +1,26 @@
-use Rattle.std.proofs.Common.{◌∙◌, ap, sym}
+use Rattle.std.proofs.Common.{◌∙◌, Option, ap, subst, sym}
 use Rattle.std.specs.Option.{option_copied}
-use Rattle.pfr_states.specs.Keyed.{has_key}
-use Rattle.pfr_states.proofs.IndexedLemmas.{key_answer, key_none, state_in}
-use Rattle.pfr_states.proofs.KeyedLemmas.{value_there}
+use Rattle.pfr_places.specs.declared.place.Place.{Place}
+use Rattle.pfr_states.specs.Keyed.{IsPlaceOf, states_of}
+use Rattle.pfr_states.specs.States.{is_found}
+use Rattle.pfr_states.proofs.IndexedLemmas.{found_answer, found_nowhere}
+use Rattle.pfr_states.proofs.Membership.{none_of}
 use Rattle.pfr_states.proofs.indexed.IndexedStates.find.Goals as goal
 
 pub returns-in-Some-get-clause-state : goal.returns-in-Some-get-clause-state
 returns-in-Some-get-clause-state c =
-    rw (← c.self.view_is) (ap (λ r. state_in (option_copied r)) (sym c.in-Some-get.is) ∙ key_answer c.args.side c.args.key.now c.self.inside.keyed (option_copied c.get.result)
-    (c.get.ensures.stored ∙ value_there c.self.inside.keyed c.get.ensures.states.own_places (has_key c.args.side c.args.key.now) c.in-Some.place (sym c.place_near.ensures.place ∙ c.in-Some.is)))
+    let test = is_found c.args.side c.args.key.now c.args.scope in
+    let passed = subst (λ (r : Option Place). IsPlaceOf test c.self.inside.keyed r) c.in-Some.is c.place_near.ensures.place in
+    rw (← c.self.view_is) (found_answer test c.self.inside.keyed c.in-Some.place c.in-Some-get.stored.now passed (sym c.get.ensures.stored ∙ ap (λ r. option_copied r) c.in-Some-get.is))
 
 pub returns-in-None-get-clause-state : goal.returns-in-None-get-clause-state
 returns-in-None-get-clause-state c =
-    rw (← c.self.view_is) (ap (λ r. state_in (option_copied r)) (sym c.in-None-get.is) ∙ key_answer c.args.side c.args.key.now c.self.inside.keyed (option_copied c.get.result)
-    (c.get.ensures.stored ∙ value_there c.self.inside.keyed c.get.ensures.states.own_places (has_key c.args.side c.args.key.now) c.in-Some.place (sym c.place_near.ensures.place ∙ c.in-Some.is)))
+    let test = is_found c.args.side c.args.key.now c.args.scope in
+    let passed = subst (λ (r : Option Place). IsPlaceOf test c.self.inside.keyed r) c.in-Some.is c.place_near.ensures.place in
+    absurd (found_nowhere test c.self.inside.keyed c.in-Some.place passed (sym c.get.ensures.stored ∙ ap (λ r. option_copied r) c.in-None-get.is))
 
 pub returns-in-None-clause-state : goal.returns-in-None-clause-state
-returns-in-None-clause-state c = rw (← c.self.view_is) (key_none c.args.side c.args.key.now c.self.inside.keyed (sym c.place_near.ensures.place ∙ c.in-None.is))
+returns-in-None-clause-state c =
+    let test = is_found c.args.side c.args.key.now c.args.scope in
+    let none = subst (λ (r : Option Place). IsPlaceOf test c.self.inside.keyed r) c.in-None.is c.place_near.ensures.place in
+    rw (← c.self.view_is) (λ s h. none_of test (states_of c.self.inside.keyed) s none h)
