@@ -58,8 +58,9 @@ given_by (Ok (Some r)) = bytes_of r ∷ []
 given_by (Ok None) = []
 given_by (Err e) = []
 
--- the fields of a record are those of its header
+-- the fields of a record are those of its header, and it is of the one capture
 pub record FieldsOf (form : Form) (r : Record) : Type 0 where
+  pub place : r.place ≡ 0
   pub link : r.link ≡ form.link
   pub seconds : r.seconds ≡ seconds_of form.order r.header
   pub fraction : r.fraction ≡ fraction_of form.order r.header

@@ -78,6 +78,8 @@ impl From<AllocError> for CaptureError {
 /// One packet of a capture.
 #[derive(Drop)]
 pub struct Record {
+    /// Which of a run's captures it is of, from 0 on. A reader knows of its own capture alone and writes 0.
+    pub place: u8,
     /// The link type of its capture.
     pub link: u16,
     /// When it was captured: whole seconds since 1970.

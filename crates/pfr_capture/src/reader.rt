@@ -371,6 +371,7 @@ fn record_at(
     header.copy_from_slice(front);
     buffer.extend_from_slice(&rest[..captured])?;
     Ok(Record {
+        place: 0,
         link: form.link,
         seconds: form.order.read_u32(front),
         fraction: form.order.read_u32(&front[4..]),

@@ -1,9 +1,13 @@
 -- What becomes of an answer to a packet that made a state.
 use Rattle.std.proofs.Common.{◌≡◌, Bool, true, false, cond, Option, Some, None, refl, sym, ◌∙◌, subst}
 use Rattle.std.specs.List.{Contains}
-use Rattle.std.proofs.lemmas.Bool.{eq-eqb}
+use Rattle.std.proofs.lemmas.Bool.{and_from, eq-eqb}
 use Rattle.pfr_net.specs.declared.direction.Direction.{Direction}
 use Rattle.pfr_net.specs.declared.direction.Direction.TheVariants.{In, Out}
+use Rattle.pfr_net.specs.declared.interface.Binding.{Binding}
+use Rattle.pfr_net.specs.declared.interface.Binding.TheVariants.{All, To}
+use Rattle.pfr_net.specs.declared.interface.InterfacePlace.{InterfacePlace}
+use Rattle.pfr_net.specs.Interfaces.{meets}
 use Rattle.pfr_net.specs.declared.endpoint.Endpoint.{Endpoint}
 use Rattle.pfr_net.specs.declared.port.Port.{Port}
 use Rattle.pfr_headers.specs.declared.change.Change.{Change}
@@ -21,10 +25,11 @@ use Rattle.pfr_track.specs.declared.state.State.{State}
 use Rattle.pfr_states.specs.declared.change.Side.{Side}
 use Rattle.pfr_states.specs.declared.change.Side.TheVariants.{Wire, Stack}
 use Rattle.pfr_states.specs.Answers.{found_in}
-use Rattle.pfr_states.specs.States.{IsTable, StateTable, is_same_end, is_same_key, key_on}
-use Rattle.pfr_states.proofs.FindLemmas.{found}
-use Rattle.pfr_states.proofs.OwnKeys.{has_key, one_key}
-use Rattle.pfr_packet.specs.Connections.{Answers, AreAlike, GoesBack, GoesBy, GoesFrom, HasEndIn, KnowsBothSides, sent_on}
+use Rattle.pfr_states.specs.Indexed.{covers}
+use Rattle.pfr_states.specs.States.{IsTable, StateTable, is_found, is_same_end, is_same_key, key_on}
+use Rattle.pfr_states.proofs.FindLemmas.{found_only}
+use Rattle.pfr_states.proofs.OwnKeys.{one_found}
+use Rattle.pfr_packet.specs.Connections.{IsAnswerTo, AreAlike, GoesBack, GoesBy, GoesFrom, HasEndIn, KnowsBothSides, sent_on}
 use Rattle.pfr_packet.specs.Keys.{end_of, opposite, translated_end, written_by}
 use Rattle.pfr_packet.proofs.ConnectionLemmas.{IsKeyed}
 use Rattle.pfr_packet.proofs.PassageLemmas.{AreKeys, alike_keys, goes_on, one_end, other_of, subject_of_key}
@@ -120,13 +125,20 @@ knows Out packet bytes state keyed = record {
 same_key : (key : Key) → is_same_key key key ≡ true
 same_key key = rw (eq-eqb key.protocol.0 key.protocol.0 refl, eq-eqb key.outside.address.0 key.outside.address.0 refl, eq-eqb key.outside.port.0 key.outside.port.0 refl, eq-eqb key.inside.address.0 key.inside.address.0 refl, eq-eqb key.inside.port.0 key.inside.port.0 refl) refl
 
-found_by : (table : StateTable) (side : Side) (state : State) → IsTable table → Contains table.states state → found_in table side (key_on side state) ≡ Some state
+covers_met : (bound : Binding) (place : InterfacePlace) → meets bound (To place) ≡ true → covers bound (To place) ≡ true
+covers_met All place met = refl
+covers_met (To other) place met = met
+
+found_by : (table : StateTable) (side : Side) (state : State) (place : InterfacePlace) → IsTable table → Contains table.states state → meets state.rules.binding (To place) ≡ true → found_in table side (key_on side state) (To place) ≡ Some state
 unfolding found_in
-found_by table side state is_table is_there =
-    found (has_key side (key_on side state)) table.states (Some state) (one_key side (key_on side state) table.states is_table.own_keys) (is_there, same_key (key_on side state))
+found_by table side state place is_table is_there met =
+    let key = key_on side state in
+    let is_it = and_from (is_same_key key key) (meets state.rules.binding (To place)) (same_key key) met in
+    found_only (is_found side key (To place)) table.states state is_there is_it
+    (λ other among found. one_found side key (To place) table.states is_table.own_keys state other is_there among (covers_met state.rules.binding place met) is_it found)
 
 -- an answer goes by the key on its own side
-answer_keyed : (direction : Direction) (packet answer : Packet) (bytes : Option Change) (state : State) → IsKeyed direction packet bytes state → Answers (sent_on packet bytes) answer
+answer_keyed : (direction : Direction) (packet answer : Packet) (bytes : Option Change) (state : State) → IsKeyed direction packet bytes state → IsAnswerTo (sent_on packet bytes) answer
     → (GoesBy (opposite direction) answer (other_of direction state.wire state.stack)) × (answer.protocol ≡ packet.protocol) × AreKeys answer.transport state.wire state.stack
 answer_keyed direction packet answer bytes state keyed is =
     let kept : Kept packet (sent_on packet bytes) =
@@ -136,18 +148,18 @@ answer_keyed direction packet answer bytes state keyed is =
       alike_keys packet.transport answer.transport state.wire state.stack (kept.1 answer.transport is.is_alike) keyed.through.are,
     )
 
-pub goes_back : (direction : Direction) (packet answer : Packet) (bytes : Option Change) (state : State) → IsKeyed direction packet bytes state → Answers (sent_on packet bytes) answer → GoesBack direction packet answer state
+pub goes_back : (direction : Direction) (packet answer : Packet) (bytes : Option Change) (state : State) → IsKeyed direction packet bytes state → IsAnswerTo (sent_on packet bytes) answer → GoesBack direction packet answer state
 goes_back In packet answer bytes state keyed is =
     let own = answer_keyed In packet answer bytes state keyed is in record {
       key = state.stack;
       looked_up = subject_of_key Out answer state.stack (keyed.through.stack_protocol ∙ sym own.1) own.0;
-      is_found = λ table is_table is_there. found_by table Stack state is_table is_there;
+      is_found = λ table place is_table is_there met. found_by table Stack state place is_table is_there met;
       goes_back = back_by In packet (sent_on answer (written_by Out answer state.wire state.stack)) state.wire keyed.through.goes (goes_on Out answer state.wire state.stack own.2 own.0);
     }
 goes_back Out packet answer bytes state keyed is =
     let own = answer_keyed Out packet answer bytes state keyed is in record {
       key = state.wire;
       looked_up = subject_of_key In answer state.wire (keyed.through.wire_protocol ∙ sym own.1) own.0;
-      is_found = λ table is_table is_there. found_by table Wire state is_table is_there;
+      is_found = λ table place is_table is_there met. found_by table Wire state place is_table is_there met;
       goes_back = back_by Out packet (sent_on answer (written_by In answer state.wire state.stack)) state.stack keyed.through.goes (goes_on In answer state.wire state.stack own.2 own.0);
     }

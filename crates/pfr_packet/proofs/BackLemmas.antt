@@ -2,7 +2,10 @@
 use Rattle.std.proofs.Common.{◌≡◌, ℕ, Bool, true, false, cond, Option, Some, refl, sym, ◌∙◌, subst}
 use Rattle.std.specs.List.{Contains}
 use Rattle.pfr_net.specs.declared.direction.Direction.{Direction}
+use Rattle.pfr_net.specs.declared.interface.InterfacePlace.{InterfacePlace}
 use Rattle.pfr_net.specs.declared.endpoint.Endpoint.{Endpoint}
+use Rattle.pfr_net.specs.declared.interface.Binding.TheVariants.{To}
+use Rattle.pfr_net.specs.Interfaces.{meets}
 use Rattle.pfr_headers.specs.declared.change.Change.{Change}
 use Rattle.pfr_headers.specs.declared.packet.Packet.{Packet}
 use Rattle.pfr_headers.specs.declared.packet.View.TheVariants.{Ipv4}
@@ -22,7 +25,7 @@ use Rattle.pfr_packet.specs.declared.keys.Subject.{Subject}
 use Rattle.pfr_packet.specs.declared.outcome.Outcome.{Outcome}
 use Rattle.pfr_packet.specs.declared.verdict.Reason.TheVariants as reason
 use Rattle.pfr_packet.specs.declared.verdict.Verdict.TheVariants as verdict
-use Rattle.pfr_packet.specs.Connections.{Answers, GoesBack, GoesFrom, IsBroughtBack, IsLater, sent_on}
+use Rattle.pfr_packet.specs.Connections.{IsAnswerTo, GoesBack, GoesFrom, IsBroughtBack, IsLater, sent_on}
 use Rattle.pfr_packet.specs.Found.{tracked}
 use Rattle.pfr_packet.specs.Job.{RunJob, is_skipped, timeouts_of}
 use Rattle.pfr_packet.specs.Keys.{opposite, side_of, written_by}
@@ -39,10 +42,10 @@ not_skipped : (table : StateTable) (other : Plan) (state : State) (skipped : Boo
 not_skipped table other state true is = absurd (cc is)
 not_skipped table other state false is = refl
 
-filters : (job : RunJob) (number : ℕ) (clock : Clock) (packet : Packet) (table : StateTable) (state : State) → (step_of job number clock (Ipv4 packet) table).change ≡ Some (Made state) → is_skipped job ≡ false
+filters : (job : RunJob) (number : ℕ) (clock : Clock) (place : InterfacePlace) (packet : Packet) (table : StateTable) (state : State) → (step_of job number clock place (Ipv4 packet) table).change ≡ Some (Made state) → is_skipped job ≡ false
 unfolding step_of plan
-filters job number clock packet table state is =
-    not_skipped (purged_at clock table) (packet_plan job number clock packet (direction_of job.inside packet)) state (is_skipped job) is
+filters job number clock place packet table state is =
+    not_skipped (purged_at clock table) (packet_plan job number clock place packet (direction_of job.inside packet)) state (is_skipped job) is
 
 -- ---- by the state
 
@@ -78,26 +81,26 @@ still_there : (clock : Clock) (table : StateTable) (state : State) → Contains 
 unfolding purged_at
 still_there clock table state is_there alive = to_filter (lives clock) table.states state is_there alive
 
-found_back : (job : RunJob) (next : ℕ) (now : Clock) (direction : Direction) (packet answer : Packet) (table : StateTable) (later : State) → IsTable table → Contains table.states later
-    → GoesBack direction packet answer later → IsBroughtBack packet answer later (outcome_of table (packet_plan job next now answer (opposite direction)))
+found_back : (job : RunJob) (next : ℕ) (now : Clock) (place : InterfacePlace) (direction : Direction) (packet answer : Packet) (table : StateTable) (later : State) → IsTable table → Contains table.states later → meets later.rules.binding (To place) ≡ true
+    → GoesBack direction packet answer later → IsBroughtBack packet answer later (outcome_of table (packet_plan job next now place answer (opposite direction)))
 unfolding packet_plan
-found_back job next now direction packet answer table later is_table is_there back =
+found_back job next now place direction packet answer table later is_table is_there met back =
     let way = opposite direction in
     let tracked_is = tracked_back way packet answer later back.goes_back (touched later answer way now (timeouts_of job)) in
-    let found_is : IsBroughtBack packet answer later (outcome_of table (by_connection job next now answer way back.key (found_in table (side_of way) back.key))) =
-    subst (λ (found : Option State). IsBroughtBack packet answer later (outcome_of table (by_connection job next now answer way back.key found))) (sym (back.is_found table is_table is_there)) tracked_is in
-    subst (λ (subject : Subject). IsBroughtBack packet answer later (outcome_of table (subject_plan job next now answer way subject))) (sym back.looked_up) found_is
+    let found_is : IsBroughtBack packet answer later (outcome_of table (by_connection job next now place answer way back.key (found_in table (side_of way) back.key (To place)))) =
+    subst (λ (found : Option State). IsBroughtBack packet answer later (outcome_of table (by_connection job next now place answer way back.key found))) (sym (back.is_found table place is_table is_there met)) tracked_is in
+    subst (λ (subject : Subject). IsBroughtBack packet answer later (outcome_of table (subject_plan job next now place answer way subject))) (sym back.looked_up) found_is
 
-pub brought_back : (job : RunJob) (number next : ℕ) (clock now : Clock) (packet answer : Packet) (table after : StateTable) (state later : State) → (step_of job number clock (Ipv4 packet) table).change ≡ Some (Made state)
-    → Answers (sent_on packet (step_of job number clock (Ipv4 packet) table).bytes) answer → direction_of job.inside answer ≡ opposite (direction_of job.inside packet)
-    → IsTable after → Contains after.states later → lives now later ≡ true → IsLater state later → IsBroughtBack packet answer later (step_of job next now (Ipv4 answer) after)
+pub brought_back : (job : RunJob) (number next : ℕ) (clock now : Clock) (place again : InterfacePlace) (packet answer : Packet) (table after : StateTable) (state later : State) → (step_of job number clock place (Ipv4 packet) table).change ≡ Some (Made state)
+    → IsAnswerTo (sent_on packet (step_of job number clock place (Ipv4 packet) table).bytes) answer → direction_of job.inside answer ≡ opposite (direction_of job.inside packet)
+    → IsTable after → Contains after.states later → lives now later ≡ true → IsLater state later → meets later.rules.binding (To again) ≡ true → IsBroughtBack packet answer later (step_of job next now again (Ipv4 answer) after)
 unfolding step_of plan
-brought_back job number next clock now packet answer table after state later is answers way is_table is_there alive is_later =
+brought_back job number next clock now place again packet answer table after state later is answers way is_table is_there alive is_later met =
     let direction = direction_of job.inside packet in
-    let bytes = (step_of job number clock (Ipv4 packet) table).bytes in
-    let keyed = later_keyed direction packet bytes state later is_later (keyed_of job number clock packet table state is) in
+    let bytes = (step_of job number clock place (Ipv4 packet) table).bytes in
+    let keyed = later_keyed direction packet bytes state later is_later (keyed_of job number clock place packet table state is) in
     let purged = purged_at now after in
-    let found_is = found_back job next now direction packet answer purged later (purged_table now after is_table) (still_there now after later is_there alive) (goes_back direction packet answer bytes later keyed answers) in
-    let by_way : IsBroughtBack packet answer later (outcome_of purged (packet_plan job next now answer (direction_of job.inside answer))) =
-    subst (λ (d : Direction). IsBroughtBack packet answer later (outcome_of purged (packet_plan job next now answer d))) (sym way) found_is in
-    subst (λ (skipped : Bool). IsBroughtBack packet answer later (outcome_of purged (cond skipped (done passed_over) (packet_plan job next now answer (direction_of job.inside answer))))) (sym (filters job number clock packet table state is)) by_way
+    let found_is = found_back job next now again direction packet answer purged later (purged_table now after is_table) (still_there now after later is_there alive) met (goes_back direction packet answer bytes later keyed answers) in
+    let by_way : IsBroughtBack packet answer later (outcome_of purged (packet_plan job next now again answer (direction_of job.inside answer))) =
+    subst (λ (d : Direction). IsBroughtBack packet answer later (outcome_of purged (packet_plan job next now again answer d))) (sym way) found_is in
+    subst (λ (skipped : Bool). IsBroughtBack packet answer later (outcome_of purged (cond skipped (done passed_over) (packet_plan job next now again answer (direction_of job.inside answer))))) (sym (filters job number clock place packet table state is)) by_way

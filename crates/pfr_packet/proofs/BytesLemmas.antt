@@ -1,6 +1,8 @@
 -- Where what is written into a packet comes from, along the plan of the packet.
 use Rattle.std.proofs.Common.{◌≡◌, ℕ, Bool, true, false, not, ◌&&◌, Option, Some, None, cond, refl, sym, ap, ◌∙◌, subst}
 use Rattle.pfr_net.specs.declared.direction.Direction.{Direction}
+use Rattle.pfr_net.specs.declared.interface.Binding.TheVariants as binding
+use Rattle.pfr_net.specs.declared.interface.InterfacePlace.{InterfacePlace}
 use Rattle.pfr_ruleset.specs.declared.ruleset.Ruleset.{Ruleset}
 use Rattle.pfr_headers.specs.declared.change.Change.{Change}
 use Rattle.pfr_headers.specs.declared.packet.Packet.{Packet}
@@ -86,23 +88,23 @@ keys_write table packet state outcome (Some other) _ = tt
 
 passing_writes : (table : StateTable) (packet : Packet) (state : State) (outcome : Outcome) → Writes packet outcome → (test : Bool)
     → Writes packet (outcome_of table (cond test (making packet state outcome) (done outcome)))
-passing_writes table packet state outcome h true = keys_write table packet state outcome (found_in table Wire state.wire) (found_in table Stack state.stack)
+passing_writes table packet state outcome h true = keys_write table packet state outcome (found_in table Wire state.wire state.rules.binding) (found_in table Stack state.stack state.rules.binding)
 passing_writes table packet state outcome h false = h
 
-opened_writes : (job : RunJob) (number : ℕ) (clock : Clock) (table : StateTable) (packet : Packet) (direction : Direction) (passage : Passage) (outcome : Outcome)
-    → Writes packet outcome → (kept : Option StateRules) → Writes packet (outcome_of table (opened job number clock packet direction passage outcome kept))
-opened_writes job number clock table packet direction passage outcome h None = h
-opened_writes job number clock table packet direction passage outcome h (Some rules) =
-    passing_writes table packet (made (record { 0 = number }) packet direction passage.wire passage.stack rules clock (timeouts_of job)) outcome h (lets_pass outcome.verdict)
+opened_writes : (job : RunJob) (number : ℕ) (clock : Clock) (place : InterfacePlace) (table : StateTable) (packet : Packet) (direction : Direction) (passage : Passage) (outcome : Outcome)
+    → Writes packet outcome → (kept : Option StateRules) → Writes packet (outcome_of table (opened job number clock place packet direction passage outcome kept))
+opened_writes job number clock place table packet direction passage outcome h None = h
+opened_writes job number clock place table packet direction passage outcome h (Some rules) =
+    passing_writes table packet (made (record { 0 = number }) packet direction place passage.wire passage.stack rules clock (timeouts_of job)) outcome h (lets_pass outcome.verdict)
 
 unwritten_writes : (packet : Packet) (outcome : Outcome) → outcome.bytes ≡ None → Writes packet outcome
 unwritten_writes packet outcome is = subst (IsOf packet) (sym is) tt
 
-opening_writes : (job : RunJob) (number : ℕ) (clock : Clock) (table : StateTable) (packet : Packet) (direction : Direction) (key : Key) → Writes packet (outcome_of table (opening job number clock packet direction key))
-opening_writes job number clock table packet direction key = opening_way job number clock table packet direction (Writes packet) (record {
-  goes = λ visits passage. (let answer = answer_for job.rules table direction packet passage in going_way job number clock table packet direction (Writes packet) visits passage
-      (opened_writes job number clock table packet direction passage (judged job.rules answer direction packet passage visits)
-      (unwritten_writes packet (judged job.rules answer direction packet passage visits) (judged_writes_nothing job.rules answer direction packet passage visits)) (judged_kept job.rules answer direction packet passage)));
+opening_writes : (job : RunJob) (number : ℕ) (clock : Clock) (place : InterfacePlace) (table : StateTable) (packet : Packet) (direction : Direction) (key : Key) → Writes packet (outcome_of table (opening job number clock place packet direction key))
+opening_writes job number clock place table packet direction key = opening_way job number clock place table packet direction (Writes packet) (record {
+  goes = λ visits passage. (let answer = answer_for job.rules table direction packet passage in going_way job number clock place table packet direction (Writes packet) visits passage
+      (opened_writes job number clock place table packet direction passage (judged job.rules answer direction packet passage visits)
+      (unwritten_writes packet (judged job.rules answer direction packet passage visits) (judged_writes_nothing job.rules answer direction packet passage visits)) (judged_kept place job.rules answer direction packet passage)));
   has_no_port = λ rule visits. tt;
 }) key
 
@@ -110,21 +112,21 @@ by_embedded_writes : (job : RunJob) (table : StateTable) (packet : Packet) (dire
 by_embedded_writes job table packet direction None = filtered_writes job.rules (filter_answer job.rules table packet direction) packet direction
 by_embedded_writes job table packet direction (Some state) = passed_writes direction packet state reason.StateError None
 
-by_connection_writes : (job : RunJob) (number : ℕ) (clock : Clock) (table : StateTable) (packet : Packet) (direction : Direction) (key : Key) (found : Option State)
-    → Writes packet (outcome_of table (by_connection job number clock packet direction key found))
-by_connection_writes job number clock table packet direction key None = opening_writes job number clock table packet direction key
-by_connection_writes job number clock table packet direction key (Some state) = tracked_writes direction packet state (touched state packet direction clock (timeouts_of job))
+by_connection_writes : (job : RunJob) (number : ℕ) (clock : Clock) (place : InterfacePlace) (table : StateTable) (packet : Packet) (direction : Direction) (key : Key) (found : Option State)
+    → Writes packet (outcome_of table (by_connection job number clock place packet direction key found))
+by_connection_writes job number clock place table packet direction key None = opening_writes job number clock place table packet direction key
+by_connection_writes job number clock place table packet direction key (Some state) = tracked_writes direction packet state (touched state packet direction clock (timeouts_of job))
 
-subject_writes : (job : RunJob) (number : ℕ) (clock : Clock) (table : StateTable) (packet : Packet) (direction : Direction) (subject : Subject)
-    → Writes packet (outcome_of table (subject_plan job number clock packet direction subject))
-subject_writes job number clock table packet direction Alone = filtered_writes job.rules (filter_answer job.rules table packet direction) packet direction
-subject_writes job number clock table packet direction (Embedded key) = by_embedded_writes job table packet direction (found_in table (side_of direction) key)
-subject_writes job number clock table packet direction (Connection key) = by_connection_writes job number clock table packet direction key (found_in table (side_of direction) key)
+subject_writes : (job : RunJob) (number : ℕ) (clock : Clock) (place : InterfacePlace) (table : StateTable) (packet : Packet) (direction : Direction) (subject : Subject)
+    → Writes packet (outcome_of table (subject_plan job number clock place packet direction subject))
+subject_writes job number clock place table packet direction Alone = filtered_writes job.rules (filter_answer job.rules table packet direction) packet direction
+subject_writes job number clock place table packet direction (Embedded key) = by_embedded_writes job table packet direction (found_in table (side_of direction) key (binding.To place))
+subject_writes job number clock place table packet direction (Connection key) = by_connection_writes job number clock place table packet direction key (found_in table (side_of direction) key (binding.To place))
 
-packet_writes : (job : RunJob) (number : ℕ) (clock : Clock) (table : StateTable) (packet : Packet) (direction : Direction)
-    → Writes packet (outcome_of table (packet_plan job number clock packet direction))
+packet_writes : (job : RunJob) (number : ℕ) (clock : Clock) (place : InterfacePlace) (table : StateTable) (packet : Packet) (direction : Direction)
+    → Writes packet (outcome_of table (packet_plan job number clock place packet direction))
 unfolding packet_plan
-packet_writes job number clock table packet direction = subject_writes job number clock table packet direction (subject_of direction packet)
+packet_writes job number clock place table packet direction = subject_writes job number clock place table packet direction (subject_of direction packet)
 
 -- ---- a frame
 
@@ -145,20 +147,20 @@ short_writes : (table : StateTable) (skipped : Bool) (other : Outcome) → other
 short_writes table true other h = tt
 short_writes table false other h = rw h tt
 
-plan_writes : (job : RunJob) (number : ℕ) (clock : Clock) (table : StateTable) (view : View) → IsOfView view (outcome_of table (plan job number clock view)).bytes
+plan_writes : (job : RunJob) (number : ℕ) (clock : Clock) (place : InterfacePlace) (table : StateTable) (view : View) → IsOfView view (outcome_of table (plan job number clock place view)).bytes
 unfolding plan
-plan_writes job number clock table Skip = tt
-plan_writes job number clock table Short = short_writes table (is_skipped job) _ refl
-plan_writes job number clock table (Ipv4 packet) =
-    of_packet packet _ (skipped_writes table packet (is_skipped job) (packet_plan job number clock packet (direction_of job.inside packet))
-    (packet_writes job number clock table packet (direction_of job.inside packet)))
+plan_writes job number clock place table Skip = tt
+plan_writes job number clock place table Short = short_writes table (is_skipped job) _ refl
+plan_writes job number clock place table (Ipv4 packet) =
+    of_packet packet _ (skipped_writes table packet (is_skipped job) (packet_plan job number clock place packet (direction_of job.inside packet))
+    (packet_writes job number clock place table packet (direction_of job.inside packet)))
 
 of_view : (view : View) (is : Option Change) (change : Change) → is ≡ Some change → IsOfView view is → view ≡ Ipv4 change.packet
 of_view view None change same h = absurd (cc same)
 of_view view (Some other) change same h = (let is : other ≡ change = cc same in h ∙ ap (λ (c : Change). Ipv4 c.packet) is)
 
-pub written_of : (job : RunJob) (number : ℕ) (clock : Clock) (view : View) (table : StateTable) (change : Change)
-    → (step_of job number clock view table).bytes ≡ Some change → view ≡ Ipv4 change.packet
+pub written_of : (job : RunJob) (number : ℕ) (clock : Clock) (place : InterfacePlace) (view : View) (table : StateTable) (change : Change)
+    → (step_of job number clock place view table).bytes ≡ Some change → view ≡ Ipv4 change.packet
 unfolding step_of
-written_of job number clock view table change is =
-    of_view view (outcome_of (purged_at clock table) (plan job number clock view)).bytes change is (plan_writes job number clock (purged_at clock table) view)
+written_of job number clock place view table change is =
+    of_view view (outcome_of (purged_at clock table) (plan job number clock place view)).bytes change is (plan_writes job number clock place (purged_at clock table) view)

@@ -7,6 +7,8 @@ use Rattle.std.proofs.lemmas.List.Elements.{All-cons, All-head, All-nil, All-tai
 use Rattle.pfr_net.specs.declared.address.Ipv4Address.{Ipv4Address}
 use Rattle.pfr_net.specs.declared.direction.Direction.{Direction}
 use Rattle.pfr_net.specs.declared.direction.Direction.TheVariants.{In, Out}
+use Rattle.pfr_net.specs.declared.interface.Binding.TheVariants as binding
+use Rattle.pfr_net.specs.declared.interface.InterfacePlace.{InterfacePlace}
 use Rattle.pfr_net.specs.declared.port.Port.{Port}
 use Rattle.pfr_ruleset.specs.declared.flat.FlatTranslation.{FlatTranslation}
 use Rattle.pfr_ruleset.specs.declared.flat.NatAddress.{NatAddress}
@@ -103,29 +105,29 @@ keys_keyed direction packet table state outcome is through None None = room_keye
 keys_keyed direction packet table state outcome is through None (Some other) = tt
 keys_keyed direction packet table state outcome is through (Some other) _ = tt
 
-opened_keyed : (job : RunJob) (answer : FilterAnswer) (number : ℕ) (clock : Clock) (table : StateTable) (packet : Packet) (direction : Direction) (visits : List ℕ) (passage : Passage)
+opened_keyed : (job : RunJob) (answer : FilterAnswer) (number : ℕ) (clock : Clock) (place : InterfacePlace) (table : StateTable) (packet : Packet) (direction : Direction) (visits : List ℕ) (passage : Passage)
     → GoThrough direction packet passage.wire passage.stack → (kept : Option StateRules)
-    → Keyed direction packet (outcome_of table (opened job number clock packet direction passage (judged job.rules answer direction packet passage visits) kept))
-opened_keyed job answer number clock table packet direction visits passage through None =
+    → Keyed direction packet (outcome_of table (opened job number clock place packet direction passage (judged job.rules answer direction packet passage visits) kept))
+opened_keyed job answer number clock place table packet direction visits passage through None =
     unchanged_keyed direction packet (judged job.rules answer direction packet passage visits) (judged_changes_nothing job.rules answer direction packet passage visits)
-opened_keyed job answer number clock table packet direction visits passage through (Some kept) = by_verdict (lets_pass outcome.verdict)
+opened_keyed job answer number clock place table packet direction visits passage through (Some kept) = by_verdict (lets_pass outcome.verdict)
   where
     outcome : Outcome
     outcome = judged job.rules answer direction packet passage visits
 
     state : State
-    state = made (record { 0 = number }) packet direction passage.wire passage.stack kept clock (timeouts_of job)
+    state = made (record { 0 = number }) packet direction place passage.wire passage.stack kept clock (timeouts_of job)
 
     by_verdict : (passes : Bool) → Keyed direction packet (outcome_of table (cond passes (making packet state outcome) (done outcome)))
-    by_verdict true = keys_keyed direction packet table state outcome refl through (found_in table Wire state.wire) (found_in table Stack state.stack)
+    by_verdict true = keys_keyed direction packet table state outcome refl through (found_in table Wire state.wire state.rules.binding) (found_in table Stack state.stack state.rules.binding)
     by_verdict false = unchanged_keyed direction packet outcome (judged_changes_nothing job.rules answer direction packet passage visits)
 
-going_keyed : (job : RunJob) (number : ℕ) (clock : Clock) (table : StateTable) (packet : Packet) (direction : Direction) (visits : List ℕ) (passage : Passage)
-    → GoThrough direction packet passage.wire passage.stack → Keyed direction packet (outcome_of table (going job number clock packet direction visits passage))
-going_keyed job number clock table packet direction visits passage through =
+going_keyed : (job : RunJob) (number : ℕ) (clock : Clock) (place : InterfacePlace) (table : StateTable) (packet : Packet) (direction : Direction) (visits : List ℕ) (passage : Passage)
+    → GoThrough direction packet passage.wire passage.stack → Keyed direction packet (outcome_of table (going job number clock place packet direction visits passage))
+going_keyed job number clock place table packet direction visits passage through =
     let answer = answer_for job.rules table direction packet passage in
-    going_way job number clock table packet direction (Keyed direction packet) visits passage
-    (opened_keyed job answer number clock table packet direction visits passage through (judged_kept job.rules answer direction packet passage))
+    going_way job number clock place table packet direction (Keyed direction packet) visits passage
+    (opened_keyed job answer number clock place table packet direction visits passage through (judged_kept place job.rules answer direction packet passage))
 
 -- ---- the passages that there are
 
@@ -183,7 +185,7 @@ tried_pick : (table : StateTable) (wire : ℕ → Key) (next : Option Key → Pl
     → (ports : List ℕ) → All Tried ports → P (outcome_of table (picking wire next ports))
 tried_pick table wire next P Tried some none [] all = none
 tried_pick table wire next P Tried some none (port ∷ ports) all =
-    tried (found_in table Wire (wire port)) (tried_pick table wire next P Tried some none ports (All-tail Tried port ports all))
+    tried (found_in table Wire (wire port) binding.All) (tried_pick table wire next P Tried some none ports (All-tail Tried port ports all))
   where
     tried : (found : Option State) → P (outcome_of table (picking wire next ports)) → P (outcome_of table (elim found [ None ↦ next (Some (wire port)) | Some other ↦ picking wire next ports ]))
     tried None rest = some port (All-head Tried port ports all)
@@ -243,27 +245,27 @@ hit_for rules packet Out = any_hit (hit_of rules packet Out)
 
 -- ---- up to the passage
 
-end_keyed : (job : RunJob) (number : ℕ) (clock : Clock) (table : StateTable) (packet : Packet) (direction : Direction) (visits : List ℕ) (key : Key) → IsKeyOf direction packet key → (hit : Hit) (new_end : NewEnd)
-    → IsEndFor direction new_end → Keyed direction packet (outcome_of table (by_end job number clock packet direction visits key hit new_end))
-end_keyed job number clock table packet direction visits key is hit (Mapped address mapping) suits =
-    going_keyed job number clock table packet direction visits (mapped_passage direction key hit (mapped_end packet.transport key.inside address mapping)) (mapped_goes direction packet key hit address mapping is)
-end_keyed job number clock table packet In visits key is hit (Picked target) suits = absurd suits
-end_keyed job number clock table packet Out visits key is hit (Picked target) suits =
-    tried_pick table (wire_with packet.transport key target.address) (by_pick job number clock packet Out visits key hit) (Keyed Out packet) (FitsTry packet.transport)
-    (λ port tried. going_keyed job number clock table packet Out visits (picked_passage key hit (wire_with packet.transport key target.address port)) (picked_goes packet key target.address port is tried))
+end_keyed : (job : RunJob) (number : ℕ) (clock : Clock) (place : InterfacePlace) (table : StateTable) (packet : Packet) (direction : Direction) (visits : List ℕ) (key : Key) → IsKeyOf direction packet key → (hit : Hit) (new_end : NewEnd)
+    → IsEndFor direction new_end → Keyed direction packet (outcome_of table (by_end job number clock place packet direction visits key hit new_end))
+end_keyed job number clock place table packet direction visits key is hit (Mapped address mapping) suits =
+    going_keyed job number clock place table packet direction visits (mapped_passage direction key hit (mapped_end packet.transport key.inside address mapping)) (mapped_goes direction packet key hit address mapping is)
+end_keyed job number clock place table packet In visits key is hit (Picked target) suits = absurd suits
+end_keyed job number clock place table packet Out visits key is hit (Picked target) suits =
+    tried_pick table (wire_with packet.transport key target.address) (by_pick job number clock place packet Out visits key hit) (Keyed Out packet) (FitsTry packet.transport)
+    (λ port tried. going_keyed job number clock place table packet Out visits (picked_passage key hit (wire_with packet.transport key target.address port)) (picked_goes packet key target.address port is tried))
     tt
     (tries (ports_for packet.transport target key.inside.port) (word_of job.seed number))
     (tries_fit packet.transport key target (word_of job.seed number) (fits Out packet key is.goes))
 
-hit_keyed : (job : RunJob) (number : ℕ) (clock : Clock) (table : StateTable) (packet : Packet) (direction : Direction) (visits : List ℕ) (key : Key) → IsKeyOf direction packet key → (hit : Option Hit)
-    → IsHitFor direction hit → Keyed direction packet (outcome_of table (by_hit job number clock packet direction visits key hit))
-hit_keyed job number clock table packet direction visits key is None suits = going_keyed job number clock table packet direction visits (untranslated key) (untranslated_goes direction packet key is)
-hit_keyed job number clock table packet direction visits key is (Some hit) suits = end_keyed job number clock table packet direction visits key is hit hit.new_end suits
+hit_keyed : (job : RunJob) (number : ℕ) (clock : Clock) (place : InterfacePlace) (table : StateTable) (packet : Packet) (direction : Direction) (visits : List ℕ) (key : Key) → IsKeyOf direction packet key → (hit : Option Hit)
+    → IsHitFor direction hit → Keyed direction packet (outcome_of table (by_hit job number clock place packet direction visits key hit))
+hit_keyed job number clock place table packet direction visits key is None suits = going_keyed job number clock place table packet direction visits (untranslated key) (untranslated_goes direction packet key is)
+hit_keyed job number clock place table packet direction visits key is (Some hit) suits = end_keyed job number clock place table packet direction visits key is hit hit.new_end suits
 
-opening_keyed : (job : RunJob) (number : ℕ) (clock : Clock) (table : StateTable) (packet : Packet) (direction : Direction) (key : Key) → IsKeyOf direction packet key
-    → Keyed direction packet (outcome_of table (opening job number clock packet direction key))
-opening_keyed job number clock table packet direction key is =
-    hit_keyed job number clock table packet direction (translations_visited job.rules packet direction) key is (hit_of job.rules packet direction) (hit_for job.rules packet direction)
+opening_keyed : (job : RunJob) (number : ℕ) (clock : Clock) (place : InterfacePlace) (table : StateTable) (packet : Packet) (direction : Direction) (key : Key) → IsKeyOf direction packet key
+    → Keyed direction packet (outcome_of table (opening job number clock place packet direction key))
+opening_keyed job number clock place table packet direction key is =
+    hit_keyed job number clock place table packet direction (translations_visited job.rules packet direction) key is (hit_of job.rules packet direction) (hit_for job.rules packet direction)
 
 -- ---- along the plan
 
@@ -285,40 +287,40 @@ by_embedded_keyed : (job : RunJob) (table : StateTable) (packet : Packet) (direc
 by_embedded_keyed job table packet direction None = filtered_keyed job.rules (filter_answer job.rules table packet direction) packet direction
 by_embedded_keyed job table packet direction (Some state) = passed_keyed direction packet state reason.StateError None (λ bytes. tt)
 
-by_connection_keyed : (job : RunJob) (number : ℕ) (clock : Clock) (table : StateTable) (packet : Packet) (direction : Direction) (key : Key) → IsKeyOf direction packet key
-    → (found : Option State) → Keyed direction packet (outcome_of table (by_connection job number clock packet direction key found))
-by_connection_keyed job number clock table packet direction key is None = opening_keyed job number clock table packet direction key is
-by_connection_keyed job number clock table packet direction key is (Some state) = tracked_keyed direction packet state (touched state packet direction clock (timeouts_of job))
+by_connection_keyed : (job : RunJob) (number : ℕ) (clock : Clock) (place : InterfacePlace) (table : StateTable) (packet : Packet) (direction : Direction) (key : Key) → IsKeyOf direction packet key
+    → (found : Option State) → Keyed direction packet (outcome_of table (by_connection job number clock place packet direction key found))
+by_connection_keyed job number clock place table packet direction key is None = opening_keyed job number clock place table packet direction key is
+by_connection_keyed job number clock place table packet direction key is (Some state) = tracked_keyed direction packet state (touched state packet direction clock (timeouts_of job))
 
-subject_keyed : (job : RunJob) (number : ℕ) (clock : Clock) (table : StateTable) (packet : Packet) (direction : Direction) (subject : Subject) → subject_of direction packet ≡ subject
-    → Keyed direction packet (outcome_of table (subject_plan job number clock packet direction subject))
-subject_keyed job number clock table packet direction Alone is = filtered_keyed job.rules (filter_answer job.rules table packet direction) packet direction
-subject_keyed job number clock table packet direction (Embedded key) is = by_embedded_keyed job table packet direction (found_in table (side_of direction) key)
-subject_keyed job number clock table packet direction (Connection key) is =
-    by_connection_keyed job number clock table packet direction key (key_of_subject direction packet key is) (found_in table (side_of direction) key)
+subject_keyed : (job : RunJob) (number : ℕ) (clock : Clock) (place : InterfacePlace) (table : StateTable) (packet : Packet) (direction : Direction) (subject : Subject) → subject_of direction packet ≡ subject
+    → Keyed direction packet (outcome_of table (subject_plan job number clock place packet direction subject))
+subject_keyed job number clock place table packet direction Alone is = filtered_keyed job.rules (filter_answer job.rules table packet direction) packet direction
+subject_keyed job number clock place table packet direction (Embedded key) is = by_embedded_keyed job table packet direction (found_in table (side_of direction) key (binding.To place))
+subject_keyed job number clock place table packet direction (Connection key) is =
+    by_connection_keyed job number clock place table packet direction key (key_of_subject direction packet key is) (found_in table (side_of direction) key (binding.To place))
 
-packet_keyed : (job : RunJob) (number : ℕ) (clock : Clock) (table : StateTable) (packet : Packet) (direction : Direction) → Keyed direction packet (outcome_of table (packet_plan job number clock packet direction))
+packet_keyed : (job : RunJob) (number : ℕ) (clock : Clock) (place : InterfacePlace) (table : StateTable) (packet : Packet) (direction : Direction) → Keyed direction packet (outcome_of table (packet_plan job number clock place packet direction))
 unfolding packet_plan
-packet_keyed job number clock table packet direction = subject_keyed job number clock table packet direction (subject_of direction packet) refl
+packet_keyed job number clock place table packet direction = subject_keyed job number clock place table packet direction (subject_of direction packet) refl
 
 skipped_keyed : (direction : Direction) (packet : Packet) (table : StateTable) (skipped : Bool) (other : Plan) → Keyed direction packet (outcome_of table other)
     → Keyed direction packet (outcome_of table (cond skipped (done passed_over) other))
 skipped_keyed direction packet table true other keyed = tt
 skipped_keyed direction packet table false other keyed = keyed
 
-plan_keyed : (job : RunJob) (number : ℕ) (clock : Clock) (table : StateTable) (packet : Packet) → Keyed (direction_of job.inside packet) packet (outcome_of table (plan job number clock (Ipv4 packet)))
+plan_keyed : (job : RunJob) (number : ℕ) (clock : Clock) (place : InterfacePlace) (table : StateTable) (packet : Packet) → Keyed (direction_of job.inside packet) packet (outcome_of table (plan job number clock place (Ipv4 packet)))
 unfolding plan
-plan_keyed job number clock table packet =
+plan_keyed job number clock place table packet =
     let direction = direction_of job.inside packet in
-    skipped_keyed direction packet table (is_skipped job) (packet_plan job number clock packet direction) (packet_keyed job number clock table packet direction)
+    skipped_keyed direction packet table (is_skipped job) (packet_plan job number clock place packet direction) (packet_keyed job number clock place table packet direction)
 
 made_keyed : (direction : Direction) (packet : Packet) (bytes : Option Change) (state : State) (change : Option TableChange) → change ≡ Some (Made state) → KeyedIf direction packet bytes change
     → IsKeyed direction packet bytes state
 made_keyed direction packet bytes state change is keyed = subst (λ (c : Option TableChange). KeyedIf direction packet bytes c) is keyed
 
 -- the state that a packet makes
-pub keyed_of : (job : RunJob) (number : ℕ) (clock : Clock) (packet : Packet) (table : StateTable) (state : State) → (step_of job number clock (Ipv4 packet) table).change ≡ Some (Made state)
-    → IsKeyed (direction_of job.inside packet) packet (step_of job number clock (Ipv4 packet) table).bytes state
+pub keyed_of : (job : RunJob) (number : ℕ) (clock : Clock) (place : InterfacePlace) (packet : Packet) (table : StateTable) (state : State) → (step_of job number clock place (Ipv4 packet) table).change ≡ Some (Made state)
+    → IsKeyed (direction_of job.inside packet) packet (step_of job number clock place (Ipv4 packet) table).bytes state
 unfolding step_of
-keyed_of job number clock packet table state is =
-    made_keyed (direction_of job.inside packet) packet (step_of job number clock (Ipv4 packet) table).bytes state (step_of job number clock (Ipv4 packet) table).change is (plan_keyed job number clock (purged_at clock table) packet)
+keyed_of job number clock place packet table state is =
+    made_keyed (direction_of job.inside packet) packet (step_of job number clock place (Ipv4 packet) table).bytes state (step_of job number clock place (Ipv4 packet) table).change is (plan_keyed job number clock place (purged_at clock table) packet)

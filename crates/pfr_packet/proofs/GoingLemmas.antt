@@ -4,6 +4,7 @@ use Rattle.std.specs.List.{All}
 use Rattle.std.proofs.lemmas.List.{append_assoc}
 use Rattle.std.proofs.lemmas.List.Elements.{All-append, All-cons, All-nil, All-weaker}
 use Rattle.pfr_net.specs.declared.direction.Direction.{Direction}
+use Rattle.pfr_net.specs.declared.interface.Binding.{Binding}
 use Rattle.pfr_ruleset.specs.declared.ruleset.Ruleset.{Ruleset}
 use Rattle.pfr_headers.specs.declared.packet.Packet.{Packet}
 use Rattle.pfr_rules.specs.Filter.{rooms_asked, rooms_in}
@@ -29,13 +30,13 @@ pub none_gone : (table : StateTable) (steps : Plan) (asked : Question → Type 0
 none_gone table steps asked = record { before = []; outcome_is = refl; questions_are = refl; asked_before = All-nil asked }
 
 -- one more question is asked
-pub one_further : (table : StateTable) (steps : Plan) (side : Side) (key : Key) (next : Option State → Plan) (asked after : Question → Type 0) (found : Option State)
-    → GoesUpTo table steps (ask_at side key next) asked → Keeps asked after → after (At side key) → found ≡ found_in table side key → GoesUpTo table steps (next found) after
-one_further table steps side key next asked after found gone kept now is = rw is (record {
-  before = gone.before ++ At side key ∷ [];
+pub one_further : (table : StateTable) (steps : Plan) (side : Side) (key : Key) (scope : Binding) (next : Option State → Plan) (asked after : Question → Type 0) (found : Option State)
+    → GoesUpTo table steps (ask_at side key scope next) asked → Keeps asked after → after (At side key scope) → found ≡ found_in table side key scope → GoesUpTo table steps (next found) after
+one_further table steps side key scope next asked after found gone kept now is = rw is (record {
+  before = gone.before ++ At side key scope ∷ [];
   outcome_is = gone.outcome_is;
-  questions_are = gone.questions_are ∙ sym (append_assoc gone.before (At side key ∷ []) (questions_of table (next (found_in table side key))));
-  asked_before = All-append after gone.before (At side key ∷ []) (All-weaker asked after kept gone.before gone.asked_before) (All-cons after (At side key) [] now (All-nil after));
+  questions_are = gone.questions_are ∙ sym (append_assoc gone.before (At side key scope ∷ []) (questions_of table (next (found_in table side key scope))));
+  asked_before = All-append after gone.before (At side key scope ∷ []) (All-weaker asked after kept gone.before gone.asked_before) (All-cons after (At side key scope) [] now (All-nil after));
 })
 
 -- a part of the rest is gone
@@ -74,4 +75,4 @@ pub going_goes : (arrival : Arrival) (table : StateTable) (visits : List ℕ) (p
     → Goes table (opened_plan arrival passage (judged_for arrival table passage visits) (kept_for arrival table passage)) outcome after
     → Goes table (going_plan arrival visits passage) outcome after
 going_goes arrival table visits passage outcome asked after all kept goes =
-    pass_goes table arrival.job.now.rules (behind_passage arrival passage) arrival.direction (going_on arrival.job.now arrival.number arrival.clock arrival.packet.now arrival.direction visits passage) outcome asked after passage.passes all kept goes
+    pass_goes table arrival.job.now.rules (behind_passage arrival passage) arrival.direction (going_on arrival.job.now arrival.number arrival.clock arrival.place arrival.packet.now arrival.direction visits passage) outcome asked after passage.passes all kept goes

@@ -14,4 +14,5 @@ pub mod PickLemmas
 pub mod RuleLemmas
 pub mod SameLemmas
 pub mod TryLemmas
+pub mod VisitLemmas
 pub mod WayLemmas

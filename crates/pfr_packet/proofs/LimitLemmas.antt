@@ -3,6 +3,7 @@ use Rattle.std.proofs.Common.{◌≡◌, ◌<◌, ℕ, Bool, true, false, Option
 use Rattle.std.proofs.lemmas.Bool.{ltb-true}
 use Rattle.pfr_net.specs.declared.direction.Direction.{Direction}
 use Rattle.pfr_net.specs.declared.direction.Direction.TheVariants.{In, Out}
+use Rattle.pfr_net.specs.declared.interface.InterfacePlace.{InterfacePlace}
 use Rattle.pfr_net.specs.declared.port.Port.{Port}
 use Rattle.pfr_net.specs.declared.rule_number.RuleNumber.{RuleNumber}
 use Rattle.pfr_ruleset.specs.declared.flat.FlatRule.{FlatRule}
@@ -144,11 +145,11 @@ tracked_room rules table direction packet state (touch.Touched next) = either_bl
 tracked_room rules table direction packet state touch.Mismatch = tt
 tracked_room rules table direction packet state touch.Removed = tt
 
-made_room : (job : RunJob) (table : StateTable) (packet : Packet) (direction : Direction) (passage : Passage) (visits : List ℕ) (state : State) → IsFirst table packet direction → kept_in job table packet direction passage ≡ Some state.rules
+made_room : (job : RunJob) (place : InterfacePlace) (table : StateTable) (packet : Packet) (direction : Direction) (passage : Passage) (visits : List ℕ) (state : State) → IsFirst place table packet direction → kept_in job place table packet direction passage ≡ Some state.rules
     → RoomIf job.rules table (Some (Made state))
-made_room job table packet direction passage visits state first kept by rule most filter_is at most_is =
+made_room job place table packet direction passage visits state first kept by rule most filter_is at most_is =
     let answer = answer_for job.rules table direction packet passage in
-    let said = judged_says job.rules answer direction packet passage visits state.rules kept in
+    let said = judged_says job.rules place answer direction packet passage visits state.rules kept in
     let named : answer.decision.rule ≡ Some by = sym (judged_names job.rules table direction packet passage visits) ∙ sym said.filter ∙ filter_is in
     has_room job table packet direction passage by rule most (connection_opens direction packet packet.transport first.key first.subject_is) named at most_is
 
@@ -156,19 +157,19 @@ short_room : (rules : Ruleset) (table : StateTable) (skipped : Bool) → HasRoom
 short_room rules table true = tt
 short_room rules table false = tt
 
-view_room : (job : RunJob) (number : ℕ) (clock : Clock) (view : View) (table : StateTable) → HasRoom job.rules (purged_at clock table) (step_of job number clock view table)
+view_room : (job : RunJob) (number : ℕ) (clock : Clock) (place : InterfacePlace) (view : View) (table : StateTable) → HasRoom job.rules (purged_at clock table) (step_of job number clock place view table)
 unfolding step_of plan
-view_room job number clock Skip table = tt
-view_room job number clock Short table = short_room job.rules (purged_at clock table) (is_skipped job)
-view_room job number clock (Ipv4 packet) table =
+view_room job number clock place Skip table = tt
+view_room job number clock place Short table = short_room job.rules (purged_at clock table) (is_skipped job)
+view_room job number clock place (Ipv4 packet) table =
     let direction = direction_of job.inside packet in
     let now = purged_at clock table in
-    step_way job number clock table packet (HasRoom job.rules now) tt (record {
+    step_way job number clock place table packet (HasRoom job.rules now) tt (record {
       by_rules = λ none. filtered_way job.rules (filter_answer job.rules now packet direction) packet direction (HasRoom job.rules now) (λ free. tt) tt;
       by_error = λ key state is found. either_blocked (HasRoom job.rules now) _ reason.IpOption (passing direction packet state reason.StateError None) (λ free. tt) tt;
       by_state = λ key state t is found. tracked_room job.rules now direction packet state t;
       goes = λ passage visits first. unchanged job.rules now (judged_in job now packet direction passage visits) (judged_changes_nothing job.rules (answer_for job.rules now direction packet passage) direction packet passage visits);
-      makes = λ passage visits state first passes kept. made_room job now packet direction passage visits state first kept;
+      makes = λ passage visits state first passes kept. made_room job place now packet direction passage visits state first kept;
       has_no_place = λ passage visits first. tt;
       has_no_room = λ passage visits first full. tt;
       has_no_port = λ rule visits first. tt;
@@ -177,10 +178,10 @@ view_room job number clock (Ipv4 packet) table =
 room_of : (rules : Ruleset) (table : StateTable) (change : Option TableChange) (state : State) → change ≡ Some (Made state) → RoomIf rules table change → RoomIf rules table (Some (Made state))
 room_of rules table change state is has = subst (λ (c : Option TableChange). RoomIf rules table c) is has
 
-pub made_with_room : (job : RunJob) (number : ℕ) (clock : Clock) (view : View) (table : StateTable) (state : State) (by : RuleNumber) (rule : FlatRule) (most : ℕ)
-    → (step_of job number clock view table).change ≡ Some (Made state) → state.rules.filter ≡ Some by → slice_get job.rules.filter.rules by.0 ≡ Some rule → most_of rule.state ≡ Some most
+pub made_with_room : (job : RunJob) (number : ℕ) (clock : Clock) (place : InterfacePlace) (view : View) (table : StateTable) (state : State) (by : RuleNumber) (rule : FlatRule) (most : ℕ)
+    → (step_of job number clock place view table).change ≡ Some (Made state) → state.rules.filter ≡ Some by → slice_get job.rules.filter.rules by.0 ≡ Some rule → most_of rule.state ≡ Some most
     → count_of_rule by.0 (purged clock table.states) < most
 unfolding has_rule_room_in has_rule_room purged_at
-made_with_room job number clock view table state by rule most is filter_is at most_is =
-    let has = room_of job.rules (purged_at clock table) (step_of job number clock view table).change state is (view_room job number clock view table) by rule most filter_is at most_is in
+made_with_room job number clock place view table state by rule most is filter_is at most_is =
+    let has = room_of job.rules (purged_at clock table) (step_of job number clock place view table).change state is (view_room job number clock place view table) by rule most filter_is at most_is in
     ltb-true (count_of_rule by.0 (purged clock table.states)) most has

@@ -16,7 +16,7 @@ use Rattle.pfr_states.specs.Answers.{SameAnswer, found_in, has_room_in}
 use Rattle.pfr_packet.specs.Plan.{FilterAnswer, Plan, done, ask_at, ask_filter, ask_room, filter_answer, outcome_of, questions_of}
 
 room_by : (table other : StateTable) (question : Question) → SameAnswer table other question → SameRoom (rooms_in table) (rooms_in other) question
-room_by table other (At side key) same = refl
+room_by table other (At side key scope) same = refl
 room_by table other Room same = refl
 room_by table other (RuleRoom rule most) same = sym same
 
@@ -30,13 +30,13 @@ filter_same table other rules packet direction asked =
 pub local : (table other : StateTable) (steps : Plan) → All (SameAnswer table other) (questions_of table steps)
     → (outcome_of other steps ≡ outcome_of table steps) × (questions_of other steps ≡ questions_of table steps)
 local table other (done outcome) h = (refl, refl)
-local table other (ask_at side key next) h =
-    let same : found_in table side key ≡ found_in other side key =
-    All-head (SameAnswer table other) (At side key) (questions_of table (next (found_in table side key))) h in
-    let rest = local table other (next (found_in table side key)) (All-tail (SameAnswer table other) (At side key) (questions_of table (next (found_in table side key))) h) in (
-      subst (λ (found : Option State). outcome_of other (next found) ≡ outcome_of table (next (found_in table side key))) same rest.0,
-      subst (λ (found : Option State). At side key ∷ questions_of other (next found) ≡ At side key ∷ questions_of table (next (found_in table side key))) same
-          (ap (λ questions. At side key ∷ questions) rest.1),
+local table other (ask_at side key scope next) h =
+    let same : found_in table side key scope ≡ found_in other side key scope =
+    All-head (SameAnswer table other) (At side key scope) (questions_of table (next (found_in table side key scope))) h in
+    let rest = local table other (next (found_in table side key scope)) (All-tail (SameAnswer table other) (At side key scope) (questions_of table (next (found_in table side key scope))) h) in (
+      subst (λ (found : Option State). outcome_of other (next found) ≡ outcome_of table (next (found_in table side key scope))) same rest.0,
+      subst (λ (found : Option State). At side key scope ∷ questions_of other (next found) ≡ At side key scope ∷ questions_of table (next (found_in table side key scope))) same
+          (ap (λ questions. At side key scope ∷ questions) rest.1),
     )
 local table other (ask_room next) h =
     let same : has_room_in table ≡ has_room_in other = All-head (SameAnswer table other) Room (questions_of table (next (has_room_in table))) h in

@@ -2,6 +2,8 @@
 use Rattle.std.proofs.Common.{◌≡◌, ◌&&◌, ℕ, Bool, true, false, not, Option, Some, None, List, [], ◌∷◌, cond, refl}
 use Rattle.pfr_net.specs.declared.direction.Direction.{Direction}
 use Rattle.pfr_net.specs.declared.direction.Direction.TheVariants.{In, Out}
+use Rattle.pfr_net.specs.declared.interface.Binding.TheVariants as binding
+use Rattle.pfr_net.specs.declared.interface.InterfacePlace.{InterfacePlace}
 use Rattle.pfr_net.specs.declared.rule_number.RuleNumber.{RuleNumber}
 use Rattle.pfr_ruleset.specs.declared.ruleset.Ruleset.{Ruleset}
 use Rattle.pfr_headers.specs.declared.packet.Packet.{Packet}
@@ -93,10 +95,10 @@ by_pass rules table packet direction P next true h = h
 by_pass rules table packet direction P next false h = h
 
 -- what holds of a packet that goes on by the filter's answer holds of one that goes through by the passage
-pub going_way : (job : RunJob) (number : ℕ) (clock : Clock) (table : StateTable) (packet : Packet) (direction : Direction) (P : Outcome → Type 0) (visits : List ℕ) (passage : Passage)
-    → P (outcome_of table (going_on job number clock packet direction visits passage (answer_for job.rules table direction packet passage))) → P (outcome_of table (going job number clock packet direction visits passage))
-going_way job number clock table packet direction P visits passage h =
-    by_pass job.rules table (behind direction passage packet) direction P (going_on job number clock packet direction visits passage) passage.passes h
+pub going_way : (job : RunJob) (number : ℕ) (clock : Clock) (place : InterfacePlace) (table : StateTable) (packet : Packet) (direction : Direction) (P : Outcome → Type 0) (visits : List ℕ) (passage : Passage)
+    → P (outcome_of table (going_on job number clock place packet direction visits passage (answer_for job.rules table direction packet passage))) → P (outcome_of table (going job number clock place packet direction visits passage))
+going_way job number clock place table packet direction P visits passage h =
+    by_pass job.rules table (behind direction passage packet) direction P (going_on job number clock place packet direction visits passage) passage.passes h
 
 -- ---- up to the passage
 
@@ -104,36 +106,36 @@ going_way job number clock table packet direction P visits passage h =
 any_pick : (table : StateTable) (wire : ℕ → Key) (next : Option Key → Plan) (P : Outcome → Type 0) → ((found : Option Key) → P (outcome_of table (next found)))
     → (ports : List ℕ) → P (outcome_of table (picking wire next ports))
 any_pick table wire next P h [] = h None
-any_pick table wire next P h (port ∷ ports) = tried (found_in table Wire (wire port)) (any_pick table wire next P h ports)
+any_pick table wire next P h (port ∷ ports) = tried (found_in table Wire (wire port) binding.All) (any_pick table wire next P h ports)
   where
     tried : (found : Option State) → P (outcome_of table (picking wire next ports)) → P (outcome_of table (elim found [ None ↦ next (Some (wire port)) | Some other ↦ picking wire next ports ]))
     tried None rest = h (Some (wire port))
     tried (Some other) rest = rest
 
 -- what holds of the first packet of a connection: it goes through by some passage, or no port is free for it
-pub record Opening (job : RunJob) (number : ℕ) (clock : Clock) (table : StateTable) (packet : Packet) (direction : Direction) (P : Outcome → Type 0) : Type 0 where
-  pub goes : (visits : List ℕ) (passage : Passage) → P (outcome_of table (going job number clock packet direction visits passage))
+pub record Opening (job : RunJob) (number : ℕ) (clock : Clock) (place : InterfacePlace) (table : StateTable) (packet : Packet) (direction : Direction) (P : Outcome → Type 0) : Type 0 where
+  pub goes : (visits : List ℕ) (passage : Passage) → P (outcome_of table (going job number clock place packet direction visits passage))
   pub has_no_port : (rule : RuleNumber) (visits : List ℕ) → P (exhausted direction rule visits)
 
-end_way : (job : RunJob) (number : ℕ) (clock : Clock) (table : StateTable) (packet : Packet) (direction : Direction) (P : Outcome → Type 0) → Opening job number clock table packet direction P
-    → (visits : List ℕ) (key : Key) (hit : Hit) (new_end : NewEnd) → P (outcome_of table (by_end job number clock packet direction visits key hit new_end))
-end_way job number clock table packet direction P o visits key hit (Mapped address mapping) = o.goes visits (mapped_passage direction key hit (mapped_end packet.transport key.inside address mapping))
-end_way job number clock table packet direction P o visits key hit (Picked target) =
-    any_pick table (wire_with packet.transport key target.address) (by_pick job number clock packet direction visits key hit) P by_found (tries (ports_for packet.transport target key.inside.port) (word_of job.seed number))
+end_way : (job : RunJob) (number : ℕ) (clock : Clock) (place : InterfacePlace) (table : StateTable) (packet : Packet) (direction : Direction) (P : Outcome → Type 0) → Opening job number clock place table packet direction P
+    → (visits : List ℕ) (key : Key) (hit : Hit) (new_end : NewEnd) → P (outcome_of table (by_end job number clock place packet direction visits key hit new_end))
+end_way job number clock place table packet direction P o visits key hit (Mapped address mapping) = o.goes visits (mapped_passage direction key hit (mapped_end packet.transport key.inside address mapping))
+end_way job number clock place table packet direction P o visits key hit (Picked target) =
+    any_pick table (wire_with packet.transport key target.address) (by_pick job number clock place packet direction visits key hit) P by_found (tries (ports_for packet.transport target key.inside.port) (word_of job.seed number))
   where
-    by_found : (found : Option Key) → P (outcome_of table (by_pick job number clock packet direction visits key hit found))
+    by_found : (found : Option Key) → P (outcome_of table (by_pick job number clock place packet direction visits key hit found))
     by_found None = o.has_no_port hit.number visits
     by_found (Some wire) = o.goes visits (picked_passage key hit wire)
 
-hit_way : (job : RunJob) (number : ℕ) (clock : Clock) (table : StateTable) (packet : Packet) (direction : Direction) (P : Outcome → Type 0) → Opening job number clock table packet direction P
-    → (visits : List ℕ) (key : Key) (hit : Option Hit) → P (outcome_of table (by_hit job number clock packet direction visits key hit))
-hit_way job number clock table packet direction P o visits key None = o.goes visits (untranslated key)
-hit_way job number clock table packet direction P o visits key (Some hit) = end_way job number clock table packet direction P o visits key hit hit.new_end
+hit_way : (job : RunJob) (number : ℕ) (clock : Clock) (place : InterfacePlace) (table : StateTable) (packet : Packet) (direction : Direction) (P : Outcome → Type 0) → Opening job number clock place table packet direction P
+    → (visits : List ℕ) (key : Key) (hit : Option Hit) → P (outcome_of table (by_hit job number clock place packet direction visits key hit))
+hit_way job number clock place table packet direction P o visits key None = o.goes visits (untranslated key)
+hit_way job number clock place table packet direction P o visits key (Some hit) = end_way job number clock place table packet direction P o visits key hit hit.new_end
 
-pub opening_way : (job : RunJob) (number : ℕ) (clock : Clock) (table : StateTable) (packet : Packet) (direction : Direction) (P : Outcome → Type 0) → Opening job number clock table packet direction P
-    → (key : Key) → P (outcome_of table (opening job number clock packet direction key))
-opening_way job number clock table packet direction P o key =
-    hit_way job number clock table packet direction P o (translations_visited job.rules packet direction) key (hit_of job.rules packet direction)
+pub opening_way : (job : RunJob) (number : ℕ) (clock : Clock) (place : InterfacePlace) (table : StateTable) (packet : Packet) (direction : Direction) (P : Outcome → Type 0) → Opening job number clock place table packet direction P
+    → (key : Key) → P (outcome_of table (opening job number clock place packet direction key))
+opening_way job number clock place table packet direction P o key =
+    hit_way job number clock place table packet direction P o (translations_visited job.rules packet direction) key (hit_of job.rules packet direction)
 
 -- ---- the packet that is judged
 

@@ -5,6 +5,7 @@ use Rattle.pfr_net.specs.declared.port.Port.{Port}
 use Rattle.pfr_ruleset.specs.declared.flat.PortRange.{PortRange}
 use Rattle.pfr_track.specs.declared.key.Key.{Key}
 use Rattle.pfr_track.specs.declared.state.State.{State}
+use Rattle.pfr_net.specs.declared.interface.Binding.TheVariants as binding
 use Rattle.pfr_states.specs.declared.change.Side.TheVariants.{Wire}
 use Rattle.pfr_states.specs.States.{StateTable}
 use Rattle.pfr_states.specs.declared.question.Question.{Question}
@@ -24,19 +25,19 @@ at_port wire next port ports = elim [ None ↦ next (Some (wire port)) | Some ot
 
 -- a port whose key a state has is passed over
 port_taken : (table : StateTable) (steps : Plan) (wire : ℕ → Key) (next : Option Key → Plan) (port : ℕ) (ports : List ℕ) (asked after : Question → Type 0) (key : Key) (found : Option State)
-    → GoesUpTo table steps (picking wire next (port ∷ ports)) asked → Keeps asked after → after (At Wire key) → key ≡ wire port → found ≡ found_in table Wire key → is_some found ≡ true
+    → GoesUpTo table steps (picking wire next (port ∷ ports)) asked → Keeps asked after → after (At Wire key binding.All) → key ≡ wire port → found ≡ found_in table Wire key binding.All → is_some found ≡ true
     → GoesUpTo table steps (picking wire next ports) after
 port_taken table steps wire next port ports asked after key None gone kept now same is some = absurd (cc some)
 port_taken table steps wire next port ports asked after key (Some state) gone kept now same is some =
-    one_further table steps Wire (wire port) (at_port wire next port ports) asked after (Some state) gone kept (rw same at now) (rw same at is)
+    one_further table steps Wire (wire port) binding.All (at_port wire next port ports) asked after (Some state) gone kept (rw same at now) (rw same at is)
 
 -- a port whose key no state has is picked
 port_free : (table : StateTable) (steps : Plan) (wire : ℕ → Key) (next : Option Key → Plan) (port : ℕ) (ports : List ℕ) (asked after : Question → Type 0) (key : Key) (found : Option State)
-    → GoesUpTo table steps (picking wire next (port ∷ ports)) asked → Keeps asked after → after (At Wire key) → key ≡ wire port → found ≡ found_in table Wire key → is_some found ≡ false
+    → GoesUpTo table steps (picking wire next (port ∷ ports)) asked → Keeps asked after → after (At Wire key binding.All) → key ≡ wire port → found ≡ found_in table Wire key binding.All → is_some found ≡ false
     → GoesUpTo table steps (next (Some key)) after
 port_free table steps wire next port ports asked after key (Some state) gone kept now same is none = absurd (cc none)
 port_free table steps wire next port ports asked after key None gone kept now same is none =
-    rw same (one_further table steps Wire (wire port) (at_port wire next port ports) asked after None gone kept (rw same at now) (rw same at is))
+    rw same (one_further table steps Wire (wire port) binding.All (at_port wire next port ports) asked after None gone kept (rw same at now) (rw same at is))
 
 -- ---- ports that rise
 
@@ -52,13 +53,13 @@ rising_at : (table : StateTable) (steps : Plan) (wire : ℕ → Key) (next : Opt
 rising_at table steps wire next rest port end asked below left = subst (λ (ports : List ℕ). GoesUpTo table steps (picking wire next (ports ++ rest)) asked) (rising_next port end below) left
 
 pub rising_taken : (table : StateTable) (steps : Plan) (wire : ℕ → Key) (next : Option Key → Plan) (rest : List ℕ) (port end : ℕ) (asked after : Question → Type 0) (key : Key) (found : Option State)
-    → port < end → RisingLeft table steps wire next rest port end asked → Keeps asked after → after (At Wire key) → key ≡ wire port → found ≡ found_in table Wire key → is_some found ≡ true
+    → port < end → RisingLeft table steps wire next rest port end asked → Keeps asked after → after (At Wire key binding.All) → key ≡ wire port → found ≡ found_in table Wire key binding.All → is_some found ≡ true
     → RisingLeft table steps wire next rest (port + 1) end after
 rising_taken table steps wire next rest port end asked after key found below left kept now same is some =
     port_taken table steps wire next port (rising (port + 1) (end - (port + 1)) ++ rest) asked after key found (rising_at table steps wire next rest port end asked below left) kept now same is some
 
 pub rising_free : (table : StateTable) (steps : Plan) (wire : ℕ → Key) (next : Option Key → Plan) (rest : List ℕ) (port end : ℕ) (asked after : Question → Type 0) (key : Key) (found : Option State)
-    → port < end → RisingLeft table steps wire next rest port end asked → Keeps asked after → after (At Wire key) → key ≡ wire port → found ≡ found_in table Wire key → is_some found ≡ false
+    → port < end → RisingLeft table steps wire next rest port end asked → Keeps asked after → after (At Wire key binding.All) → key ≡ wire port → found ≡ found_in table Wire key binding.All → is_some found ≡ false
     → GoesUpTo table steps (next (Some key)) after
 rising_free table steps wire next rest port end asked after key found below left kept now same is none =
     port_free table steps wire next port (rising (port + 1) (end - (port + 1)) ++ rest) asked after key found (rising_at table steps wire next rest port end asked below left) kept now same is none
@@ -76,13 +77,13 @@ falling_at : (table : StateTable) (steps : Plan) (wire : ℕ → Key) (next : Op
 falling_at table steps wire next rest low bound asked below left = subst (λ (ports : List ℕ). GoesUpTo table steps (picking wire next (ports ++ rest)) asked) (falling_next low bound below) left
 
 pub falling_taken : (table : StateTable) (steps : Plan) (wire : ℕ → Key) (next : Option Key → Plan) (rest : List ℕ) (low bound : ℕ) (asked after : Question → Type 0) (key : Key) (found : Option State)
-    → low < bound → FallingLeft table steps wire next rest low bound asked → Keeps asked after → after (At Wire key) → key ≡ wire (bound - 1) → found ≡ found_in table Wire key → is_some found ≡ true
+    → low < bound → FallingLeft table steps wire next rest low bound asked → Keeps asked after → after (At Wire key binding.All) → key ≡ wire (bound - 1) → found ≡ found_in table Wire key binding.All → is_some found ≡ true
     → FallingLeft table steps wire next rest low (bound - 1) after
 falling_taken table steps wire next rest low bound asked after key found below left kept now same is some =
     port_taken table steps wire next (bound - 1) (falling (bound - 1) (bound - 1 - low) ++ rest) asked after key found (falling_at table steps wire next rest low bound asked below left) kept now same is some
 
 pub falling_free : (table : StateTable) (steps : Plan) (wire : ℕ → Key) (next : Option Key → Plan) (rest : List ℕ) (low bound : ℕ) (asked after : Question → Type 0) (key : Key) (found : Option State)
-    → low < bound → FallingLeft table steps wire next rest low bound asked → Keeps asked after → after (At Wire key) → key ≡ wire (bound - 1) → found ≡ found_in table Wire key → is_some found ≡ false
+    → low < bound → FallingLeft table steps wire next rest low bound asked → Keeps asked after → after (At Wire key binding.All) → key ≡ wire (bound - 1) → found ≡ found_in table Wire key binding.All → is_some found ≡ false
     → GoesUpTo table steps (next (Some key)) after
 falling_free table steps wire next rest low bound asked after key found below left kept now same is none =
     port_free table steps wire next (bound - 1) (falling (bound - 1) (bound - 1 - low) ++ rest) asked after key found (falling_at table steps wire next rest low bound asked below left) kept now same is none

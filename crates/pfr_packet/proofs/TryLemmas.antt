@@ -5,6 +5,7 @@ use Rattle.std.specs.Option.{option_map}
 use Rattle.std.proofs.lemmas.Bool.{cases_Bool, eq-eqb, eqb-true, leb-false, leb-true, ne_eqb}
 use Rattle.std.proofs.lemmas.List.Elements.{All-cons, All-head, All-nil, All-tail}
 use Rattle.std.proofs.lemmas.Nat.{mod_below}
+use Rattle.pfr_net.specs.declared.interface.Binding.TheVariants as binding
 use Rattle.pfr_rules.specs.Translating.{up_to_first}
 use Rattle.pfr_track.specs.declared.key.Key.{Key}
 use Rattle.pfr_track.specs.declared.state.State.{State}
@@ -113,7 +114,7 @@ never_tried low high word port order outside =
 -- the first of a list is asked for: it goes on by whether a state has its key
 pub picks_first : (table : StateTable) (wire : ℕ → Key) (next : Option Key → Plan) (ports : List ℕ) → outcome_of table (picking wire next ports) ≡ outcome_of table (next (picked table wire ports))
 picks_first table wire next [] = refl
-picks_first table wire next (port ∷ ports) = by_state (found_in table Wire (wire port)) (picks_first table wire next ports)
+picks_first table wire next (port ∷ ports) = by_state (found_in table Wire (wire port) binding.All) (picks_first table wire next ports)
   where
     by_state : (found : Option State) → outcome_of table (picking wire next ports) ≡ outcome_of table (next (picked table wire ports))
         → outcome_of table (elim found [ None ↦ next (Some (wire port)) | Some other ↦ picking wire next ports ])
@@ -122,17 +123,17 @@ picks_first table wire next (port ∷ ports) = by_state (found_in table Wire (wi
     by_state (Some other) rest = rest
 
 pub asks_up_to_first : (table : StateTable) (wire : ℕ → Key) (next : Option Key → Plan) (ports : List ℕ)
-    → questions_of table (picking wire next ports) ≡ up_to_first (is_free_in table wire) (λ port. At Wire (wire port)) ports ++ questions_of table (next (picked table wire ports))
+    → questions_of table (picking wire next ports) ≡ up_to_first (is_free_in table wire) (λ port. At Wire (wire port) binding.All) ports ++ questions_of table (next (picked table wire ports))
 asks_up_to_first table wire next [] = refl
-asks_up_to_first table wire next (port ∷ ports) = by_state (found_in table Wire (wire port)) (asks_up_to_first table wire next ports)
+asks_up_to_first table wire next (port ∷ ports) = by_state (found_in table Wire (wire port) binding.All) (asks_up_to_first table wire next ports)
   where
     by_state : (found : Option State)
-        → questions_of table (picking wire next ports) ≡ up_to_first (is_free_in table wire) (λ port. At Wire (wire port)) ports ++ questions_of table (next (picked table wire ports))
-        → At Wire (wire port) ∷ questions_of table (elim found [ None ↦ next (Some (wire port)) | Some other ↦ picking wire next ports ])
-        ≡ (At Wire (wire port) ∷ cond (is_free found) [] (up_to_first (is_free_in table wire) (λ port. At Wire (wire port)) ports))
+        → questions_of table (picking wire next ports) ≡ up_to_first (is_free_in table wire) (λ port. At Wire (wire port) binding.All) ports ++ questions_of table (next (picked table wire ports))
+        → At Wire (wire port) binding.All ∷ questions_of table (elim found [ None ↦ next (Some (wire port)) | Some other ↦ picking wire next ports ])
+        ≡ (At Wire (wire port) binding.All ∷ cond (is_free found) [] (up_to_first (is_free_in table wire) (λ port. At Wire (wire port) binding.All) ports))
         ++ questions_of table (next (option_map wire (cond (is_free found) (Some port) (find (is_free_in table wire) ports))))
     by_state None rest = refl
-    by_state (Some other) rest = ap (λ questions. At Wire (wire port) ∷ questions) rest
+    by_state (Some other) rest = ap (λ questions. At Wire (wire port) binding.All ∷ questions) rest
 
 -- no port of a list is free
 abbrev pub AllTaken : StateTable → (ℕ → Key) → List ℕ → Type 0

@@ -3,6 +3,8 @@ use Rattle.std.proofs.Common.{◌≡◌, ◌⊎◌, ◌&&◌, ℕ, Bool, true, f
 use Rattle.std.specs.List.{Contains, slice_get}
 use Rattle.std.proofs.lemmas.Bool.{not-false}
 use Rattle.pfr_net.specs.declared.direction.Direction.{Direction}
+use Rattle.pfr_net.specs.declared.interface.Binding.TheVariants as binding
+use Rattle.pfr_net.specs.declared.interface.InterfacePlace.{InterfacePlace}
 use Rattle.pfr_net.specs.declared.rule_number.RuleNumber.{RuleNumber}
 use Rattle.pfr_ruleset.specs.declared.flat.FlatRule.{FlatRule}
 use Rattle.pfr_headers.specs.declared.packet.Packet.{Packet}
@@ -49,64 +51,64 @@ use Rattle.pfr_packet.proofs.ChangeLemmas.{found_in_states, passing}
 use Rattle.pfr_packet.proofs.OpeningLemmas.{behind_options, either_blocked, filtered_way, going_way, judged_way, judged_writes_nothing, opening_way}
 
 -- no state is found for the packet
-abbrev pub NoneFound : StateTable → Packet → Direction → Type 0
-NoneFound table packet direction = (key : Key) → ((subject_of direction packet ≡ Embedded key) ⊎ (subject_of direction packet ≡ Connection key)) → found_in table (side_of direction) key ≡ None
+abbrev pub NoneFound : InterfacePlace → StateTable → Packet → Direction → Type 0
+NoneFound place table packet direction = (key : Key) → ((subject_of direction packet ≡ Embedded key) ⊎ (subject_of direction packet ≡ Connection key)) → found_in table (side_of direction) key (binding.To place) ≡ None
 
 -- what becomes of the first packet of a connection behind a passage
 abbrev pub judged_in : RunJob → StateTable → Packet → Direction → Passage → List ℕ → Outcome
 judged_in job table packet direction passage visits = judged job.rules (answer_for job.rules table direction packet passage) direction packet passage visits
 
 -- what the state says of its rules that it may make
-abbrev pub kept_in : RunJob → StateTable → Packet → Direction → Passage → Option StateRules
-kept_in job table packet direction passage = judged_kept job.rules (answer_for job.rules table direction packet passage) direction packet passage
+abbrev pub kept_in : RunJob → InterfacePlace → StateTable → Packet → Direction → Passage → Option StateRules
+kept_in job place table packet direction passage = judged_kept place job.rules (answer_for job.rules table direction packet passage) direction packet passage
 
 -- it is the first packet of its connection
-pub record IsFirst (table : StateTable) (packet : Packet) (direction : Direction) : Type 0 where
+pub record IsFirst (place : InterfacePlace) (table : StateTable) (packet : Packet) (direction : Direction) : Type 0 where
   pub key : Key
   pub subject_is : subject_of direction packet ≡ Connection key
-  pub none_found : NoneFound table packet direction
+  pub none_found : NoneFound place table packet direction
 
 -- what holds of the outcome, whichever way the packet goes
-pub record Ways (job : RunJob) (table : StateTable) (packet : Packet) (direction : Direction) (P : Outcome → Type 0) : Type 0 where
-  pub by_rules : NoneFound table packet direction → P (filtered job.rules (filter_answer job.rules table packet direction) packet direction)
-  pub by_error : (key : Key) (state : State) → subject_of direction packet ≡ Embedded key → found_in table (side_of direction) key ≡ Some state → P (embedded direction packet state)
-  pub by_state : (key : Key) (state : State) (t : Touch) → subject_of direction packet ≡ Connection key → found_in table (side_of direction) key ≡ Some state → P (tracked direction packet state t)
-  pub goes : (passage : Passage) (visits : List ℕ) → IsFirst table packet direction → P (judged_in job table packet direction passage visits)
-  pub makes : (passage : Passage) (visits : List ℕ) (state : State) → IsFirst table packet direction → lets_pass (judged_in job table packet direction passage visits).verdict ≡ true
-      → kept_in job table packet direction passage ≡ Some state.rules → P (with_made packet state (judged_in job table packet direction passage visits))
-  pub has_no_place : (passage : Passage) (visits : List ℕ) → IsFirst table packet direction → P (blocked reason.StateInsert (judged_in job table packet direction passage visits))
-  pub has_no_room : (passage : Passage) (visits : List ℕ) → IsFirst table packet direction → has_room_in table ≡ false → P (blocked reason.StateLimit (judged_in job table packet direction passage visits))
-  pub has_no_port : (rule : RuleNumber) (visits : List ℕ) → IsFirst table packet direction → P (exhausted direction rule visits)
+pub record Ways (job : RunJob) (place : InterfacePlace) (table : StateTable) (packet : Packet) (direction : Direction) (P : Outcome → Type 0) : Type 0 where
+  pub by_rules : NoneFound place table packet direction → P (filtered job.rules (filter_answer job.rules table packet direction) packet direction)
+  pub by_error : (key : Key) (state : State) → subject_of direction packet ≡ Embedded key → found_in table (side_of direction) key (binding.To place) ≡ Some state → P (embedded direction packet state)
+  pub by_state : (key : Key) (state : State) (t : Touch) → subject_of direction packet ≡ Connection key → found_in table (side_of direction) key (binding.To place) ≡ Some state → P (tracked direction packet state t)
+  pub goes : (passage : Passage) (visits : List ℕ) → IsFirst place table packet direction → P (judged_in job table packet direction passage visits)
+  pub makes : (passage : Passage) (visits : List ℕ) (state : State) → IsFirst place table packet direction → lets_pass (judged_in job table packet direction passage visits).verdict ≡ true
+      → kept_in job place table packet direction passage ≡ Some state.rules → P (with_made packet state (judged_in job table packet direction passage visits))
+  pub has_no_place : (passage : Passage) (visits : List ℕ) → IsFirst place table packet direction → P (blocked reason.StateInsert (judged_in job table packet direction passage visits))
+  pub has_no_room : (passage : Passage) (visits : List ℕ) → IsFirst place table packet direction → has_room_in table ≡ false → P (blocked reason.StateLimit (judged_in job table packet direction passage visits))
+  pub has_no_port : (rule : RuleNumber) (visits : List ℕ) → IsFirst place table packet direction → P (exhausted direction rule visits)
 
-room_way : (job : RunJob) (table : StateTable) (packet : Packet) (direction : Direction) (P : Outcome → Type 0) → Ways job table packet direction P → (passage : Passage) (visits : List ℕ) (state : State)
-    → IsFirst table packet direction → lets_pass (judged_in job table packet direction passage visits).verdict ≡ true → kept_in job table packet direction passage ≡ Some state.rules → (room : Bool) → has_room_in table ≡ room
+room_way : (job : RunJob) (place : InterfacePlace) (table : StateTable) (packet : Packet) (direction : Direction) (P : Outcome → Type 0) → Ways job place table packet direction P → (passage : Passage) (visits : List ℕ) (state : State)
+    → IsFirst place table packet direction → lets_pass (judged_in job table packet direction passage visits).verdict ≡ true → kept_in job place table packet direction passage ≡ Some state.rules → (room : Bool) → has_room_in table ≡ room
     → P (outcome_of table (with_room packet state (judged_in job table packet direction passage visits) room))
-room_way job table packet direction P w passage visits state first passes kept true room = w.makes passage visits state first passes kept
-room_way job table packet direction P w passage visits state first passes kept false room = w.has_no_room passage visits first room
+room_way job place table packet direction P w passage visits state first passes kept true room = w.makes passage visits state first passes kept
+room_way job place table packet direction P w passage visits state first passes kept false room = w.has_no_room passage visits first room
 
-keys_way : (job : RunJob) (table : StateTable) (packet : Packet) (direction : Direction) (P : Outcome → Type 0) → Ways job table packet direction P → (passage : Passage) (visits : List ℕ) (state : State)
-    → IsFirst table packet direction → lets_pass (judged_in job table packet direction passage visits).verdict ≡ true → kept_in job table packet direction passage ≡ Some state.rules → (wire stack : Option State)
+keys_way : (job : RunJob) (place : InterfacePlace) (table : StateTable) (packet : Packet) (direction : Direction) (P : Outcome → Type 0) → Ways job place table packet direction P → (passage : Passage) (visits : List ℕ) (state : State)
+    → IsFirst place table packet direction → lets_pass (judged_in job table packet direction passage visits).verdict ≡ true → kept_in job place table packet direction passage ≡ Some state.rules → (wire stack : Option State)
     → P (outcome_of table (with_keys packet state (judged_in job table packet direction passage visits) wire stack))
-keys_way job table packet direction P w passage visits state first passes kept None None = room_way job table packet direction P w passage visits state first passes kept (has_room_in table) refl
-keys_way job table packet direction P w passage visits state first passes kept None (Some other) = w.has_no_place passage visits first
-keys_way job table packet direction P w passage visits state first passes kept (Some other) _ = w.has_no_place passage visits first
+keys_way job place table packet direction P w passage visits state first passes kept None None = room_way job place table packet direction P w passage visits state first passes kept (has_room_in table) refl
+keys_way job place table packet direction P w passage visits state first passes kept None (Some other) = w.has_no_place passage visits first
+keys_way job place table packet direction P w passage visits state first passes kept (Some other) _ = w.has_no_place passage visits first
 
-passing_way : (job : RunJob) (table : StateTable) (packet : Packet) (direction : Direction) (P : Outcome → Type 0) → Ways job table packet direction P → (passage : Passage) (visits : List ℕ) (state : State)
-    → IsFirst table packet direction → kept_in job table packet direction passage ≡ Some state.rules → (test : Bool) → lets_pass (judged_in job table packet direction passage visits).verdict ≡ test
+passing_way : (job : RunJob) (place : InterfacePlace) (table : StateTable) (packet : Packet) (direction : Direction) (P : Outcome → Type 0) → Ways job place table packet direction P → (passage : Passage) (visits : List ℕ) (state : State)
+    → IsFirst place table packet direction → kept_in job place table packet direction passage ≡ Some state.rules → (test : Bool) → lets_pass (judged_in job table packet direction passage visits).verdict ≡ test
     → P (outcome_of table (cond test (making packet state (judged_in job table packet direction passage visits)) (done (judged_in job table packet direction passage visits))))
-passing_way job table packet direction P w passage visits state first kept true passes = keys_way job table packet direction P w passage visits state first passes kept (found_in table Wire state.wire) (found_in table Stack state.stack)
-passing_way job table packet direction P w passage visits state first kept false passes = w.goes passage visits first
+passing_way job place table packet direction P w passage visits state first kept true passes = keys_way job place table packet direction P w passage visits state first passes kept (found_in table Wire state.wire state.rules.binding) (found_in table Stack state.stack state.rules.binding)
+passing_way job place table packet direction P w passage visits state first kept false passes = w.goes passage visits first
 
-opened_way : (job : RunJob) (number : ℕ) (clock : Clock) (table : StateTable) (packet : Packet) (direction : Direction) (passage : Passage) (visits : List ℕ) (P : Outcome → Type 0) → Ways job table packet direction P
-    → IsFirst table packet direction → (kept : Option StateRules) → kept_in job table packet direction passage ≡ kept → P (outcome_of table (opened job number clock packet direction passage (judged_in job table packet direction passage visits) kept))
-opened_way job number clock table packet direction passage visits P w first None is = w.goes passage visits first
-opened_way job number clock table packet direction passage visits P w first (Some rules) is =
-    passing_way job table packet direction P w passage visits (made (record { 0 = number }) packet direction passage.wire passage.stack rules clock (timeouts_of job)) first is (lets_pass (judged_in job table packet direction passage visits).verdict) refl
+opened_way : (job : RunJob) (number : ℕ) (clock : Clock) (place : InterfacePlace) (table : StateTable) (packet : Packet) (direction : Direction) (passage : Passage) (visits : List ℕ) (P : Outcome → Type 0) → Ways job place table packet direction P
+    → IsFirst place table packet direction → (kept : Option StateRules) → kept_in job place table packet direction passage ≡ kept → P (outcome_of table (opened job number clock place packet direction passage (judged_in job table packet direction passage visits) kept))
+opened_way job number clock place table packet direction passage visits P w first None is = w.goes passage visits first
+opened_way job number clock place table packet direction passage visits P w first (Some rules) is =
+    passing_way job place table packet direction P w passage visits (made (record { 0 = number }) packet direction place passage.wire passage.stack rules clock (timeouts_of job)) first is (lets_pass (judged_in job table packet direction passage visits).verdict) refl
 
 -- the subject of a packet is one
-none_at : (table : StateTable) (packet : Packet) (direction : Direction) (subject : Subject) (key : Key) → subject_of direction packet ≡ subject → (subject ≡ Embedded key) ⊎ (subject ≡ Connection key)
-    → found_in table (side_of direction) key ≡ None → NoneFound table packet direction
-none_at table packet direction subject key is one none = λ other at. rw (same_key other (elim at [ inl embedded ↦ inl (sym is ∙ embedded) | inr own ↦ inr (sym is ∙ own) ]) one) none
+none_at : (place : InterfacePlace) (table : StateTable) (packet : Packet) (direction : Direction) (subject : Subject) (key : Key) → subject_of direction packet ≡ subject → (subject ≡ Embedded key) ⊎ (subject ≡ Connection key)
+    → found_in table (side_of direction) key (binding.To place) ≡ None → NoneFound place table packet direction
+none_at place table packet direction subject key is one none = λ other at. rw (same_key other (elim at [ inl embedded ↦ inl (sym is ∙ embedded) | inr own ↦ inr (sym is ∙ own) ]) one) none
   where
     same_key : (other : Key) → (subject ≡ Embedded other) ⊎ (subject ≡ Connection other) → (subject ≡ Embedded key) ⊎ (subject ≡ Connection key) → other ≡ key
     same_key other (inl a) (inl b) = (let e : Embedded other ≡ Embedded key = sym a ∙ b in cc e)
@@ -114,46 +116,46 @@ none_at table packet direction subject key is one none = λ other at. rw (same_k
     same_key other (inr a) (inl b) = (let e : Connection other ≡ Embedded key = sym a ∙ b in absurd (cc e))
     same_key other (inr a) (inr b) = (let e : Connection other ≡ Connection key = sym a ∙ b in cc e)
 
-embedded_way : (job : RunJob) (table : StateTable) (packet : Packet) (direction : Direction) (P : Outcome → Type 0) → Ways job table packet direction P → (key : Key) → subject_of direction packet ≡ Embedded key
-    → (found : Option State) → found_in table (side_of direction) key ≡ found → P (outcome_of table (by_embedded job packet direction found))
-embedded_way job table packet direction P w key is None none = w.by_rules (none_at table packet direction (Embedded key) key is (inl refl) none)
-embedded_way job table packet direction P w key is (Some state) found = w.by_error key state is found
+embedded_way : (job : RunJob) (place : InterfacePlace) (table : StateTable) (packet : Packet) (direction : Direction) (P : Outcome → Type 0) → Ways job place table packet direction P → (key : Key) → subject_of direction packet ≡ Embedded key
+    → (found : Option State) → found_in table (side_of direction) key (binding.To place) ≡ found → P (outcome_of table (by_embedded job packet direction found))
+embedded_way job place table packet direction P w key is None none = w.by_rules (none_at place table packet direction (Embedded key) key is (inl refl) none)
+embedded_way job place table packet direction P w key is (Some state) found = w.by_error key state is found
 
-connection_way : (job : RunJob) (number : ℕ) (clock : Clock) (table : StateTable) (packet : Packet) (direction : Direction) (P : Outcome → Type 0) → Ways job table packet direction P → (key : Key) → subject_of direction packet ≡ Connection key
-    → (found : Option State) → found_in table (side_of direction) key ≡ found → P (outcome_of table (by_connection job number clock packet direction key found))
-connection_way job number clock table packet direction P w key is None none =
-    let first : IsFirst table packet direction = record { key = key; subject_is = is; none_found = none_at table packet direction (Connection key) key is (inr refl) none } in
-    opening_way job number clock table packet direction P (record {
-      goes = λ visits passage. going_way job number clock table packet direction P visits passage (opened_way job number clock table packet direction passage visits P w first (kept_in job table packet direction passage) refl);
+connection_way : (job : RunJob) (number : ℕ) (clock : Clock) (place : InterfacePlace) (table : StateTable) (packet : Packet) (direction : Direction) (P : Outcome → Type 0) → Ways job place table packet direction P → (key : Key) → subject_of direction packet ≡ Connection key
+    → (found : Option State) → found_in table (side_of direction) key (binding.To place) ≡ found → P (outcome_of table (by_connection job number clock place packet direction key found))
+connection_way job number clock place table packet direction P w key is None none =
+    let first : IsFirst place table packet direction = record { key = key; subject_is = is; none_found = none_at place table packet direction (Connection key) key is (inr refl) none } in
+    opening_way job number clock place table packet direction P (record {
+      goes = λ visits passage. going_way job number clock place table packet direction P visits passage (opened_way job number clock place table packet direction passage visits P w first (kept_in job place table packet direction passage) refl);
       has_no_port = λ rule visits. w.has_no_port rule visits first;
     }) key
-connection_way job number clock table packet direction P w key is (Some state) found = w.by_state key state (touched state packet direction clock (timeouts_of job)) is found
+connection_way job number clock place table packet direction P w key is (Some state) found = w.by_state key state (touched state packet direction clock (timeouts_of job)) is found
 
-subject_way : (job : RunJob) (number : ℕ) (clock : Clock) (table : StateTable) (packet : Packet) (direction : Direction) (P : Outcome → Type 0) → Ways job table packet direction P → (subject : Subject) → subject_of direction packet ≡ subject
-    → P (outcome_of table (subject_plan job number clock packet direction subject))
-subject_way job number clock table packet direction P w Alone is = w.by_rules (λ key at. elim at [
+subject_way : (job : RunJob) (number : ℕ) (clock : Clock) (place : InterfacePlace) (table : StateTable) (packet : Packet) (direction : Direction) (P : Outcome → Type 0) → Ways job place table packet direction P → (subject : Subject) → subject_of direction packet ≡ subject
+    → P (outcome_of table (subject_plan job number clock place packet direction subject))
+subject_way job number clock place table packet direction P w Alone is = w.by_rules (λ key at. elim at [
   | inl embedded ↦ (let e : Alone ≡ Embedded key = sym is ∙ embedded in absurd (cc e))
   | inr own ↦ (let e : Alone ≡ Connection key = sym is ∙ own in absurd (cc e))
 ])
-subject_way job number clock table packet direction P w (Embedded key) is = embedded_way job table packet direction P w key is (found_in table (side_of direction) key) refl
-subject_way job number clock table packet direction P w (Connection key) is = connection_way job number clock table packet direction P w key is (found_in table (side_of direction) key) refl
+subject_way job number clock place table packet direction P w (Embedded key) is = embedded_way job place table packet direction P w key is (found_in table (side_of direction) key (binding.To place)) refl
+subject_way job number clock place table packet direction P w (Connection key) is = connection_way job number clock place table packet direction P w key is (found_in table (side_of direction) key (binding.To place)) refl
 
-pub packet_way : (job : RunJob) (number : ℕ) (clock : Clock) (table : StateTable) (packet : Packet) (direction : Direction) (P : Outcome → Type 0) → Ways job table packet direction P
-    → P (outcome_of table (packet_plan job number clock packet direction))
+pub packet_way : (job : RunJob) (number : ℕ) (clock : Clock) (place : InterfacePlace) (table : StateTable) (packet : Packet) (direction : Direction) (P : Outcome → Type 0) → Ways job place table packet direction P
+    → P (outcome_of table (packet_plan job number clock place packet direction))
 unfolding packet_plan
-packet_way job number clock table packet direction P w = subject_way job number clock table packet direction P w (subject_of direction packet) refl
+packet_way job number clock place table packet direction P w = subject_way job number clock place table packet direction P w (subject_of direction packet) refl
 
 skipped_way : (table : StateTable) (P : Outcome → Type 0) (skipped : Bool) (other : Plan) → P passed_over → P (outcome_of table other) → P (outcome_of table (cond skipped (done passed_over) other))
 skipped_way table P true other over h = over
 skipped_way table P false other over h = h
 
 -- the outcome of an IPv4 packet, over the table once the states are gone whose deadline has come
-pub step_way : (job : RunJob) (number : ℕ) (clock : Clock) (table : StateTable) (packet : Packet) (P : Outcome → Type 0) → P passed_over → Ways job (purged_at clock table) packet (direction_of job.inside packet) P
-    → P (step_of job number clock (Ipv4 packet) table)
+pub step_way : (job : RunJob) (number : ℕ) (clock : Clock) (place : InterfacePlace) (table : StateTable) (packet : Packet) (P : Outcome → Type 0) → P passed_over → Ways job place (purged_at clock table) packet (direction_of job.inside packet) P
+    → P (step_of job number clock place (Ipv4 packet) table)
 unfolding step_of plan
-step_way job number clock table packet P over w =
-    skipped_way (purged_at clock table) P (is_skipped job) (packet_plan job number clock packet (direction_of job.inside packet)) over
-    (packet_way job number clock (purged_at clock table) packet (direction_of job.inside packet) P w)
+step_way job number clock place table packet P over w =
+    skipped_way (purged_at clock table) P (is_skipped job) (packet_plan job number clock place packet (direction_of job.inside packet)) over
+    (packet_way job number clock place (purged_at clock table) packet (direction_of job.inside packet) P w)
 
 -- ---- what holds of every outcome
 
@@ -170,12 +172,12 @@ subject_opens direction packet (transport.Icmp header) key opens is = message_op
     message_opens_none message.Other opens is = cc is
 subject_opens direction packet transport.Other key opens is = cc opens
 
-pub no_state_of : (job : RunJob) (number : ℕ) (clock : Clock) (packet : Packet) (table : StateTable) → opens_connection packet.transport ≡ false → (step_of job number clock (Ipv4 packet) table).change ≡ None
-no_state_of job number clock packet table opens =
+pub no_state_of : (job : RunJob) (number : ℕ) (clock : Clock) (place : InterfacePlace) (packet : Packet) (table : StateTable) → opens_connection packet.transport ≡ false → (step_of job number clock place (Ipv4 packet) table).change ≡ None
+no_state_of job number clock place packet table opens =
     let direction = direction_of job.inside packet in
     let answer = filter_answer job.rules (purged_at clock table) packet direction in
     let by_rules : (filtered job.rules answer packet direction).change ≡ None = filtered_way job.rules answer packet direction (λ o. o.change ≡ None) (λ free. refl) refl in
-    step_way job number clock table packet (λ o. o.change ≡ None) refl (record {
+    step_way job number clock place table packet (λ o. o.change ≡ None) refl (record {
       by_rules = λ none. by_rules;
       by_error = λ key state is found. either_blocked (λ o. o.change ≡ None) _ reason.IpOption (passing direction packet state reason.StateError None) (λ free. refl) refl;
       by_state = λ key state t is found. absurd (subject_opens direction packet packet.transport key opens is);
@@ -187,14 +189,14 @@ no_state_of job number clock packet table opens =
     })
 
 -- where a state is found no rule is visited
-pub none_visited_of : (job : RunJob) (number : ℕ) (clock : Clock) (packet : Packet) (table : StateTable) (key : Key) (state : State)
+pub none_visited_of : (job : RunJob) (number : ℕ) (clock : Clock) (place : InterfacePlace) (packet : Packet) (table : StateTable) (key : Key) (state : State)
     → (subject_of (direction_of job.inside packet) packet ≡ Embedded key) ⊎ (subject_of (direction_of job.inside packet) packet ≡ Connection key)
-    → found_in (purged_at clock table) (side_of (direction_of job.inside packet)) key ≡ Some state → (step_of job number clock (Ipv4 packet) table).visited ≡ none_visited
-none_visited_of job number clock packet table key state subject found =
+    → found_in (purged_at clock table) (side_of (direction_of job.inside packet)) key (binding.To place) ≡ Some state → (step_of job number clock place (Ipv4 packet) table).visited ≡ none_visited
+none_visited_of job number clock place packet table key state subject found =
     let direction = direction_of job.inside packet in
     let P : Outcome → Type 0 = λ o. o.visited ≡ none_visited in
-    let contradicts : NoneFound (purged_at clock table) packet direction → ⊥ = λ none. (let both : None ≡ Some state = sym (none key subject) ∙ found in cc both) in
-    step_way job number clock table packet P refl (record {
+    let contradicts : NoneFound place (purged_at clock table) packet direction → ⊥ = λ none. (let both : None ≡ Some state = sym (none key subject) ∙ found in cc both) in
+    step_way job number clock place table packet P refl (record {
       by_rules = λ none. absurd (contradicts none);
       by_error = λ key state is found. either_blocked P _ reason.IpOption (passing direction packet state reason.StateError None) (λ free. refl) refl;
       by_state = λ key state t is found. tracked_visits direction packet state t;
@@ -239,11 +241,11 @@ tracked_lacks table direction packet state (touch.Touched next) = either_blocked
 tracked_lacks table direction packet state touch.Mismatch = λ is. absurd (cc is)
 tracked_lacks table direction packet state touch.Removed = λ is. absurd (cc is)
 
-pub limit_of : (job : RunJob) (number : ℕ) (clock : Clock) (packet : Packet) (table : StateTable) → LacksRoom (purged_at clock table) (step_of job number clock (Ipv4 packet) table)
-limit_of job number clock packet table =
+pub limit_of : (job : RunJob) (number : ℕ) (clock : Clock) (place : InterfacePlace) (packet : Packet) (table : StateTable) → LacksRoom (purged_at clock table) (step_of job number clock place (Ipv4 packet) table)
+limit_of job number clock place packet table =
     let direction = direction_of job.inside packet in
     let now = purged_at clock table in
-    step_way job number clock table packet (LacksRoom now) (λ is. absurd (cc is)) (record {
+    step_way job number clock place table packet (LacksRoom now) (λ is. absurd (cc is)) (record {
       by_rules = λ none. filtered_lacks job now packet direction;
       by_error = λ key state is found. either_blocked (LacksRoom now) _ reason.IpOption (passing direction packet state reason.StateError None) (λ free is. absurd (cc is)) (λ is. absurd (cc is));
       by_state = λ key state t is found. tracked_lacks now direction packet state t;
@@ -263,10 +265,10 @@ tracked_unwritten direction packet state (touch.Touched next) = either_blocked U
 tracked_unwritten direction packet state touch.Mismatch = λ stops. refl
 tracked_unwritten direction packet state touch.Removed = λ stops. refl
 
-pub unwritten_of : (job : RunJob) (number : ℕ) (clock : Clock) (packet : Packet) (table : StateTable) → Unwritten (step_of job number clock (Ipv4 packet) table)
-unwritten_of job number clock packet table =
+pub unwritten_of : (job : RunJob) (number : ℕ) (clock : Clock) (place : InterfacePlace) (packet : Packet) (table : StateTable) → Unwritten (step_of job number clock place (Ipv4 packet) table)
+unwritten_of job number clock place packet table =
     let direction = direction_of job.inside packet in
-    step_way job number clock table packet Unwritten (λ stops. absurd (cc stops)) (record {
+    step_way job number clock place table packet Unwritten (λ stops. absurd (cc stops)) (record {
       by_rules = λ none. filtered_way job.rules (filter_answer job.rules (purged_at clock table) packet direction) packet direction Unwritten (λ free stops. refl) (λ stops. refl);
       by_error = λ key state is found. either_blocked Unwritten _ reason.IpOption (passing direction packet state reason.StateError None) (λ free stops. absurd (cc stops)) (λ stops. refl);
       by_state = λ key state t is found. tracked_unwritten direction packet state t;
@@ -293,7 +295,7 @@ rule_with_leave : (rules : List FlatRule) (number : Option RuleNumber) → (cond
 rule_with_leave rules None is = absurd (cc is)
 rule_with_leave rules (Some number) is = at_place (slice_get rules number.0) refl is
   where
-    at_place : (found : Option FlatRule) → slice_get rules number.0 ≡ found → (conduct_at number found).allows_options ≡ true → RuleWithLeave rules (Some number)
+    at_place : (found : Option FlatRule) → slice_get rules number.0 ≡ found → (conduct_at found).allows_options ≡ true → RuleWithLeave rules (Some number)
     at_place None got is = absurd (cc is)
     at_place (Some rule) got is = (number, rule, got, refl, is)
 
@@ -331,15 +333,15 @@ judged_rule job table packet direction passage visits options lets =
       decides_blocked = λ passes. absurd (cc passes);
     }) lets
 
-pub leave_of : (job : RunJob) (number : ℕ) (clock : Clock) (packet : Packet) (table : StateTable) → ByLeave job.rules.filter.rules (purged_at clock table).states packet (step_of job number clock (Ipv4 packet) table)
-leave_of job number clock packet table =
+pub leave_of : (job : RunJob) (number : ℕ) (clock : Clock) (place : InterfacePlace) (packet : Packet) (table : StateTable) → ByLeave job.rules.filter.rules (purged_at clock table).states packet (step_of job number clock place (Ipv4 packet) table)
+leave_of job number clock place packet table =
     let direction = direction_of job.inside packet in
     let now = purged_at clock table in
     let rules = job.rules.filter.rules in
-    step_way job number clock table packet (ByLeave rules now.states packet) (λ options passes skipped. absurd (skipped refl)) (record {
+    step_way job number clock place table packet (ByLeave rules now.states packet) (λ options passes skipped. absurd (skipped refl)) (record {
       by_rules = λ none. filtered_leave job (filter_answer job.rules now packet direction) now.states packet direction;
-      by_error = λ key state is found. state_leave now rules direction packet state reason.StateError None (found_in_states now (side_of direction) key state found);
-      by_state = λ key state t is found. tracked_leave now rules direction packet state t (found_in_states now (side_of direction) key state found);
+      by_error = λ key state is found. state_leave now rules direction packet state reason.StateError None (found_in_states now (side_of direction) key (binding.To place) state found);
+      by_state = λ key state t is found. tracked_leave now rules direction packet state t (found_in_states now (side_of direction) key (binding.To place) state found);
       goes = λ passage visits first options passes skipped. inl (judged_rule job now packet direction passage visits options passes);
       makes = λ passage visits state first lets kept options passes skipped. inl (judged_rule job now packet direction passage visits options lets);
       has_no_place = λ passage visits first options passes skipped. absurd (cc passes);
@@ -348,10 +350,10 @@ leave_of job number clock packet table =
     })
 
 -- what is passed over
-pub untouched_of : (job : RunJob) (number : ℕ) (clock : Clock) (view : View) (table : StateTable) → (view ≡ Skip) ⊎ (is_skipped job ≡ true) → IsUntouched (step_of job number clock view table) × (asked_of job number clock view table ≡ [])
+pub untouched_of : (job : RunJob) (number : ℕ) (clock : Clock) (place : InterfacePlace) (view : View) (table : StateTable) → (view ≡ Skip) ⊎ (is_skipped job ≡ true) → IsUntouched (step_of job number clock place view table) × (asked_of job number clock place view table ≡ [])
 unfolding step_of asked_of plan
-untouched_of job number clock Skip table over = (record { goes_on = inr refl; change_is = refl; bytes_are = refl; state_is = refl; rule_is = refl; translation_is = refl; visited_is = refl }, refl)
-untouched_of job number clock Short table (inl is) = absurd (cc is)
-untouched_of job number clock Short table (inr is) = rw is (record { goes_on = inl refl; change_is = refl; bytes_are = refl; state_is = refl; rule_is = refl; translation_is = refl; visited_is = refl }, refl)
-untouched_of job number clock (Ipv4 packet) table (inl is) = absurd (cc is)
-untouched_of job number clock (Ipv4 packet) table (inr is) = rw is (record { goes_on = inl refl; change_is = refl; bytes_are = refl; state_is = refl; rule_is = refl; translation_is = refl; visited_is = refl }, refl)
+untouched_of job number clock place Skip table over = (record { goes_on = inr refl; change_is = refl; bytes_are = refl; state_is = refl; rule_is = refl; translation_is = refl; visited_is = refl }, refl)
+untouched_of job number clock place Short table (inl is) = absurd (cc is)
+untouched_of job number clock place Short table (inr is) = rw is (record { goes_on = inl refl; change_is = refl; bytes_are = refl; state_is = refl; rule_is = refl; translation_is = refl; visited_is = refl }, refl)
+untouched_of job number clock place (Ipv4 packet) table (inl is) = absurd (cc is)
+untouched_of job number clock place (Ipv4 packet) table (inr is) = rw is (record { goes_on = inl refl; change_is = refl; bytes_are = refl; state_is = refl; rule_is = refl; translation_is = refl; visited_is = refl }, refl)

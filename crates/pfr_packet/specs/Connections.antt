@@ -4,6 +4,9 @@ use Rattle.std.specs.Prelude.{◌≡◌, ℕ, true, Option, Some, None, ⊤}
 use Rattle.std.specs.List.{Contains}
 use Rattle.pfr_net.specs.declared.direction.Direction.{Direction}
 use Rattle.pfr_net.specs.declared.direction.Direction.TheVariants.{In, Out}
+use Rattle.pfr_net.specs.declared.interface.Binding.TheVariants.{To}
+use Rattle.pfr_net.specs.declared.interface.InterfacePlace.{InterfacePlace}
+use Rattle.pfr_net.specs.Interfaces.{meets}
 use Rattle.pfr_net.specs.declared.endpoint.Endpoint.{Endpoint}
 use Rattle.pfr_headers.specs.declared.change.Change.{Change}
 use Rattle.pfr_headers.specs.declared.change.End.{End}
@@ -94,7 +97,7 @@ AreAlike transport.Other transport.Other = ⊤
 AreAlike _ _ = ⊥
 
 -- a packet of the same protocol that goes back from where another was sent to
-pub record Answers (sent answer : Packet) : Type 0 where
+pub record IsAnswerTo (sent answer : Packet) : Type 0 where
   pub protocol_is : answer.protocol ≡ sent.protocol
   pub is_alike : AreAlike sent.transport answer.transport
   pub from : Endpoint
@@ -106,8 +109,8 @@ pub record Answers (sent answer : Packet) : Type 0 where
 pub record GoesBack (direction : Direction) (packet answer : Packet) (state : State) : Type 0 where
   pub key : Key
   pub looked_up : subject_of (opposite direction) answer ≡ Connection key
-  -- in each table that has the state
-  pub is_found : (table : StateTable) → IsTable table → Contains table.states state → found_in table (side_of (opposite direction)) key ≡ Some state
+  -- in each table that has the state, on each interface to which the state is bound
+  pub is_found : (table : StateTable) (place : InterfacePlace) → IsTable table → Contains table.states state → meets state.rules.binding (To place) ≡ true → found_in table (side_of (opposite direction)) key (To place) ≡ Some state
   pub goes_back : (from to : Endpoint) → GoesFrom packet from to → GoesFrom (sent_on answer (written_by (opposite direction) answer state.wire state.stack)) to from
 
 -- a state as later packets of its connection leave it
@@ -126,27 +129,28 @@ pub record IsBroughtBack (packet answer : Packet) (state : State) (outcome : Out
 -- the captured packet goes by the state's key on its own side, the packet that is sent on by the one on the other side
 abbrev pub StateKnowsBothSides : Type 0
 StateKnowsBothSides =
-    (job : RunJob) (number : ℕ) (clock : Clock) (packet : Packet) (table : StateTable) (state : State)
-    → (step_of job number clock (Ipv4 packet) table).change ≡ Some (Made state)
-    → KnowsBothSides (direction_of job.inside packet) packet (sent_on packet (step_of job number clock (Ipv4 packet) table).bytes) state
+    (job : RunJob) (number : ℕ) (clock : Clock) (place : InterfacePlace) (packet : Packet) (table : StateTable) (state : State)
+    → (step_of job number clock place (Ipv4 packet) table).change ≡ Some (Made state)
+    → KnowsBothSides (direction_of job.inside packet) packet (sent_on packet (step_of job number clock place (Ipv4 packet) table).bytes) state
 
 -- an answer to what was sent on finds the state, and goes back to the first sender
 abbrev pub AnswersGoBack : Type 0
 AnswersGoBack =
-    (job : RunJob) (number : ℕ) (clock : Clock) (packet answer : Packet) (table : StateTable) (state : State)
-    → (step_of job number clock (Ipv4 packet) table).change ≡ Some (Made state)
-    → Answers (sent_on packet (step_of job number clock (Ipv4 packet) table).bytes) answer
+    (job : RunJob) (number : ℕ) (clock : Clock) (place : InterfacePlace) (packet answer : Packet) (table : StateTable) (state : State)
+    → (step_of job number clock place (Ipv4 packet) table).change ≡ Some (Made state)
+    → IsAnswerTo (sent_on packet (step_of job number clock place (Ipv4 packet) table).bytes) answer
     → GoesBack (direction_of job.inside packet) packet answer state
 
--- and so it is evaluated, over each later table in which the state still lives
+-- and so it is evaluated on each interface to which the state is bound, over each later table in which the state still lives
 abbrev pub AnswersAreBroughtBack : Type 0
 AnswersAreBroughtBack =
-    (job : RunJob) (number next : ℕ) (clock now : Clock) (packet answer : Packet) (table after : StateTable) (state later : State)
-    → (step_of job number clock (Ipv4 packet) table).change ≡ Some (Made state)
-    → Answers (sent_on packet (step_of job number clock (Ipv4 packet) table).bytes) answer
+    (job : RunJob) (number next : ℕ) (clock now : Clock) (place back : InterfacePlace) (packet answer : Packet) (table after : StateTable) (state later : State)
+    → (step_of job number clock place (Ipv4 packet) table).change ≡ Some (Made state)
+    → IsAnswerTo (sent_on packet (step_of job number clock place (Ipv4 packet) table).bytes) answer
     → direction_of job.inside answer ≡ opposite (direction_of job.inside packet)
     → IsTable after
     → Contains after.states later
     → lives now later ≡ true
     → IsLater state later
-    → IsBroughtBack packet answer later (step_of job next now (Ipv4 answer) after)
+    → meets later.rules.binding (To back) ≡ true
+    → IsBroughtBack packet answer later (step_of job next now back (Ipv4 answer) after)

@@ -1,5 +1,5 @@
 -- What the filter makes of a packet by itself (pf.conf(5), "Packet filtering").
-use Rattle.std.specs.Prelude.{ℕ, Bool, false, not, List, [], Option, Some, None}
+use Rattle.std.specs.Prelude.{ℕ, Bool, false, List, [], Option, Some, None}
 use Rattle.std.specs.List.{slice_get}
 use Rattle.pfr_net.specs.declared.direction.Direction.{Direction}
 use Rattle.pfr_net.specs.declared.rule_number.RuleNumber.{RuleNumber}
@@ -10,7 +10,6 @@ use Rattle.pfr_ruleset.specs.declared.flat.StateRule.{StateRule}
 use Rattle.pfr_ruleset.specs.declared.ruleset.Ruleset.{Ruleset}
 use Rattle.pfr_headers.specs.declared.packet.Packet.{Packet}
 use Rattle.pfr_rules.specs.declared.decision.Decision.{Decision}
-use Rattle.pfr_track.specs.declared.state.StateRules.{StateRules}
 use Rattle.pfr_states.specs.States.{StateTable}
 use Rattle.pfr_packet.specs.declared.filtering.Conduct.{Conduct}
 use Rattle.pfr_packet.specs.declared.outcome.Outcome.{Outcome}
@@ -32,25 +31,17 @@ reason_of None = reason.Default
 
 -- ---- what the rule that decides says beyond its verdict
 
--- what the state says of its rules that a rule keeps
-abbrev pub kept_by : RuleNumber → Bool → Option StateRule → Option StateRules
-kept_by number allowed None = None
-kept_by number allowed (Some state) = Some (record { filter = Some number; translation = None; is_synchronised = not state.no_sync; allows_options = allowed })
-
-abbrev pub conduct_by : RuleNumber → FlatRule → Conduct
-conduct_by number rule = record { allows_options = rule.allow_opts; kept = kept_by number rule.allow_opts rule.state }
-
 abbrev pub silent : Conduct
-silent = record { allows_options = false; kept = None }
+silent = record { allows_options = false; state = None }
 
-abbrev pub conduct_at : RuleNumber → Option FlatRule → Conduct
-conduct_at number None = silent
-conduct_at number (Some rule) = conduct_by number rule
+abbrev pub conduct_at : Option FlatRule → Conduct
+conduct_at None = silent
+conduct_at (Some rule) = record { allows_options = rule.allow_opts; state = rule.state }
 
 -- without a rule that decides IP options aren't allowed, and no state is kept
 abbrev pub conduct_of : List FlatRule → Option RuleNumber → Conduct
 conduct_of rules None = silent
-conduct_of rules (Some number) = conduct_at number (slice_get rules number.0)
+conduct_of rules (Some number) = conduct_at (slice_get rules number.0)
 
 -- ---- a packet
 
@@ -76,9 +67,9 @@ filtered rules answer packet direction =
 unfoldable pub allows_options : Ruleset → FilterAnswer → Bool
 allows_options rules answer = (conduct_of rules.filter.rules answer.decision.rule).allows_options
 
--- what the state says of its rules that the deciding rule keeps
-unfoldable pub kept : Ruleset → FilterAnswer → Option StateRules
-kept rules answer = (conduct_of rules.filter.rules answer.decision.rule).kept
+-- the state that the deciding rule keeps
+unfoldable pub kept : Ruleset → FilterAnswer → Option StateRule
+kept rules answer = (conduct_of rules.filter.rules answer.decision.rule).state
 
 -- all three, where a table says which rules have room
 abbrev pub filtered_over : Ruleset → StateTable → Packet → Direction → Outcome
@@ -87,5 +78,5 @@ filtered_over rules table packet direction = filtered rules (filter_answer rules
 abbrev pub leave_over : Ruleset → StateTable → Packet → Direction → Bool
 leave_over rules table packet direction = allows_options rules (filter_answer rules table packet direction)
 
-abbrev pub kept_over : Ruleset → StateTable → Packet → Direction → Option StateRules
+abbrev pub kept_over : Ruleset → StateTable → Packet → Direction → Option StateRule
 kept_over rules table packet direction = kept rules (filter_answer rules table packet direction)

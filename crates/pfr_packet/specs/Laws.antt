@@ -1,6 +1,12 @@
 -- Words of the laws: what becomes of the one state that a packet makes, touches or ends.
 use Rattle.std.specs.Prelude.{◌≡◌, ◌⊎◌, ◌↔◌, ◌<◌, ◌≤◌, ◌==◌, ◌+◌, if◌then◌else◌, ℕ, Bool, true, false, not, List, [], ◌∷◌, ◌++◌, Option, Some, None}
-use Rattle.std.specs.List.{Contains, slice_get, All}
+use Rattle.std.specs.List.{Contains, slice_get, All, count_by}
+use Rattle.pfr_net.specs.declared.interface.Binding.TheVariants as binding
+use Rattle.pfr_net.specs.declared.interface.InterfacePlace.{InterfacePlace}
+use Rattle.pfr_ruleset.specs.declared.policy.StatePolicy.{StatePolicy}
+use Rattle.pfr_ruleset.specs.declared.ruleset.Ruleset.{Ruleset}
+use Rattle.pfr_ruleset.specs.Translations.{HaveOwnNumbers}
+use Rattle.pfr_packet.specs.Passages.{binding_by}
 use Rattle.pfr_net.specs.declared.rule_number.RuleNumber.{RuleNumber}
 use Rattle.pfr_ruleset.specs.declared.flat.FlatRule.{FlatRule}
 use Rattle.pfr_headers.specs.declared.packet.View.{View}
@@ -35,12 +41,14 @@ use Rattle.pfr_packet.specs.Keys.{side_of, subject_of}
 use Rattle.pfr_packet.specs.Outcomes.{none_visited}
 use Rattle.pfr_packet.specs.declared.verdict.Reason.TheVariants.{StateLimit, SkipOn}
 
--- the state that packet `number` makes
-pub record IsMadeBy (number : ℕ) (clock : Clock) (outcome : Outcome) (state : State) : Type 0 where
+-- the state that packet `number` of an interface makes
+pub record IsMadeBy (number : ℕ) (clock : Clock) (place : InterfacePlace) (outcome : Outcome) (state : State) : Type 0 where
   -- it has the packet's number
   pub number_is : state.number.0 ≡ number
   -- it is made at the packet's clock
   pub made_is : state.made ≡ clock
+  -- on the packet's interface
+  pub interface_is : state.interface ≡ place
   -- the packet passes
   pub passes : outcome.verdict ≡ Pass
   -- and names it
@@ -57,6 +65,7 @@ pub record IsTouchedOf (states : List State) (outcome : Outcome) (state : State)
   pub stack_is : state.stack ≡ before.stack
   pub rules_are : state.rules ≡ before.rules
   pub direction_is : state.direction ≡ before.direction
+  pub interface_is : state.interface ≡ before.interface
   pub made_is : state.made ≡ before.made
   -- the packet passes
   pub passes : outcome.verdict ≡ Pass
@@ -75,10 +84,10 @@ pub record IsRemovedOf (states : List State) (outcome : Outcome) (number : State
   pub named : outcome.state ≡ Some number
 
 -- what packet `number` may change at a clock, over these states
-abbrev pub IsOwnChange : ℕ → Clock → List State → Outcome → TableChange → Type 0
-IsOwnChange number clock states outcome (Made state) = IsMadeBy number clock outcome state
-IsOwnChange number clock states outcome (Touched state) = IsTouchedOf states outcome state
-IsOwnChange number clock states outcome (Removed old) = IsRemovedOf states outcome old
+abbrev pub IsOwnChange : ℕ → Clock → InterfacePlace → List State → Outcome → TableChange → Type 0
+IsOwnChange number clock place states outcome (Made state) = IsMadeBy number clock place outcome state
+IsOwnChange number clock place states outcome (Touched state) = IsTouchedOf states outcome state
+IsOwnChange number clock place states outcome (Removed old) = IsRemovedOf states outcome old
 
 -- nothing changes, or a state is taken out
 abbrev pub only_removes : Option TableChange → Bool
@@ -121,11 +130,28 @@ SaysAsItsRule rules None said = (said.is_synchronised ≡ true) × (said.allows_
 SaysAsItsRule rules (Some number) said =
     (rule : FlatRule) → slice_get rules number.0 ≡ Some rule → (said.is_synchronised ≡ not (says_no_sync rule)) × (said.allows_options ≡ rule.allow_opts)
 
--- the rules of a state that a packet makes are those on the packet's line
-pub record AreRulesOf (rules : List FlatRule) (outcome : Outcome) (said : StateRules) : Type 0 where
+-- the policy of a state that the rule keeps, if it keeps one
+abbrev pub policy_of : StatePolicy → Option FlatRule → StatePolicy
+policy_of policy None = policy
+policy_of policy (Some rule) = elim rule.state [ None ↦ policy | Some kept ↦ kept.policy ]
+
+-- the policy of a state by the filter rule that decides: without one that keeps a state it is the ruleset's
+abbrev pub policy_for : Ruleset → Option RuleNumber → StatePolicy
+policy_for rules None = rules.options.state_policy
+policy_for rules (Some number) = policy_of rules.options.state_policy (slice_get rules.filter.rules number.0)
+
+-- the rules of a state that a packet of an interface makes are those on the packet's line, and it is bound by their policy
+pub record AreRulesOf (rules : Ruleset) (place : InterfacePlace) (outcome : Outcome) (said : StateRules) : Type 0 where
   pub filter : said.filter ≡ outcome.rule
   pub translation : said.translation ≡ outcome.translation
-  pub conduct : SaysAsItsRule rules outcome.rule said
+  pub conduct : SaysAsItsRule rules.filter.rules outcome.rule said
+  pub binding : said.binding ≡ binding_by (policy_for rules outcome.rule) place
+
+-- ---- visits
+
+-- each number is in a list at most once
+abbrev pub AtMostOnce : List ℕ → Type 0
+AtMostOnce numbers = (number : ℕ) → count_by (λ other. other == number) numbers ≤ 1
 
 -- ---- picks
 
@@ -139,38 +165,38 @@ times number (x ∷ xs) = (if x == number then 1 else 0) + times number xs
 -- what a packet comes to rests on nothing but what is asked for it
 abbrev pub SameAnswersGiveTheSame : Type 0
 SameAnswersGiveTheSame =
-    (job : RunJob) (number : ℕ) (clock : Clock) (view : View) (table other : StateTable)
-    → All (SameAnswer (purged_at clock table) (purged_at clock other)) (asked_of job number clock view table)
-    → (step_of job number clock view other ≡ step_of job number clock view table)
-    × (asked_of job number clock view other ≡ asked_of job number clock view table)
+    (job : RunJob) (number : ℕ) (clock : Clock) (place : InterfacePlace) (view : View) (table other : StateTable)
+    → All (SameAnswer (purged_at clock table) (purged_at clock other)) (asked_of job number clock place view table)
+    → (step_of job number clock place view other ≡ step_of job number clock place view table)
+    × (asked_of job number clock place view other ≡ asked_of job number clock place view table)
 
 -- the table that a packet was evaluated over refuses none of its changes
 abbrev pub NoChangeIsRefused : Type 0
 NoChangeIsRefused =
-    (job : RunJob) (number : ℕ) (clock : Clock) (view : View) (table : StateTable) (change : TableChange)
+    (job : RunJob) (number : ℕ) (clock : Clock) (place : InterfacePlace) (view : View) (table : StateTable) (change : TableChange)
     → IsTable table
-    → (step_of job number clock view table).change ≡ Some change
+    → (step_of job number clock place view table).change ≡ Some change
     → refusal change table.limit (purged clock table.states) ≡ None
 
 -- what a packet changes is the one state that its outcome names
 abbrev pub ChangesAreOfTheNamed : Type 0
 ChangesAreOfTheNamed =
-    (job : RunJob) (number : ℕ) (clock : Clock) (view : View) (table : StateTable) (change : TableChange)
-    → (step_of job number clock view table).change ≡ Some change
-    → IsOwnChange number clock (purged clock table.states) (step_of job number clock view table) change
+    (job : RunJob) (number : ℕ) (clock : Clock) (place : InterfacePlace) (view : View) (table : StateTable) (change : TableChange)
+    → (step_of job number clock place view table).change ≡ Some change
+    → IsOwnChange number clock place (purged clock table.states) (step_of job number clock place view table) change
 
 -- a state that a packet makes is by the rules on its line
 abbrev pub MadeByTheRulesNamed : Type 0
 MadeByTheRulesNamed =
-    (job : RunJob) (number : ℕ) (clock : Clock) (view : View) (table : StateTable) (state : State)
-    → (step_of job number clock view table).change ≡ Some (Made state)
-    → AreRulesOf job.rules.filter.rules (step_of job number clock view table) state.rules
+    (job : RunJob) (number : ℕ) (clock : Clock) (place : InterfacePlace) (view : View) (table : StateTable) (state : State)
+    → (step_of job number clock place view table).change ≡ Some (Made state)
+    → AreRulesOf job.rules place (step_of job number clock place view table) state.rules
 
 -- a state is made only where its filter rule has room: of one that says how many states it may have there are fewer
 abbrev pub MadeWhereItsRuleHasRoom : Type 0
 MadeWhereItsRuleHasRoom =
-    (job : RunJob) (number : ℕ) (clock : Clock) (view : View) (table : StateTable) (state : State) (by : RuleNumber) (rule : FlatRule) (most : ℕ)
-    → (step_of job number clock view table).change ≡ Some (Made state)
+    (job : RunJob) (number : ℕ) (clock : Clock) (place : InterfacePlace) (view : View) (table : StateTable) (state : State) (by : RuleNumber) (rule : FlatRule) (most : ℕ)
+    → (step_of job number clock place view table).change ≡ Some (Made state)
     → state.rules.filter ≡ Some by
     → slice_get job.rules.filter.rules by.0 ≡ Some rule
     → most_of rule.state ≡ Some most
@@ -179,61 +205,69 @@ MadeWhereItsRuleHasRoom =
 -- what is written into a packet's bytes is made for that packet
 abbrev pub WrittenIsOfThePacket : Type 0
 WrittenIsOfThePacket =
-    (job : RunJob) (number : ℕ) (clock : Clock) (view : View) (table : StateTable) (change : Change)
-    → (step_of job number clock view table).bytes ≡ Some change
+    (job : RunJob) (number : ℕ) (clock : Clock) (place : InterfacePlace) (view : View) (table : StateTable) (change : Change)
+    → (step_of job number clock place view table).bytes ≡ Some change
     → view ≡ Ipv4 change.packet
 
 -- a packet that doesn't pass changes nothing, but that a state may be taken out
 abbrev pub BlockedOnlyRemoves : Type 0
 BlockedOnlyRemoves =
-    (job : RunJob) (number : ℕ) (clock : Clock) (view : View) (table : StateTable)
-    → lets_pass (step_of job number clock view table).verdict ≡ false
-    → only_removes (step_of job number clock view table).change ≡ true
+    (job : RunJob) (number : ℕ) (clock : Clock) (place : InterfacePlace) (view : View) (table : StateTable)
+    → lets_pass (step_of job number clock place view table).verdict ≡ false
+    → only_removes (step_of job number clock place view table).change ≡ true
 
 -- what is passed over asks nothing and changes nothing
 abbrev pub PassedOverChangesNothing : Type 0
 PassedOverChangesNothing =
-    (job : RunJob) (number : ℕ) (clock : Clock) (view : View) (table : StateTable)
+    (job : RunJob) (number : ℕ) (clock : Clock) (place : InterfacePlace) (view : View) (table : StateTable)
     → (view ≡ Skip) ⊎ (is_skipped job ≡ true)
-    → IsUntouched (step_of job number clock view table) × (asked_of job number clock view table ≡ [])
+    → IsUntouched (step_of job number clock place view table) × (asked_of job number clock place view table ≡ [])
 
 -- what opens no connection changes no state
 abbrev pub OpensNoConnection : Type 0
 OpensNoConnection =
-    (job : RunJob) (number : ℕ) (clock : Clock) (packet : Packet) (table : StateTable)
+    (job : RunJob) (number : ℕ) (clock : Clock) (place : InterfacePlace) (packet : Packet) (table : StateTable)
     → opens_connection packet.transport ≡ false
-    → (step_of job number clock (Ipv4 packet) table).change ≡ None
+    → (step_of job number clock place (Ipv4 packet) table).change ≡ None
 
 -- where a state is found, no rule is visited
 abbrev pub NoRuleBehindAState : Type 0
 NoRuleBehindAState =
-    (job : RunJob) (number : ℕ) (clock : Clock) (packet : Packet) (table : StateTable) (key : Key) (state : State)
+    (job : RunJob) (number : ℕ) (clock : Clock) (place : InterfacePlace) (packet : Packet) (table : StateTable) (key : Key) (state : State)
     → (subject_of (direction_of job.inside packet) packet ≡ Embedded key) ⊎ (subject_of (direction_of job.inside packet) packet ≡ Connection key)
-    → found_in (purged_at clock table) (side_of (direction_of job.inside packet)) key ≡ Some state
-    → (step_of job number clock (Ipv4 packet) table).visited ≡ none_visited
+    → found_in (purged_at clock table) (side_of (direction_of job.inside packet)) key (binding.To place) ≡ Some state
+    → (step_of job number clock place (Ipv4 packet) table).visited ≡ none_visited
+
+-- a packet visits each filter rule and each translation rule at most once, if the translation rules have numbers of their own
+abbrev pub VisitsRulesOnce : Type 0
+VisitsRulesOnce =
+    (job : RunJob) (number : ℕ) (clock : Clock) (place : InterfacePlace) (view : View) (table : StateTable)
+    → HaveOwnNumbers job.rules.translations
+    → AtMostOnce (step_of job number clock place view table).visited.filter
+    × AtMostOnce (step_of job number clock place view table).visited.translation
 
 -- the limit of states blocks only where the table is full
 abbrev pub LimitBlocksWhereReached : Type 0
 LimitBlocksWhereReached =
-    (job : RunJob) (number : ℕ) (clock : Clock) (packet : Packet) (table : StateTable)
-    → (step_of job number clock (Ipv4 packet) table).reason ≡ StateLimit
+    (job : RunJob) (number : ℕ) (clock : Clock) (place : InterfacePlace) (packet : Packet) (table : StateTable)
+    → (step_of job number clock place (Ipv4 packet) table).reason ≡ StateLimit
     → has_room_in (purged_at clock table) ≡ false
 
 -- nothing is written into a packet that doesn't pass
 abbrev pub BlockedIsNotWritten : Type 0
 BlockedIsNotWritten =
-    (job : RunJob) (number : ℕ) (clock : Clock) (packet : Packet) (table : StateTable)
-    → lets_pass (step_of job number clock (Ipv4 packet) table).verdict ≡ false
-    → (step_of job number clock (Ipv4 packet) table).bytes ≡ None
+    (job : RunJob) (number : ℕ) (clock : Clock) (place : InterfacePlace) (packet : Packet) (table : StateTable)
+    → lets_pass (step_of job number clock place (Ipv4 packet) table).verdict ≡ false
+    → (step_of job number clock place (Ipv4 packet) table).bytes ≡ None
 
 -- a packet with IP options passes only where a rule or a state allows them
 abbrev pub OptionsPassByLeave : Type 0
 OptionsPassByLeave =
-    (job : RunJob) (number : ℕ) (clock : Clock) (packet : Packet) (table : StateTable)
+    (job : RunJob) (number : ℕ) (clock : Clock) (place : InterfacePlace) (packet : Packet) (table : StateTable)
     → has_options packet ≡ true
-    → lets_pass (step_of job number clock (Ipv4 packet) table).verdict ≡ true
-    → ((step_of job number clock (Ipv4 packet) table).reason ≡ SkipOn → ⊥)
-    → HasLeave job.rules.filter.rules (purged_at clock table).states (step_of job number clock (Ipv4 packet) table)
+    → lets_pass (step_of job number clock place (Ipv4 packet) table).verdict ≡ true
+    → ((step_of job number clock place (Ipv4 packet) table).reason ≡ SkipOn → ⊥)
+    → HasLeave job.rules.filter.rules (purged_at clock table).states (step_of job number clock place (Ipv4 packet) table)
 
 -- each port of a range is tried once, and no other
 abbrev pub EachPortOnce : Type 0
@@ -249,7 +283,7 @@ FirstFreeIsPicked =
     (table : StateTable) (wire : ℕ → Key) (next : Option Key → Plan) (ports : List ℕ)
     → (outcome_of table (picking wire next ports) ≡ outcome_of table (next (picked table wire ports)))
     × (questions_of table (picking wire next ports)
-    ≡ up_to_first (is_free_in table wire) (λ port. At Wire (wire port)) ports ++ questions_of table (next (picked table wire ports)))
+    ≡ up_to_first (is_free_in table wire) (λ port. At Wire (wire port) binding.All) ports ++ questions_of table (next (picked table wire ports)))
 
 -- none is picked just where none is free
 abbrev pub NoneWhereAllAreTaken : Type 0

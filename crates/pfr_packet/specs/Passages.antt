@@ -1,11 +1,17 @@
 -- How a packet that begins a connection gets through the firewall: the connection's key on the wire and the one behind it, and
 -- the translation rule that makes one of the other (pf.conf(5), "Translation").
-use Rattle.std.specs.Prelude.{ℕ, Bool, true, false, if◌then◌else◌, List, [], Option, Some, None}
+use Rattle.std.specs.Prelude.{ℕ, Bool, true, false, not, if◌then◌else◌, List, [], Option, Some, None}
 use Rattle.pfr_net.specs.declared.address.Ipv4Address.{Ipv4Address}
 use Rattle.pfr_net.specs.declared.direction.Direction.{Direction}
 use Rattle.pfr_net.specs.declared.direction.Direction.TheVariants.{In, Out}
 use Rattle.pfr_net.specs.declared.endpoint.Endpoint.{Endpoint}
+use Rattle.pfr_net.specs.declared.interface.Binding.{Binding}
+use Rattle.pfr_net.specs.declared.interface.Binding.TheVariants.{All, To}
+use Rattle.pfr_net.specs.declared.interface.InterfacePlace.{InterfacePlace}
 use Rattle.pfr_net.specs.declared.rule_number.RuleNumber.{RuleNumber}
+use Rattle.pfr_ruleset.specs.declared.flat.StateRule.{StateRule}
+use Rattle.pfr_ruleset.specs.declared.policy.StatePolicy.{StatePolicy}
+use Rattle.pfr_ruleset.specs.declared.policy.StatePolicy.TheVariants.{IfBound, Floating}
 use Rattle.pfr_ruleset.specs.declared.ruleset.Ruleset.{Ruleset}
 use Rattle.pfr_headers.specs.declared.packet.Packet.{Packet}
 use Rattle.pfr_headers.specs.declared.transport.Transport.{Transport}
@@ -112,18 +118,32 @@ exhausted direction number visits = record {
 
 -- ---- the state that it makes
 
--- What the state says of its rules. A translated packet makes one whatever the deciding rule says, which a standby is told of
--- unless a rule with `no-sync` keeps it.
-abbrev pub kept_by_way : Option RuleNumber → Option RuleNumber → Bool → Option StateRules → Option StateRules
-kept_by_way None rule allowed rules = rules
-kept_by_way (Some number) rule allowed None = Some (record { filter = rule; translation = Some number; is_synchronised = true; allows_options = allowed })
-kept_by_way (Some number) rule allowed (Some rules) = Some (record rules { translation = Some number })
+-- a state is bound to the interface that makes it, or to none (pf.conf(5), "state-policy")
+abbrev pub binding_by : StatePolicy → InterfacePlace → Binding
+binding_by IfBound place = To place
+binding_by Floating place = All
 
-abbrev pub kept_behind : Ruleset → FilterAnswer → Direction → Passage → Packet → Option StateRules
-kept_behind rules answer direction passage packet =
-    kept_by_way passage.translation (filtered rules answer packet direction).rule (allows_options rules answer) (kept rules answer)
+abbrev pub rules_by : InterfacePlace → StatePolicy → Option RuleNumber → Option RuleNumber → Bool → Bool → StateRules
+rules_by place policy translation rule allowed no_sync = record {
+  filter = rule;
+  translation = translation;
+  is_synchronised = not no_sync;
+  allows_options = allowed;
+  binding = binding_by policy place;
+}
 
-abbrev pub judged_kept : Ruleset → FilterAnswer → Direction → Packet → Passage → Option StateRules
-judged_kept rules answer direction packet passage =
-    if passage.passes then kept_by_way passage.translation None false None
-    else kept_behind rules answer direction passage (behind direction passage packet)
+-- What the state says of its rules, by the state that the deciding rule keeps. A translated packet makes one whatever that rule says:
+-- it is bound by the ruleset's policy, and a standby is told of it.
+abbrev pub kept_by_way : InterfacePlace → StatePolicy → Option RuleNumber → Option RuleNumber → Bool → Option StateRule → Option StateRules
+kept_by_way place policy translation rule allowed (Some state) = Some (rules_by place state.policy translation rule allowed state.no_sync)
+kept_by_way place policy (Some number) rule allowed None = Some (rules_by place policy (Some number) rule allowed false)
+kept_by_way place policy None rule allowed None = None
+
+abbrev pub kept_behind : InterfacePlace → Ruleset → FilterAnswer → Direction → Passage → Packet → Option StateRules
+kept_behind place rules answer direction passage packet =
+    kept_by_way place rules.options.state_policy passage.translation (filtered rules answer packet direction).rule (allows_options rules answer) (kept rules answer)
+
+abbrev pub judged_kept : InterfacePlace → Ruleset → FilterAnswer → Direction → Packet → Passage → Option StateRules
+judged_kept place rules answer direction packet passage =
+    if passage.passes then kept_by_way place rules.options.state_policy passage.translation None false None
+    else kept_behind place rules answer direction passage (behind direction passage packet)

@@ -7,6 +7,7 @@ use Rattle.std.specs.List.{find}
 use Rattle.std.specs.Option.{option_map}
 use Rattle.rand_chacha.specs.ChaCha.{key_of, word_at}
 use Rattle.pfr_net.specs.declared.address.Ipv4Address.{Ipv4Address}
+use Rattle.pfr_net.specs.declared.interface.Binding.TheVariants.{All}
 use Rattle.pfr_net.specs.declared.port.Port.{Port}
 use Rattle.pfr_ruleset.specs.declared.flat.NatAddress.{NatAddress}
 use Rattle.pfr_ruleset.specs.declared.flat.PortRange.{PortRange}
@@ -80,10 +81,10 @@ wire_with _ stack address port = record { protocol = stack.protocol; outside = s
 abbrev pub key_with : Pick → ℕ → Key
 key_with pick port = wire_with pick.transport.now pick.stack.now pick.address port
 
--- One port after the other is tried. It goes on by the first key that no state has, or by none.
+-- One port after the other is tried. It goes on by the first key that no state has on any interface, or by none.
 abbrev pub picking : (ℕ → Key) → (Option Key → Plan) → List ℕ → Plan
 picking wire next [] = next None
-picking wire next (port ∷ ports) = ask_at Wire (wire port) (elim [ None ↦ next (Some (wire port)) | Some other ↦ picking wire next ports ])
+picking wire next (port ∷ ports) = ask_at Wire (wire port) All (elim [ None ↦ next (Some (wire port)) | Some other ↦ picking wire next ports ])
 
 -- the ports of a list were tried, with others behind them: a key is picked, or the others are left
 abbrev pub PicksUpTo : StateTable → (ℕ → Key) → (Option Key → Plan) → List ℕ → List ℕ → Option Key → (Question → Type 0) → Type 0
@@ -98,7 +99,7 @@ is_free (Some state) = false
 
 -- no state has the key of a port
 abbrev pub is_free_in : StateTable → (ℕ → Key) → ℕ → Bool
-is_free_in table wire port = is_free (found_in table Wire (wire port))
+is_free_in table wire port = is_free (found_in table Wire (wire port) All)
 
 -- the key of the first of these ports that is free
 abbrev pub picked : StateTable → (ℕ → Key) → List ℕ → Option Key

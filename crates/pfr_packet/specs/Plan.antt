@@ -2,6 +2,7 @@
 use Rattle.std.specs.Prelude.{◌≡◌, ℕ, Bool, List, [], ◌∷◌, ◌++◌, Option, None}
 use Rattle.std.specs.List.{All}
 use Rattle.pfr_net.specs.declared.direction.Direction.{Direction}
+use Rattle.pfr_net.specs.declared.interface.Binding.{Binding}
 use Rattle.pfr_ruleset.specs.declared.flat.FilterAction.TheVariants.{Pass}
 use Rattle.pfr_ruleset.specs.declared.ruleset.Ruleset.{Ruleset}
 use Rattle.pfr_headers.specs.declared.packet.Packet.{Packet}
@@ -39,21 +40,21 @@ filter_answer rules table packet direction = record {
 -- An evaluation is done with an outcome, or it asks a question, or what the filter makes of a packet, and goes on by the answer.
 pub data Plan : Type 0 where
   done : Outcome → Plan
-  ask_at : Side → Key → (Option State → Plan) → Plan
+  ask_at : Side → Key → Binding → (Option State → Plan) → Plan
   ask_room : (Bool → Plan) → Plan
   ask_filter : Ruleset → Packet → Direction → (FilterAnswer → Plan) → Plan
 
 -- what it comes to, where a table answers
 abbrev pub outcome_of : StateTable → Plan → Outcome
 outcome_of table (done outcome) = outcome
-outcome_of table (ask_at side key next) = outcome_of table (next (found_in table side key))
+outcome_of table (ask_at side key scope next) = outcome_of table (next (found_in table side key scope))
 outcome_of table (ask_room next) = outcome_of table (next (has_room_in table))
 outcome_of table (ask_filter rules packet direction next) = outcome_of table (next (filter_answer rules table packet direction))
 
 -- what it asks, where a table answers
 abbrev pub questions_of : StateTable → Plan → List Question
 questions_of table (done outcome) = []
-questions_of table (ask_at side key next) = At side key ∷ questions_of table (next (found_in table side key))
+questions_of table (ask_at side key scope next) = At side key scope ∷ questions_of table (next (found_in table side key scope))
 questions_of table (ask_room next) = Room ∷ questions_of table (next (has_room_in table))
 questions_of table (ask_filter rules packet direction next) =
     rooms_asked rules (rooms_in table) packet direction ++ questions_of table (next (filter_answer rules table packet direction))

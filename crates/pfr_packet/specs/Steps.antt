@@ -5,15 +5,18 @@
 --   what is too short is blocked
 --   a part of a packet, and an ICMP message of no connection, is filtered, and makes no state
 --   an ICMP error passes by the state of the packet that it embeds; without one it is filtered, and makes no state
---   a packet of a state's connection is tracked
---   any other is translated, where a translation rule says so; it is blocked where no port is free for it
+--   a packet of a state's connection is tracked; only a state counts that is bound to the packet's interface, or to all
+--   any other is translated, where a translation rule says so; it is blocked where no port is free for it on all interfaces
 --   behind its translation it is filtered, unless the rule says `pass`; a rule with `max` is asked whether it has room
 --   where it passes it makes the state that the deciding rule keeps, if there is a place for it; translated it makes one anyhow
 --
 -- Packets with IP options are blocked where they would pass and their rule doesn't allow them, before a state is made.
 use Rattle.std.specs.Prelude.{ℕ, Bool, true, false, if◌then◌else◌, List, [], Option, Some, None}
 use Rattle.pfr_net.specs.declared.direction.Direction.{Direction}
+use Rattle.pfr_net.specs.declared.interface.Binding.TheVariants.{To}
+use Rattle.pfr_net.specs.declared.interface.InterfacePlace.{InterfacePlace}
 use Rattle.pfr_ruleset.specs.declared.flat.NatAddress.{NatAddress}
+use Rattle.pfr_ruleset.specs.declared.flat.StateRule.{StateRule}
 use Rattle.pfr_ruleset.specs.declared.ruleset.Ruleset.{Ruleset}
 use Rattle.pfr_headers.specs.declared.packet.Packet.{Packet}
 use Rattle.pfr_headers.specs.declared.packet.View.{View}
@@ -61,8 +64,8 @@ abbrev pub by_embedded : RunJob → Packet → Direction → Option State → Pl
 by_embedded job packet direction None = alone job packet direction
 by_embedded job packet direction (Some state) = done (embedded direction packet state)
 
-abbrev pub asking_embedded : RunJob → Packet → Direction → Key → Plan
-asking_embedded job packet direction key = ask_at (side_of direction) key (by_embedded job packet direction)
+abbrev pub asking_embedded : RunJob → InterfacePlace → Packet → Direction → Key → Plan
+asking_embedded job place packet direction key = ask_at (side_of direction) key (To place) (by_embedded job packet direction)
 
 -- ---- a packet of a connection
 
@@ -71,11 +74,11 @@ abbrev pub following : RunJob → Clock → Packet → Direction → State → O
 following job clock packet direction state = tracked direction packet state (touched state packet direction clock (timeouts_of job))
 
 -- the first one makes a state, where it passes so far and a rule keeps one
-abbrev pub opened : RunJob → ℕ → Clock → Packet → Direction → Passage → Outcome → Option StateRules → Plan
-opened job number clock packet direction passage outcome None = done outcome
-opened job number clock packet direction passage outcome (Some rules) =
+abbrev pub opened : RunJob → ℕ → Clock → InterfacePlace → Packet → Direction → Passage → Outcome → Option StateRules → Plan
+opened job number clock place packet direction passage outcome None = done outcome
+opened job number clock place packet direction passage outcome (Some rules) =
     if lets_pass outcome.verdict
-    then making packet (made (record { 0 = number }) packet direction passage.wire passage.stack rules clock (timeouts_of job)) outcome
+    then making packet (made (record { 0 = number }) packet direction place passage.wire passage.stack rules clock (timeouts_of job)) outcome
     else done outcome
 
 -- what the filter answers for a packet behind a passage over a table, unless the packet isn't filtered
@@ -88,58 +91,58 @@ unless_passed rules packet direction true next = next no_answer
 unless_passed rules packet direction false next = ask_filter rules packet direction next
 
 -- it goes on by the filter's answer
-abbrev pub going_on : RunJob → ℕ → Clock → Packet → Direction → List ℕ → Passage → FilterAnswer → Plan
-going_on job number clock packet direction visits passage answer =
-    opened job number clock packet direction passage (judged job.rules answer direction packet passage visits) (judged_kept job.rules answer direction packet passage)
+abbrev pub going_on : RunJob → ℕ → Clock → InterfacePlace → Packet → Direction → List ℕ → Passage → FilterAnswer → Plan
+going_on job number clock place packet direction visits passage answer =
+    opened job number clock place packet direction passage (judged job.rules answer direction packet passage visits) (judged_kept place job.rules answer direction packet passage)
 
 -- it goes through by a passage; these translation rules were visited
-abbrev pub going : RunJob → ℕ → Clock → Packet → Direction → List ℕ → Passage → Plan
-going job number clock packet direction visits passage =
-    unless_passed job.rules (behind direction passage packet) direction passage.passes (going_on job number clock packet direction visits passage)
+abbrev pub going : RunJob → ℕ → Clock → InterfacePlace → Packet → Direction → List ℕ → Passage → Plan
+going job number clock place packet direction visits passage =
+    unless_passed job.rules (behind direction passage packet) direction passage.passes (going_on job number clock place packet direction visits passage)
 
 -- with a key on the wire that was picked, if one is free
-abbrev pub by_pick : RunJob → ℕ → Clock → Packet → Direction → List ℕ → Key → Hit → Option Key → Plan
-by_pick job number clock packet direction visits key hit None = done (exhausted direction hit.number visits)
-by_pick job number clock packet direction visits key hit (Some wire) = going job number clock packet direction visits (picked_passage key hit wire)
+abbrev pub by_pick : RunJob → ℕ → Clock → InterfacePlace → Packet → Direction → List ℕ → Key → Hit → Option Key → Plan
+by_pick job number clock place packet direction visits key hit None = done (exhausted direction hit.number visits)
+by_pick job number clock place packet direction visits key hit (Some wire) = going job number clock place packet direction visits (picked_passage key hit wire)
 
 -- by what the rule says of the end that it translates
-abbrev pub by_end : RunJob → ℕ → Clock → Packet → Direction → List ℕ → Key → Hit → NewEnd → Plan
-by_end job number clock packet direction visits key hit (Mapped address mapping) =
-    going job number clock packet direction visits (mapped_passage direction key hit (mapped_end packet.transport key.inside address mapping))
-by_end job number clock packet direction visits key hit (Picked target) =
-    picking (wire_with packet.transport key target.address) (by_pick job number clock packet direction visits key hit)
+abbrev pub by_end : RunJob → ℕ → Clock → InterfacePlace → Packet → Direction → List ℕ → Key → Hit → NewEnd → Plan
+by_end job number clock place packet direction visits key hit (Mapped address mapping) =
+    going job number clock place packet direction visits (mapped_passage direction key hit (mapped_end packet.transport key.inside address mapping))
+by_end job number clock place packet direction visits key hit (Picked target) =
+    picking (wire_with packet.transport key target.address) (by_pick job number clock place packet direction visits key hit)
     (tries (ports_for packet.transport target key.inside.port) (word_of job.seed number))
 
 -- by the rule that translates it, if one does
-abbrev pub by_hit : RunJob → ℕ → Clock → Packet → Direction → List ℕ → Key → Option Hit → Plan
-by_hit job number clock packet direction visits key None = going job number clock packet direction visits (untranslated key)
-by_hit job number clock packet direction visits key (Some hit) = by_end job number clock packet direction visits key hit hit.new_end
+abbrev pub by_hit : RunJob → ℕ → Clock → InterfacePlace → Packet → Direction → List ℕ → Key → Option Hit → Plan
+by_hit job number clock place packet direction visits key None = going job number clock place packet direction visits (untranslated key)
+by_hit job number clock place packet direction visits key (Some hit) = by_end job number clock place packet direction visits key hit hit.new_end
 
-abbrev pub opening : RunJob → ℕ → Clock → Packet → Direction → Key → Plan
-opening job number clock packet direction key =
-    by_hit job number clock packet direction (translations_visited job.rules packet direction) key (hit_of job.rules packet direction)
+abbrev pub opening : RunJob → ℕ → Clock → InterfacePlace → Packet → Direction → Key → Plan
+opening job number clock place packet direction key =
+    by_hit job number clock place packet direction (translations_visited job.rules packet direction) key (hit_of job.rules packet direction)
 
-abbrev pub by_connection : RunJob → ℕ → Clock → Packet → Direction → Key → Option State → Plan
-by_connection job number clock packet direction key None = opening job number clock packet direction key
-by_connection job number clock packet direction key (Some state) = done (following job clock packet direction state)
+abbrev pub by_connection : RunJob → ℕ → Clock → InterfacePlace → Packet → Direction → Key → Option State → Plan
+by_connection job number clock place packet direction key None = opening job number clock place packet direction key
+by_connection job number clock place packet direction key (Some state) = done (following job clock packet direction state)
 
-abbrev pub asking_connection : RunJob → ℕ → Clock → Packet → Direction → Key → Plan
-asking_connection job number clock packet direction key = ask_at (side_of direction) key (by_connection job number clock packet direction key)
+abbrev pub asking_connection : RunJob → ℕ → Clock → InterfacePlace → Packet → Direction → Key → Plan
+asking_connection job number clock place packet direction key = ask_at (side_of direction) key (To place) (by_connection job number clock place packet direction key)
 
 -- ---- an IPv4 packet
 
-abbrev pub subject_plan : RunJob → ℕ → Clock → Packet → Direction → Subject → Plan
-subject_plan job number clock packet direction Alone = alone job packet direction
-subject_plan job number clock packet direction (Embedded key) = asking_embedded job packet direction key
-subject_plan job number clock packet direction (Connection key) = asking_connection job number clock packet direction key
+abbrev pub subject_plan : RunJob → ℕ → Clock → InterfacePlace → Packet → Direction → Subject → Plan
+subject_plan job number clock place packet direction Alone = alone job packet direction
+subject_plan job number clock place packet direction (Embedded key) = asking_embedded job place packet direction key
+subject_plan job number clock place packet direction (Connection key) = asking_connection job number clock place packet direction key
 
-unfoldable pub packet_plan : RunJob → ℕ → Clock → Packet → Direction → Plan
-packet_plan job number clock packet direction = subject_plan job number clock packet direction (subject_of direction packet)
+unfoldable pub packet_plan : RunJob → ℕ → Clock → InterfacePlace → Packet → Direction → Plan
+packet_plan job number clock place packet direction = subject_plan job number clock place packet direction (subject_of direction packet)
 
 -- the plans of a packet that arrives: as an error, and as the first packet of a connection that goes through by a passage, by
 -- a translation rule, and in all
 abbrev pub embedded_plan : Arrival → Key → Plan
-embedded_plan arrival key = asking_embedded arrival.job.now arrival.packet.now arrival.direction key
+embedded_plan arrival key = asking_embedded arrival.job.now arrival.place arrival.packet.now arrival.direction key
 
 abbrev pub alone_plan : Arrival → Plan
 alone_plan arrival = alone arrival.job.now arrival.packet.now arrival.direction
@@ -154,16 +157,16 @@ asked_behind arrival table passage = rooms_asked arrival.job.now.rules (rooms_in
 abbrev pub asked_for : Arrival → StateTable → Passage → List Question
 asked_for arrival table passage = if passage.passes then [] else asked_behind arrival table passage
 
--- what the filter makes of it there over a table, whether the rule that decides allows IP options, and what the state says of its
--- rules that this rule keeps
+-- what the filter makes of it there over a table, whether the rule that decides allows IP options, and the state that this rule
+-- keeps
 abbrev pub filtered_behind : Arrival → StateTable → Passage → Outcome
 filtered_behind arrival table passage = filtered_over arrival.job.now.rules table (behind_passage arrival passage) arrival.direction
 
 abbrev pub leave_behind : Arrival → StateTable → Passage → Bool
 leave_behind arrival table passage = leave_over arrival.job.now.rules table (behind_passage arrival passage) arrival.direction
 
-abbrev pub rules_behind : Arrival → StateTable → Passage → Option StateRules
-rules_behind arrival table passage = kept_over arrival.job.now.rules table (behind_passage arrival passage) arrival.direction
+abbrev pub state_behind : Arrival → StateTable → Passage → Option StateRule
+state_behind arrival table passage = kept_over arrival.job.now.rules table (behind_passage arrival passage) arrival.direction
 
 -- what becomes of it behind a passage over a table, which isn't filtered where the passage lets it pass, and what the state says of
 -- its rules that it may make
@@ -173,39 +176,39 @@ judged_for arrival table passage visits =
 
 abbrev pub kept_for : Arrival → StateTable → Passage → Option StateRules
 kept_for arrival table passage =
-    judged_kept arrival.job.now.rules (answer_for arrival.job.now.rules table arrival.direction arrival.packet.now passage) arrival.direction arrival.packet.now passage
+    judged_kept arrival.place arrival.job.now.rules (answer_for arrival.job.now.rules table arrival.direction arrival.packet.now passage) arrival.direction arrival.packet.now passage
 
 abbrev pub opened_plan : Arrival → Passage → Outcome → Option StateRules → Plan
-opened_plan arrival passage outcome kept = opened arrival.job.now arrival.number arrival.clock arrival.packet.now arrival.direction passage outcome kept
+opened_plan arrival passage outcome kept = opened arrival.job.now arrival.number arrival.clock arrival.place arrival.packet.now arrival.direction passage outcome kept
 
 abbrev pub pick_plan : Arrival → List ℕ → Key → Hit → NatAddress → Plan
-pick_plan arrival visits key hit target = by_end arrival.job.now arrival.number arrival.clock arrival.packet.now arrival.direction visits key hit (Picked target)
+pick_plan arrival visits key hit target = by_end arrival.job.now arrival.number arrival.clock arrival.place arrival.packet.now arrival.direction visits key hit (Picked target)
 
 abbrev pub going_plan : Arrival → List ℕ → Passage → Plan
-going_plan arrival visits passage = going arrival.job.now arrival.number arrival.clock arrival.packet.now arrival.direction visits passage
+going_plan arrival visits passage = going arrival.job.now arrival.number arrival.clock arrival.place arrival.packet.now arrival.direction visits passage
 
 abbrev pub hit_plan : Arrival → List ℕ → Key → Option Hit → Plan
-hit_plan arrival visits key hit = by_hit arrival.job.now arrival.number arrival.clock arrival.packet.now arrival.direction visits key hit
+hit_plan arrival visits key hit = by_hit arrival.job.now arrival.number arrival.clock arrival.place arrival.packet.now arrival.direction visits key hit
 
 abbrev pub opening_plan : Arrival → Key → Plan
-opening_plan arrival key = opening arrival.job.now arrival.number arrival.clock arrival.packet.now arrival.direction key
+opening_plan arrival key = opening arrival.job.now arrival.number arrival.clock arrival.place arrival.packet.now arrival.direction key
 
 -- ---- a frame
 
 abbrev pub passed_over : Outcome
 passed_over = unseen verdict.Pass reason.SkipOn
 
-unfoldable pub plan : RunJob → ℕ → Clock → View → Plan
-plan job number clock Skip = done (unseen verdict.Skip reason.NotIp)
-plan job number clock Short = if is_skipped job then done passed_over else done (unseen verdict.Block reason.Short)
-plan job number clock (Ipv4 packet) = if is_skipped job then done passed_over else packet_plan job number clock packet (direction_of job.inside packet)
+unfoldable pub plan : RunJob → ℕ → Clock → InterfacePlace → View → Plan
+plan job number clock place Skip = done (unseen verdict.Skip reason.NotIp)
+plan job number clock place Short = if is_skipped job then done passed_over else done (unseen verdict.Block reason.Short)
+plan job number clock place (Ipv4 packet) = if is_skipped job then done passed_over else packet_plan job number clock place packet (direction_of job.inside packet)
 
 -- ---- over a table
 
--- what packet `number` comes to at a clock, over a table
-unfoldable pub step_of : RunJob → ℕ → Clock → View → StateTable → Outcome
-step_of job number clock view table = outcome_of (purged_at clock table) (plan job number clock view)
+-- what packet `number` of an interface comes to at a clock, over a table
+unfoldable pub step_of : RunJob → ℕ → Clock → InterfacePlace → View → StateTable → Outcome
+step_of job number clock place view table = outcome_of (purged_at clock table) (plan job number clock place view)
 
 -- what is asked of the table on the way
-unfoldable pub asked_of : RunJob → ℕ → Clock → View → StateTable → List Question
-asked_of job number clock view table = questions_of (purged_at clock table) (plan job number clock view)
+unfoldable pub asked_of : RunJob → ℕ → Clock → InterfacePlace → View → StateTable → List Question
+asked_of job number clock place view table = questions_of (purged_at clock table) (plan job number clock place view)

@@ -9,18 +9,18 @@ use crate::keys::{Subject, side_of, subject_of};
 use pfr_headers::{View, direction_of};
 use pfr_net::RuleNumber;
 use pfr_rules::RuleRoom;
-use pfr_states::{Place, Side, Table};
-use pfr_track::{Clock, Key, State};
+use pfr_states::{Lookup, Place, Side, Table};
+use pfr_track::{Binding, Clock, InterfacePlace, Key, State};
 use std::alloc::AllocError;
 
 /// Answers to all questions, whether a rule has room among them. All answers of one value are those of one table at one clock. It
 /// knows which questions were asked: each that it answers is one of them from then on.
 pub trait Answers: RuleRoom {
-    /// The state with this key on a side.
-    fn at(&mut self, side: Side, key: &Key) -> Result<Option<State>, AllocError>
+    /// The state with this key on a side that is bound to an interface of the scope; of several the one of least number.
+    fn at(&mut self, side: Side, key: &Key, scope: Binding) -> Result<Option<State>, AllocError>
         ensures seen { Self.seen self.new ≡ Self.seen self.old }
-        ensures answer { IfOk result (λ found. found ≡ found_in (Self.seen self.old) side key.now) }
-        ensures asked { OnOk result (Self.asked self.new (At side key.now)) }
+        ensures answer { IfOk result (λ found. found ≡ found_in (Self.seen self.old) side key.now scope) }
+        ensures asked { OnOk result (Self.asked self.new (At side key.now scope)) }
         ensures kept { (question : Question) → Self.asked self.old question → Self.asked self.new question };
     /// Whether there is room for one more state.
     fn room(&mut self) -> Result<bool, AllocError>
@@ -54,9 +54,12 @@ impl RuleRoom for Direct<'_> {
 
 impl Answers for Direct<'_> {
     #[tactic(auto, unfolding(pfr_states::specs::Answers::found_in, pfr_states::specs::Answers::purged_at))]
-    fn at(&mut self, side: Side, key: &Key) -> Result<Option<State>, AllocError> {
+    fn at(&mut self, side: Side, key: &Key, scope: Binding) -> Result<Option<State>, AllocError> {
         // each way ends for itself: where ways meet, a state is copied once more
-        match self.table.find_near(side, key, self.clock, self.hint) {
+        match self
+            .table
+            .find_near(side, key, scope, self.clock, self.hint)
+        {
             Some(found) => {
                 self.found = Some(found.place);
                 return Ok(Some(*found.state));
@@ -74,15 +77,17 @@ impl Answers for Direct<'_> {
     }
 }
 
-/// The side and the key by which a state is looked for first when a packet is evaluated, if one is. Whoever evaluates packets in a
+/// By what a state is looked for first when a packet of an interface is evaluated, if one is. Whoever evaluates packets in a
 /// row may look all their states up together beforehand, and name their places as hints ([`Direct`]).
-pub fn lookup_of(job: &Job, view: &View) -> Option<(Side, Key)> {
+pub fn lookup_of(job: &Job, place: InterfacePlace, view: &View) -> Option<Lookup> {
     let View::Ipv4(packet) = view else {
         return None;
     };
     let direction = direction_of(packet, job.inside());
     match subject_of(direction, packet) {
         Subject::Alone => None,
-        Subject::Embedded(key) | Subject::Connection(key) => Some((side_of(direction), key)),
+        Subject::Embedded(key) | Subject::Connection(key) => {
+            Some((side_of(direction), key, Binding::To(place)))
+        }
     }
 }

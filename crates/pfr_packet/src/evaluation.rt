@@ -18,7 +18,7 @@ use crate::passage::{Passage, mapped_end};
 use crate::picks::{Pick, ports_for};
 use crate::verdict::{Reason, Verdict};
 use pfr_headers::{Packet, View, direction_of};
-use pfr_net::Direction;
+use pfr_net::{Binding, Direction, InterfacePlace};
 use pfr_rules::{Hit, NewEnd, Visits, translate};
 use pfr_ruleset::NatAddress;
 use pfr_track::{Clock, Key, State, StateNumber, StateRules, make};
@@ -34,6 +34,8 @@ struct Arrival<'a> {
     job: &'a Job,
     number: u64,
     clock: Clock,
+    /// The interface on which it was captured.
+    place: InterfacePlace,
     packet: &'a Packet,
     direction: Direction,
 }
@@ -84,7 +86,7 @@ impl Arrival<'_> {
         ensures goes { OnOk result (Goes (A.seen answers.old) (spec.embedded_plan self.now key.now) outcome.new (A.asked answers.new)) }
         ensures kept { (question : Question) → A.asked answers.old question → A.asked answers.new question }
     {
-        match answers.at(side_of(self.direction), key)? {
+        match answers.at(side_of(self.direction), key, Binding::To(self.place))? {
             Some(state) => {
                 embed(outcome, self.direction, self.packet, &state);
                 Ok(())
@@ -128,6 +130,7 @@ impl Arrival<'_> {
         ensures asked { OnOk result (All (A.asked answers.new) (spec.asked_for self.now (A.seen answers.old) passage.now)) }
         ensures kept { (question : Question) → A.asked answers.old question → A.asked answers.new question }
     {
+        let policy = self.job.rules().options.state_policy;
         if passage.passes {
             *outcome = Outcome::unfiltered(
                 self.alloc,
@@ -136,10 +139,16 @@ impl Arrival<'_> {
                 passage,
                 visits,
             );
-            return Ok(passage.kept(None, false, None));
+            return Ok(passage.kept(self.place, policy, None, false, None));
         }
         let conduct = self.filter_behind(passage, answers, outcome)?;
-        let kept = passage.kept(outcome.rule, conduct.allows_options, conduct.kept);
+        let kept = passage.kept(
+            self.place,
+            policy,
+            outcome.rule,
+            conduct.allows_options,
+            conduct.state,
+        );
         name_translation(outcome, passage, visits);
         Ok(kept)
     }
@@ -155,7 +164,7 @@ impl Arrival<'_> {
         ensures seen { A.seen answers.new ≡ A.seen answers.old }
         ensures outcome { OnOk result (outcome.new ≡ spec.filtered_behind self.now (A.seen answers.old) passage.now) }
         ensures leave { IfOk result (λ conduct. conduct.allows_options ≡ spec.leave_behind self.now (A.seen answers.old) passage.now) }
-        ensures rules { IfOk result (λ conduct. conduct.kept ≡ spec.rules_behind self.now (A.seen answers.old) passage.now) }
+        ensures state { IfOk result (λ conduct. conduct.state ≡ spec.state_behind self.now (A.seen answers.old) passage.now) }
         ensures asked { OnOk result (All (A.asked answers.new) (spec.asked_behind self.now (A.seen answers.old) passage.now)) }
         ensures kept { (question : Question) → A.asked answers.old question → A.asked answers.new question }
     {
@@ -199,6 +208,7 @@ impl Arrival<'_> {
                     StateNumber(self.number),
                     self.packet,
                     self.direction,
+                    self.place,
                     passage.wire,
                     passage.stack,
                     rules,
@@ -304,8 +314,9 @@ impl Arrival<'_> {
     }
 }
 
-/// What packet `number` of a run comes to at a clock, by what a table of states answers: its verdict and why, the rules and
-/// the state that are named, the rules that were visited, and what it changes in its own bytes and in the table.
+/// What packet `number` of a run, captured on an interface, comes to at a clock, by what a table of states answers: its verdict
+/// and why, the rules and the state that are named, the rules that were visited, and what it changes in its own bytes and in the
+/// table.
 ///
 /// All that the outcome rests on was asked: over every table that answers these questions so, it is the same.
 pub fn step<A: Answers>(
@@ -313,15 +324,25 @@ pub fn step<A: Answers>(
     job: &Job,
     number: u64,
     clock: Clock,
+    place: InterfacePlace,
     view: &View,
     answers: &mut A,
 ) -> Result<Outcome, AllocError>
     ensures seen { A.seen answers.new ≡ A.seen answers.old }
-    ensures goes { IfOk result (λ outcome. Goes (A.seen answers.old) (spec.plan job.now number clock view.now) outcome (A.asked answers.new)) }
+    ensures goes { IfOk result (λ outcome. Goes (A.seen answers.old) (spec.plan job.now number clock place view.now) outcome (A.asked answers.new)) }
     ensures kept { (question : Question) → A.asked answers.old question → A.asked answers.new question }
 {
     let mut outcome = Outcome::new(alloc);
-    step_into(alloc, job, number, clock, view, answers, &mut outcome)?;
+    step_into(
+        alloc,
+        job,
+        number,
+        clock,
+        place,
+        view,
+        answers,
+        &mut outcome,
+    )?;
     Ok(outcome)
 }
 
@@ -332,13 +353,14 @@ pub fn step_into<A: Answers>(
     job: &Job,
     number: u64,
     clock: Clock,
+    place: InterfacePlace,
     view: &View,
     answers: &mut A,
     outcome: &mut Outcome,
 ) -> Result<(), AllocError>
     requires { outcome.old ≡ fresh }
     ensures seen { A.seen answers.new ≡ A.seen answers.old }
-    ensures goes { OnOk result (Goes (A.seen answers.old) (spec.plan job.now number clock view.now) outcome.new (A.asked answers.new)) }
+    ensures goes { OnOk result (Goes (A.seen answers.old) (spec.plan job.now number clock place view.now) outcome.new (A.asked answers.new)) }
     ensures kept { (question : Question) → A.asked answers.old question → A.asked answers.new question }
 {
     let packet = match view {
@@ -360,6 +382,7 @@ pub fn step_into<A: Answers>(
         job,
         number,
         clock,
+        place,
         packet,
         direction,
     };
@@ -368,7 +391,7 @@ pub fn step_into<A: Answers>(
         Subject::Embedded(key) => return arrival.write_embedded(&key, answers, outcome),
         Subject::Connection(key) => key,
     };
-    let Some(mut state) = answers.at(side_of(direction), &key)? else {
+    let Some(mut state) = answers.at(side_of(direction), &key, Binding::To(place))? else {
         return arrival.write_opened(&key, answers, outcome);
     };
     arrival.by_state(&mut state, outcome);

@@ -11,8 +11,7 @@ use crate::verdict::{Reason, Verdict};
 use pfr_headers::Packet;
 use pfr_net::{Direction, RuleNumber};
 use pfr_rules::{Decision, RuleRoom, Visits, filter};
-use pfr_ruleset::{FilterAction, FlatRule, Ruleset};
-use pfr_track::StateRules;
+use pfr_ruleset::{FilterAction, FlatRule, Ruleset, StateRule};
 use std::alloc::{AllocError, Global};
 
 /// What the rule that decides says beyond its verdict.
@@ -20,8 +19,8 @@ use std::alloc::{AllocError, Global};
 pub struct Conduct {
     /// Packets with IP options may pass.
     pub allows_options: bool,
-    /// What the state says of its rules that the rule keeps; None where it keeps none.
-    pub kept: Option<StateRules>,
+    /// The state that it keeps, if it keeps one.
+    pub state: Option<StateRule>,
 }
 
 #[inline]
@@ -45,37 +44,22 @@ fn reason_of(rule: Option<RuleNumber>) -> Reason
     }
 }
 
-/// What a rule says beyond its verdict, by its number.
-fn conduct_by(number: RuleNumber, rule: &FlatRule) -> Conduct
-    ensures { result ≡ spec.conduct_by number rule.now }
-{
-    Conduct {
-        allows_options: rule.allow_opts,
-        kept: match rule.state {
-            None => None,
-            Some(state) => Some(StateRules {
-                filter: Some(number),
-                translation: None,
-                is_synchronised: !state.no_sync,
-                allows_options: rule.allow_opts,
-            }),
-        },
-    }
-}
-
 /// What the rule that decides says beyond its verdict. Without one IP options aren't allowed, and no state is kept.
 fn conduct_of(rules: &[FlatRule], rule: Option<RuleNumber>) -> Conduct
     ensures { result ≡ spec.conduct_of rules.now rule }
 {
     let silent = Conduct {
         allows_options: false,
-        kept: None,
+        state: None,
     };
     match rule {
         None => silent,
         Some(number) => match rules.get(number.0) {
             None => silent,
-            Some(rule) => conduct_by(number, rule),
+            Some(rule) => Conduct {
+                allows_options: rule.allow_opts,
+                state: rule.state,
+            },
         },
     }
 }
@@ -107,7 +91,7 @@ pub(crate) fn filter_into<R: RuleRoom>(
     ensures seen { R.seen rooms.new ≡ R.seen rooms.old }
     ensures outcome { OnOk result (outcome.new ≡ spec.filtered_over rules.now (R.seen rooms.old) packet.now direction) }
     ensures leave { IfOk result (λ conduct. conduct.allows_options ≡ spec.leave_over rules.now (R.seen rooms.old) packet.now direction) }
-    ensures rules { IfOk result (λ conduct. conduct.kept ≡ spec.kept_over rules.now (R.seen rooms.old) packet.now direction) }
+    ensures state { IfOk result (λ conduct. conduct.state ≡ spec.kept_over rules.now (R.seen rooms.old) packet.now direction) }
     ensures asked { OnOk result (All (R.asked rooms.new) (rooms_asked rules.now (rooms_in (R.seen rooms.old)) packet.now direction)) }
     ensures kept { (question : Question) → R.asked rooms.old question → R.asked rooms.new question }
 {

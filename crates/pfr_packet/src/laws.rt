@@ -1,6 +1,6 @@
 //! Laws of the definitions, each the contract of a function that does nothing.
 ghost use Rattle.pfr_packet.specs.Connections.{AnswersAreBroughtBack, AnswersGoBack, StateKnowsBothSides};
-ghost use Rattle.pfr_packet.specs.Laws.{BlockedIsNotWritten, BlockedOnlyRemoves, ChangesAreOfTheNamed, EachPortOnce, FirstFreeIsPicked, LimitBlocksWhereReached, MadeByTheRulesNamed, MadeWhereItsRuleHasRoom, NoChangeIsRefused, NoRuleBehindAState, NoneWhereAllAreTaken, OpensNoConnection, OptionsPassByLeave, PassedOverChangesNothing, SameAnswersGiveTheSame, WrittenIsOfThePacket};
+ghost use Rattle.pfr_packet.specs.Laws.{BlockedIsNotWritten, BlockedOnlyRemoves, ChangesAreOfTheNamed, EachPortOnce, FirstFreeIsPicked, LimitBlocksWhereReached, MadeByTheRulesNamed, MadeWhereItsRuleHasRoom, NoChangeIsRefused, NoRuleBehindAState, NoneWhereAllAreTaken, OpensNoConnection, OptionsPassByLeave, PassedOverChangesNothing, SameAnswersGiveTheSame, VisitsRulesOnce, WrittenIsOfThePacket};
 ghost use Rattle.pfr_packet.specs.Steps.{asked_of, step_of};
 
 use pfr_states::laws::one_state_answers_a_key;
@@ -25,7 +25,7 @@ pub fn no_change_is_refused()
 }
 
 /// What a packet changes is one state, which its outcome names: a packet that passes makes one with its own number at its own
-/// clock, or touches one of the table, which stays the same connection by the same rules; one that is blocked takes it out.
+/// clock on its own interface, or touches one of the table, which stays the same connection by the same rules; one that is blocked takes it out.
 pub fn every_change_is_of_the_named_state()
     ensures { ChangesAreOfTheNamed }
 {
@@ -34,7 +34,8 @@ pub fn every_change_is_of_the_named_state()
 }
 
 /// The rules of a state that a packet makes are those on the packet's line, also behind a translation. A standby is told of the state
-/// unless its filter rule says `no-sync`, and it lets IP options pass just where that rule says `allow-opts`.
+/// unless its filter rule says `no-sync`, and it lets IP options pass just where that rule says `allow-opts`. It is bound to the
+/// packet's interface, or to all, by that rule's policy, or by the ruleset's if no rule keeps it.
 pub fn states_are_made_by_the_rules_named()
     ensures { MadeByTheRulesNamed }
 {}
@@ -51,13 +52,14 @@ pub fn a_state_knows_both_sides()
     ensures { StateKnowsBothSides }
 {}
 
-/// A packet of the same protocol that goes back from where a packet was sent to finds the state that the packet made.
+/// A packet of the same protocol that goes back from where a packet was sent to finds the state that the packet made, on each
+/// interface to which that is bound.
 /// With what the state writes into it, it goes from where the packet was going to where the packet came from.
 pub fn answers_go_back()
     ensures { AnswersGoBack }
 {}
 
-/// Such an answer is evaluated by that state, as long as the state lives: it names the state, and if it passes it is
+/// Such an answer is evaluated by that state, on an interface to which it is bound and as long as it lives: it names the state, and if it passes it is
 /// sent on from where the packet was going to where the packet came from.
 pub fn answers_are_brought_back()
     ensures { AnswersAreBroughtBack }
@@ -90,6 +92,11 @@ pub fn what_opens_no_connection_leaves_the_table()
 /// Where a state is found for a packet, or for the packet that an ICMP error embeds, no rule is visited.
 pub fn no_rule_is_visited_behind_a_state()
     ensures { NoRuleBehindAState }
+{}
+
+/// A packet visits each filter rule and each translation rule at most once, if the translation rules have numbers of their own.
+pub fn a_packet_visits_a_rule_once()
+    ensures { VisitsRulesOnce }
 {}
 
 /// A packet is blocked for the limit of states only where the table is full, once the states are gone whose deadline has come.

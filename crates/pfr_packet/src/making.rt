@@ -22,8 +22,8 @@ fn put_made(outcome: &mut Outcome, packet: &Packet, state: &State)
     outcome.change = Some(TableChange::Made(*state));
 }
 
-/// What a packet comes to that passes and would make a state: it is blocked where one of the state's keys is another one's,
-/// and then where there is no room. The outcome says what it comes to without a state, and then with it.
+/// What a packet comes to that passes and would make a state: it is blocked if one of the state's keys is another one's on an
+/// interface to which both are bound, and then if there is no room. The outcome says what it comes to without a state, and then with it.
 pub(crate) fn make_state<A: Answers>(
     packet: &Packet,
     state: &State,
@@ -34,8 +34,9 @@ pub(crate) fn make_state<A: Answers>(
     ensures goes { OnOk result (Goes (A.seen answers.old) (spec.making packet.now state.now outcome.old) outcome.new (A.asked answers.new)) }
     ensures kept { (question : Question) → A.asked answers.old question → A.asked answers.new question }
 {
-    let wire = answers.at(Side::Wire, &state.wire)?;
-    let stack = answers.at(Side::Stack, &state.stack)?;
+    let scope = state.rules.binding;
+    let wire = answers.at(Side::Wire, &state.wire, scope)?;
+    let stack = answers.at(Side::Stack, &state.stack, scope)?;
     match (&wire, &stack) {
         (None, None) => {}
         _ => {

@@ -4,8 +4,9 @@ ghost use Rattle.pfr_packet.specs.Passages as spec;
 
 use crate::keys::{end_of, endpoint, translated_end};
 use pfr_headers::{Packet, Transport};
-use pfr_net::{Direction, Endpoint, Ipv4Address, RuleNumber};
+use pfr_net::{Binding, Direction, Endpoint, InterfacePlace, Ipv4Address, RuleNumber};
 use pfr_rules::{Hit, PortMapping};
+use pfr_ruleset::{StatePolicy, StateRule};
 use pfr_track::{Key, StateRules};
 
 /// Both keys of a packet that begins a connection, and the translation rule that makes one of the other.
@@ -108,27 +109,39 @@ impl Passage {
         Some(packet.translated(end_of(direction), to))
     }
 
-    /// What the state says of its rules, by what the deciding rule says. A translated packet makes one whatever that is.
+    /// What the state says of its rules that a packet of an interface makes, by the state that the deciding rule keeps. A translated
+    /// packet makes one whatever that rule says: it is bound by the ruleset's policy.
     pub(crate) fn kept(
         &self,
+        place: InterfacePlace,
+        policy: StatePolicy,
         rule: Option<RuleNumber>,
         allows_options: bool,
-        kept: Option<StateRules>,
+        state: Option<StateRule>,
     ) -> Option<StateRules>
-        ensures { result ≡ spec.kept_by_way self.now.translation rule allows_options kept }
+        ensures { result ≡ spec.kept_by_way place policy self.now.translation rule allows_options state }
     {
-        match (self.translation, kept) {
-            (None, kept) => kept,
-            (Some(number), None) => Some(StateRules {
-                filter: rule,
-                translation: Some(number),
-                is_synchronised: true,
-                allows_options,
-            }),
-            (Some(number), Some(rules)) => Some(StateRules {
-                translation: Some(number),
-                ..rules
-            }),
-        }
+        let (policy, no_sync) = match (state, self.translation) {
+            (Some(state), _) => (state.policy, state.no_sync),
+            (None, Some(_)) => (policy, false),
+            (None, None) => return None,
+        };
+        Some(StateRules {
+            filter: rule,
+            translation: self.translation,
+            is_synchronised: !no_sync,
+            allows_options,
+            binding: binding_by(policy, place),
+        })
+    }
+}
+
+/// To what a state is bound that is made on an interface.
+fn binding_by(policy: StatePolicy, place: InterfacePlace) -> Binding
+    ensures { result ≡ spec.binding_by policy place }
+{
+    match policy {
+        StatePolicy::IfBound => Binding::To(place),
+        StatePolicy::Floating => Binding::All,
     }
 }

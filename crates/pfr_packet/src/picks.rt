@@ -11,7 +11,7 @@ use pfr_headers::Transport;
 use pfr_net::{Ipv4Address, Port};
 use pfr_ruleset::{NatAddress, PortRange};
 use pfr_states::Side;
-use pfr_track::Key;
+use pfr_track::{Binding, Key};
 use rand_chacha::ChaCha20Rng;
 use rand_core::SeedableRng;
 use rand_core::utils::NextWord;
@@ -122,7 +122,7 @@ impl Pick<'_> {
     {
         for port in first..end {
             let key = self.key(port);
-            if answers.at(Side::Wire, &key)?.is_none() {
+            if answers.at(Side::Wire, &key, Binding::All)?.is_none() {
                 return Ok(Some(key));
             }
         }
@@ -145,7 +145,7 @@ impl Pick<'_> {
         while low < above {
             above -= 1;
             let key = self.key(above);
-            if answers.at(Side::Wire, &key)?.is_none() {
+            if answers.at(Side::Wire, &key, Binding::All)?.is_none() {
                 return Ok(Some(key));
             }
         }

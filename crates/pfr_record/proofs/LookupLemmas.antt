@@ -5,6 +5,7 @@ use Rattle.std.specs.Map.{keys_of}
 use Rattle.std.proofs.lemmas.List.{map-append}
 use Rattle.std.proofs.lemmas.List.Elements.{All-append, All-head, All-tail, All-cons, All-nil, Contains-append_left, Contains-append_right, Contains-append_cases, Contains-push}
 use Rattle.indexmap.specs.IndexMap.{insert_entry}
+use Rattle.pfr_net.specs.declared.interface.Binding.{Binding}
 use Rattle.pfr_track.specs.declared.key.Key.{Key}
 use Rattle.pfr_track.specs.declared.state.State.{State}
 use Rattle.pfr_states.specs.declared.change.Side.{Side}
@@ -75,39 +76,39 @@ keeps_right xs ys ys' q a h = (
 
 -- ---- the parts of a record one by one
 
-pub keeps_missed : (first first' second : Option (Side × Key)) (room : Option Bool) (others : Entries) (q : Question) (a : Answer) → Keeps (missed first) (missed first') q a
+pub keeps_missed : (first first' second : Option (Side × Key × Binding)) (room : Option Bool) (others : Entries) (q : Question) (a : Answer) → Keeps (missed first) (missed first') q a
     → Keeps (entries_of first second room others) (entries_of first' second room others) q a
 keeps_missed first first' second room others q a h =
     keeps_left (missed first ++ missed second ++ room_of room) (missed first' ++ missed second ++ room_of room) others q a
     (keeps_left (missed first ++ missed second) (missed first' ++ missed second) (room_of room) q a (keeps_left (missed first) (missed first') (missed second) q a h))
 
-pub keeps_missed_too : (first second second' : Option (Side × Key)) (room : Option Bool) (others : Entries) (q : Question) (a : Answer) → Keeps (missed second) (missed second') q a
+pub keeps_missed_too : (first second second' : Option (Side × Key × Binding)) (room : Option Bool) (others : Entries) (q : Question) (a : Answer) → Keeps (missed second) (missed second') q a
     → Keeps (entries_of first second room others) (entries_of first second' room others) q a
 keeps_missed_too first second second' room others q a h =
     keeps_left (missed first ++ missed second ++ room_of room) (missed first ++ missed second' ++ room_of room) others q a
     (keeps_left (missed first ++ missed second) (missed first ++ missed second') (room_of room) q a (keeps_right (missed first) (missed second) (missed second') q a h))
 
-pub keeps_room : (first second : Option (Side × Key)) (room room' : Option Bool) (others : Entries) (q : Question) (a : Answer) → Keeps (room_of room) (room_of room') q a
+pub keeps_room : (first second : Option (Side × Key × Binding)) (room room' : Option Bool) (others : Entries) (q : Question) (a : Answer) → Keeps (room_of room) (room_of room') q a
     → Keeps (entries_of first second room others) (entries_of first second room' others) q a
 keeps_room first second room room' others q a h =
     keeps_left (missed first ++ missed second ++ room_of room) (missed first ++ missed second ++ room_of room') others q a (keeps_right (missed first ++ missed second) (room_of room) (room_of room') q a h)
 
-pub keeps_others : (first second : Option (Side × Key)) (room : Option Bool) (others others' : Entries) (q : Question) (a : Answer) → Keeps others others' q a
+pub keeps_others : (first second : Option (Side × Key × Binding)) (room : Option Bool) (others others' : Entries) (q : Question) (a : Answer) → Keeps others others' q a
     → Keeps (entries_of first second room others) (entries_of first second room others') q a
 keeps_others first second room others others' q a h = keeps_right (missed first ++ missed second ++ room_of room) others others' q a h
 
-pub kept_missed : (first second : Option (Side × Key)) (room : Option Bool) (others : Entries) (q : Question) → IsKept (missed first) q → IsKept (entries_of first second room others) q
+pub kept_missed : (first second : Option (Side × Key × Binding)) (room : Option Bool) (others : Entries) (q : Question) → IsKept (missed first) q → IsKept (entries_of first second room others) q
 kept_missed first second room others q h =
     kept_left (missed first ++ missed second ++ room_of room) others q (kept_left (missed first ++ missed second) (room_of room) q (kept_left (missed first) (missed second) q h))
 
-pub kept_missed_too : (first second : Option (Side × Key)) (room : Option Bool) (others : Entries) (q : Question) → IsKept (missed second) q → IsKept (entries_of first second room others) q
+pub kept_missed_too : (first second : Option (Side × Key × Binding)) (room : Option Bool) (others : Entries) (q : Question) → IsKept (missed second) q → IsKept (entries_of first second room others) q
 kept_missed_too first second room others q h =
     kept_left (missed first ++ missed second ++ room_of room) others q (kept_left (missed first ++ missed second) (room_of room) q (kept_right (missed first) (missed second) q h))
 
-pub kept_room : (first second : Option (Side × Key)) (room : Option Bool) (others : Entries) (q : Question) → IsKept (room_of room) q → IsKept (entries_of first second room others) q
+pub kept_room : (first second : Option (Side × Key × Binding)) (room : Option Bool) (others : Entries) (q : Question) → IsKept (room_of room) q → IsKept (entries_of first second room others) q
 kept_room first second room others q h = kept_left (missed first ++ missed second ++ room_of room) others q (kept_right (missed first ++ missed second) (room_of room) q h)
 
-pub kept_others : (first second : Option (Side × Key)) (room : Option Bool) (others : Entries) (q : Question) → IsKept others q → IsKept (entries_of first second room others) q
+pub kept_others : (first second : Option (Side × Key × Binding)) (room : Option Bool) (others : Entries) (q : Question) → IsKept others q → IsKept (entries_of first second room others) q
 kept_others first second room others q h = kept_right (missed first ++ missed second ++ room_of room) others q h
 
 -- after an insertion, whether memory was refused for it or not
@@ -132,12 +133,12 @@ room_said (Found state) = false
 room_said (HasRoom room) = room
 room_said (HasRuleRoom room) = false
 
-pub agree_missed : (table : StateTable) (spot : Option (Side × Key)) (it : Side × Key) → spot ≡ Some it → found_in table it.0 it.1 ≡ None → Agrees table (missed spot)
-agree_missed table spot it is h = rw is (agree_one table (At it.0 it.1) (Found None) (ap (λ (o : Option State). Found o) h))
+pub agree_missed : (table : StateTable) (spot : Option (Side × Key × Binding)) (it : Side × Key × Binding) → spot ≡ Some it → found_in table it.0 it.1 it.2 ≡ None → Agrees table (missed spot)
+agree_missed table spot it is h = rw is (agree_one table (At it.0 it.1 it.2) (Found None) (ap (λ (o : Option State). Found o) h))
 
-pub missed_agrees : (table : StateTable) (spot : Option (Side × Key)) (it : Side × Key) → spot ≡ Some it → Agrees table (missed spot) → found_in table it.0 it.1 ≡ None
+pub missed_agrees : (table : StateTable) (spot : Option (Side × Key × Binding)) (it : Side × Key × Binding) → spot ≡ Some it → Agrees table (missed spot) → found_in table it.0 it.1 it.2 ≡ None
 unfolding found_in
-missed_agrees table spot it is h = ap found_of (one_agrees table (At it.0 it.1) (Found None) (rw is at h))
+missed_agrees table spot it is h = ap found_of (one_agrees table (At it.0 it.1 it.2) (Found None) (rw is at h))
 
 pub agree_room : (table : StateTable) (spot : Option Bool) (room : Bool) → spot ≡ Some room → has_room_in table ≡ room → Agrees table (room_of spot)
 agree_room table spot room is h = rw is (agree_one table Room (HasRoom room) (ap (λ (r : Bool). HasRoom r) h))
@@ -146,12 +147,12 @@ pub room_agrees : (table : StateTable) (spot : Option Bool) (room : Bool) → sp
 unfolding has_room_in
 room_agrees table spot room is h = ap room_said (one_agrees table Room (HasRoom room) (rw is at h))
 
-pub agree_all : (table : StateTable) (first second : Option (Side × Key)) (room : Option Bool) (others : Entries) → Agrees table (missed first) → Agrees table (missed second) → Agrees table (room_of room) → Agrees table others
+pub agree_all : (table : StateTable) (first second : Option (Side × Key × Binding)) (room : Option Bool) (others : Entries) → Agrees table (missed first) → Agrees table (missed second) → Agrees table (room_of room) → Agrees table others
     → Agrees table (entries_of first second room others)
 agree_all table first second room others a b c d =
     agree_both table (missed first ++ missed second ++ room_of room) others (agree_both table (missed first ++ missed second) (room_of room) (agree_both table (missed first) (missed second) a b) c) d
 
-pub all_agree : (table : StateTable) (first second : Option (Side × Key)) (room : Option Bool) (others : Entries) → Agrees table (entries_of first second room others)
+pub all_agree : (table : StateTable) (first second : Option (Side × Key × Binding)) (room : Option Bool) (others : Entries) → Agrees table (entries_of first second room others)
     → Agrees table (missed first) × Agrees table (missed second) × Agrees table (room_of room) × Agrees table others
 all_agree table first second room others h =
     let front = agree_left table (missed first ++ missed second ++ room_of room) others h in

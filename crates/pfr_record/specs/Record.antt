@@ -2,6 +2,8 @@
 use Rattle.std.specs.Prelude.{◌≡◌, ℕ, Bool, List, [], ◌∷◌, ◌++◌, Option, Some, None}
 use Rattle.std.specs.List.{All, Contains}
 use Rattle.std.specs.Map.{keys_of}
+use Rattle.pfr_net.specs.declared.interface.Binding.{Binding}
+use Rattle.pfr_net.specs.declared.interface.InterfacePlace.{InterfacePlace}
 use Rattle.pfr_headers.specs.declared.packet.View.{View}
 use Rattle.pfr_track.specs.declared.time.Clock.{Clock}
 use Rattle.pfr_track.specs.declared.key.Key.{Key}
@@ -18,7 +20,7 @@ use Rattle.pfr_record.specs.declared.answer.Answer.TheVariants.{Found, HasRoom, 
 
 -- what a table answers
 abbrev pub answer_of : StateTable → Question → Answer
-answer_of table (At side key) = Found (found_in table side key)
+answer_of table (At side key scope) = Found (found_in table side key scope)
 answer_of table Room = HasRoom (has_room_in table)
 answer_of table (RuleRoom rule most) = HasRuleRoom (has_rule_room_in table rule.0 most)
 
@@ -33,17 +35,17 @@ Agrees table entries = All (λ entry. answer_of table entry.0 ≡ entry.1) entri
 abbrev pub IsKept : Entries → Question → Type 0
 IsKept entries question = Contains (keys_of entries) question
 
--- the entry of a key that no state has, if there is one
-abbrev pub missed : Option (Side × Key) → Entries
+-- the entry of a look-up that finds no state, if there is one
+abbrev pub missed : Option (Side × Key × Binding) → Entries
 missed None = []
-missed (Some at) = (At at.0 at.1, Found None) ∷ []
+missed (Some at) = (At at.0 at.1 at.2, Found None) ∷ []
 
 -- the entry of whether there is room, if there is one
 abbrev pub room_of : Option Bool → Entries
 room_of None = []
 room_of (Some room) = (Room, HasRoom room) ∷ []
 
-abbrev pub entries_of : (first second : Option (Side × Key)) → Option Bool → (others : Entries) → Entries
+abbrev pub entries_of : (first second : Option (Side × Key × Binding)) → Option Bool → (others : Entries) → Entries
 entries_of first second room others = missed first ++ missed second ++ room_of room ++ others
 
 -- No question of a record is lost, and a table that agrees with it, and gives an answer to a question, agrees with the new one.
@@ -53,6 +55,6 @@ Keeps old new question answer = ((other : Question) → IsKept old other → IsK
 
 -- over every table that agrees with the record, the packet comes to this outcome, and all that is asked of the table is in the
 -- record
-abbrev pub IsSound : RunJob → ℕ → Clock → View → Outcome → Entries → Type 0
-IsSound job number clock view outcome entries = (table : StateTable) → Agrees (purged_at clock table) entries
-    → (step_of job number clock view table ≡ outcome) × All (λ question. ∥ IsKept entries question ∥₁) (asked_of job number clock view table)
+abbrev pub IsSound : RunJob → ℕ → Clock → InterfacePlace → View → Outcome → Entries → Type 0
+IsSound job number clock place view outcome entries = (table : StateTable) → Agrees (purged_at clock table) entries
+    → (step_of job number clock place view table ≡ outcome) × All (λ question. ∥ IsKept entries question ∥₁) (asked_of job number clock place view table)

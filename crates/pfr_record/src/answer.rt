@@ -3,7 +3,7 @@ ghost use Rattle.std.specs.Prelude.{◌≡◌, ◌↔◌, IsTrue};
 ghost use Rattle.std.specs.Option.{option_map};
 
 use pfr_states::Found;
-use pfr_track::{DatagramPeer, Key, Peers, State, StateRules, TcpPeer, Traffic};
+use pfr_track::{Binding, DatagramPeer, Key, Peers, State, StateRules, TcpPeer, Traffic};
 
 /// What a table of states answered.
 #[derive(Clone, Copy)]
@@ -22,10 +22,20 @@ pub(crate) fn is_same_key(first: &Key, second: &Key) -> bool
     first == second
 }
 
+pub(crate) fn is_same_scope(first: Binding, second: Binding) -> bool
+    ensures { IsTrue result ↔ (first ≡ second) }
+{
+    first == second
+}
+
 fn are_same_rules(first: &StateRules, second: &StateRules) -> bool
     ensures { IsTrue result ↔ (first.now ≡ second.now) }
 {
-    first == second
+    first.filter == second.filter
+        && first.translation == second.translation
+        && first.is_synchronised == second.is_synchronised
+        && first.allows_options == second.allows_options
+        && is_same_scope(first.binding, second.binding)
 }
 
 fn is_same_tcp_peer(first: &TcpPeer, second: &TcpPeer) -> bool
@@ -70,6 +80,7 @@ fn is_same_state(first: &State, second: &State) -> bool
 {
     first.number == second.number
         && first.direction == second.direction
+        && first.interface == second.interface
         && is_same_key(&first.wire, &second.wire)
         && is_same_key(&first.stack, &second.stack)
         && are_same_rules(&first.rules, &second.rules)

@@ -7,18 +7,18 @@ ghost use Rattle.pfr_record.specs.declared.answer.Answer.TheVariants.{Found, Has
 ghost use Rattle.pfr_record.specs.Record.{Agrees, IsKept, Keeps, answer_of};
 ghost use Rattle.pfr_record.specs.Record as spec;
 
-use crate::answer::{Answer, is_same_find, is_same_key};
+use crate::answer::{Answer, is_same_find, is_same_key, is_same_scope};
 use indexmap::IndexMap;
-use pfr_states::{Place, Question, Side, Table};
-use pfr_track::{Clock, Key};
+use pfr_states::{Lookup, Place, Question, Side, Table};
+use pfr_track::{Binding, Clock, Key};
 use std::alloc::{AllocError, Global};
 use std::marker::Model;
 
-/// A key that no state has on a side, if there was one.
-type Missed = Option<(Side, Key)>;
+/// A look-up that finds no state, if there was one.
+type Missed = Option<Lookup>;
 
-/// The questions that were asked of a table, each with its answer; contracts see the list of them. Two keys that no state has, and
-/// whether there is room, take no memory of their own: most packets ask no more than that.
+/// The questions that were asked of a table, each with its answer; contracts see the list of them. Two look-ups that find no state,
+/// and whether there is room, take no memory of their own: most packets ask no more than that.
 #[derive(Drop)]
 pub struct Lookups {
     missed: Missed,
@@ -35,15 +35,15 @@ impl Model for Lookups {
     ghost view = { λ l. entries_of l.missed l.missed_too l.room l.others.entries };
 }
 
-/// Notes a key that no state has, unless another one is noted here. It says whether this one is.
-fn note_missed(place: &mut Missed, side: Side, key: &Key) -> bool
-    ensures noted { result ≡ true → IsKept (spec.missed place.new) (At side key.now) }
-    ensures keeps { Keeps (spec.missed place.old) (spec.missed place.new) (At side key.now) (Found None) }
+/// Notes a look-up that finds no state, unless another one is noted here. It says whether this one is.
+fn note_missed(place: &mut Missed, side: Side, key: &Key, scope: Binding) -> bool
+    ensures noted { result ≡ true → IsKept (spec.missed place.new) (At side key.now scope) }
+    ensures keeps { Keeps (spec.missed place.old) (spec.missed place.new) (At side key.now scope) (Found None) }
 {
-    if let Some((its_side, its_key)) = place {
-        return *its_side == side && is_same_key(its_key, key);
+    if let Some((its_side, its_key, its_scope)) = place {
+        return *its_side == side && is_same_key(its_key, key) && is_same_scope(*its_scope, scope);
     }
-    *place = Some((side, *key));
+    *place = Some((side, *key, scope));
     true
 }
 
@@ -59,20 +59,27 @@ fn note_room(place: &mut Option<bool>, room: bool) -> bool
     true
 }
 
-/// Whether no state of a table has a key. It is looked for where a hint says first.
+/// Whether a table has no state with a key for a scope. It is looked for where a hint says first.
 #[tactic(auto, unfolding(pfr_states::specs::Answers::found_in, pfr_states::specs::Answers::purged_at))]
-fn is_none_at(table: &Table, clock: Clock, hint: Option<Place>, side: Side, key: &Key) -> bool
-    ensures { IsTrue result ↔ (found_in (purged_at clock table.now) side key.now ≡ None) }
+fn is_none_at(
+    table: &Table,
+    clock: Clock,
+    hint: Option<Place>,
+    side: Side,
+    key: &Key,
+    scope: Binding,
+) -> bool
+    ensures { IsTrue result ↔ (found_in (purged_at clock table.now) side key.now scope ≡ None) }
 {
-    table.find_near(side, key, clock, hint).is_none()
+    table.find_near(side, key, scope, clock, hint).is_none()
 }
 
-/// Whether a key that was noted has still no state.
+/// Whether a look-up that was noted finds still no state.
 fn is_missed(table: &Table, clock: Clock, hint: Option<Place>, missed: &Missed) -> bool
     ensures { IsTrue result ↔ Agrees (purged_at clock table.now) (spec.missed missed.now) }
 {
     match missed {
-        Some((side, key)) => is_none_at(table, clock, hint, *side, key),
+        Some((side, key, scope)) => is_none_at(table, clock, hint, *side, key, *scope),
         None => true,
     }
 }
@@ -107,8 +114,8 @@ fn is_answered(
     ensures { IsTrue result ↔ (answer_of (purged_at clock table.now) question.now ≡ answer.now) }
 {
     match (question, answer) {
-        (Question::At(side, key), Answer::Found(recorded)) => {
-            is_same_find(&table.find_near(*side, key, clock, hint), recorded)
+        (Question::At(side, key, scope), Answer::Found(recorded)) => {
+            is_same_find(&table.find_near(*side, key, *scope, clock, hint), recorded)
         }
         (Question::Room, Answer::HasRoom(room)) => table.room(clock) == *room,
         (Question::RuleRoom(rule, most), Answer::HasRuleRoom(room)) => {
@@ -186,18 +193,18 @@ impl Lookups {
         Ok(())
     }
 
-    /// Notes that no state has a key, in place if there is one left.
-    fn keep_missed(&mut self, side: Side, key: Key) -> Result<(), AllocError>
-        ensures noted { OnOk result (IsKept self.new (At side key)) }
-        ensures keeps { Keeps self.old self.new (At side key) (Found None) }
+    /// Notes that a look-up finds no state, in place if there is one left.
+    fn keep_missed(&mut self, side: Side, key: Key, scope: Binding) -> Result<(), AllocError>
+        ensures noted { OnOk result (IsKept self.new (At side key scope)) }
+        ensures keeps { Keeps self.old self.new (At side key scope) (Found None) }
     {
-        if note_missed(&mut self.missed, side, &key) {
+        if note_missed(&mut self.missed, side, &key, scope) {
             return Ok(());
         }
-        if note_missed(&mut self.missed_too, side, &key) {
+        if note_missed(&mut self.missed_too, side, &key, scope) {
             return Ok(());
         }
-        self.keep_other(Question::At(side, key), Answer::Found(None))
+        self.keep_other(Question::At(side, key, scope), Answer::Found(None))
     }
 
     /// Notes whether there is room, in place if it is the first such answer.
@@ -217,7 +224,9 @@ impl Lookups {
         ensures keeps { Keeps self.old self.new question answer }
     {
         match (question, answer) {
-            (Question::At(side, key), Answer::Found(None)) => self.keep_missed(side, key),
+            (Question::At(side, key, scope), Answer::Found(None)) => {
+                self.keep_missed(side, key, scope)
+            }
             (Question::Room, Answer::HasRoom(room)) => self.keep_room(room),
             _ => self.keep_other(question, answer),
         }

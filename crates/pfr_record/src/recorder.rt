@@ -9,7 +9,7 @@ use crate::lookups::Lookups;
 use pfr_packet::Answers;
 use pfr_rules::RuleRoom;
 use pfr_states::{Question, Side, Table};
-use pfr_track::{Clock, Key, RuleNumber, State};
+use pfr_track::{Binding, Clock, Key, RuleNumber, State};
 use std::alloc::{AllocError, Global};
 
 /// The answers of a table at a clock, with a record of what was asked and answered.
@@ -59,9 +59,9 @@ impl RuleRoom for Recorder<'_> {
 
 impl Answers for Recorder<'_> {
     #[tactic(auto, unfolding(pfr_states::specs::Answers::found_in, pfr_states::specs::Answers::purged_at))]
-    fn at(&mut self, side: Side, key: &Key) -> Result<Option<State>, AllocError> {
-        let found = self.table.at(side, key, self.clock);
-        self.keep(Question::At(side, *key), Answer::Found(found))?;
+    fn at(&mut self, side: Side, key: &Key, scope: Binding) -> Result<Option<State>, AllocError> {
+        let found = self.table.at(side, key, scope, self.clock);
+        self.keep(Question::At(side, *key, scope), Answer::Found(found))?;
         Ok(found)
     }
 

@@ -9,7 +9,7 @@ use crate::lookups::Lookups;
 use pfr_headers::View;
 use pfr_packet::{Job, Outcome};
 use pfr_states::{Place, Table};
-use pfr_track::Clock;
+use pfr_track::{Clock, InterfacePlace};
 use std::sync::Arc;
 
 /// What a packet of a job was found to come to on some table, and all that was asked of that table for it. Over every table
@@ -19,10 +19,12 @@ pub struct Speculation {
     pub(crate) job: Arc<Job>,
     pub(crate) number: u64,
     pub(crate) clock: Clock,
+    /// The interface on which the packet was captured.
+    pub(crate) place: InterfacePlace,
     pub(crate) view: View,
     pub(crate) outcome: Outcome,
     pub(crate) answers: Lookups,
-    ghost sound: { IsSound (arc_value job) number clock view outcome answers },
+    ghost sound: { IsSound (arc_value job) number clock place view outcome answers },
 }
 
 fn is_same_view(first: &View, second: &View) -> bool
@@ -72,15 +74,17 @@ impl Speculation {
         job: &Job,
         number: u64,
         clock: Clock,
+        place: InterfacePlace,
         view: &View,
         table: &Table,
         hint: Option<Place>,
     ) -> bool
         requires { is_of_job ≡ true → arc_value self.now.job ≡ job.now }
-        ensures { IsTrue result ↔ Fits self.now job.now number clock view.now table.now }
+        ensures { IsTrue result ↔ Fits self.now job.now number clock place view.now table.now }
     {
         self.number == number
             && self.clock == clock
+            && self.place == place
             && is_same_view(&self.view, view)
             && (is_of_job || self.job.is_same(job))
             && self.holds_near(table, clock, hint)
@@ -93,13 +97,14 @@ impl Speculation {
         job: &Job,
         number: u64,
         clock: Clock,
+        place: InterfacePlace,
         view: &View,
         table: &Table,
     ) -> Option<Outcome>
-        ensures some { IsSome result ↔ Fits self job.now number clock view.now table.now }
-        ensures outcome { IfSome result (λ outcome. outcome ≡ step_of job.now number clock view.now table.now) }
+        ensures some { IsSome result ↔ Fits self job.now number clock place view.now table.now }
+        ensures outcome { IfSome result (λ outcome. outcome ≡ step_of job.now number clock place view.now table.now) }
     {
-        if self.fits(false, job, number, clock, view, table, None) {
+        if self.fits(false, job, number, clock, place, view, table, None) {
             Some(self.outcome)
         } else {
             None
@@ -114,15 +119,16 @@ impl Speculation {
         job: &Job,
         number: u64,
         clock: Clock,
+        place: InterfacePlace,
         view: &View,
         table: &Table,
         hint: Option<Place>,
     ) -> Option<&Outcome>
         requires { is_of_job ≡ true → arc_value self.now.job ≡ job.now }
-        ensures some { IsSome result ↔ Fits self.now job.now number clock view.now table.now }
-        ensures outcome { IfSome result (λ outcome. outcome.now ≡ step_of job.now number clock view.now table.now) }
+        ensures some { IsSome result ↔ Fits self.now job.now number clock place view.now table.now }
+        ensures outcome { IfSome result (λ outcome. outcome.now ≡ step_of job.now number clock place view.now table.now) }
     {
-        if self.fits(is_of_job, job, number, clock, view, table, hint) {
+        if self.fits(is_of_job, job, number, clock, place, view, table, hint) {
             Some(&self.outcome)
         } else {
             None

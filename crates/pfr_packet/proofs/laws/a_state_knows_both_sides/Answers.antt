@@ -6,5 +6,5 @@ use Rattle.pfr_packet.proofs.ConnectionLemmas.{keyed_of}
 use Rattle.pfr_packet.proofs.laws.a_state_knows_both_sides.Goals as goal
 
 pub returns : goal.returns
-returns c = λ job number clock packet table state is.
-    knows (direction_of job.inside packet) packet (step_of job number clock (Ipv4 packet) table).bytes state (keyed_of job number clock packet table state is)
+returns c = λ job number clock place packet table state is.
+    knows (direction_of job.inside packet) packet (step_of job number clock place (Ipv4 packet) table).bytes state (keyed_of job number clock place packet table state is)

@@ -6,5 +6,5 @@ use Rattle.pfr_packet.proofs.ConnectionLemmas.{keyed_of}
 use Rattle.pfr_packet.proofs.laws.answers_go_back.Goals as goal
 
 pub returns : goal.returns
-returns c = λ job number clock packet answer table state is answers.
-    goes_back (direction_of job.inside packet) packet answer (step_of job number clock (Ipv4 packet) table).bytes state (keyed_of job number clock packet table state is) answers
+returns c = λ job number clock place packet answer table state is answers.
+    goes_back (direction_of job.inside packet) packet answer (step_of job number clock place (Ipv4 packet) table).bytes state (keyed_of job number clock place packet table state is) answers

@@ -5,4 +5,4 @@ use Rattle.pfr_packet.proofs.laws.same_answers_give_the_same_outcome.Goals as go
 
 pub returns : goal.returns
 unfolding step_of asked_of
-returns c = λ job number clock view table other h. local (purged_at clock table) (purged_at clock other) (plan job number clock view) h
+returns c = λ job number clock place view table other h. local (purged_at clock table) (purged_at clock other) (plan job number clock place view) h

@@ -11,7 +11,7 @@ use Rattle.pfr_packet.proofs.evaluation.Arrival.by_pick.Goals as goal
 pub returns-in-None-clause-goes : goal.returns-in-None-clause-goes
 returns-in-None-clause-goes g c =
     let arrival = c.args.self.now in
-    let next = by_pick arrival.job.now arrival.number arrival.clock arrival.packet.now arrival.direction c.args.visits c.args.key.now c.args.hit.now in
+    let next = by_pick arrival.job.now arrival.number arrival.clock arrival.place arrival.packet.now arrival.direction c.args.visits c.args.key.now c.args.hit.now in
     to_the_end (g.A.RuleRoom.seen c.args.answers.now) (pick_plan arrival c.args.visits c.args.key.now c.args.hit.now c.args.target.now) (next None) c.exhausted.result (g.A.RuleRoom.asked c.picked.new.answers) (g.A.RuleRoom.asked c.picked.new.answers)
     (rw (c.ports_for-ports.ensures, c.seed.ensures, c.in-None.is) at (c.in_ok-picked.ensures.goes next)) (λ question was. was) (record { outcome_is = c.exhausted.ensures; asked_all = All-nil (g.A.RuleRoom.asked c.picked.new.answers) })
 
@@ -19,10 +19,10 @@ returns-in-None-clause-goes g c =
 pub returns-in-Some-clause-goes : goal.returns-in-Some-clause-goes
 returns-in-Some-clause-goes g c =
     let arrival = c.args.self.now in
-    let next = by_pick arrival.job.now arrival.number arrival.clock arrival.packet.now arrival.direction c.args.visits c.args.key.now c.args.hit.now in
+    let next = by_pick arrival.job.now arrival.number arrival.clock arrival.place arrival.packet.now arrival.direction c.args.visits c.args.key.now c.args.hit.now in
     let outcome = c.go.new.outcome in
     done_then (λ (goes : Goes (g.A.RuleRoom.seen c.picked.new.answers) (going_plan arrival c.args.visits c.picked-in-Some.result) outcome (g.A.RuleRoom.asked c.go.new.answers)).
     to_the_end (g.A.RuleRoom.seen c.args.answers.now) (pick_plan arrival c.args.visits c.args.key.now c.args.hit.now c.args.target.now)
-    (going arrival.job.now arrival.number arrival.clock arrival.packet.now arrival.direction c.args.visits (picked_passage c.args.key.now c.args.hit.now c.in-Some.wire)) outcome
+    (going arrival.job.now arrival.number arrival.clock arrival.place arrival.packet.now arrival.direction c.args.visits (picked_passage c.args.key.now c.args.hit.now c.in-Some.wire)) outcome
     (g.A.RuleRoom.asked c.picked.new.answers) (g.A.RuleRoom.asked c.go.new.answers)
     (rw (c.ports_for-ports.ensures, c.seed.ensures, c.in-Some.is) at (c.in_ok-picked.ensures.goes next)) c.go.ensures.kept (rw (c.in_ok-picked.ensures.seen, c.picked-in-Some.ensures) at goes)) c.go.result c.go.ensures.goes
