@@ -32,13 +32,13 @@ rises_next job world results xs i d before mid last below over one =
 
 -- what taking a packet promises, said of the world that the book stands for
 pub rises_by : (job book_job : RunJob) (world now : World) (results : List Speculation) (p q : Record × View) (held : Option Speculation) (mid last : ℕ) → book_job ≡ job → now ≡ world → p ≡ q → held ≡ find (is_of (now.count + 1)) results
-    → (MayUse held book_job (now.count + 1) (clock_at now.clock (frame_of p.0)) p.1 now.table → last ≡ mid) → ((MayUse held book_job (now.count + 1) (clock_at now.clock (frame_of p.0)) p.1 now.table → ⊥) → last ≡ mid + 1)
+    → (MayUse held book_job (now.count + 1) (clock_at now.clock (frame_of p.0)) (frame_of p.0).place p.1 now.table → last ≡ mid) → ((MayUse held book_job (now.count + 1) (clock_at now.clock (frame_of p.0)) (frame_of p.0).place p.1 now.table → ⊥) → last ≡ mid + 1)
     → RisesUnless (IsUsed job world results q) mid last
 rises_by job book_job world now results p q held mid last job_is world_is p_is held_is used not_used =
     subst (λ (w : World). RisesUnless (IsUsed job w results q) mid last) world_is
     (subst (λ (j : RunJob). RisesUnless (IsUsed j now results q) mid last) job_is
     (subst (λ (r : Record × View). RisesUnless (IsUsed book_job now results r) mid last) p_is
-    (subst (λ (s : Option Speculation). RisesUnless (MayUse s book_job (now.count + 1) (clock_at now.clock (frame_of p.0)) p.1 now.table) mid last) held_is (used, not_used))))
+    (subst (λ (s : Option Speculation). RisesUnless (MayUse s book_job (now.count + 1) (clock_at now.clock (frame_of p.0)) (frame_of p.0).place p.1 now.table) mid last) held_is (used, not_used))))
 
 -- ---- how a batch ends
 

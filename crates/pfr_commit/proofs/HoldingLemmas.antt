@@ -1,5 +1,6 @@
 -- The states that a standby holds after a run.
 use Rattle.std.proofs.Common.{◌≡◌, ◌≤◌, ◌+◌, ℕ, true, List, [], ◌∷◌, Option, Some, None, IfSome, sym, refl, ap, ◌∙◌, subst, arith}
+use Rattle.pfr_net.specs.declared.interface.InterfacePlace.{InterfacePlace}
 use Rattle.pfr_headers.specs.View.{view_of}
 use Rattle.pfr_track.specs.declared.state.State.{State}
 use Rattle.pfr_track.specs.declared.state.StateNumber.{StateNumber}
@@ -27,9 +28,9 @@ use Rattle.pfr_commit.proofs.StandbyLemmas.{KeepsTold, own_stays, told_after, to
 use Rattle.pfr_commit.proofs.TableLemmas.{NoneRefused, OwnChanges}
 
 -- a state that is touched is of the connection that it was of
-own_of_one : (count : ℕ) (clock : Clock) (states : List State) (outcome : Outcome) (change : TableChange) → rise states ≡ true → IsOwnChange count clock states outcome change → StaysOfOne states change
-own_of_one count clock states outcome (Made state) in_order own = tt
-own_of_one count clock states outcome (Touched state) in_order own = λ before is_there number.
+own_of_one : (count : ℕ) (clock : Clock) (place : InterfacePlace) (states : List State) (outcome : Outcome) (change : TableChange) → rise states ≡ true → IsOwnChange count clock place states outcome change → StaysOfOne states change
+own_of_one count clock place states outcome (Made state) in_order own = tt
+own_of_one count clock place states outcome (Touched state) in_order own = λ before is_there number.
     let same : own.before ≡ before = one_number states in_order own.before before own.is_there is_there (ap (λ (n : StateNumber). n.0) (sym own.number_is ∙ number)) in
     subst (λ (was : State). AreOfOne was state) same (record {
       wire = sym own.wire_is;
@@ -37,15 +38,15 @@ own_of_one count clock states outcome (Touched state) in_order own = λ before i
       direction = sym own.direction_is;
       rule = ap (λ rules. rules.filter) (sym own.rules_are);
     })
-own_of_one count clock states outcome (Removed number) in_order own = tt
+own_of_one count clock place states outcome (Removed number) in_order own = tt
 
-next_of_states : (count : ℕ) (clock : Clock) (states : List State) (outcome : Outcome) (change : Option TableChange) → rise states ≡ true → ((c : TableChange) → change ≡ Some c → IsOwnChange (count + 1) clock states outcome c)
+next_of_states : (count : ℕ) (clock : Clock) (place : InterfacePlace) (states : List State) (outcome : Outcome) (change : Option TableChange) → rise states ≡ true → ((c : TableChange) → change ≡ Some c → IsOwnChange (count + 1) clock place states outcome c)
     → IfSome change (λ change. IsNextOfStates count states change)
-next_of_states count clock states outcome None in_order own = tt
-next_of_states count clock states outcome (Some change) in_order own = (
-  option_change_is_next count clock states outcome (Some change) (own change refl),
-  own_stays (count + 1) clock states outcome change in_order (own change refl),
-  own_of_one (count + 1) clock states outcome change in_order (own change refl),
+next_of_states count clock place states outcome None in_order own = tt
+next_of_states count clock place states outcome (Some change) in_order own = (
+  option_change_is_next count clock place states outcome (Some change) (own change refl),
+  own_stays (count + 1) clock place states outcome change in_order (own change refl),
+  own_of_one (count + 1) clock place states outcome change in_order (own change refl),
 )
 
 -- the events of a world leave its states as they stand
@@ -60,7 +61,7 @@ states_next none own job world frame keeps leave =
     let later : world.clock.0 ≤ p.clock.0 = omega arith in
     let in_order = rise_filter (lives p.clock) states keeps.table.in_order in
     let are = told_by_then world.count world.clock p.clock states world.events later keeps.told in
-    let next = next_of_states world.count p.clock (purged p.clock states) p.outcome p.outcome.change in_order (λ c is. own job p.number p.clock (view_of frame.link frame.bytes) world.table c is) in
+    let next = next_of_states world.count p.clock frame.place (purged p.clock states) p.outcome p.outcome.change in_order (λ c is. own job p.number p.clock frame.place (view_of frame.link frame.bytes) world.table c is) in
     a_packet_leaves_the_states world.count p.clock p.outcome.change world.table world.events keeps.table.in_order are leave next
 
 states_after : NoneRefused → OwnChanges → (job : RunJob) (world : World) (frames : List Frame) → KeepsTold world → Leaves world → Leaves (world_after job world frames)

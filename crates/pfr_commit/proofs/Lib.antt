@@ -12,4 +12,5 @@ pub mod ResultLemmas
 pub mod StandLemmas
 pub mod StandbyLemmas
 pub mod TableLemmas
+pub mod VisitLemmas
 pub mod WorldLemmas

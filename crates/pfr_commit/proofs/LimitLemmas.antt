@@ -3,6 +3,7 @@ use Rattle.std.proofs.Common.{◌≡◌, ◌≤◌, ◌<◌, ◌+◌, ◌∙◌,
 use Rattle.std.specs.List.{Contains, filter}
 use Rattle.std.proofs.lemmas.Bool.{cases_Bool, eqb-true}
 use Rattle.pfr_net.specs.declared.rule_number.RuleNumber.{RuleNumber}
+use Rattle.pfr_net.specs.declared.interface.InterfacePlace.{InterfacePlace}
 use Rattle.pfr_ruleset.specs.declared.flat.FlatRule.{FlatRule}
 use Rattle.pfr_headers.specs.View.{view_of}
 use Rattle.pfr_rules.specs.Filter.{most_of}
@@ -82,34 +83,34 @@ module _ (by : RuleNumber) (most : ℕ) where
       rule_by n = record { 0 = n }
 
   -- a state that is touched is of the rule that it was of
-  touched_alike : (number : ℕ) (clock : Clock) (states : List State) (outcome : Outcome) (state : State) → rise states ≡ true → IsOwnChange number clock states outcome (Touched state)
+  touched_alike : (number : ℕ) (clock : Clock) (place : InterfacePlace) (states : List State) (outcome : Outcome) (state : State) → rise states ≡ true → IsOwnChange number clock place states outcome (Touched state)
       → (x : State) → Contains states x → is_number state.number x ≡ true → is_of_rule by.0 x ≡ is_of_rule by.0 state
-  touched_alike number clock states outcome state in_order own x at it_is =
+  touched_alike number clock place states outcome state in_order own x at it_is =
       let number_is : x.number.0 ≡ own.before.number.0 = eqb-true x.number.0 state.number.0 it_is ∙ ap (λ (n : StateNumber). n.0) own.number_is in
       let same : x ≡ own.before = one_number states in_order x own.before at own.is_there number_is in
       ap (λ (s : State). is_of_rule by.0 s) same ∙ ap (λ (rules : StateRules). names_rule by.0 rules.filter) (sym own.rules_are)
 
-  change_keeps : (number : ℕ) (clock : Clock) (states : List State) (outcome : Outcome) (change : TableChange) → rise states ≡ true → IsOwnChange number clock states outcome change
+  change_keeps : (number : ℕ) (clock : Clock) (place : InterfacePlace) (states : List State) (outcome : Outcome) (change : TableChange) → rise states ≡ true → IsOwnChange number clock place states outcome change
       → ((state : State) → change ≡ Made state → state.rules.filter ≡ Some by → count_of_rule by.0 states < most) → count_of_rule by.0 states ≤ most → count_of_rule by.0 (with_change change states) ≤ most
-  change_keeps number clock states outcome (Made state) in_order own room few =
+  change_keeps number clock place states outcome (Made state) in_order own room few =
       let more = count_with (is_of_rule by.0) state states in
       elim (cases_Bool (is_of_rule by.0 state)) [
         | inl it_is ↦ (let less = room state refl (names state.rules.filter it_is) in let counted : one (is_of_rule by.0) state ≡ 1 = rw it_is refl in omega (arith, more, less, counted))
         | inr other ↦ (let counted : one (is_of_rule by.0) state ≡ 0 = rw other refl in omega (arith, more, few, counted))
       ]
-  change_keeps number clock states outcome (Touched state) in_order own room few =
-      let same = count_touched (is_of_rule by.0) state states (touched_alike number clock states outcome state in_order own) in
+  change_keeps number clock place states outcome (Touched state) in_order own room few =
+      let same = count_touched (is_of_rule by.0) state states (touched_alike number clock place states outcome state in_order own) in
       omega (arith, same, few)
-  change_keeps number clock states outcome (Removed old) in_order own room few =
+  change_keeps number clock place states outcome (Removed old) in_order own room few =
       let less = count_fewer (is_of_rule by.0) (λ state. not (is_number old state)) states in
       omega (arith, less, few)
 
-  changed_keeps : (number : ℕ) (clock : Clock) (table : StateTable) (outcome : Outcome) (change : Option TableChange) → rise table.states ≡ true
-      → ((c : TableChange) → change ≡ Some c → IsOwnChange number clock table.states outcome c)
+  changed_keeps : (number : ℕ) (clock : Clock) (place : InterfacePlace) (table : StateTable) (outcome : Outcome) (change : Option TableChange) → rise table.states ≡ true
+      → ((c : TableChange) → change ≡ Some c → IsOwnChange number clock place table.states outcome c)
       → ((state : State) → change ≡ Some (Made state) → state.rules.filter ≡ Some by → count_of_rule by.0 table.states < most) → count_of_rule by.0 table.states ≤ most → count_of_rule by.0 (changed change table).states ≤ most
-  changed_keeps number clock table outcome None in_order own room few = few
-  changed_keeps number clock table outcome (Some change) in_order own room few =
-      change_keeps number clock table.states outcome change in_order (own change refl) (λ state is. room state (ap (λ (c : TableChange). Some c) is)) few
+  changed_keeps number clock place table outcome None in_order own room few = few
+  changed_keeps number clock place table outcome (Some change) in_order own room few =
+      change_keeps number clock place table.states outcome change in_order (own change refl) (λ state is. room state (ap (λ (c : TableChange). Some c) is)) few
 
 -- ---- a run
 
@@ -120,9 +121,9 @@ module _ (has_room : MadeWhereItsRuleHasRoom) (own : OwnChanges) (none : NoneRef
       let p = next_taken job world frame in
       let view = view_of frame.link frame.bytes in
       let less = count_fewer (is_of_rule by.0) (lives p.clock) world.table.states in
-      changed_keeps by most p.number p.clock (purged_at p.clock world.table) p.outcome p.outcome.change (rise_filter (lives p.clock) world.table.states table.in_order)
-      (λ change is. own job p.number p.clock view world.table change is)
-      (λ state is filter_is. has_room job p.number p.clock view world.table state by rule most is filter_is at limit)
+      changed_keeps by most p.number p.clock frame.place (purged_at p.clock world.table) p.outcome p.outcome.change (rise_filter (lives p.clock) world.table.states table.in_order)
+      (λ change is. own job p.number p.clock frame.place view world.table change is)
+      (λ state is filter_is. has_room job p.number p.clock frame.place view world.table state by rule most is filter_is at limit)
       (omega (arith, less, few))
 
   pub rules_keep : (world : World) (frames : List Frame) → IsTable world.table → count_of_rule by.0 world.table.states ≤ most → count_of_rule by.0 (world_after job world frames).table.states ≤ most

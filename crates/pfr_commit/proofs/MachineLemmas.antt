@@ -4,6 +4,7 @@ use Rattle.std.specs.List.{Contains, slice_get}
 use Rattle.std.proofs.Math.Seq.{take-suc}
 use Rattle.std.proofs.lemmas.Option.{get_or_from_slice_get}
 use Rattle.std.proofs.lemmas.List.Elements.{Contains-append_cases, Contains-append_left, Contains-append_right}
+use Rattle.pfr_net.specs.declared.interface.InterfacePlace.{InterfacePlace}
 use Rattle.pfr_headers.specs.declared.packet.View.{View}
 use Rattle.pfr_headers.specs.View.{view_of}
 use Rattle.pfr_track.specs.declared.time.Clock.{Clock}
@@ -29,21 +30,21 @@ record Keeps (job : RunJob) (packets : List Frame) (machine : Machine) : Type 0 
   pub emitted_is : machine.emitted ≡ online job machine.world
 
 -- an evaluation is sound
-evaluation_is_sound : (guess : Guess) (job : RunJob) (number : ℕ) (clock : Clock) (view : View) (table : StateTable) → IsEvaluation guess job number clock view table → IsSoundGuess guess
+evaluation_is_sound : (guess : Guess) (job : RunJob) (number : ℕ) (clock : Clock) (place : InterfacePlace) (view : View) (table : StateTable) → IsEvaluation guess job number clock place view table → IsSoundGuess guess
 unfolding step_of asked_of
-evaluation_is_sound guess job number clock view table is =
+evaluation_is_sound guess job number clock place view table is =
     let a = is.applies in
-    rw (a.job_is, a.number_is, a.clock_is, a.view_is)
-    (sound (purged_at clock table) job number clock view guess.outcome guess.answers (record { outcome_is = is.outcome_is; asked_all = is.asked }) a.agrees)
+    rw (a.job_is, a.number_is, a.clock_is, a.place_is, a.view_is)
+    (sound (purged_at clock table) job number clock place view guess.outcome guess.answers (record { outcome_is = is.outcome_is; asked_all = is.asked }) a.agrees)
 
 -- the outcome is the packet's, whatever was given
-taken : (job : RunJob) (way : List Guess) (given : Option Guess) (number : ℕ) (clock : Clock) (view : View) (table : StateTable) (outcome : Outcome) → ((guess : Guess) → Contains way guess → IsSoundGuess guess) → Takes job way given number clock view table outcome
-    → outcome ≡ step_of job number clock view table
-taken job way None number clock view table outcome each takes = takes
-taken job way (Some guess) number clock view table outcome each takes = elim takes.1 [
+taken : (job : RunJob) (way : List Guess) (given : Option Guess) (number : ℕ) (clock : Clock) (place : InterfacePlace) (view : View) (table : StateTable) (outcome : Outcome) → ((guess : Guess) → Contains way guess → IsSoundGuess guess) → Takes job way given number clock place view table outcome
+    → outcome ≡ step_of job number clock place view table
+taken job way None number clock place view table outcome each takes = takes
+taken job way (Some guess) number clock place view table outcome each takes = elim takes.1 [
   | inl used ↦
       (let a = used.0 in
-      used.1 ∙ sound_outcome guess.job job guess.number number guess.clock clock guess.view view guess.outcome guess.answers table (each guess takes.0) a.job_is a.number_is a.clock_is a.view_is a.agrees)
+      used.1 ∙ sound_outcome guess.job job guess.number number guess.clock clock guess.place place guess.view view guess.outcome guess.answers table (each guess takes.0) a.job_is a.number_is a.clock_is a.place_is a.view_is a.agrees)
   | inr dropped ↦ dropped.1
 ]
 
@@ -88,7 +89,7 @@ before_loss guess old new loses other at = rw loses.old_is (elim (Contains-appen
 -- a packet is committed
 kept_commit : (job : RunJob) (packets : List Frame) (old new : Machine) (given : Option Guess) → Keeps job packets old → Commits job packets old given new → Keeps job packets new
 kept_commit job packets old new given keeps c =
-    let outcome_is = taken job old.way given (old.world.count + 1) c.clock (view_of c.frame.link c.frame.bytes) old.world.table c.outcome keeps.sound c.takes in
+    let outcome_is = taken job old.way given (old.world.count + 1) c.clock c.frame.place (view_of c.frame.link c.frame.bytes) old.world.table c.outcome keeps.sound c.takes in
     let next : with_outcome old.world c.frame c.clock c.outcome ≡ after job old.world c.frame = after_is job old.world c.frame c.clock (view_of c.frame.link c.frame.bytes) c.outcome (ap (λ (t : Clock). t.0) c.clock_is) refl outcome_is in
     let is_open = c.is_open in
     let within = keeps.within in
@@ -111,7 +112,7 @@ kept_move job packets old new (enter worker commits) keeps moves =
     rw moves.2 (record { within = keeps.within; behind = keeps.behind; sound = keeps.sound; world_is = keeps.world_is; emitted_is = keeps.emitted_is })
 kept_move job packets old new (answer place worker index guess) keeps moves =
     let a = moves.0 in
-    rw moves.1 (record { within = keeps.within; behind = keeps.behind; sound = one_more guess old.way (evaluation_is_sound guess job _ _ _ a.table a.evaluated) keeps.sound; world_is = keeps.world_is; emitted_is = keeps.emitted_is })
+    rw moves.1 (record { within = keeps.within; behind = keeps.behind; sound = one_more guess old.way (evaluation_is_sound guess job _ _ _ _ a.table a.evaluated) keeps.sound; world_is = keeps.world_is; emitted_is = keeps.emitted_is })
 kept_move job packets old new (stranger guess) keeps moves =
     rw moves.1 (record { within = keeps.within; behind = keeps.behind; sound = one_more guess old.way moves.0 keeps.sound; world_is = keeps.world_is; emitted_is = keeps.emitted_is })
 kept_move job packets old new (lose guess) keeps moves =

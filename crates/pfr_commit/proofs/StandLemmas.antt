@@ -2,6 +2,7 @@
 use Rattle.std.proofs.Common.{◌≡◌, ◌≤◌, ◌+◌, ◌-◌, max, ℕ, List, [], ◌++◌, Option, Some, None, IfSome, map, take, length, refl, sym, ap, ◌∙◌, subst, ◌<◌, get_or}
 use Rattle.std.specs.List.{All}
 use Rattle.std.proofs.lemmas.List.{append_assoc, append-nil}
+use Rattle.pfr_net.specs.declared.interface.InterfacePlace.{InterfacePlace}
 use Rattle.pfr_headers.specs.declared.packet.View.{View}
 use Rattle.pfr_headers.specs.View.{view_of}
 use Rattle.pfr_track.specs.declared.state.State.{State}
@@ -31,14 +32,14 @@ use Rattle.pfr_commit.proofs.BookLemmas.{same_job}
 use Rattle.pfr_commit.proofs.WorldLemmas.{after_is, nothing_taken, part_taken, world_next, world_none}
 
 -- what an evaluation changes, as it is told
-change_is_next : (count : ℕ) (clock : Clock) (states : List State) (outcome : Outcome) (change : TableChange) → IsOwnChange (count + 1) clock states outcome change → IsNextChange count states change
-change_is_next count clock states outcome (Made state) own = own.number_is
-change_is_next count clock states outcome (Touched state) own = (own.before, own.is_there, own.number_is)
-change_is_next count clock states outcome (Removed number) own = tt
+change_is_next : (count : ℕ) (clock : Clock) (place : InterfacePlace) (states : List State) (outcome : Outcome) (change : TableChange) → IsOwnChange (count + 1) clock place states outcome change → IsNextChange count states change
+change_is_next count clock place states outcome (Made state) own = own.number_is
+change_is_next count clock place states outcome (Touched state) own = (own.before, own.is_there, own.number_is)
+change_is_next count clock place states outcome (Removed number) own = tt
 
-pub option_change_is_next : (count : ℕ) (clock : Clock) (states : List State) (outcome : Outcome) (change : Option TableChange) → IfSome change (λ change. IsOwnChange (count + 1) clock states outcome change) → IfSome change (λ change. IsNextChange count states change)
-option_change_is_next count clock states outcome None own = tt
-option_change_is_next count clock states outcome (Some change) own = change_is_next count clock states outcome change own
+pub option_change_is_next : (count : ℕ) (clock : Clock) (place : InterfacePlace) (states : List State) (outcome : Outcome) (change : Option TableChange) → IfSome change (λ change. IsOwnChange (count + 1) clock place states outcome change) → IfSome change (λ change. IsNextChange count states change)
+option_change_is_next count clock place states outcome None own = tt
+option_change_is_next count clock place states outcome (Some change) own = change_is_next count clock place states outcome change own
 
 -- ---- one packet
 
@@ -107,7 +108,7 @@ same_origin old new is = rw is refl
 
 -- a packet's outcome leads from a world to the next one
 pub outcome_leads : (old new : Book) (out out' : Emitted) (frame : Frame) (clock : Clock) (outcome : Outcome) (begun purged_telling told : Telling) (left : StateTable)
-    → old.clock.0 ≤ clock.0 → left ≡ purged_at clock old.table → IfSome outcome.change (λ change. IsOwnChange (old.count + 1) clock (purged clock old.table.states) outcome change)
+    → old.clock.0 ≤ clock.0 → left ≡ purged_at clock old.table → IfSome outcome.change (λ change. IsOwnChange (old.count + 1) clock frame.place (purged clock old.table.states) outcome change)
     → TellsPacket old.telling begun purged_telling told old.clock clock old.table.states left.states outcome.change → new.job ≡ old.job → new.telling.queue ≡ told.queue
     → out'.messages.items ≡ out.messages.items ++ told.closed.items → world_with new out' ≡ untold (with_outcome (world_with old out) frame clock outcome)
     → LeadsTo old new out out' (λ world. with_outcome world frame clock outcome)
@@ -119,7 +120,7 @@ outcome_leads old new out out' frame clock outcome begun purged_telling told lef
     go : StandsAt old (around old world) → online (job_of old) (around old world) ≡ joined before (texts_of out) → StandsAt new (with_outcome (around old world) frame clock outcome) × (online (job_of old) (with_outcome (around old world) frame clock outcome) ≡ joined before (texts_of out'))
     go at is =
         let states_are : left.states ≡ purged clock old.table.states = ap (λ (t : StateTable). t.states) left_is in
-        let next = subst (λ (ss : List State). IfSome outcome.change (λ change. IsNextChange old.count ss change)) (sym states_are) (option_change_is_next old.count clock (purged clock old.table.states) outcome outcome.change own) in
+        let next = subst (λ (ss : List State). IfSome outcome.change (λ change. IsNextChange old.count ss change)) (sym states_are) (option_change_is_next old.count clock frame.place (purged clock old.table.states) outcome outcome.change own) in
         let both = packet_told old.telling begun purged_telling told old.clock clock old.table.states left.states old.table.limit old.count outcome.change world.events tells is_later states_are at.tells at.told next in
         let all = world.events ++ events_of clock outcome.change old.table.states in (
           record {
@@ -147,7 +148,7 @@ restand book other world left telling job at = record {
 -- the same, from the packet itself; `begun` is the book as it was, and `new` the one that is left
 pub taken_leads : (old begun done new : Book) (out out' : Emitted) (frame : Frame) (clock : Clock) (view : View) (outcome : Outcome)
     → world_in begun ≡ world_in old → begun.telling ≡ old.telling → begun.job ≡ old.job → world_in new ≡ world_in done → new.telling ≡ done.telling → new.job ≡ done.job
-    → clock.0 ≡ max old.clock.0 frame.seconds → view ≡ view_of frame.link frame.bytes → outcome ≡ step_of (job_of old) (old.count + 1) clock view old.table
+    → clock.0 ≡ max old.clock.0 frame.seconds → view ≡ view_of frame.link frame.bytes → outcome ≡ step_of (job_of old) (old.count + 1) clock frame.place view old.table
     → LeadsTo begun done out out' (λ world. with_outcome world frame clock outcome)
     → LeadsTo old new out out' (λ world. after (job_of old) world frame)
 taken_leads old begun done new out out' frame clock view outcome left telling job left' telling' job' clock_is view_is outcome_is leads world before stands on =
@@ -158,7 +159,7 @@ taken_leads old begun done new out out' frame clock view outcome left telling jo
     let led = leads world before (restand old begun world left telling job stands) (subst (λ (j : RunJob). online j world ≡ joined before (texts_of out)) (sym job_is) on) in
     let next = after_is (job_of old) world frame clock view outcome
     (clock_is ∙ ap (λ (c : Clock). max c.0 frame.seconds) clock_was) view_is
-    (outcome_is ∙ ap (λ (n : ℕ). step_of (job_of old) (n + 1) clock view old.table) count ∙ ap (λ (t : StateTable). step_of (job_of old) (world.count + 1) clock view t) table) in
+    (outcome_is ∙ ap (λ (n : ℕ). step_of (job_of old) (n + 1) clock frame.place view old.table) count ∙ ap (λ (t : StateTable). step_of (job_of old) (world.count + 1) clock frame.place view t) table) in
     subst (λ (w : World). StandsAt new w × (online (job_of old) w ≡ joined before (texts_of out'))) next (
       restand done new (with_outcome world frame clock outcome) left' telling' job' led.0,
       subst (λ (j : RunJob). online j (with_outcome world frame clock outcome) ≡ joined before (texts_of out')) job_is led.1,

@@ -1,6 +1,7 @@
 -- A standby that is told of a run.
 use Rattle.std.proofs.Common.{◌≡◌, ◌≤◌, ◌+◌, ℕ, true, List, [], ◌∷◌, ◌++◌, length, Option, Some, None, IfSome, refl, sym, ap, ◌∙◌, subst, arith}
 use Rattle.std.proofs.lemmas.List.{append_assoc}
+use Rattle.pfr_net.specs.declared.interface.InterfacePlace.{InterfacePlace}
 use Rattle.pfr_headers.specs.View.{view_of}
 use Rattle.pfr_track.specs.declared.state.State.{State}
 use Rattle.pfr_track.specs.declared.state.StateNumber.{StateNumber}
@@ -27,17 +28,17 @@ use Rattle.pfr_commit.proofs.StandLemmas.{option_change_is_next}
 use Rattle.pfr_commit.proofs.TableLemmas.{NoneRefused, OwnChanges, table_next}
 
 -- a state that is touched is told of as it was
-pub own_stays : (count : ℕ) (clock : Clock) (states : List State) (outcome : Outcome) (change : TableChange) → rise states ≡ true → IsOwnChange count clock states outcome change → StaysTold states change
-own_stays count clock states outcome (Made state) in_order own = tt
-own_stays count clock states outcome (Touched state) in_order own = λ before is_there number.
+pub own_stays : (count : ℕ) (clock : Clock) (place : InterfacePlace) (states : List State) (outcome : Outcome) (change : TableChange) → rise states ≡ true → IsOwnChange count clock place states outcome change → StaysTold states change
+own_stays count clock place states outcome (Made state) in_order own = tt
+own_stays count clock place states outcome (Touched state) in_order own = λ before is_there number.
     let same : own.before ≡ before = one_number states in_order own.before before own.is_there is_there (ap (λ (n : StateNumber). n.0) (sym own.number_is ∙ number)) in
     ap (λ rules. rules.is_synchronised) own.rules_are ∙ ap (λ (s : State). s.rules.is_synchronised) same
-own_stays count clock states outcome (Removed number) in_order own = tt
+own_stays count clock place states outcome (Removed number) in_order own = tt
 
-both_next : (count : ℕ) (clock : Clock) (states : List State) (outcome : Outcome) (change : Option TableChange) → rise states ≡ true → ((c : TableChange) → change ≡ Some c → IsOwnChange (count + 1) clock states outcome c)
-    → IfSome change (λ change. IsOwnChange (count + 1) clock states outcome change) × IfSome change (λ change. StaysTold states change)
-both_next count clock states outcome None in_order own = (tt, tt)
-both_next count clock states outcome (Some change) in_order own = (own change refl, own_stays (count + 1) clock states outcome change in_order (own change refl))
+both_next : (count : ℕ) (clock : Clock) (place : InterfacePlace) (states : List State) (outcome : Outcome) (change : Option TableChange) → rise states ≡ true → ((c : TableChange) → change ≡ Some c → IsOwnChange (count + 1) clock place states outcome c)
+    → IfSome change (λ change. IsOwnChange (count + 1) clock place states outcome change) × IfSome change (λ change. StaysTold states change)
+both_next count clock place states outcome None in_order own = (tt, tt)
+both_next count clock place states outcome (Some change) in_order own = (own change refl, own_stays (count + 1) clock place states outcome change in_order (own change refl))
 
 together : (count : ℕ) (states : List State) (change : Option TableChange) → IfSome change (λ change. IsNextChange count states change) → IfSome change (λ change. StaysTold states change) → IfSome change (λ change. IsNextChange count states change × StaysTold states change)
 together count states None next stays = tt
@@ -59,8 +60,8 @@ told_next none own job world frame keeps =
     let in_order = rise_filter (lives p.clock) states keeps.table.in_order in
     let are = told_by_then world.count world.clock p.clock states world.events later keeps.told in
     let both = purge_by (length states) world.count p.clock states world.events (due p.clock states) refl refl keeps.table.in_order (are, keeps.leave) in
-    let owned = both_next world.count p.clock left p.outcome p.outcome.change in_order (λ c is. own job p.number p.clock (view_of frame.link frame.bytes) world.table c is) in
-    let next = option_change_is_next world.count p.clock left p.outcome p.outcome.change owned.0 in
+    let owned = both_next world.count p.clock frame.place left p.outcome p.outcome.change in_order (λ c is. own job p.number p.clock frame.place (view_of frame.link frame.bytes) world.table c is) in
+    let next = option_change_is_next world.count p.clock frame.place left p.outcome p.outcome.change owned.0 in
     let purged_table : StateTable = record { states = left; limit = world.table.limit } in
     let told = told_of_change world.count p.clock purged_table (world.events ++ events_of_purge p.clock states) p.outcome.change both.0 next in
     let leave = change_leaves world.count p.clock purged_table (world.events ++ events_of_purge p.clock states) p.outcome.change both.0 both.1 (together world.count left p.outcome.change next owned.1) in

@@ -2,6 +2,7 @@
 use Rattle.std.proofs.Common.{◌≡◌, ℕ, false, not, List, [], ◌∷◌, length, Option, Some, None, inl, inr, refl, sym, ap, ◌∙◌}
 use Rattle.std.specs.List.{Contains}
 use Rattle.std.proofs.lemmas.Bool.{cases_Bool, ltb-true, not-false}
+use Rattle.pfr_net.specs.declared.interface.InterfacePlace.{InterfacePlace}
 use Rattle.pfr_headers.specs.declared.packet.View.{View}
 use Rattle.pfr_headers.specs.View.{view_of}
 use Rattle.pfr_track.specs.declared.state.State.{State}
@@ -28,7 +29,7 @@ use Rattle.pfr_commit.specs.World.{Frame, World, after, with_outcome, world_afte
 
 -- no packet's change is refused
 abbrev pub NoneRefused : Type 0
-NoneRefused = (job : RunJob) (number : ℕ) (clock : Clock) (view : View) (table : StateTable) (change : TableChange) → IsTable table → (step_of job number clock view table).change ≡ Some change → refusal change table.limit (purged clock table.states) ≡ None
+NoneRefused = (job : RunJob) (number : ℕ) (clock : Clock) (place : InterfacePlace) (view : View) (table : StateTable) (change : TableChange) → IsTable table → (step_of job number clock place view table).change ≡ Some change → refusal change table.limit (purged clock table.states) ≡ None
 
 taken_over : (change : TableChange) (limit : ℕ) (states : List State) → refusal change limit states ≡ None → (is_taken change states ≡ false) × (is_too_many change limit states ≡ false)
 unfolding refusal
@@ -53,7 +54,7 @@ unfolding after with_outcome purged_at
 table_next none job world frame is =
     let p = next_taken job world frame in
     table_changed p.outcome.change (purged_at p.clock world.table) (table_filter (lives p.clock) world.table.states world.table.limit is)
-    (λ change change_is. none job p.number p.clock (view_of frame.link frame.bytes) world.table change is change_is)
+    (λ change change_is. none job p.number p.clock frame.place (view_of frame.link frame.bytes) world.table change is change_is)
 
 pub table_after : NoneRefused → (job : RunJob) (world : World) (frames : List Frame) → IsTable world.table → IsTable (world_after job world frames).table
 unfolding world_after
@@ -63,38 +64,38 @@ table_after none job world (frame ∷ frames) is = table_after none job (after j
 -- ---- where states come from
 
 abbrev pub OwnChanges : Type 0
-OwnChanges = (job : RunJob) (number : ℕ) (clock : Clock) (view : View) (table : StateTable) (change : TableChange) → (step_of job number clock view table).change ≡ Some change
-    → IsOwnChange number clock (purged clock table.states) (step_of job number clock view table) change
+OwnChanges = (job : RunJob) (number : ℕ) (clock : Clock) (place : InterfacePlace) (view : View) (table : StateTable) (change : TableChange) → (step_of job number clock place view table).change ≡ Some change
+    → IsOwnChange number clock place (purged clock table.states) (step_of job number clock place view table) change
 
-from_change : (change : TableChange) (number : ℕ) (clock : Clock) (states : List State) (outcome : Outcome) (packets : List Taken) (p : Taken) (s : State)
-    → p.number ≡ number → p.clock ≡ clock → p.outcome ≡ outcome → Contains packets p → IsOwnChange number clock states outcome change → ((s : State) → Contains states s → IsMadeAmong packets s)
+from_change : (change : TableChange) (number : ℕ) (clock : Clock) (place : InterfacePlace) (states : List State) (outcome : Outcome) (packets : List Taken) (p : Taken) (s : State)
+    → p.number ≡ number → p.clock ≡ clock → p.frame.place ≡ place → p.outcome ≡ outcome → Contains packets p → IsOwnChange number clock place states outcome change → ((s : State) → Contains states s → IsMadeAmong packets s)
     → Contains (with_change change states) s → IsMadeAmong packets s
-from_change (Made state) number clock states outcome packets p s number_is clock_is outcome_is is_there own each h = elim (from_with state states s h) [
-  | inl is ↦ rw (← is) (record { packet = p; is_there = is_there; number_is = number_is ∙ sym own.number_is; clock_is = clock_is ∙ sym own.made_is; passed = rw outcome_is own.passes; named = rw outcome_is own.named })
+from_change (Made state) number clock place states outcome packets p s number_is clock_is place_is outcome_is is_there own each h = elim (from_with state states s h) [
+  | inl is ↦ rw (← is) (record { packet = p; is_there = is_there; number_is = number_is ∙ sym own.number_is; clock_is = clock_is ∙ sym own.made_is; interface_is = place_is ∙ sym own.interface_is; passed = rw outcome_is own.passes; named = rw outcome_is own.named })
   | inr rest ↦ each s rest
 ]
-from_change (Touched state) number clock states outcome packets p s number_is clock_is outcome_is is_there own each h = elim (from_touched state states s h) [
+from_change (Touched state) number clock place states outcome packets p s number_is clock_is place_is outcome_is is_there own each h = elim (from_touched state states s h) [
   | inl is ↦
       (let made = each own.before own.is_there in
-      rw (← is) (record { packet = made.packet; is_there = made.is_there; number_is = made.number_is ∙ ap (λ (n : StateNumber). n.0) (sym own.number_is); clock_is = made.clock_is ∙ sym own.made_is; passed = made.passed; named = rw own.number_is made.named }))
+      rw (← is) (record { packet = made.packet; is_there = made.is_there; number_is = made.number_is ∙ ap (λ (n : StateNumber). n.0) (sym own.number_is); clock_is = made.clock_is ∙ sym own.made_is; interface_is = made.interface_is ∙ sym own.interface_is; passed = made.passed; named = rw own.number_is made.named }))
   | inr rest ↦ each s rest
 ]
-from_change (Removed old) number clock states outcome packets p s number_is clock_is outcome_is is_there own each h = each s (from_filter (λ state. not (is_number old state)) states s h).0
+from_change (Removed old) number clock place states outcome packets p s number_is clock_is place_is outcome_is is_there own each h = each s (from_filter (λ state. not (is_number old state)) states s h).0
 
-from_changed : (change : Option TableChange) (number : ℕ) (clock : Clock) (table : StateTable) (outcome : Outcome) (packets : List Taken) (p : Taken) (s : State)
-    → p.number ≡ number → p.clock ≡ clock → p.outcome ≡ outcome → Contains packets p → ((c : TableChange) → change ≡ Some c → IsOwnChange number clock table.states outcome c)
+from_changed : (change : Option TableChange) (number : ℕ) (clock : Clock) (place : InterfacePlace) (table : StateTable) (outcome : Outcome) (packets : List Taken) (p : Taken) (s : State)
+    → p.number ≡ number → p.clock ≡ clock → p.frame.place ≡ place → p.outcome ≡ outcome → Contains packets p → ((c : TableChange) → change ≡ Some c → IsOwnChange number clock place table.states outcome c)
     → ((s : State) → Contains table.states s → IsMadeAmong packets s) → Contains (changed change table).states s → IsMadeAmong packets s
-from_changed None number clock table outcome packets p s number_is clock_is outcome_is is_there own each h = each s h
-from_changed (Some change) number clock table outcome packets p s number_is clock_is outcome_is is_there own each h =
-    from_change change number clock table.states outcome packets p s number_is clock_is outcome_is is_there (own change refl) each h
+from_changed None number clock place table outcome packets p s number_is clock_is place_is outcome_is is_there own each h = each s h
+from_changed (Some change) number clock place table outcome packets p s number_is clock_is place_is outcome_is is_there own each h =
+    from_change change number clock place table.states outcome packets p s number_is clock_is place_is outcome_is is_there (own change refl) each h
 
 states_next : OwnChanges → (job : RunJob) (packets : List Taken) (world : World) (frame : Frame) → Contains packets (next_taken job world frame) → ((s : State) → Contains world.table.states s → IsMadeAmong packets s)
     → (s : State) → Contains (after job world frame).table.states s → IsMadeAmong packets s
 unfolding after with_outcome purged_at
 states_next own job packets world frame is_there each s h =
     let p = next_taken job world frame in
-    from_changed p.outcome.change p.number p.clock (purged_at p.clock world.table) p.outcome packets p s refl refl refl is_there
-    (λ change change_is. own job p.number p.clock (view_of frame.link frame.bytes) world.table change change_is)
+    from_changed p.outcome.change p.number p.clock frame.place (purged_at p.clock world.table) p.outcome packets p s refl refl refl refl is_there
+    (λ change change_is. own job p.number p.clock frame.place (view_of frame.link frame.bytes) world.table change change_is)
     (λ s h. each s (from_filter (lives p.clock) world.table.states s h).0) h
 
 pub states_after : OwnChanges → (job : RunJob) (packets : List Taken) (world : World) (frames : List Frame) → ((p : Taken) → Contains (taken_after job world frames) p → Contains packets p)

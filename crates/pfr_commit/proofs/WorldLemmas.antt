@@ -30,7 +30,7 @@ outcome_taken world frame clock view outcome purged table counters verdicts pack
 
 -- the next packet, from its outcome
 pub after_is : (job : RunJob) (world : World) (frame : Frame) (clock : Clock) (view : View) (outcome : Outcome)
-    → clock.0 ≡ max world.clock.0 frame.seconds → view ≡ view_of frame.link frame.bytes → outcome ≡ step_of job (world.count + 1) clock view world.table
+    → clock.0 ≡ max world.clock.0 frame.seconds → view ≡ view_of frame.link frame.bytes → outcome ≡ step_of job (world.count + 1) clock frame.place view world.table
     → with_outcome world frame clock outcome ≡ after job world frame
 unfolding after
 after_is job world frame clock view outcome clock_is view_is outcome_is =

@@ -3,6 +3,7 @@ use Rattle.std.specs.Prelude.{◌≡◌, ◌≤◌, ◌+◌, ◌-◌, ℕ, false
 use Rattle.std.specs.List.{find}
 use Rattle.std.specs.Arc.{arc_value}
 use Rattle.std.specs.Option.{option_to_list}
+use Rattle.pfr_net.specs.declared.interface.InterfacePlace.{InterfacePlace}
 use Rattle.pfr_headers.specs.declared.packet.View.{View}
 use Rattle.pfr_track.specs.declared.time.Clock.{Clock}
 use Rattle.pfr_states.specs.States.{StateTable}
@@ -90,29 +91,29 @@ abbrev pub after_outcome : Record → Clock → Outcome → World → World
 after_outcome packet clock outcome = λ world. with_outcome world (frame_of packet) clock outcome
 
 -- what a packet comes to over a book's states
-abbrev pub outcome_in : Book → ℕ → Clock → View → Outcome
-outcome_in book number clock view = step_of (job_of book) number clock view book.table
+abbrev pub outcome_in : Book → ℕ → Clock → InterfacePlace → View → Outcome
+outcome_in book number clock place view = step_of (job_of book) number clock place view book.table
 
 -- ---- speculations
 
 -- a speculation was given, it is of this packet of this job, and its record holds in the table
-abbrev pub MayUse : Option Speculation → RunJob → ℕ → Clock → View → StateTable → Type 0
-MayUse None job number clock view table = ⊥
-MayUse (Some speculation) job number clock view table = Fits speculation job number clock view table
+abbrev pub MayUse : Option Speculation → RunJob → ℕ → Clock → InterfacePlace → View → StateTable → Type 0
+MayUse None job number clock place view table = ⊥
+MayUse (Some speculation) job number clock place view table = Fits speculation job number clock place view table
 
 -- the same of a packet of a book's job, and over its states
-abbrev pub MayUseIn : Option Speculation → Book → ℕ → Clock → View → Type 0
-MayUseIn speculation book number clock view = MayUse speculation (job_of book) number clock view book.table
+abbrev pub MayUseIn : Option Speculation → Book → ℕ → Clock → InterfacePlace → View → Type 0
+MayUseIn speculation book number clock place view = MayUse speculation (job_of book) number clock place view book.table
 
 -- the same of a book's next packet, with its view
 abbrev pub MayUseNext : Option Speculation → Book → Record → View → Type 0
-MayUseNext speculation book packet view = MayUseIn speculation book (book.count + 1) (clock_at book.clock (frame_of packet)) view
+MayUseNext speculation book packet view = MayUseIn speculation book (book.count + 1) (clock_at book.clock (frame_of packet)) (frame_of packet).place view
 
 -- ---- a batch
 
 -- of the results of the world's next packet, which has this record and this view, the first one holds
 abbrev pub IsUsed : RunJob → World → List Speculation → Record × View → Type 0
-IsUsed job world results packet = MayUse (find (is_of (world.count + 1)) results) job (world.count + 1) (clock_at world.clock (frame_of packet.0)) packet.1 world.table
+IsUsed job world results packet = MayUse (find (is_of (world.count + 1)) results) job (world.count + 1) (clock_at world.clock (frame_of packet.0)) (frame_of packet.0).place packet.1 world.table
 
 -- a number rises by one, unless a result is used
 abbrev pub RisesUnless : Type 0 → ℕ → ℕ → Type 0

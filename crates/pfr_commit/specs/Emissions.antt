@@ -15,7 +15,7 @@ use Rattle.pfr_commit.specs.Lines.{verdict_line}
 use Rattle.pfr_commit.specs.World.{Frame, Texts, apply_by, with_bytes}
 
 abbrev pub frame_of : Record → Frame
-frame_of r = record { link = r.link; seconds = r.seconds; header = r.header; bytes = r.bytes.items }
+frame_of r = record { place = record { 0 = r.place }; link = r.link; seconds = r.seconds; header = r.header; bytes = r.bytes.items }
 
 abbrev pub texts_of : Emitted → Texts
 texts_of emitted = record { verdicts = emitted.verdicts.items; packets = emitted.packets.items; messages = emitted.messages.items }

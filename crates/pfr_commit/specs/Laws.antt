@@ -4,6 +4,7 @@ use Rattle.std.specs.List.{flat_map, Any, count_by, sum_by, Contains, slice_get}
 use Rattle.pfr_net.specs.declared.rule_number.RuleNumber.{RuleNumber}
 use Rattle.pfr_ruleset.specs.declared.flat.FlatRule.{FlatRule}
 use Rattle.pfr_rules.specs.Filter.{most_of}
+use Rattle.pfr_ruleset.specs.Translations.{HaveOwnNumbers}
 use Rattle.pfr_track.specs.declared.state.State.{State}
 use Rattle.pfr_states.specs.States.{count_of_rule, table_of}
 use Rattle.pfr_packet.specs.Job.{RunJob}
@@ -14,7 +15,7 @@ use Rattle.pfr_sync.specs.Messages.{messages_of}
 use Rattle.pfr_telling.specs.Standby.{is_told_of}
 use Rattle.pfr_commit.specs.World.{Frame, Texts, World, joined, last_message, online, origin_of, packet_text, world_after, world_of}
 use Rattle.pfr_commit.specs.Lines.{verdict_line}
-use Rattle.pfr_commit.specs.Runs.{taken_in, capped, comes_to, total_of, counts_for, bytes_for, counters_of, number_of, visits_to, IsMadeAmong, RuleKind}
+use Rattle.pfr_commit.specs.Runs.{taken_in, capped, comes_to, total_of, counts_for, bytes_for, counters_of, is_visited, number_of, visits_to, IsMadeAmong, RuleKind}
 
 -- packets that are taken in two parts leave what they leave together
 abbrev pub TwoPartsAreTheWhole : Type 0
@@ -88,6 +89,14 @@ EvaluationsOfARule =
     (job : RunJob) (frames : List Frame) (kind : RuleKind) (rule : ℕ)
     → rule < number_of kind job
     → get_or (counters_of kind (world_of job frames).counters).evaluations rule 0 ≡ capped (sum_by (visits_to kind rule) (taken_in job frames))
+
+-- and these are the packets whose walk visited the rule, as no walk visits one twice
+abbrev pub EvaluationsArePackets : Type 0
+EvaluationsArePackets =
+    (job : RunJob) (frames : List Frame) (kind : RuleKind) (rule : ℕ)
+    → HaveOwnNumbers job.rules.translations
+    → rule < number_of kind job
+    → get_or (counters_of kind (world_of job frames).counters).evaluations rule 0 ≡ capped (count_by (is_visited kind rule) (taken_in job frames))
 
 -- each state was made by a packet of the run that passed
 abbrev pub StatesAreOfPackets : Type 0

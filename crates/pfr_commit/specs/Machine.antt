@@ -2,6 +2,7 @@
 -- the states after those commits that it sees. One committer takes the packets in their order, each with a speculation or without.
 use Rattle.std.specs.Prelude.{◌≡◌, ◌⊎◌, ◌≤◌, ◌<◌, ◌+◌, ◌==◌, ℕ, if◌then◌else◌, List, [], ◌∷◌, ◌++◌, length, slice_set, take, Option, Some, None}
 use Rattle.std.specs.List.{All, Contains, slice_get}
+use Rattle.pfr_net.specs.declared.interface.InterfacePlace.{InterfacePlace}
 use Rattle.pfr_headers.specs.declared.packet.View.{View}
 use Rattle.pfr_headers.specs.View.{view_of}
 use Rattle.pfr_track.specs.declared.time.Clock.{Clock}
@@ -22,27 +23,29 @@ pub record Guess : Type 0 where
   pub job : RunJob
   pub number : ℕ
   pub clock : Clock
+  pub place : InterfacePlace
   pub view : View
   pub outcome : Outcome
   pub answers : Entries
 
 -- over every table that gives these answers the packet comes to this outcome
 abbrev pub IsSoundGuess : Guess → Type 0
-IsSoundGuess guess = IsSound guess.job guess.number guess.clock guess.view guess.outcome guess.answers
+IsSoundGuess guess = IsSound guess.job guess.number guess.clock guess.place guess.view guess.outcome guess.answers
 
 -- it is of this packet of this job, and the table gives its answers
-pub record Applies (guess : Guess) (job : RunJob) (number : ℕ) (clock : Clock) (view : View) (table : StateTable) : Type 0 where
+pub record Applies (guess : Guess) (job : RunJob) (number : ℕ) (clock : Clock) (place : InterfacePlace) (view : View) (table : StateTable) : Type 0 where
   pub job_is : guess.job ≡ job
   pub number_is : guess.number ≡ number
   pub clock_is : guess.clock ≡ clock
+  pub place_is : guess.place ≡ place
   pub view_is : guess.view ≡ view
   pub agrees : Agrees (purged_at clock table) guess.answers
 
 -- it is what an evaluation of this packet over a table gives: its outcome, and the table's answers to all that was asked
-pub record IsEvaluation (guess : Guess) (job : RunJob) (number : ℕ) (clock : Clock) (view : View) (table : StateTable) : Type 0 where
-  pub applies : Applies guess job number clock view table
-  pub outcome_is : guess.outcome ≡ step_of job number clock view table
-  pub asked : All (IsKept guess.answers) (asked_of job number clock view table)
+pub record IsEvaluation (guess : Guess) (job : RunJob) (number : ℕ) (clock : Clock) (place : InterfacePlace) (view : View) (table : StateTable) : Type 0 where
+  pub applies : Applies guess job number clock place view table
+  pub outcome_is : guess.outcome ≡ step_of job number clock place view table
+  pub asked : All (IsKept guess.answers) (asked_of job number clock place view table)
 
 -- ---- states
 
@@ -126,15 +129,15 @@ pub record Answers (job : RunJob) (packets : List Frame) (old : Machine) (place 
   pub frame_is : slice_get packets (batch.first + index) ≡ Some frame
   pub table : StateTable
   pub table_is : slice_get old.tables (old.sees worker) ≡ Some table
-  pub evaluated : IsEvaluation guess job (batch.first + index + 1) (clock_at (world_of job (take (batch.first + index) packets)).clock frame) (view_of frame.link frame.bytes) table
+  pub evaluated : IsEvaluation guess job (batch.first + index + 1) (clock_at (world_of job (take (batch.first + index) packets)).clock frame) frame.place (view_of frame.link frame.bytes) table
 
 -- a packet's outcome is that of a speculation on the way, if it applies, and else that of its evaluation here
-abbrev pub Takes : RunJob → List Guess → Option Guess → ℕ → Clock → View → StateTable → Outcome → Type 0
-Takes job way None number clock view table outcome = outcome ≡ step_of job number clock view table
-Takes job way (Some guess) number clock view table outcome =
+abbrev pub Takes : RunJob → List Guess → Option Guess → ℕ → Clock → InterfacePlace → View → StateTable → Outcome → Type 0
+Takes job way None number clock place view table outcome = outcome ≡ step_of job number clock place view table
+Takes job way (Some guess) number clock place view table outcome =
     Contains way guess
-    × ((Applies guess job number clock view table × (outcome ≡ guess.outcome))
-    ⊎ ((Applies guess job number clock view table → ⊥) × (outcome ≡ step_of job number clock view table)))
+    × ((Applies guess job number clock place view table × (outcome ≡ guess.outcome))
+    ⊎ ((Applies guess job number clock place view table → ⊥) × (outcome ≡ step_of job number clock place view table)))
 
 -- what a packet that comes to an outcome at a clock adds to what is written of a world: its line, its record if it isn't blocked, and
 -- the messages that no longer may go on
@@ -151,7 +154,7 @@ pub record Commits (job : RunJob) (packets : List Frame) (old : Machine) (given 
   pub clock : Clock
   pub clock_is : clock ≡ clock_at old.world.clock frame
   pub outcome : Outcome
-  pub takes : Takes job old.way given (old.world.count + 1) clock (view_of frame.link frame.bytes) old.world.table outcome
+  pub takes : Takes job old.way given (old.world.count + 1) clock frame.place (view_of frame.link frame.bytes) old.world.table outcome
   pub added : Texts
   pub emits : Emits job old.world frame clock outcome added
   pub new_is : new ≡ record old {

@@ -1,6 +1,6 @@
 -- The packets of a run one by one, and what each of them came to.
 use Rattle.std.specs.Prelude.{◌≡◌, ℕ, ◌+◌, ◌-◌, ◌^◌, ◌==◌, ◌&&◌, ◌||◌, min, Bool, true, false, if◌then◌else◌, List, [], ◌∷◌, Option, Some, codes}
-use Rattle.std.specs.List.{Contains, count_by}
+use Rattle.std.specs.List.{Contains, count_by, list_any}
 use Rattle.std.specs.Str.{bytes_eq}
 use Rattle.pfr_net.specs.declared.rule_number.RuleNumber.{RuleNumber}
 use Rattle.pfr_ruleset.specs.Rulesets.{counts}
@@ -35,7 +35,7 @@ next_taken job world frame = record {
   number = world.count + 1;
   clock = clock_at world.clock frame;
   frame = frame;
-  outcome = step_of job (world.count + 1) (clock_at world.clock frame) (view_of frame.link frame.bytes) world.table;
+  outcome = step_of job (world.count + 1) (clock_at world.clock frame) frame.place (view_of frame.link frame.bytes) world.table;
 }
 
 -- those that follow a world
@@ -49,12 +49,13 @@ taken_in job frames = taken_after job (opening job) frames
 
 -- ---- what they leave
 
--- one of these packets made the state: it passed at the state's clock, has its number and names it
+-- one of these packets made the state: it passed at the state's clock on the state's interface, has its number and names it
 pub record IsMadeAmong (packets : List Taken) (state : State) : Type 0 where
   pub packet : Taken
   pub is_there : Contains packets packet
   pub number_is : packet.number ≡ state.number.0
   pub clock_is : packet.clock ≡ state.made
+  pub interface_is : packet.frame.place ≡ state.interface
   pub passed : packet.outcome.verdict ≡ verdict.Pass
   pub named : packet.outcome.state ≡ Some state.number
 
@@ -123,6 +124,10 @@ abbrev pub visited_of : RuleKind → Outcome → List ℕ
 visited_of filter_rule outcome = outcome.visited.filter
 visited_of translation_rule outcome = outcome.visited.translation
 
--- how often the walk visited a rule of a kind
+-- the walk visited a rule of a kind
+abbrev pub is_visited : RuleKind → ℕ → Taken → Bool
+is_visited kind rule packet = list_any (λ visited. visited == rule) (visited_of kind packet.outcome)
+
+-- how often it did
 abbrev pub visits_to : RuleKind → ℕ → Taken → ℕ
 visits_to kind rule packet = count_by (λ visited. visited == rule) (visited_of kind packet.outcome)

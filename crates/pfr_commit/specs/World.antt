@@ -1,5 +1,6 @@
 -- What a run has come to: the fold of its packets in the order of the capture, one after the other.
 use Rattle.std.specs.Prelude.{ℕ, ◌+◌, max, if◌then◌else◌, List, [], ◌∷◌, ◌++◌, Option, Some, None, fold}
+use Rattle.pfr_net.specs.declared.interface.InterfacePlace.{InterfacePlace}
 use Rattle.pfr_ruleset.specs.Rulesets.{counts}
 use Rattle.pfr_headers.specs.declared.change.Change.{Change}
 use Rattle.pfr_headers.specs.Rewriting.{rewritten}
@@ -26,8 +27,10 @@ use Rattle.pfr_commit.specs.declared.counters.Counters.{Counters}
 use Rattle.pfr_commit.specs.Counters.{counted, nothing_counted}
 use Rattle.pfr_commit.specs.Lines.{verdict_line}
 
--- a packet as its capture has it: the link type, the seconds, the 16 bytes of the record's header, the captured bytes
+-- a packet as its capture has it: the interface on which it was captured, the link type, the seconds, the 16 bytes of the record's
+-- header, the captured bytes
 pub record Frame : Type 0 where
+  pub place : InterfacePlace
   pub link : ℕ
   pub seconds : ℕ
   pub header : List ℕ
@@ -94,7 +97,7 @@ with_outcome world frame clock outcome = record {
 unfoldable pub after : RunJob → World → Frame → World
 after job world frame =
     with_outcome world frame (clock_at world.clock frame)
-    (step_of job (world.count + 1) (clock_at world.clock frame) (view_of frame.link frame.bytes) world.table)
+    (step_of job (world.count + 1) (clock_at world.clock frame) frame.place (view_of frame.link frame.bytes) world.table)
 
 -- ---- a run
 

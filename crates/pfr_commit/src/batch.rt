@@ -9,6 +9,7 @@ use crate::gate::{Gate, Unwatched};
 use crate::results::in_places;
 use pfr_capture::Record;
 use pfr_headers::View;
+use pfr_net::InterfacePlace;
 use pfr_packet::lookup_of;
 use pfr_record::Speculation;
 use pfr_states::{AHEAD, Place};
@@ -27,7 +28,7 @@ impl Book {
         }
         let mut lookups = [None; AHEAD];
         for (lookup, packet) in lookups.iter_mut().zip(packets) {
-            *lookup = lookup_of(&self.job, &packet.1);
+            *lookup = lookup_of(&self.job, InterfacePlace(packet.0.place), &packet.1);
         }
         self.table.look_ahead(&lookups)
     }

@@ -26,7 +26,7 @@ use pfr_record::Speculation;
 use pfr_states::{Place, Table};
 use pfr_sync::checksum;
 use pfr_telling::Telling;
-use pfr_track::Clock;
+use pfr_track::{Clock, InterfacePlace};
 use std::alloc::{AllocError, Global};
 use std::sync::Arc;
 
@@ -157,18 +157,28 @@ impl Book {
         &self,
         number: u64,
         clock: Clock,
+        interface: InterfacePlace,
         view: &View,
         results: &ResultsByPlace<'r>,
         place: usize,
         hint: Option<Place>,
     ) -> Option<&'r Outcome>
         requires { IsOfJobAt (job_of self.now) place results.now }
-        ensures some { IsSome result ↔ MayUseIn (result_at place results.now) self.now number clock view.now }
-        ensures outcome { IfSome result (λ outcome. outcome.now ≡ outcome_in self.now number clock view.now) }
+        ensures some { IsSome result ↔ MayUseIn (result_at place results.now) self.now number clock interface view.now }
+        ensures outcome { IfSome result (λ outcome. outcome.now ≡ outcome_in self.now number clock interface view.now) }
     {
         let speculation = results.at(place)?;
         let is_of_job = results.are_of_job;
-        speculation.outcome_near(is_of_job, &self.job, number, clock, view, &self.table, hint)
+        speculation.outcome_near(
+            is_of_job,
+            &self.job,
+            number,
+            clock,
+            interface,
+            view,
+            &self.table,
+            hint,
+        )
     }
 
     /// Evaluates a packet, and writes what it comes to over a fresh outcome. The state by which the packet goes may stand at the place
@@ -178,12 +188,13 @@ impl Book {
         &self,
         number: u64,
         clock: Clock,
+        interface: InterfacePlace,
         view: &View,
         hint: Option<Place>,
         outcome: &mut Outcome,
     ) -> Result<Option<Place>, AllocError>
         requires { outcome.old ≡ fresh }
-        ensures { OnOk result (outcome.new ≡ outcome_in self.now number clock view.now) }
+        ensures { OnOk result (outcome.new ≡ outcome_in self.now number clock interface view.now) }
     {
         let mut answers = Direct {
             table: &self.table,
@@ -196,6 +207,7 @@ impl Book {
             &self.job,
             number,
             clock,
+            interface,
             view,
             &mut answers,
             outcome,
@@ -209,6 +221,7 @@ impl Book {
         &self,
         number: u64,
         clock: Clock,
+        interface: InterfacePlace,
         view: &View,
         results: &ResultsByPlace<'r>,
         place: usize,
@@ -218,13 +231,13 @@ impl Book {
     ) -> Result<Evaluated<'r>, AllocError>
         requires outcome { here.old ≡ fresh }
         requires of_job { IsOfJobAt (job_of self.now) place results.now }
-        ensures held { IfOk result (λ evaluated. IfSome evaluated.held (λ outcome. outcome.now ≡ outcome_in self.now number clock view.now)) }
-        ensures here { IfOk result (λ evaluated. IfNone evaluated.held (here.new ≡ outcome_in self.now number clock view.now)) }
-        ensures used { IfOk result (λ evaluated. MayUseIn (result_at place results.now) self.now number clock view.now → evaluated.evaluated_here ≡ 0) }
-        ensures evaluated { IfOk result (λ it. (MayUseIn (result_at place results.now) self.now number clock view.now → ⊥) → it.evaluated_here ≡ 1) }
+        ensures held { IfOk result (λ evaluated. IfSome evaluated.held (λ outcome. outcome.now ≡ outcome_in self.now number clock interface view.now)) }
+        ensures here { IfOk result (λ evaluated. IfNone evaluated.held (here.new ≡ outcome_in self.now number clock interface view.now)) }
+        ensures used { IfOk result (λ evaluated. MayUseIn (result_at place results.now) self.now number clock interface view.now → evaluated.evaluated_here ≡ 0) }
+        ensures evaluated { IfOk result (λ it. (MayUseIn (result_at place results.now) self.now number clock interface view.now → ⊥) → it.evaluated_here ≡ 1) }
         ensures few { IfOk result (λ evaluated. evaluated.evaluated_here ≤ 1) }
     {
-        let held = self.usable_outcome(number, clock, view, results, place, hint);
+        let held = self.usable_outcome(number, clock, interface, view, results, place, hint);
         if held.is_some() {
             let evaluated_here = 0;
             return Ok(Evaluated {
@@ -234,7 +247,7 @@ impl Book {
             });
         }
         gate.ran_again(number);
-        let found = self.run(number, clock, view, hint, here)?;
+        let found = self.run(number, clock, interface, view, hint, here)?;
         let evaluated_here = 1;
         Ok(Evaluated {
             held,
@@ -258,7 +271,7 @@ impl Book {
         requires few { self.old.count < 2 ^ 43 }
         requires later { self.old.clock.0 ≤ clock.0 }
         requires change { IfSome outcome.now.change (λ change. refusal change self.old.table.limit (purged clock self.old.table.states) ≡ None) }
-        requires named { IfSome outcome.now.change (IsOwnChange (self.old.count + 1) clock (purged clock self.old.table.states) outcome.now) }
+        requires named { IfSome outcome.now.change (IsOwnChange (self.old.count + 1) clock (record { 0 = packet.now.place }) (purged clock self.old.table.states) outcome.now) }
         requires bytes { IfSome outcome.now.bytes (λ change. view_of packet.now.link packet.now.bytes.items ≡ Ipv4 change.packet) }
         ensures world { OnOk result (AddsLines self.old self.new out.old out.new (after_outcome packet.now clock outcome.now)) }
         ensures told { OnOk result (LeadsTo self.old self.new out.old out.new (after_outcome packet.now clock outcome.now)) }
@@ -319,7 +332,17 @@ impl Book {
             held,
             evaluated_here,
             found,
-        } = self.evaluate(number, clock, view, results, place, hint, gate, &mut here)?;
+        } = self.evaluate(
+            number,
+            clock,
+            InterfacePlace(packet.place),
+            view,
+            results,
+            place,
+            hint,
+            gate,
+            &mut here,
+        )?;
         let outcome = held.unwrap_or(&here);
         // what `take_outcome` requires of an outcome holds of each that an evaluation has
         no_change_is_refused();

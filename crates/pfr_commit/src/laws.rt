@@ -4,13 +4,13 @@ ghost use Rattle.std.specs.List.{All, range_with_len};
 ghost use Rattle.pfr_states.specs.States.{IsTable};
 ghost use Rattle.pfr_packet.specs.Job.{RunJob};
 ghost use Rattle.pfr_commit.specs.Holding.{AStandbyHoldsEachState};
-ghost use Rattle.pfr_commit.specs.Laws.{AStandbyHoldsTheStates, BytesOfARule, ChangesMakeTheTable, ClockIsOfARecord, EachHasItsLine, EachHasItsRecord, EvaluationsOfARule, PacketsOfARule, RulesKeepToTheirMax, StatesAreOfPackets, TotalsAreTheCount, TheLastMessageIsTheRest, TotalsCountVerdicts, TwoPartsAreTheWhole, WhatIsWrittenStays};
+ghost use Rattle.pfr_commit.specs.Laws.{AStandbyHoldsTheStates, BytesOfARule, ChangesMakeTheTable, ClockIsOfARecord, EachHasItsLine, EachHasItsRecord, EvaluationsArePackets, EvaluationsOfARule, PacketsOfARule, RulesKeepToTheirMax, StatesAreOfPackets, TotalsAreTheCount, TheLastMessageIsTheRest, TotalsCountVerdicts, TwoPartsAreTheWhole, WhatIsWrittenStays};
 ghost use Rattle.pfr_commit.specs.Machine.{EveryRun};
 ghost use Rattle.pfr_commit.specs.Runs.{taken_in};
 ghost use Rattle.pfr_commit.specs.World.{Frame, world_of};
 
 use pfr_packet::laws::{
-    every_change_is_of_the_named_state, no_change_is_refused,
+    a_packet_visits_a_rule_once, every_change_is_of_the_named_state, no_change_is_refused,
     states_are_made_where_their_rule_has_room,
 };
 use pfr_states::laws::a_purge_goes_state_by_state;
@@ -49,14 +49,19 @@ pub fn totals_are_the_count()
 {}
 
 /// The packets and bytes of a rule, of the filter or of translation, are those of the packets whose line names the rule for a reason
-/// that counts. Its evaluations are the visits of the walks of all packets over the rules of its kind.
+/// that counts. Its evaluations are the visits of the walks of all packets over the rules of its kind: the packets whose walk visited
+/// it, if translation rules have numbers of their own, as they have in each ruleset that a text means.
 pub fn rules_are_counted_by_their_lines()
     ensures packets { PacketsOfARule }
     ensures bytes { BytesOfARule }
-    ensures evaluations { EvaluationsOfARule }
-{}
+    ensures visits { EvaluationsOfARule }
+    ensures evaluations { EvaluationsArePackets }
+{
+    // no walk visits a rule twice
+    a_packet_visits_a_rule_once();
+}
 
-/// Each state was made by a packet of the run that passed: it has that packet's number, and was made at its clock.
+/// Each state was made by a packet of the run that passed: it has that packet's number, and was made at its clock on its interface.
 pub fn every_state_is_of_a_packet_that_passed()
     ensures { StatesAreOfPackets }
 {

@@ -21,7 +21,7 @@ pub same_frames : (form : Form) (records : List Record) → All (FieldsOf form) 
 same_frames form [] all = refl
 same_frames form (one ∷ records) all =
     let is = All-head (FieldsOf form) one records all in
-    rw (is.link, is.seconds, same_frames form records (All-tail (FieldsOf form) one records all)) refl
+    rw (is.place, is.link, is.seconds, same_frames form records (All-tail (FieldsOf form) one records all)) refl
 
 -- ---- the reader
 

@@ -28,9 +28,9 @@ use Rattle.pfr_out.specs.Spelling.{Run, messages_text}
 
 -- ---- what a replay writes
 
--- a record as a packet of a run
+-- a record as a packet of a run of one capture
 abbrev pub frame_in : Form → RecordBytes → Frame
-frame_in form r = record { link = form.link; seconds = seconds_of form.order r.header; header = r.header; bytes = r.bytes }
+frame_in form r = record { place = record { 0 = 0 }; link = form.link; seconds = seconds_of form.order r.header; header = r.header; bytes = r.bytes }
 
 -- the world after records of a capture are taken one after the other
 unfoldable pub run_of : RunJob → Form → List RecordBytes → World

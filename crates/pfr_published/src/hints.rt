@@ -10,8 +10,16 @@ pub(crate) struct Hints {
 /// The key on the wire of a state that is made or touched.
 fn wire_lookup(change: &Change) -> Option<Lookup> {
     match change {
-        Change::Apply(TableChange::Made(state)) => Some((Side::Wire, state.wire)),
-        Change::Apply(TableChange::Touched(state)) => Some((Side::Wire, state.wire)),
+        Change::Apply(TableChange::Made(state)) => Some((
+            Side::Wire,
+            state.wire,
+            state.rules.binding,
+        )),
+        Change::Apply(TableChange::Touched(state)) => Some((
+            Side::Wire,
+            state.wire,
+            state.rules.binding,
+        )),
         _ => None,
     }
 }
@@ -19,7 +27,11 @@ fn wire_lookup(change: &Change) -> Option<Lookup> {
 /// The key on the stack of a state that is made. A touched one is found by its key on the wire.
 fn stack_lookup(change: &Change) -> Option<Lookup> {
     match change {
-        Change::Apply(TableChange::Made(state)) => Some((Side::Stack, state.stack)),
+        Change::Apply(TableChange::Made(state)) => Some((
+            Side::Stack,
+            state.stack,
+            state.rules.binding,
+        )),
         _ => None,
     }
 }

@@ -62,7 +62,7 @@ tables_next job packets count =
 abbrev added_by : RunJob → World → Frame → List Content → Texts
 added_by job world frame messages =
     let clock = clock_at world.clock frame in
-    let outcome = step_of job (world.count + 1) clock (view_of frame.link frame.bytes) world.table in
+    let outcome = step_of job (world.count + 1) clock frame.place (view_of frame.link frame.bytes) world.table in
     record { verdicts = verdict_line (world.count + 1) clock outcome; packets = packet_text frame outcome; messages = messages }
 
 -- that is what a packet adds
@@ -124,7 +124,7 @@ commits job packets machine count below within =
       frame_is = found.1;
       clock = clock;
       clock_is = refl;
-      outcome = step_of job (world.count + 1) clock (view_of frame.link frame.bytes) world.table;
+      outcome = step_of job (world.count + 1) clock frame.place (view_of frame.link frame.bytes) world.table;
       takes = refl;
       added = added_by job world frame adds.0;
       emits = record { verdicts_are = refl; packets_are = refl; messages_are = messages_are job world frame adds.0 adds.1 };

@@ -12,6 +12,7 @@ use pfr_packet::Job;
 use pfr_published::{Published, StoreWriter, Viewer};
 use pfr_record::{Speculation, speculate};
 use pfr_states::Change;
+use pfr_track::InterfacePlace;
 use pfr_workers::Hand;
 use std::alloc::{AllocError, Global};
 use std::marker::PhantomData;
@@ -65,7 +66,7 @@ impl<'a, J: OfRun, G> Evaluator<'a, J, G> {
         ensures own { IfSome result (λ speculation. J.job ≡ Some (arc_value speculation.job)) }
         ensures learned { HasLearned self.new.viewer batch.now.told }
     {
-        let (_record, view) = batch.packets.get(place as usize)?;
+        let (record, view) = batch.packets.get(place as usize)?;
         let clock = batch.clocks.get(place as usize)?;
         let number = number_at(batch, place);
         let viewer = self.viewer.take()?;
@@ -76,6 +77,7 @@ impl<'a, J: OfRun, G> Evaluator<'a, J, G> {
                     &self.job,
                     number,
                     *clock,
+                    InterfacePlace(record.place),
                     *view,
                     showing.table(),
                 );

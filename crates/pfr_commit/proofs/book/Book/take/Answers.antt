@@ -15,7 +15,7 @@ pub take_outcome-requires-clause-bytes : goal.take_outcome-requires-clause-bytes
 take_outcome-requires-clause-bytes g c =
     let outcome_is = by_either c.in_ok-held.field-0.held _ c.unwrap_or-outcome.result _ c.unwrap_or-outcome.ensures c.in_ok-held.ensures.held c.in_ok-held.ensures.here in
     if_some _ c.unwrap_or-outcome.result.now.bytes (λ (change : Change) is.
-    sym c.requires.view ∙ c.what_is_written_is_of_the_packet.ensures _ _ _ c.args.view.now _ change (ap (λ (o : Outcome). o.bytes) (sym outcome_is) ∙ is))
+    sym c.requires.view ∙ c.what_is_written_is_of_the_packet.ensures _ _ _ _ c.args.view.now _ change (ap (λ (o : Outcome). o.bytes) (sym outcome_is) ∙ is))
 
 pub returns-clause-world : goal.returns-clause-world
 returns-clause-world g c =
@@ -25,7 +25,7 @@ returns-clause-world g c =
     let view = c.args.view.now in
     let outcome = c.unwrap_or-outcome.result.now in
     let settled = ap (λ (t : StateTable). untold (with_outcome (record before { table = t }) frame clock outcome)) c.settle.ensures in
-    let outcome_is = by_either c.in_ok-held.field-0.held _ c.unwrap_or-outcome.result _ c.unwrap_or-outcome.ensures c.in_ok-held.ensures.held c.in_ok-held.ensures.here ∙ ap (λ (t : StateTable). step_of (job_of c.args.self.now) (c.args.self.now.count + 1) clock view t) c.settle.ensures in
+    let outcome_is = by_either c.in_ok-held.field-0.held _ c.unwrap_or-outcome.result _ c.unwrap_or-outcome.ensures c.in_ok-held.ensures.held c.in_ok-held.ensures.here ∙ ap (λ (t : StateTable). step_of (job_of c.args.self.now) (c.args.self.now.count + 1) clock (frame_of c.args.packet.now).place view t) c.settle.ensures in
     c.in_ok-take_outcome.ensures.world ∙ settled ∙ ap untold (after_is (job_of c.args.self.now) before frame clock view outcome c.later-clock.ensures c.requires.view outcome_is)
 
 pub returns-clause-changes : goal.returns-clause-changes
@@ -38,7 +38,7 @@ returns-clause-changes g c =
     let outcome = c.unwrap_or-outcome.result.now in
     let held = held_changes c.args.out.now in
     let settled = ap (λ (t : StateTable). with_more held (with_outcome (record before { table = t }) frame clock outcome).changes) c.settle.ensures in
-    let outcome_is = by_either c.in_ok-held.field-0.held _ c.unwrap_or-outcome.result _ c.unwrap_or-outcome.ensures c.in_ok-held.ensures.held c.in_ok-held.ensures.here ∙ ap (λ (t : StateTable). step_of (job_of c.args.self.now) (c.args.self.now.count + 1) clock view t) c.settle.ensures in
+    let outcome_is = by_either c.in_ok-held.field-0.held _ c.unwrap_or-outcome.result _ c.unwrap_or-outcome.ensures c.in_ok-held.ensures.held c.in_ok-held.ensures.here ∙ ap (λ (t : StateTable). step_of (job_of c.args.self.now) (c.args.self.now.count + 1) clock (frame_of c.args.packet.now).place view t) c.settle.ensures in
     c.in_ok-take_outcome.ensures.changes ∙ settled
     ∙ ap (λ (w : World). with_more held w.changes) (after_is (job_of c.args.self.now) before frame clock view outcome c.later-clock.ensures c.requires.view outcome_is)
 
@@ -47,7 +47,7 @@ returns-clause-told g c =
     let clock = c.later-clock.result in
     let view = c.args.view.now in
     let settled = ap (λ (t : StateTable). record (world_in c.args.self.now) { table = t }) c.settle.ensures in
-    let outcome_is = by_either c.in_ok-held.field-0.held _ c.unwrap_or-outcome.result _ c.unwrap_or-outcome.ensures c.in_ok-held.ensures.held c.in_ok-held.ensures.here ∙ ap (λ (t : StateTable). step_of (job_of c.args.self.now) (c.args.self.now.count + 1) clock view t) c.settle.ensures in
+    let outcome_is = by_either c.in_ok-held.field-0.held _ c.unwrap_or-outcome.result _ c.unwrap_or-outcome.ensures c.in_ok-held.ensures.held c.in_ok-held.ensures.here ∙ ap (λ (t : StateTable). step_of (job_of c.args.self.now) (c.args.self.now.count + 1) clock (frame_of c.args.packet.now).place view t) c.settle.ensures in
     taken_leads c.args.self.now _ c.take_outcome.new.self _ c.args.out.now c.take_outcome.new.out (frame_of c.args.packet.now) clock view c.unwrap_or-outcome.result.now
     settled refl refl refl refl refl c.later-clock.ensures c.requires.view outcome_is c.in_ok-take_outcome.ensures.told
 
