@@ -8,9 +8,11 @@
 //!     inside ADDRESS BITS                    one more inside network
 //!     job SEED TEXT                          one more job: a byte, which is each of its seed's, and the ruleset's text. The
 //!                                            first is the book's; it and the others are numbered from 0
-//!     packet LINK SECONDS HEADER BYTES       one more packet of the run, numbered from 1
-//!     speculate JOB NUMBER PACKET CLOCK      evaluates packet NUMBER of a job, seen as packet PACKET is, on the book's table.
-//!                                            What it finds is kept; what is kept is numbered from 0
+//!     packet PLACE LINK SECONDS HEADER BYTES one more packet of the run, numbered from 1, with the place of its interface
+//!     speculate JOB NUMBER PACKET CLOCK PLACE
+//!                                            evaluates packet NUMBER of a job, seen as packet PACKET is but on the interface of
+//!                                            this place, on the book's table. What it finds is kept; what is kept is numbered
+//!                                            from 0
 //!     holds KEPT CLOCK                       whether that record holds in the book's table now: `holds` or `fails`, and `none`
 //!                                            where it isn't kept any more
 //!     batch COUNT KEPT ..                    the book takes the next packets, with those results in this order
@@ -36,7 +38,7 @@ use pfr_packet::Job;
 use pfr_record::{Speculation, speculate};
 use pfr_ruleset::Interface;
 use pfr_sync::{Message, encode_onto};
-use pfr_track::Clock;
+use pfr_track::{Clock, InterfacePlace};
 use std::alloc::{AllocError, Global};
 use std::io;
 use std::io::Write;
@@ -71,11 +73,13 @@ fn bytes(alloc: Global, words: &mut Words<'_>) -> Result<Vec<u8>, AllocError> {
 
 /// The packet that a line names.
 fn record(alloc: Global, words: &mut Words<'_>) -> Result<Record, AllocError> {
+    let place = words.number().unwrap_or(0);
     let link = words.number().unwrap_or(0);
     let seconds = words.number().unwrap_or(0);
     let header = bytes(alloc, words)?;
     let bytes = bytes(alloc, words)?;
     Ok(Record {
+        place,
         link,
         seconds,
         fraction: 0,
@@ -275,9 +279,11 @@ impl Run {
         let number = words.number().unwrap_or(0);
         let view = self.packets.view_of(words.number().unwrap_or(0));
         let clock = Clock(words.number().unwrap_or(0));
+        let place = InterfacePlace(words.number().unwrap_or(0));
         match (&self.book, job) {
             (Some(book), Some(Some(job))) => {
-                speculate(self.alloc, job, number, clock, view, book.table()).map(Some)
+                let table = book.table();
+                speculate(self.alloc, job, number, clock, place, view, table).map(Some)
             }
             _ => Ok(None),
         }

@@ -16,7 +16,8 @@ use pfr_headers::{
 };
 use pfr_net::{Direction, Endpoint, Ipv4Address, Port, Protocol};
 use pfr_track::{
-    Clock, Key, RuleNumber, State, StateNumber, StateRules, Timeouts, Touch, make, touch,
+    Binding, Clock, InterfacePlace, Key, RuleNumber, State, StateNumber, StateRules, Timeouts,
+    Touch, make, touch,
 };
 use std::alloc::{AllocError, Global};
 
@@ -72,6 +73,7 @@ fn rules(given: &mut Given<'_>) -> StateRules {
         translation,
         is_synchronised: true,
         allows_options: false,
+        binding: Binding::All,
     }
 }
 
@@ -193,6 +195,7 @@ fn made(conversation: &Conversation, arrival: &Arrival) -> State {
         conversation.number,
         &arrival.packet,
         arrival.direction,
+        InterfacePlace(0),
         conversation.wire,
         conversation.stack,
         conversation.rules,

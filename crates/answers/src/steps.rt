@@ -4,11 +4,12 @@
 //! The line of a packet has four parts with `; ` between them: its verdict line; the numbers of the filter rules visited and,
 //! behind a blank, those of the translation rules; what it changes in the table (`made STATE`, `touched STATE` or `removed
 //! NUMBER`); what is written into its bytes (`source` or `destination`, and an address and port). In place of nothing there
-//! is a `-`. A change that the table refuses has ` refused` behind it.
+//! is a `-`. A change that the table refuses has ` refused` behind it. Behind a state's line stand the place of the interface on
+//! which it was made and, behind a slash, the place of the one to which it is bound, or `-` for all.
 //!
 //! A run holds the interface, the inside networks (one byte that counts them, and of each four bytes and the bits in one), the
 //! text of the ruleset with its length before it in four bytes, a byte, which is each of the seed's, how many records there are
-//! (4), and these. A record holds the link type (2), the seconds (4), and the captured bytes with their length before them (4).
+//! (4), and these. A record holds the place of its interface (1), the link type (2), the seconds (4), and the captured bytes with their length before them (4).
 use crate::given::Given;
 use crate::printing::{put_address, put_bytes, put_fault, put_state};
 use pfr_commit::VerdictLine;
@@ -18,12 +19,13 @@ use pfr_net::{Ipv4Address, Net};
 use pfr_packet::{Direct, Job, Outcome, step};
 use pfr_rules::Visits;
 use pfr_states::{Table, TableChange, TableError};
-use pfr_track::{Clock, State, StateNumber};
+use pfr_track::{Binding, Clock, InterfacePlace, State, StateNumber};
 use std::alloc::{AllocError, Global};
 
 /// A record of a capture.
 #[derive(Clone, Copy)]
 struct Record<'a> {
+    place: InterfacePlace,
     link: u16,
     seconds: u32,
     bytes: &'a [u8],
@@ -41,10 +43,12 @@ fn networks(alloc: Global, given: &mut Given<'_>) -> Result<Vec<Net>, AllocError
 
 impl<'a> Record<'a> {
     fn read(given: &mut Given<'a>) -> Record<'a> {
+        let place = InterfacePlace(given.byte());
         let link = given.short();
         let seconds = given.number();
         let bytes = given.text();
         Record {
+            place,
             link,
             seconds,
             bytes,
@@ -66,12 +70,21 @@ fn put_visits(alloc: Global, out: &mut String, visits: &Visits) -> Result<(), Al
     Ok(())
 }
 
+/// A state, the interface on which it was made and the one to which it is bound.
+fn put_bound(alloc: Global, out: &mut String, state: &State) -> Result<(), AllocError> {
+    put_state(alloc, out, state)?;
+    let _newline = out.pop();
+    write!(out, " {}/", state.interface.0)?;
+    match state.rules.binding {
+        Binding::To(place) => write!(out, "{}", place.0),
+        Binding::All => out.push('-'),
+    }
+}
+
 /// A word and a state.
 fn put_left(alloc: Global, out: &mut String, word: &str, state: &State) -> Result<(), AllocError> {
     out.push_str(word)?;
-    put_state(alloc, out, state)?;
-    let _newline = out.pop();
-    Ok(())
+    put_bound(alloc, out, state)
 }
 
 fn put_change(
@@ -146,7 +159,8 @@ fn put_states(alloc: Global, out: &mut String, table: &Table) -> Result<(), Allo
         let Some(state) = table.after(number) else {
             break;
         };
-        put_state(alloc, out, &state)?;
+        put_bound(alloc, out, &state)?;
+        out.push('\n')?;
         number = state.number;
     }
     Ok(())
@@ -168,7 +182,7 @@ fn evaluate(
         hint: None,
         found: None,
     };
-    step(alloc, job, number, clock, &view, &mut answers)
+    step(alloc, job, number, clock, record.place, &view, &mut answers)
 }
 
 /// The line of a packet, whose change is taken over.

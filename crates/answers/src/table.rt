@@ -2,12 +2,12 @@
 //!
 //! The first line is how many states there may be. A call is a word and numbers, with spaces between them:
 //!
-//!     make NUMBER WIRE STACK DEADLINE BYTES RULE      a state comes
-//!     touch NUMBER WIRE STACK DEADLINE BYTES RULE     a packet leaves a state like this
+//!     make NUMBER WIRE STACK DEADLINE BYTES RULE BINDING      a state comes
+//!     touch NUMBER WIRE STACK DEADLINE BYTES RULE BINDING     a packet leaves a state like this
 //!     remove NUMBER
 //!     settle CLOCK
 //!     purge CLOCK
-//!     at SIDE KEY CLOCK                               SIDE is the word `wire` or `stack`
+//!     at SIDE KEY SCOPE CLOCK                         SIDE is the word `wire` or `stack`
 //!     room CLOCK
 //!     rule_room RULE MOST CLOCK                       whether a rule has fewer states than MOST
 //!     due CLOCK
@@ -16,8 +16,8 @@
 //!     list                                            `len`, and then `after` for each state from number 0 on
 //!
 //! WIRE, STACK and KEY are five numbers each: the protocol, the outside party's address and port, and the inside one's.
-//! BYTES are what the state has counted, and RULE is the number of its filter rule, or `-`. What else a state has is the
-//! same in all. The answers are `done` or why the change isn't taken, `yes` or `no`, a number, and a state's words in the
+//! BYTES are what the state has counted, and RULE is the number of its filter rule, or `-`. BINDING and SCOPE are the place of an
+//! interface, or `-` for all. What else a state has is the same in all. The answers are `done` or why the change isn't taken, `yes` or `no`, a number, and a state's words in the
 //! order above or `none`. A list is one line for each of its answers.
 //!
 //! All lines are read before the first call, and the answers go into a text that is made before it. So from there on only the
@@ -27,7 +27,8 @@ use crate::printing::word_if;
 use pfr_net::{Direction, Endpoint, Ipv4Address, Port, Protocol};
 use pfr_states::{Side, Table, TableChange};
 use pfr_track::{
-    Clock, Deadline, Key, Peers, RuleNumber, State, StateNumber, StateRules, Timeout, Traffic,
+    Binding, Clock, Deadline, InterfacePlace, Key, Peers, RuleNumber, State, StateNumber,
+    StateRules, Timeout, Traffic,
 };
 use std::alloc::{AllocError, Global};
 use std::io;
@@ -59,6 +60,22 @@ fn rule(words: &mut Words<'_>) -> Option<RuleNumber> {
     Some(RuleNumber(words.number()?))
 }
 
+/// The binding that is the next word: to the interface of a number, or to all for another word.
+fn binding(words: &mut Words<'_>) -> Binding {
+    match words.number() {
+        Some(place) => Binding::To(InterfacePlace(place)),
+        None => Binding::All,
+    }
+}
+
+/// The interface on which a state was made, if it is bound to one, and else the first.
+fn maker(binding: Binding) -> InterfacePlace {
+    match binding {
+        Binding::To(place) => place,
+        Binding::All => InterfacePlace(0),
+    }
+}
+
 fn state(words: &mut Words<'_>) -> Option<State> {
     let number = StateNumber(words.number()?);
     let wire = key(words)?;
@@ -66,9 +83,11 @@ fn state(words: &mut Words<'_>) -> Option<State> {
     let deadline = Deadline(words.number()?);
     let bytes = words.number()?;
     let filter = rule(words);
+    let binding = binding(words);
     Some(State {
         number,
         direction: Direction::In,
+        interface: maker(binding),
         wire,
         stack,
         rules: StateRules {
@@ -76,6 +95,7 @@ fn state(words: &mut Words<'_>) -> Option<State> {
             translation: None,
             is_synchronised: true,
             allows_options: false,
+            binding,
         },
         peers: Peers::Icmp,
         made: Clock(0),
@@ -89,7 +109,7 @@ fn state(words: &mut Words<'_>) -> Option<State> {
     })
 }
 
-/// The state that is found by the side, the key and the clock of a line.
+/// The state that is found by the side, the key, the scope and the clock of a line.
 fn found_at(table: &Table, words: &mut Words<'_>) -> Option<Option<State>> {
     let side = match words.word() {
         "wire" => Side::Wire,
@@ -97,8 +117,9 @@ fn found_at(table: &Table, words: &mut Words<'_>) -> Option<Option<State>> {
         _ => return None,
     };
     let key = key(words)?;
+    let scope = binding(words);
     let clock = Clock(words.number()?);
-    Some(table.at(side, &key, clock))
+    Some(table.at(side, &key, scope, clock))
 }
 
 /// Whether the rule of a line has fewer states than the line says, at its clock.
@@ -125,8 +146,12 @@ fn put_found(out: &mut String, found: Option<State>) -> Result<(), AllocError> {
     put_key(out, state.stack)?;
     write!(out, " {} {}", state.deadline.0, state.forth.bytes)?;
     match state.rules.filter {
-        Some(rule) => writeln!(out, " {}", rule.0),
-        None => out.push_str(" -\n"),
+        Some(rule) => write!(out, " {}", rule.0)?,
+        None => out.push_str(" -")?,
+    }
+    match state.rules.binding {
+        Binding::To(place) => writeln!(out, " {}", place.0),
+        Binding::All => out.push_str(" -\n"),
     }
 }
 

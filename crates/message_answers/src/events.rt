@@ -14,8 +14,8 @@ use crate::printing::put_content;
 use pfr_net::{Direction, Endpoint, IfName, Ipv4Address, Port, Protocol, RuleNumber, Timeout};
 use pfr_sync::{Event, EventKind, Message, Queue};
 use pfr_track::{
-    Clock, DatagramPeer, Deadline, Key, Peers, Sequence, State, StateNumber, StateRules, TcpPeer,
-    TcpPeerState, Traffic,
+    Binding, Clock, DatagramPeer, Deadline, InterfacePlace, Key, Peers, Sequence, State,
+    StateNumber, StateRules, TcpPeer, TcpPeerState, Traffic,
 };
 use std::alloc::{AllocError, Global};
 
@@ -53,6 +53,7 @@ fn rules(given: &mut Given<'_>) -> StateRules {
         translation,
         is_synchronised: true,
         allows_options: false,
+        binding: Binding::All,
     }
 }
 
@@ -147,6 +148,7 @@ fn state(given: &mut Given<'_>) -> State {
     State {
         number,
         direction,
+        interface: InterfacePlace(0),
         wire,
         stack,
         rules,

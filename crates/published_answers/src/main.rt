@@ -9,8 +9,8 @@
 //!
 //! Behind these stands what the one does who publishes, one after the other:
 //!
-//!     make NUMBER WIRE STACK DEADLINE BYTES RULE  one more change: a state comes
-//!     touch NUMBER WIRE STACK DEADLINE BYTES RULE a packet leaves a state like this
+//!     make NUMBER WIRE STACK DEADLINE BYTES RULE BINDING  one more change: a state comes
+//!     touch NUMBER WIRE STACK DEADLINE BYTES RULE BINDING a packet leaves a state like this
 //!     remove NUMBER
 //!     purge CLOCK
 //!     publish                   publishes the changes that stand behind the publication before

@@ -3,7 +3,8 @@ use crate::given::Words;
 use pfr_net::{Direction, Endpoint, Ipv4Address, Port, Protocol};
 use pfr_states::{Change, Table, TableChange};
 use pfr_track::{
-    Clock, Deadline, Key, Peers, RuleNumber, State, StateNumber, StateRules, Timeout, Traffic,
+    Binding, Clock, Deadline, InterfacePlace, Key, Peers, RuleNumber, State, StateNumber,
+    StateRules, Timeout, Traffic,
 };
 use std::alloc::AllocError;
 
@@ -34,6 +35,22 @@ fn rule(words: &mut Words<'_>) -> Option<RuleNumber> {
     Some(RuleNumber(words.number()?))
 }
 
+/// The binding that is the next word: to the interface of a number, or to all for another word.
+fn binding(words: &mut Words<'_>) -> Binding {
+    match words.number() {
+        Some(place) => Binding::To(InterfacePlace(place)),
+        None => Binding::All,
+    }
+}
+
+/// The interface on which a state was made, if it is bound to one, and else the first.
+fn maker(binding: Binding) -> InterfacePlace {
+    match binding {
+        Binding::To(place) => place,
+        Binding::All => InterfacePlace(0),
+    }
+}
+
 fn state(words: &mut Words<'_>) -> Option<State> {
     let number = StateNumber(words.number()?);
     let wire = key(words)?;
@@ -41,9 +58,11 @@ fn state(words: &mut Words<'_>) -> Option<State> {
     let deadline = Deadline(words.number()?);
     let bytes = words.number()?;
     let filter = rule(words);
+    let binding = binding(words);
     Some(State {
         number,
         direction: Direction::In,
+        interface: maker(binding),
         wire,
         stack,
         rules: StateRules {
@@ -51,6 +70,7 @@ fn state(words: &mut Words<'_>) -> Option<State> {
             translation: None,
             is_synchronised: true,
             allows_options: false,
+            binding,
         },
         peers: Peers::Icmp,
         made: Clock(0),

@@ -50,6 +50,7 @@ fn datagram(alloc: Global, port: u16, seconds: u32) -> Result<Record, AllocError
     bytes.extend_from_slice(&port.to_be_bytes())?;
     bytes.extend_from_slice(&[0, 53, 0, 8, 0, 0])?;
     Ok(Record {
+        place: 0,
         link: 101,
         seconds,
         fraction: 0,

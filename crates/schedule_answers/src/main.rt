@@ -5,7 +5,7 @@
 //! there are none.
 //!
 //!     rules SEED TEXT           a byte, which is each of the seed's, and the ruleset's text
-//!     packet SECONDS BYTES      one more packet, of raw IP; there are less than 64
+//!     packet PLACE SECONDS BYTES  one more packet, of raw IP, with the place of its interface; there are less than 64
 //!     batches COUNT ..          of how many packets each batch is
 //!     workers COUNT             how many workers evaluate packets ahead, from 1 to 64
 //!     steps CALL NUMBER ..      calls in the order in which they return: of the gate `starts` and `answered`, with the number of

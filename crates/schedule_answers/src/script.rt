@@ -113,9 +113,11 @@ impl Script {
     }
 
     fn add_packet(&mut self, words: &mut Words<'_>) -> Result<(), AllocError> {
+        let place = words.number().unwrap_or(0);
         let seconds = words.number().unwrap_or(0);
         let bytes = words.bytes(self.alloc)?;
         let record = Record {
+            place,
             link: RAW,
             seconds,
             fraction: 0,

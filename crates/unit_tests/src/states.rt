@@ -2,7 +2,8 @@
 use pfr_net::{Direction, Endpoint, Ipv4Address, Port, Protocol};
 use pfr_states::{Table, TableChange, TableError};
 use pfr_track::{
-    Clock, Deadline, Key, Peers, RuleNumber, State, StateNumber, StateRules, Timeout, Traffic,
+    Binding, Clock, Deadline, InterfacePlace, Key, Peers, RuleNumber, State, StateNumber,
+    StateRules, Timeout, Traffic,
 };
 
 pub(crate) fn key(address: u32) -> Key {
@@ -27,6 +28,7 @@ pub(crate) fn state(number: u64, wire: Key, stack: Key, deadline: u64) -> State 
     State {
         number: StateNumber(number),
         direction: Direction::In,
+        interface: InterfacePlace(0),
         wire,
         stack,
         rules: StateRules {
@@ -34,6 +36,7 @@ pub(crate) fn state(number: u64, wire: Key, stack: Key, deadline: u64) -> State 
             translation: None,
             is_synchronised: true,
             allows_options: false,
+            binding: Binding::All,
         },
         peers: Peers::Icmp,
         made: Clock(0),

@@ -1,5 +1,5 @@
 //! How options are printed.
-use crate::expansions::rules::binding_word;
+use crate::expansions::rules::state_policy_word;
 use crate::printing::put_bytes;
 use pfr_ruleset::{BlockPolicy, Options};
 use std::alloc::AllocError;
@@ -35,7 +35,11 @@ pub(crate) fn put_options(out: &mut String, options: &Options) -> Result<(), All
     }
     writeln!(out, "limit states {}", options.state_limit)?;
     writeln!(out, "block-policy {}", policy_word(options.block_policy))?;
-    writeln!(out, "state-policy {}", binding_word(options.state_policy))?;
+    writeln!(
+        out,
+        "state-policy {}",
+        state_policy_word(options.state_policy)
+    )?;
     writeln!(out, "hostid {}", options.host_id)?;
     out.push_str("skip")?;
     for name in options.skipped.as_slice() {

@@ -3,7 +3,7 @@ use crate::expansions::terms::put_match;
 use crate::printing::word_if;
 use pfr_net::Direction;
 use pfr_ruleset::{
-    Binding, FilterAction, FlagsCriterion, FlatAnchor, FlatRule, Ruleset, StateRule,
+    FilterAction, FlagsCriterion, FlatAnchor, FlatRule, Ruleset, StatePolicy, StateRule,
 };
 use std::alloc::{AllocError, Global};
 
@@ -30,10 +30,10 @@ fn action_word(action: FilterAction) -> &'static str {
     }
 }
 
-pub(crate) fn binding_word(binding: Binding) -> &'static str {
-    match binding {
-        Binding::IfBound => "if-bound",
-        Binding::Floating => "floating",
+pub(crate) fn state_policy_word(policy: StatePolicy) -> &'static str {
+    match policy {
+        StatePolicy::IfBound => "if-bound",
+        StatePolicy::Floating => "floating",
     }
 }
 
@@ -50,7 +50,7 @@ fn put_state(out: &mut String, state: Option<StateRule>) -> Result<(), AllocErro
         return Ok(());
     };
     let no_sync = word_if(state.no_sync, " no-sync", "");
-    write!(out, " state {}{no_sync}", binding_word(state.binding))?;
+    write!(out, " state {}{no_sync}", state_policy_word(state.policy))?;
     match state.most {
         Some(most) => write!(out, " max {most}"),
         None => Ok(()),
