@@ -28,7 +28,7 @@ TESTS = Path(__file__).resolve().parent
 WORDS = ("runs", "rulesets", "expansions", "tracking", "table", "steps", "commits", "messages", "schedules",
          "published", "workers", "matrix", "standby", "adapt", "faults")
 # those without answers written by hand
-WITHOUT_MODEL_ALONE = ("table", "workers")
+WITHOUT_MODEL_ALONE = ("workers",)
 # those of the program pfreplay, of message_answers, of schedule_answers and of published_answers; all others are of the
 # program `answers`
 OF_PFREPLAY = ("runs", "workers", "matrix", "standby", "adapt", "faults")

@@ -6,26 +6,31 @@ byte for byte. So each checksum that was right has to stay right too.
 """
 
 import sys
+from collections import Counter
 from itertools import chain
 
 import building
 import messages.rows
 import steps.cases
+import steps.place_cases
 import steps.rows
 from answering import SHOWN, answers_of, differing, place_of_difference, show_lines
-from commits import scripts, translation_scripts
-from commits.scripts import in_batches, some_runs_with_messages, some_scripts, some_translated, some_with_messages
+from commits import place_kinds, place_scripts, scripts, translation_scripts
+from commits.scripts import (in_batches, some_placed, some_runs_with_messages, some_scripts, some_translated,
+                             some_with_messages)
 from commits.standby import row_faults, with_sizes
 from faults.command import ends_lawfully
 from steps.written_packets import spoilt_sums
 
 BATCHES = (1, 2, 256)
-RANDOM_PACKETS, TRANSLATED_PACKETS = 12000, 16000
+RANDOM_PACKETS, TRANSLATED_PACKETS, PLACED_PACKETS = 9000, 10000, 10000
+# how often each kind of result on several interfaces has to come up at least
+LEAST = 20
 # random runs of which much is told
 RUNS_WITH_MESSAGES = 30
-# how many packets the random scripts have in which each allocation is refused; of the scripts with translation that are
-# written out each such one is run so
-REFUSED_PACKETS, REFUSED_STEP = 100, 5
+# how many packets the random scripts have in which each allocation is refused; of the scripts with translation and on
+# several interfaces that are written out each such one is run so
+REFUSED_PACKETS, REFUSED_STEP = 65, 5
 # and these runs whose messages are written out
 REFUSED_RUNS = ("a day of the open message", "flows, more of them and replies")
 
@@ -34,6 +39,7 @@ def rows():
     """The scripts that are written out, with their lines."""
     yield from scripts.rows()
     yield from translation_scripts.rows()
+    yield from place_scripts.rows()
 
 
 def script_bytes(script):
@@ -52,8 +58,9 @@ def show(script, expected, seen):
     show_lines(place, expected, seen)
 
 
-def compare(command, title, told):
-    """How many scripts are answered otherwise than by the model, and how many packets get wrong checksums."""
+def compare(command, title, told, kinds=()):
+    """How many scripts are answered otherwise than by the model, how many packets get wrong checksums, and how many of
+    some kinds of results come up too seldom."""
     books = [script.by_model() for script in told]
     seen = answers(command, told)
     count = differing(zip(told, (book.told for book in books), seen), show)
@@ -64,7 +71,10 @@ def compare(command, title, told):
     print(f"{title}: {len(told)} scripts with {packets} packets; of {tried} results {packets - own} were taken and "
           f"{tried + own - packets} dropped; {closed} messages; {count} differ, {spoilt} checksums are wrong that were "
           "right")
-    return count + spoilt + disagreeing(title, books)
+    counts = sum((book.kinds for book in books), Counter())
+    if kinds:
+        print(f"  at least {LEAST} results of each kind: " + ", ".join(f"{counts[kind]} {kind}" for kind in kinds))
+    return count + spoilt + disagreeing(title, books) + sum(counts[kind] < LEAST for kind in kinds)
 
 
 def disagreeing(title, books):
@@ -116,7 +126,7 @@ def compare_rows(command):
 
 
 def compare_batches(command):
-    runs = [each.run for each in (*steps.rows.rows(), *steps.cases.cases())]
+    runs = [each.run for each in (*steps.rows.rows(), *steps.cases.cases(), *steps.place_cases.cases())]
     wrong = compare(command, "whole runs in batches", [in_batches(run, size) for run in runs for size in BATCHES])
     in_several = [in_batches(run, size) for run in some_runs_with_messages(RUNS_WITH_MESSAGES) for size in BATCHES]
     return wrong + compare(command, "random runs with messages in batches", in_several)
@@ -131,8 +141,10 @@ def main():
     wrong = compare_model() + compare_rows(command) + compare_batches(command)
     wrong += compare(command, "random", list(some_scripts(RANDOM_PACKETS)))
     wrong += compare(command, "random, with translation", list(some_translated(TRANSLATED_PACKETS)))
+    wrong += compare(command, "random, on several interfaces", list(some_placed(PLACED_PACKETS)), place_kinds.COUNTED)
     wrong += compare(command, "random, with messages", list(some_with_messages(RUNS_WITH_MESSAGES)))
-    refused = [script for script, _ in (*scripts.rows(), *list(translation_scripts.rows())[::REFUSED_STEP])]
-    refused += [*some_scripts(REFUSED_PACKETS), *some_translated(REFUSED_PACKETS)]
+    few = [*translation_scripts.rows(), *place_scripts.rows()][::REFUSED_STEP]
+    refused = [script for script, _ in (*scripts.rows(), *few)]
+    refused += [*some_scripts(REFUSED_PACKETS), *some_translated(REFUSED_PACKETS), *some_placed(REFUSED_PACKETS)]
     refused += [script for row, script in told_in_batches() if row.run.name in REFUSED_RUNS]
     sys.exit(not ends_lawfully("commits", command, b"".join(map(script_bytes, refused))) or bool(wrong))

@@ -2,37 +2,42 @@
 
 It says which results the book tries and which it drops, and so how many packets it evaluates itself.
 
-- A result is of one packet number, at one clock, as one packet is seen, under one job. It holds what was asked of the
-  table for it and answered. Asked are the state with a key on one side, whether there is room for one more, and for
-  each rule that is asked for it whether there are fewer states of it than its limit.
+- A result is of one packet number, at one clock, on the interface of one place, as one packet is seen, under one job.
+  It holds what was asked of the table for it and answered. Asked are the state with a key on one side whose binding
+  meets a place, or the one of the least number wherever it is bound; whether there is room for one more; and for each
+  rule that is asked for it whether there are fewer states of it than its limit.
 - Of several results of a packet's number the first in the list is tried, and the others are dropped.
-- It is taken where number, clock, packet and job are those of the packet, and the table gives each answer anew. States
-  whose deadline is at most the clock are gone from the table then. Else the book evaluates the packet itself.
+- It is taken where number, clock, place, packet and job are those of the packet, and the table gives each answer anew.
+  States whose deadline is at most the clock are gone from the table then. Else the book evaluates the packet itself.
 - What a batch emits, and what is left at the end, is the same in either case: what the packets one by one come to.
 - A batch emits the messages that close at its packets: those that are out behind it and weren't before. The end emits
   the one that is open then.
 """
 
+from collections import Counter
 from typing import NamedTuple
 
 from captures.frames import datagram_of, view
+from commits import place_kinds
 from messages.run import told_of
 from messages.spelling import bare
 from steps.model import step
 from steps.replay import Refused, counters, job_of, step_of
 from steps.run import seed_of
-from table.states import StateTable
+from steps.states import StateTable
 
 
 class Speculate(NamedTuple):
-    """Evaluates packet `number` of a job, seen as packet `seen_as` is, and keeps what is found."""
+    """Evaluates packet `number` of a job, seen as packet `seen_as` is, on the interface of a place, and keeps what is
+    found."""
     job: int
     number: int
     seen_as: int
     clock: int
+    place: int = 0
 
     def line(self):
-        return f"speculate {self.job} {self.number} {self.seen_as} {self.clock}"
+        return f"speculate {self.job} {self.number} {self.seen_as} {self.clock} {self.place}"
 
 
 class Holds(NamedTuple):
@@ -73,8 +78,14 @@ class Found(NamedTuple):
     job: tuple
     number: int
     clock: int
+    place: int
     seen: tuple
     answers: dict
+    # of each look-up all states with its key, wherever they are bound
+    around: dict
+
+    def is_of(self):
+        return self[:5]
 
 
 class Asked:
@@ -82,10 +93,12 @@ class Asked:
 
     def __init__(self, table):
         self.table = table
-        self.answers = {}
+        self.answers, self.around = {}, {}
 
-    def at(self, direction, key):
-        return self.answers.setdefault(("at", direction, key), self.table.at(direction, key))
+    def at(self, direction, key, scope):
+        question = "at", direction, key, scope
+        self.around[question] = self.table.all_at(direction, key)
+        return self.answers.setdefault(question, self.table.at(direction, key, scope))
 
     def is_full(self):
         return self.answers.setdefault(("is_full",), self.table.is_full())
@@ -112,9 +125,13 @@ def purged(table, clock):
     return copy
 
 
+def failing(found, table):
+    """The questions that a table answers otherwise than a result has them."""
+    return [question for question, answer in found.answers.items() if answer_to(table, question) != answer]
+
+
 def holds(found, table, clock):
-    now = purged(table, clock)
-    return all(answer_to(now, question) == answer for question, answer in found.answers.items())
+    return not failing(found, purged(table, clock))
 
 
 def hex_of(octets):
@@ -133,6 +150,8 @@ class Book:
         self.link, self.interface, self.records, self.jobs = run.link, run.interface, records, jobs
         self.told, self.kept, self.steps, self.emitted = [], [], [], []
         self.own = self.clock = self.tried = 0
+        # of the results that were tried, as place_kinds names them
+        self.kinds = Counter()
         self.meanings = [self.job_of(run, *job) for job in jobs]
         self.table = StateTable(self.meanings[0].ruleset.options.values["states"]) if self.meanings[0] else None
 
@@ -155,9 +174,10 @@ class Book:
             self.kept.append(None)
             return
         asked, seen = Asked(purged(self.table, call.clock)), self.seen(call.seen_as)
-        outcome = step(self.meanings[call.job], call.number, call.clock, *seen, asked)
+        outcome = step(self.meanings[call.job], call.number, call.clock, call.place, *seen, asked)
         asked.write_down(outcome.rooms)
-        self.kept.append(Found(self.jobs[call.job], call.number, call.clock, seen, asked.answers))
+        self.kept.append(Found(self.jobs[call.job], call.number, call.clock, call.place, seen, asked.answers,
+                               asked.around))
 
     def taken(self, kept):
         found = None if kept is None else self.kept[kept]
@@ -165,9 +185,16 @@ class Book:
             self.kept[kept] = None
         return found
 
+    def asked_of(self, number):
+        """What a result has to be of so that it is one of the next packet."""
+        return self.jobs[0], number, self.clock, self.records[number - 1].place, self.seen(number)
+
     def fits(self, found, number):
-        return ((found.job, found.number, found.clock, found.seen) == (self.jobs[0], number, self.clock, self.seen(number))
-                and holds(found, self.table, self.clock))
+        return found.is_of() == self.asked_of(number) and holds(found, self.table, self.clock)
+
+    def kinds_of(self, found, number):
+        now = purged(self.table, self.clock)
+        return place_kinds.kinds_of(found, self.asked_of(number), failing(found, now), now)
 
     def take(self, results):
         """Commits the next packet."""
@@ -176,6 +203,7 @@ class Book:
         self.clock = max(self.clock, record.seconds)
         found = next((each for each in results if each.number == number), None)
         self.tried += found is not None
+        self.kinds.update(self.kinds_of(found, number) if found else ())
         self.own += not (found and self.fits(found, number))
         done = step_of(self.meanings[0], number, self.clock, self.link, record, self.table)
         self.table.apply(done.outcome.change)

@@ -4,6 +4,7 @@ import random
 from typing import NamedTuple
 
 import messages.random_runs
+import steps.place_runs
 import steps.random_runs
 import steps.translation_runs
 from captures.packets import SYN, UDP, ipv4, record, tcp, udp
@@ -30,8 +31,8 @@ class Script(NamedTuple):
 
     def records(self):
         """The records with their headers."""
-        return [Record(record(second, place, frame)[:RECORD_HEADER], second, frame)
-                for place, (second, frame) in enumerate(self.run.records)]
+        return [Record(record(second, count, frame)[:RECORD_HEADER], second, frame, place)
+                for count, (second, frame, place) in enumerate(self.run.placed())]
 
     def lines(self):
         """As the program reads it."""
@@ -40,7 +41,7 @@ class Script(NamedTuple):
         yield f"interface {name} {number} {bits}"
         yield from (f"inside {network.address} {network.bits}" for network in self.run.inside)
         yield from (f"job {seed} {hex_of(text.encode())}" for seed, text in self.jobs)
-        yield from (f"packet {self.run.link} {each.seconds} {each.header.hex()} {hex_of(each.frame)}"
+        yield from (f"packet {each.place} {self.run.link} {each.seconds} {each.header.hex()} {hex_of(each.frame)}"
                     for each in self.records())
         yield from (call.line() for call in self.calls)
         yield "end"
@@ -151,7 +152,13 @@ class Told:
         clock = self.clocks[number - 1]
         if draw.random() < 0.06:
             clock = max(clock + draw.choice((-1, 1, 30)), 0) % 2**32
-        self.tell(Speculate(job, number, self.seen_as(number), clock))
+        self.tell(Speculate(job, number, self.seen_as(number), clock, self.some_place(number)))
+
+    def some_place(self, number):
+        """The place of a packet; now and then that of another one."""
+        if self.run.places and self.draw.random() < 0.1:
+            number = self.draw.randint(1, self.total)
+        return self.book.records[number - 1].place
 
     def some_number(self):
         """The number of a packet: mostly a next one, else a later one, or one that is committed."""
@@ -223,6 +230,11 @@ def some_scripts(packets):
 def some_translated(packets):
     """The same of runs with translation."""
     return scripts_of(steps.translation_runs.runs(packets))
+
+
+def some_placed(packets):
+    """The same of runs on several interfaces."""
+    return scripts_of(steps.place_runs.runs(packets))
 
 
 def some_runs_with_messages(count):

@@ -105,8 +105,9 @@ def run_of(lines):
     inside = tuple(Network(int(words[1]), int(words[2])) for words in lines if words[0] == "inside")
     seed, text = next(words[1:] for words in lines if words[0] == "job")
     packets = [words[1:] for words in lines if words[0] == "packet"]
-    return Run("", octets_of(text).decode(), [(int(words[1]), octets_of(words[3])) for words in packets],
-               int(packets[0][0]), Interface(name, dotted(int(address)), int(bits)), inside, seed_of(int(seed)))
+    return Run("", octets_of(text).decode(), [(int(words[2]), octets_of(words[4])) for words in packets],
+               int(packets[0][1]), Interface(name, dotted(int(address)), int(bits)), inside, seed_of(int(seed)),
+               tuple(int(words[0]) for words in packets))
 
 
 @lru_cache
@@ -121,7 +122,7 @@ class Judged:
     def __init__(self, lines, whole, seen):
         self.lines = tuple(lines)
         self.told = [line.split(" ") for line in lines]
-        self.records = [words[3] + words[4].replace("-", "") for words in self.told if words[0] == "packet"]
+        self.records = [words[4] + words[5].replace("-", "") for words in self.told if words[0] == "packet"]
         self.written = written_packets(list(map(len, self.records)), whole)
         self.whole, self.seen = Answers(whole), Answers(seen)
         self.own = self.committed = 0

@@ -4,12 +4,11 @@ import hashlib
 from itertools import chain
 from typing import NamedTuple
 
-from captures.model import Record
 from messages import cut, queue
 from messages.cut import Origin
 from messages.events import Followed, packet_of
-from steps.replay import job_of, steps_of
-from table.states import StateTable
+from steps.replay import Record, job_of, steps_of
+from steps.states import StateTable
 
 
 class Told(NamedTuple):
@@ -58,6 +57,6 @@ def told(run):
     """A Run whose ruleset has no fault."""
     text = run.rules.encode()
     job = job_of(text, run.interface, run.inside, run.seed)
-    records = [Record(b"", second, frame) for second, frame in run.records]
+    records = [Record(b"", *each) for each in run.placed()]
     table = StateTable(job.ruleset.options.values["states"])
     return told_of(text, run.interface, job, list(steps_of(job, run.link, records, table)))

@@ -18,12 +18,22 @@ from faults.trial import Unlawful
 from published import drawn, written
 from published.model import Expected
 from schedules.compare import answers, script_bytes
+from table import reach
 
 # how many scripts there are of each kind
-COUNTS = {"random": 3000, "busy": 300, "large": 8}
+COUNTS = {"random": 3000, "busy": 300, "large": 8, "crowded": 1}
+# if a table has as many states, it looks up the states of many changes at once
+CROWD = 16384
+CROWDED = "scripts with a crowd at their end"
+# how often at least the scripts of a kind come upon what has a name
+DEMANDED = {"random": {reach.BOUND_BY_BOUND: 80, reach.BOUND_BY_FLOATING: 10, reach.FLOATING_BY_BOUND: 20,
+                       reach.FLOATING_BY_FLOATING: 50, reach.MADE_BESIDE: 500, reach.TOUCHED_BESIDE: 400,
+                       reach.MOVED_BESIDE: 40, reach.NOT_MOVED: 10, reach.LEAST_REMOVED: 60, reach.LEAST_PURGED: 80},
+            "crowded": {CROWDED: COUNTS["crowded"], reach.MADE_BESIDE: 5000, reach.TOUCHED_BESIDE: 100,
+                        reach.MOVED_BESIDE: 15}}
 # with how many random scripts each allocation is refused, besides those that are written out; and how many scripts the
 # program is handed at once then
-REFUSED, AT_ONCE = 12, 6
+REFUSED, AT_ONCE = 10, 6
 
 
 def show(script, expected, seen):
@@ -33,8 +43,17 @@ def show(script, expected, seen):
     show_lines(place, expected, seen)
 
 
+def compare_reach(title, counts):
+    """How much the scripts of a kind come upon less often than demanded."""
+    demanded = DEMANDED.get(title, {})
+    seldom = reach.seldom(counts, demanded)
+    for words in (*filter(None, [reach.told(counts, demanded)]), *(f"too seldom: {words}" for words in seldom)):
+        print(f"  {words}")
+    return len(seldom)
+
+
 def compare(command, title, scripts):
-    """How many scripts are answered otherwise than they may be."""
+    """How many scripts are answered otherwise than they may be, and how much they come upon too seldom."""
     found, counts = [], Counter()
     for script, seen in zip(scripts, answers(command, scripts)):
         expected = Expected(script)
@@ -42,10 +61,12 @@ def compare(command, title, scripts):
         counts.update(publications=len(expected.course.outcomes), looks=len(expected.choices),
                       fixed=sum(choice.tables == 1 for choice in expected.choices),
                       later=sum(choice.before > 0 for choice in expected.choices))
+        counts.update(expected.course.reached)
+        counts[CROWDED] += len(expected.course.table.states) >= CROWD
     wrong = differing(found, show)
     print(f"{title}: {len(found)} scripts with {counts['publications']} publications and {counts['looks']} looks; "
           f"{counts['fixed']} leave no choice, and {counts['later']} are at a later table than need be; {wrong} differ")
-    return wrong
+    return wrong + compare_reach(title, counts)
 
 
 def wrong_written():

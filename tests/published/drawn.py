@@ -7,14 +7,17 @@ do what isn't waited for.
 import random
 
 from published.model import CHANGES, Script
-from table.kinds import NO_LIMIT, KindWriter
-from table.lists import RandomWriter
+from table.kinds import NO_LIMIT, KindWriter, own_key
+from table.lists import BINDINGS, RandomWriter
+from table.model import State
 
 SEED = 20261130
 LIMITS = (1, 2, 3, 5, 12, NO_LIMIT)
 MOST_VIEWERS = 8
 # how many changes are tried until one is refused
 TRIED = 60
+# how many states a crowd has; some of them go
+CROWD = 17000
 
 
 # Changes
@@ -22,13 +25,13 @@ TRIED = 60
 class RunWriter(KindWriter):
     """Writes changes as packets make them: each purges first, and then a state comes, moves on or goes."""
 
-    def __init__(self, seed, limit, spread=12):
-        super().__init__(seed, limit, False)
+    def __init__(self, seed, limit, bindings, spread=12):
+        super().__init__(seed, limit, False, bindings)
         self.spread = spread
 
     def make(self):
-        """A state comes; now and then it has the key of another one."""
-        if self.table.states and not self.source.randrange(10):
+        """A state comes; now and then it has the key of another one, which may be bound elsewhere."""
+        if self.table.states and not self.source.randrange(4):
             key, self.last_number = self.any_state().wire, self.last_number + 1
             self.add_state("make", self.last_number, key, key, self.clock + self.spread)
         else:
@@ -36,15 +39,27 @@ class RunWriter(KindWriter):
 
     def step(self):
         self.clock += self.source.choice((0, 0, 1, 1, 4))
-        word = self.source.choice(("purge", "make", "make", "touch", "touch", "remove"))
+        word = self.source.choice(("purge", "make", "make", "touch", "touch", "bind", "remove"))
         if word == "purge":
             self.add("purge", self.clock)
         elif word == "make" or not self.table.states:
             self.make()
         elif word == "touch":
             self.move(self.any_state(), ("later", "later", "earlier"), self.spread)
+        elif word == "bind":
+            self.touch_with(self.any_state(), binding=self.source.choice(self.bindings))
         else:
             self.add("remove", self.any_state().number)
+
+
+class CrowdWriter(RunWriter):
+    """Writes changes behind those that make a crowd."""
+
+    def __init__(self, seed, states):
+        super().__init__(seed, NO_LIMIT, BINDINGS[-1])
+        for state in states:
+            self.add("make", state.text())
+        self.last_number = len(self.table.states)
 
 
 def changes_behind(writer, place):
@@ -231,8 +246,8 @@ class Manner:
 
 def some_writer(draw, limit):
     """Writes changes as a run makes them, or any that the table of states may be asked for."""
-    seed = draw.getrandbits(32)
-    return RunWriter(seed, limit) if draw.randrange(3) else RandomWriter(seed, limit, False)
+    seed, bindings = draw.getrandbits(32), draw.choice(BINDINGS + BINDINGS[-1:])
+    return RunWriter(seed, limit, bindings) if draw.randrange(3) else RandomWriter(seed, limit, False, bindings)
 
 
 def step_of_viewer(drawing, manner):
@@ -328,20 +343,47 @@ def busy_script(draw, name):
 
 def large_script(draw, name):
     """Many changes in each publication. Two viewers look behind each; they keep looking until the next one is over."""
-    drawing = Drawing(draw, RandomWriter(draw.getrandbits(32), NO_LIMIT, True), 2, 2)
+    drawing = Drawing(draw, RandomWriter(draw.getrandbits(32), NO_LIMIT, True, draw.choice(BINDINGS)), 2, 2)
     drawing.start()
     drawing.start()
     for _ in range(4):
-        drawing.publish(taken_changes(drawing.writer, 250))
-        for watch in drawing.watches:
-            if watch.looks_from is not None:
-                drawing.leave(watch)
-            drawing.look_in_time(watch)
+        publish_and_look(drawing, taken_changes(drawing.writer, 250))
     drawing.finish_all()
     return drawing.script(name)
 
 
-KINDS = {"random": some_script, "busy": busy_script, "large": large_script}
+def publish_and_look(drawing, changes):
+    """Publishes changes. Each viewer looks behind that, and keeps looking."""
+    drawing.publish(changes)
+    for watch in drawing.watches:
+        if watch.looks_from is not None:
+            drawing.leave(watch)
+        drawing.look_in_time(watch)
+
+
+def crowd(draw):
+    """The states of a crowd. Every third one has the key of the one before, and both are bound then, elsewhere."""
+    for number in range(CROWD):
+        place = number % 3
+        binding = draw.choice(BINDINGS[-1]) if place == 0 else place
+        key = own_key(number - 1 if place == 2 else number)
+        # few of them are purged
+        yield State(number, key, key, draw.randrange(20 * CROWD), number, None, binding)
+
+
+def crowded_script(draw, name):
+    """A table that has a crowd of states before most changes, of which the last one isn't taken."""
+    drawing = Drawing(draw, CrowdWriter(draw.getrandbits(32), crowd(draw)), 1, 1)
+    drawing.start()
+    publish_and_look(drawing, drawing.writer.lines[1:])
+    for _ in range(3):
+        publish_and_look(drawing, taken_changes(drawing.writer, 300))
+    publish_and_look(drawing, changes_to_a_refusal(drawing.writer))
+    drawing.finish_all()
+    return drawing.script(name)
+
+
+KINDS = {"random": some_script, "busy": busy_script, "large": large_script, "crowded": crowded_script}
 
 
 def scripts(kind, count):

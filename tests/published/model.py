@@ -6,9 +6,11 @@ and before the next, since one has waited for the other, that is one table. Else
 before what the viewer was shown, what it has learned or what it has waited for.
 """
 
+from collections import Counter
 from typing import NamedTuple
 
 from table.model import Table, answer
+from table.reach import reached
 
 CHANGES = ("make", "touch", "remove", "purge")
 PUBLISHED, REFUSED = "published", "refused"
@@ -62,7 +64,7 @@ def text_of(table):
     """The states of a table by rising number, each with its deadline and the bytes that it has counted; then how many
     states rules have, as far as it is told."""
     states = sorted(table.states.values())
-    counts = {rule: next((count for count in range(MOST) if table.rule_room(rule, count + 1, 0)), MOST) for rule in RULES}
+    counts = {rule: min(table.count_of_rule(rule, 0), MOST) for rule in RULES}
     return " ".join((str(len(states)), *(f"{state.number}/{state.deadline}/{state.bytes}" for state in states),
                      *(f"r{rule}={count}" for rule, count in counts.items() if count)))
 
@@ -104,6 +106,8 @@ class Course:
     def __init__(self, script, refusal=NOTHING):
         self.refusal = refusal
         self.table = Table(script.limit)
+        # how often changes come upon what has a name
+        self.reached = Counter()
         self.changes = []
         self.is_refused = self.is_hidden = False
         self.outcomes, self.tables = [], [text_of(self.table)]
@@ -145,7 +149,11 @@ class Course:
 
     def takes_all(self):
         """Whether the table takes all changes. Once it is hidden it isn't asked."""
-        return self.is_hidden or all(answer(self.table, change) == ["done"] for change in self.changes)
+        return self.is_hidden or all(map(self.takes, self.changes))
+
+    def takes(self, change):
+        self.reached.update(reached(self.table, change))
+        return answer(self.table, change) == ["done"]
 
     def close(self):
         if self.closed is None:

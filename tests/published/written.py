@@ -5,12 +5,12 @@ What is published stands in words, in which a change has a name.
 
 from published.model import Script, steps_of
 from table.kinds import own_key
-from table.model import State
+from table.model import ALL, State
 
 
-def change(word, number, deadline, octets, key, rule=None):
+def change(word, number, deadline, octets, key, rule=None, binding=ALL):
     """A change that makes or touches the state of a number; its keys are those that belong to a number."""
-    return f"{word} {State(number, own_key(key), own_key(key), deadline, octets, rule).text()}"
+    return f"{word} {State(number, own_key(key), own_key(key), deadline, octets, rule, binding).text()}"
 
 
 CHANGES = {
@@ -24,6 +24,16 @@ CHANGES = {
     "make-5-of-0": change("make", 5, 90, 50, 5, 0),
     "make-6-of-3": change("make", 6, 90, 60, 6, 3),
     "touch-5-of-3": change("touch", 5, 90, 51, 5, 3),
+    # these have one key, and are bound to the interface that is named last
+    "make-7-at-0": change("make", 7, 60, 70, 7, binding=0),
+    "make-8-at-1": change("make", 8, 90, 80, 7, binding=1),
+    "make-8-at-0": change("make", 8, 90, 80, 7, binding=0),
+    "make-8-at-all": change("make", 8, 90, 80, 7),
+    "make-9-at-0": change("make", 9, 90, 90, 7, binding=0),
+    "touch-7-at-1": change("touch", 7, 60, 71, 7, binding=1),
+    "touch-7-at-2": change("touch", 7, 60, 71, 7, binding=2),
+    "touch-7-at-all": change("touch", 7, 60, 71, 7),
+    "touch-8-at-2": change("touch", 8, 90, 81, 7, binding=2),
 }
 ONE, TWO, THREE = "1 1/60/10", "2 1/60/10 2/90/20", "3 1/60/10 2/90/20 3/90/30"
 ONLY_2, ONLY_3, LAST_TWO = "1 2/90/20", "1 3/90/30", "2 2/90/20 3/90/30"
@@ -65,6 +75,13 @@ def one_after_the_other():
            [*published(5), *looks("2 4/60/40 5/90/50 r0=2", "3 4/60/40 5/90/50 6/90/60 r0=2 r3=1",
                                   "2 5/90/50 6/90/60 r0=1 r3=1", "2 5/90/51 6/90/60 r3=2", "1 5/90/51 r3=1"),
             "closed 1 5/90/51 r3=1"])
+    yield (script("states of one key on some interfaces", 5,
+                  ["wait 1 enter leave wait 2 enter leave wait 3 enter leave wait 4 enter leave wait 5 enter leave"],
+                  "start make-7-at-0 publish tell await 1 3 make-8-at-1 publish tell await 1 6 touch-7-at-2 publish "
+                  "tell await 1 9 make-9-at-0 publish tell await 1 12 purge 60 touch-8-at-2 publish tell await 1 15"),
+           [*published(5), *looks("1 7/60/70", "2 7/60/70 8/90/80", "2 7/60/71 8/90/80", "3 7/60/71 8/90/80 9/90/90",
+                                  "2 8/90/81 9/90/90"),
+            "closed 2 8/90/81 9/90/90"])
     yield (script("publications of nothing", 5, ["wait 1 enter leave wait 2 enter leave wait 3 enter leave"],
                   "start publish tell await 1 3 make-1 publish publish tell await 1 6 remove 1 publish publish publish "
                   "tell await 1 9"),
@@ -82,6 +99,22 @@ def refused():
     yield (script("a key that is taken by a touch", 5, ["wait 1 enter leave"],
                   "start make-1 make-2 publish touch-2-as-1 publish publish tell await 1 3"),
            ["published", "refused", "refused", *looks(TWO), f"closed {TWO}"])
+    for name, first, last in (("a key that is taken on an interface", "make-7-at-0", "make-8-at-0"),
+                              ("a floating state beside a bound one", "make-7-at-0", "make-8-at-all"),
+                              ("a bound state beside a floating one", "make-8-at-all", "make-9-at-0")):
+        table = {"make-7-at-0": "1 7/60/70", "make-8-at-all": "1 8/90/80"}[first]
+        yield (script(name, 5, ["wait 1 enter leave"], f"start {first} publish {last} publish tell await 1 3"),
+               ["published", "refused", *looks(table), f"closed {table}"])
+    for name, last in (("a state that moves to where its key is taken", "touch-7-at-1"),
+                       ("a state that is bound to all beside another one", "touch-7-at-all")):
+        yield (script(name, 5, ["wait 1 enter leave"],
+                      f"start make-7-at-0 make-8-at-1 publish {last} publish tell await 1 3"),
+               ["published", "refused", *looks("2 7/60/70 8/90/80"), "closed 2 7/60/70 8/90/80"])
+    # the first publication moves it away in both copies
+    yield (script("a key that is free where it was, and taken where it is", 5, ["wait 1 enter leave wait 2 enter leave"],
+                  "start make-7-at-0 touch-7-at-2 publish tell await 1 3 make-9-at-0 publish tell await 1 6 "
+                  "make-8-at-1 touch-8-at-2 publish"),
+           ["published", "published", "refused", *looks("1 7/60/71", "2 7/60/71 9/90/90"), "closed 2 7/60/71 9/90/90"])
     yield (script("to hide the table mends nothing", 1, ["wait 1 enter leave"],
                   "start make-1 make-2 publish hide publish tell await 1 3"),
            ["refused", "refused", *looks("0"), "closed 0"])

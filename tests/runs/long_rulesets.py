@@ -27,8 +27,8 @@ from runs.model import OUTPUTS, network_of
 from steps.filter_texts import HOSTS, MACROS, PORTS, TABLES, some_rule, some_statements, some_table
 from steps.model import Job
 from steps.picks import ZERO_SEED
-from steps.replay import Interface, dashed, ruleset_of, step_of
-from table.states import StateTable
+from steps.replay import Interface, Record, dashed, ruleset_of, step_of
+from steps.states import StateTable
 
 # how many rules the modelled cases have: about as many as there have to be for an index, and many
 LENGTHS = (5, 6, 7, 40, 120, 400)
@@ -102,7 +102,7 @@ def outcomes_of(text, distinct):
     capture = capture_of(distinct)
     header = read_header(capture)
     records, _ = records_of(capture, header.order)
-    made = [step_of(job, 1, 0, header.link, record, StateTable(1)).outcome for record in records]
+    made = [step_of(job, 1, 0, header.link, Record(*record), StateTable(1)).outcome for record in records]
     if any(outcome.change for outcome in made):
         sys.exit("a rule has made a state")
     return job, made

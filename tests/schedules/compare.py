@@ -50,10 +50,6 @@ def known_rows(shape):
     return [known_of(row.run(len(shape.packets())), shape) for row in ROWS]
 
 
-def known_rows(shape):
-    return [known_of(row.run(len(shape.packets())), shape) for row in ROWS]
-
-
 def in_turn(shape, orders):
     """Scripts of some orders, with the rows in turn."""
     return (Script(known, order) for known, order in zip(cycle(known_rows(shape)), orders))
@@ -116,16 +112,18 @@ def compared(command, scripts):
 
 
 def compare(command, title, scripts):
-    """How many scripts are answered otherwise than they may be. Behind some of these no more are run."""
+    """How many scripts are answered otherwise than they may be, and whether none is on several interfaces. Behind some that
+    differ no more are run."""
     scripts, counts, wrong = iter(scripts), Counter(), 0
     while not wrong and (chunk := list(islice(scripts, CHUNK))):
         found = list(compared(command, chunk))
         for expected, *_ in found:
-            counts.update(all=1, exact=expected.is_exact(), tell=expected.tells_older)
+            counts.update(all=1, exact=expected.is_exact(), tell=expected.tells_older,
+                          placed=any(expected.script.known.run.places))
         wrong = differing(((expected.script, lines, seen) for expected, lines, seen in found), show)
-    print(f"{title}: {counts['all']} scripts; {counts['exact']} leave no choice, and {counts['tell']} tell whether a worker "
-          f"looks at an older table; {wrong} differ")
-    return wrong
+    print(f"{title}: {counts['all']} scripts, {counts['placed']} on several interfaces; {counts['exact']} leave no choice, "
+          f"and {counts['tell']} tell whether a worker looks at an older table; {wrong} differ")
+    return wrong + (counts["placed"] == 0)
 
 
 def wrong_counts():

@@ -19,7 +19,7 @@ RECORD_HEADER = bytes(16)
 
 def book_of(run):
     """A book that has committed nothing. The headers of its records are zeros."""
-    records = [Record(RECORD_HEADER, second, frame) for second, frame in run.records]
+    records = [Record(RECORD_HEADER, *each) for each in run.placed()]
     return Book(run, [(run.seed[0], run.rules)], records)
 
 
@@ -34,7 +34,7 @@ def clocks_of(run):
 def results_on(book, numbers, clocks):
     """What is found out about some packets on the book's table, by their numbers."""
     for number in numbers:
-        book.speculate(Speculate(0, number, number, clocks[number]))
+        book.speculate(Speculate(0, number, number, clocks[number], book.records[number - 1].place))
     return dict(zip(numbers, book.kept[-len(numbers):]))
 
 
@@ -81,7 +81,7 @@ class Script(NamedTuple):
         """As the program reads it."""
         run, shape = self.known.run, self.known.shape
         yield f"rules {run.seed[0]} {run.rules.encode().hex() or '-'}"
-        yield from (f"packet {second} {frame.hex() or '-'}" for second, frame in run.records)
+        yield from (f"packet {place} {second} {frame.hex() or '-'}" for second, frame, place in run.placed())
         yield " ".join(map(str, ("batches", *shape.batches)))
         yield f"workers {shape.workers}"
         yield " ".join(("steps", *(step.words() for step in self.order)))

@@ -1,12 +1,14 @@
 """The packets of the runs: in each row the outcome of a packet depends on one some packets before it.
 
-A row has six packets. A run that has fewer has the first ones. In a run that has more they come again, later by some
-seconds.
+A row has six packets, mostly of one interface. A run that has fewer has the first ones. In a run that has more they come
+again, later by some seconds.
 """
 
 import random
+from itertools import cycle, islice
 from typing import NamedTuple
 
+import steps.place_runs
 import steps.random_runs
 import steps.translation_runs
 from captures.packets import ACK, LINKTYPE_RAW, RST, SYN, tcp, udp
@@ -24,11 +26,13 @@ SHORT = "".join(f"set timeout udp.{name} 5\n" for name in ("first", "single", "m
 
 
 class Row(NamedTuple):
-    """A ruleset, six packets, each with its second, and how many seconds later they come again."""
+    """A ruleset, six packets, each with its second, how many seconds later they come again, and the places of their
+    interfaces, if they aren't all of the first one."""
     name: str
     rules: str
     packets: tuple
     period: int
+    places: tuple = ()
 
     def run(self, count):
         """A run of `count` packets."""
@@ -37,7 +41,7 @@ class Row(NamedTuple):
             turn, which = divmod(place, len(self.packets))
             second, packet = self.packets[which]
             records.append((second + turn * self.period, packet))
-        return Run(self.name, self.rules, records)
+        return Run(self.name, self.rules, records, places=tuple(islice(cycle(self.places), count)))
 
 
 ROWS = (
@@ -59,6 +63,9 @@ ROWS = (
     # the rule has room for the fourth packet again, and for the sixth
     Row("room for two states of a rule", SHORT + "block out\npass out keep state (max 2)",
         ((0, FIRST), (3, SECOND), (3, THIRD), (5, THIRD), (5, FOURTH), (8, FOURTH)), 8),
+    # the state for all that a reply on the third interface would make is refused because of that of the first packet
+    Row("states of one connection on several interfaces", "pass out keep state (if-bound)\npass in keep state (floating)",
+        ((0, FIRST), (0, FIRST), (0, REPLY), (0, FIRST), (0, REPLY), (0, REPLY)), 2, places=(0, 1, 2, 1, 2, 0)),
 )
 
 
@@ -67,13 +74,20 @@ def is_fit(run, count):
     return (len(run.records), run.link, run.interface, run.inside) == (count, LINKTYPE_RAW, INTERFACE, INSIDE)
 
 
+def some_run(draw, number, count):
+    match number % 3:
+        case 0:
+            return steps.random_runs.some_run(draw, number, count, (count, count))
+        case 1:
+            return steps.translation_runs.some_run(draw, number, count, seed_of(draw.randrange(256)), (count, count))
+    return steps.place_runs.some_run(draw, number, count, (count, count))
+
+
 def random_runs(count):
-    """Random runs of `count` packets, without end, every second one with translation."""
+    """Random runs of `count` packets, without end: in turn without translation, with it, and on several interfaces."""
     draw, number = random.Random(SEED), 0
     while True:
-        run = steps.random_runs.some_run(draw, number, count, (count, count))
-        if number % 2:
-            run = steps.translation_runs.some_run(draw, number, count, seed_of(draw.randrange(256)), (count, count))
+        run = some_run(draw, number, count)
         if is_fit(run, count):
             yield run
             number += 1

@@ -31,8 +31,11 @@ RUN_OUT = ("0 out pass rule r=0 t=- s=1", "0 out pass rule r=0 t=- s=2", "5 out 
            "5 out pass rule r=0 t=- s=4", "9 out pass state r=0 t=- s=3", "10 out pass rule r=0 t=- s=6")
 ROOM_OF_RULE = ("0 out pass rule r=1 t=- s=1", "3 out pass rule r=1 t=- s=2", "3 out block rule r=0 t=- s=-",
                 "5 out pass rule r=1 t=- s=4", "5 out block rule r=0 t=- s=-", "8 out pass rule r=1 t=- s=6")
-LINES = dict(zip(ROWS, (ONE, IN_TURN, REMOVED, PORTS, ROOM, RUN_OUT, ROOM_OF_RULE), strict=True))
-CONNECTION, TWO_CONNECTIONS, REMOVED_STATE, TWO_PORTS, ROOM_FOR_TWO, RUNNING_OUT, RULE_FOR_TWO = ROWS
+SEVERAL = ("0 out pass rule r=0 t=- s=1", "0 out pass rule r=0 t=- s=2", "0 in block state-insert r=1 t=- s=-",
+           "0 out pass state r=0 t=- s=2", "0 in block state-insert r=1 t=- s=-", "0 in pass state r=0 t=- s=1")
+LINES = dict(zip(ROWS, (ONE, IN_TURN, REMOVED, PORTS, ROOM, RUN_OUT, ROOM_OF_RULE, SEVERAL), strict=True))
+(CONNECTION, TWO_CONNECTIONS, REMOVED_STATE, TWO_PORTS, ROOM_FOR_TWO, RUNNING_OUT, RULE_FOR_TWO,
+ SEVERAL_INTERFACES) = ROWS
 
 
 class Written(NamedTuple):
@@ -100,6 +103,18 @@ def other_rows():
     yield written(RULE_FOR_TWO, THREE_TWOS, "b b b s1 s2 a2 a1 t b s3 s4 a3 a4 t s5 s6 a6 a5 t", set(), {5})
 
 
+def place_rows():
+    # on the empty table the second is right, which comes on another interface, and the third isn't
+    yield written(SEVERAL_INTERFACES, ONES, "b b b s1 a1 s2 a2 s3 a3 t b t t", {3})
+    # behind the first the third is right, whatever the second makes
+    yield written(SEVERAL_INTERFACES, ONES, "b b b s1 a1 t b s2 a2 s3 a3 t t", set())
+    # that the fourth touches the state of the second doesn't matter to the fifth, nor to the sixth
+    yield written(SEVERAL_INTERFACES, THREE_TWOS, "b b b s1 s2 a2 a1 t b s3 s4 a3 a4 s5 s6 a6 a5 t t", set())
+    yield written(SEVERAL_INTERFACES, THREE_TWOS, "b b b s1 s2 a2 s3 a3 s4 a4 a1 s5 t b a5 s6 a6 t t", {3, 4}, {3, 4, 5})
+    yield written(SEVERAL_INTERFACES, THREE_TWOS, "b b b s1 a1 s2 a2 s3 a3 s4 a4 s5 a5 s6 a6 t b t t", {3, 4, 5, 6})
+
+
 def rows():
     yield from connection_rows()
     yield from other_rows()
+    yield from place_rows()

@@ -1,10 +1,11 @@
 """Cases of what one packet comes to, with the outcomes written out.
 
 They have each thing that can become of a packet, and for each two that come after one another which of them goes first.
-Those of rules with `max` stand in room_cases.py, and those of translation in translation_cases.py and written_cases.py.
-The reason `state-insert` is among these alone.
-Without translation both keys of a state are one. The key that a packet would make a state with was just looked for in
-vain, so no state has it on either side.
+All packets are of one interface; those of several stand in place_cases.py. Those of rules with `max` stand in
+room_cases.py, and those of translation in translation_cases.py and written_cases.py.
+The reason `state-insert` is among those of translation and of several interfaces alone. Without these both keys of a
+state are one. The key that a packet would make a state with was just looked for in vain, so no state has it on either
+side.
 """
 
 from captures.packets import (ACK, ETHER_ARP, ETHER_IPV4, ETHER_IPV6, FIN, ICMP, LINKTYPE_ETHERNET, LINKTYPE_LOOPBACK,

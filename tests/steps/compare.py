@@ -1,33 +1,37 @@
 """Compares the program that goes through runs packet by packet with the model, and refuses it each allocation in turn.
 
 Compared are runs that are written out, cases of what one packet comes to, whose outcomes are written out too, and random
-runs. What written_packets.py tells holds of each packet that is written out or translated at random. In the runs with
-translation each verdict, each reason and each kind of packet that translation_kinds.py names has to come up.
+runs. What written_packets.py tells holds of each packet that is written out, translated at random, or on several
+interfaces at random. In these runs each verdict, each reason and each kind of packet that translation_kinds.py and
+place_kinds.py name has to come up.
 
     python3 -Bc "from steps import compare; compare.translated(1000000)"
 
-in the folder `tests` compares this number of packets of random runs with translation.
+in the folder `tests` compares this number of packets of random runs with translation; some are on several interfaces.
 """
 
 import sys
 from collections import Counter
-from itertools import islice
+from itertools import chain, islice
 
 import building
 from answering import SHOWN, answers_of, differing, place_of_difference, show_lines
 from captures.model import Refused
 from faults.command import ends_lawfully
-from steps import random_runs, translation_kinds, translation_runs
+from steps import place_cases, place_kinds, place_runs, random_runs, translation_kinds, translation_runs
 from steps.cases import cases
 from steps.followed import followed
-from steps.lines import step_line
+from steps.lines import binding_words, state_line, step_line
 from steps.replay import replay
 from steps.rows import ends, rows
 from steps.run import INSIDE, INTERFACE, words_of
 
-RANDOM_PACKETS, TRANSLATED_PACKETS = 20000, 80000
-# how often what is counted of packets has to come up at least, and how many runs are compared at once
-LEAST, CHUNK = 100, 200
+RANDOM_PACKETS, TRANSLATED_PACKETS = 20000, 84000
+# one packet in three is in a run on several interfaces
+PLACED_STEP = 3
+# how often what is counted of packets has to come up at least, also of those on several interfaces, and how many runs
+# are compared at once
+LEAST, LEAST_PLACED, CHUNK = 100, 20, 200
 # of the cases each such one is run with each allocation refused
 REFUSED_STEP = 9
 
@@ -45,7 +49,8 @@ def address_bytes(address):
 def run_bytes(run):
     name, address, bits = run.interface
     networks = b"".join(network.address.to_bytes(4) + bytes([network.bits]) for network in run.inside)
-    records = b"".join(run.link.to_bytes(2) + second.to_bytes(4) + with_length(frame) for second, frame in run.records)
+    records = b"".join(bytes([place]) + run.link.to_bytes(2) + second.to_bytes(4) + with_length(frame)
+                       for second, frame, place in run.placed())
     return (bytes([len(name)]) + name.encode() + address_bytes(address) + bytes([bits, len(run.inside)]) + networks
             # the first byte of the seed, which is each of it
             + with_length(run.rules.encode()) + run.seed[:1] + len(run.records).to_bytes(4) + records)
@@ -54,11 +59,11 @@ def run_bytes(run):
 # Runs as the model tells them
 
 def replay_of(run):
-    return replay(run.rules.encode(), run.interface, run.inside, run.capture(), run.seed)
+    return replay(run.rules.encode(), run.interface, run.inside, run.capture(), run.seed, run.places)
 
 
 def lines_of(done):
-    return [*map(step_line, done.steps), *done.texts.states.splitlines()]
+    return [*map(step_line, done.steps), *map(state_line, done.left)]
 
 
 def told_by_model(run):
@@ -81,8 +86,8 @@ def show(run, expected, seen):
     place = place_of_difference(expected, seen)
     print(f"{run.name}, line {place + 1}\n{run.rules}")
     if place < len(run.records):
-        second, frame = run.records[place]
-        print(f"  second {second}, link {run.link}: {frame.hex()}")
+        second, frame, interface = run.placed()[place]
+        print(f"  second {second}, interface {interface}, link {run.link}: {frame.hex()}")
     show_lines(place, expected, seen)
 
 
@@ -91,12 +96,23 @@ def answers(command, runs):
     return answers_of(command, list(map(run_bytes, runs)))
 
 
+def bindings_of(done):
+    """The words of the bindings of all states that were made, by their numbers; several if one is touched and bound
+    otherwise then."""
+    words = {}
+    for kind, changed in (step.outcome.change for step in done.steps if step.outcome.change):
+        if kind != "removed":
+            words.setdefault(changed.number, {})[binding_words(changed)] = None
+    return {number: ", ".join(found) for number, found in words.items()}
+
+
 def texts_of(expected, done):
     """The texts that are written out, and beside them the model's."""
     passed = [step.number for step in done.steps if step.outcome.verdict in ("pass", "skip")]
     frames = {step.number: step.frame for step in done.steps if step.frame != step.record.frame}
     written = [(expected.verdicts, done.texts.verdicts), (expected.counters, done.texts.counters),
-               (expected.states, done.texts.states), (expected.passed, passed), (expected.written, frames)]
+               (expected.states, done.texts.states), (expected.passed, passed), (expected.written, frames),
+               (expected.bindings, bindings_of(done))]
     if done.texts.packets[24:] != b"".join(done.steps[number - 1].record.header + done.steps[number - 1].frame
                                            for number in passed):
         raise SystemExit(f"{expected.run.name}: the model writes other packets than those that pass")
@@ -150,25 +166,29 @@ def compare_random(command):
 
 
 def compare_translated(command, packets):
-    """How many random runs with translation differ, and what else is wrong with them."""
-    runs, counts, faults, differ = translation_runs.runs(packets), Counter(), [], 0
+    """How many random runs with translation and on several interfaces differ, and what else is wrong with them."""
+    placed = packets // PLACED_STEP
+    runs = chain(translation_runs.runs(packets - placed), place_runs.runs(placed))
+    counts, faults, differ = Counter(), [], 0
     while chunk := list(islice(runs, CHUNK)):
         expected = [followed(run) for run in chunk]
         differ += differing(zip(chunk, (each.lines for each in expected), answers(command, chunk)), show)
         for each in expected:
             counts += each.counts
             faults += each.faults
-    print(f"{packets} packets in random runs with translation: {differ} runs differ, {len(faults)} packets are written "
-          "wrongly", *faults[:SHOWN], sep="\n  ")
-    return differ + len(faults) + compare_counts(counts)
+    print(f"{packets} packets in random runs with translation, {placed} of them on several interfaces: {differ} runs "
+          f"differ, {len(faults)} packets are written wrongly", *faults[:SHOWN], sep="\n  ")
+    seldom = (compare_counts(counts, translation_kinds.COUNTED, LEAST)
+              + compare_counts(counts, place_kinds.COUNTED, LEAST_PLACED))
+    return differ + len(faults) + seldom
 
 
-def compare_counts(counts):
+def compare_counts(counts, counted, least):
     """How many of the verdicts, reasons and kinds come up too seldom."""
-    for title, names in translation_kinds.COUNTED.items():
+    for title, names in counted.items():
         print(f"  {title}: " + ", ".join(f"{counts[name]} {name}" for name in names))
-    seldom = [name for names in translation_kinds.COUNTED.values() for name in names if counts[name] < LEAST]
-    print(f"  {len(seldom)} of them come up fewer than {LEAST} times", *seldom, sep="\n    ")
+    seldom = [name for names in counted.values() for name in names if counts[name] < least]
+    print(f"  {len(seldom)} of them come up fewer than {least} times", *seldom, sep="\n    ")
     return len(seldom)
 
 
@@ -177,9 +197,14 @@ def translated(packets):
     sys.exit(bool(compare_translated(building.answers("steps"), packets)))
 
 
+def written_out():
+    """The runs that are written out, by titles."""
+    return {"whole runs": list(rows()), "cases": list(cases()), "cases of several interfaces": list(place_cases.cases())}
+
+
 def compare_model():
     """How many runs and captures that are written out differ from the model."""
-    return compare_with_model("whole runs", list(rows())) + compare_with_model("cases", list(cases())) + compare_ends()
+    return sum(compare_with_model(title, written) for title, written in written_out().items()) + compare_ends()
 
 
 def model_alone():
@@ -187,10 +212,10 @@ def model_alone():
 
 
 def main():
-    command, each_case = building.answers("steps"), list(cases())
-    wrong = compare_model() + compare_written("whole runs", command, list(rows()))
-    wrong += compare_written("cases", command, each_case) + compare_random(command)
-    wrong += compare_translated(command, TRANSLATED_PACKETS)
+    command, written = building.answers("steps"), written_out()
+    wrong = compare_model() + sum(compare_written(title, command, each) for title, each in written.items())
+    wrong += compare_random(command) + compare_translated(command, TRANSLATED_PACKETS)
+    each_case = [*written["cases"], *written["cases of several interfaces"]]
     refused = b"".join(run_bytes(each.run) for each in each_case[::REFUSED_STEP])
     # its answers are cut like those of the expansion
     sys.exit(not ends_lawfully("expansions", command, refused) or bool(wrong))

@@ -3,11 +3,12 @@
 from collections import Counter
 from typing import NamedTuple
 
-from steps.lines import step_line
+from steps.lines import state_line, step_line
+from steps.place_kinds import PlaceKinds
 from steps.replay import Record, job_of, steps_of
+from steps.states import StateTable
 from steps.translation_kinds import Kinds, rooms_of
 from steps.written_packets import faults_of
-from table.states import StateTable
 
 
 class Followed(NamedTuple):
@@ -21,12 +22,13 @@ def followed(run):
     """A run whose ruleset has no fault."""
     job = job_of(run.rules.encode(), run.interface, run.inside, run.seed)
     table = StateTable(job.ruleset.options.values["states"])
-    kinds = Kinds(job, run.link, table)
-    records = [Record(b"", second, frame) for second, frame in run.records]
+    kinds, place_kinds = Kinds(job, run.link, table), PlaceKinds(job, run.link, table)
+    records = [Record(b"", *each) for each in run.placed()]
     lines, counts, faults = [], Counter(), []
     for step in steps_of(job, run.link, records, table):
         lines.append(step_line(step))
         counts.update((step.outcome.verdict, step.outcome.reason, *kinds.of(step), *rooms_of(step.outcome)))
+        counts.update(place_kinds.of(step) if run.places else ())
         faults += [f"{run.name}, packet {step.number}: {fault}"
                    for fault in faults_of(kinds.rules, run.link, step, table)]
-    return Followed(lines + [entry.text() for entry in table.by_number()], counts, faults)
+    return Followed(lines + list(map(state_line, table.by_number())), counts, faults)

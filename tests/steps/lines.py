@@ -1,13 +1,24 @@
 """Packets of a run as the program that goes through them prints them."""
 
 from expansions.model import dotted
+from steps.replay import dashed
+
+
+def binding_words(entry):
+    """The place of the interface on which a state was made, and the place to which it is bound."""
+    return f"{entry.interface}/{dashed(entry.binding)}"
+
+
+def state_line(entry):
+    """The line of a state."""
+    return f"{entry.text()} {binding_words(entry)}"
 
 
 def change_words(change):
     if change is None:
         return "-"
     kind, changed = change
-    return f"{kind} {changed if kind == 'removed' else changed.text()}"
+    return f"{kind} {changed if kind == 'removed' else state_line(changed)}"
 
 
 def written_words(outcome):

@@ -1,6 +1,7 @@
 """What one packet comes to in a model of the run with states and translation.
 
-A packet goes through these steps, in this order, until one of them says what becomes of it:
+A packet comes on an interface, which has a place, and is looked up for that place. It goes through these steps, in
+this order, until one of them says what becomes of it:
 
 1. One that is no IPv4 packet is skipped (`not-ip`).
 2. One of an interface that `set skip on` names passes (`skip-on`).
@@ -9,13 +10,16 @@ A packet goes through these steps, in this order, until one of them says what be
    connection of a state passes (`state-error`), and leaves the state as it is.
 5. One of the connection of a state does to the state what tracking says: where it is accepted it passes (`state`), else it
    is blocked (`state-mismatch`), and maybe the state is removed.
-6. Any other may be translated. Where a rule picks from ports and none is free, it is blocked (`nat-exhausted`).
+6. Any other may be translated. Where a rule picks from ports and none is free, it is blocked (`nat-exhausted`). A port is
+   free if no state has it, wherever that is bound.
 7. It passes where the rule that translates it says so (`nat-pass`). Else it is filtered, with the end that it has
    behind its translation, and by the direction in which it came.
    A rule of the filter with `max N` holds only if fewer than N states name it as their rule. In step 4 that isn't asked,
    as the packet makes no state.
-8. Where it passes, a state is made if it was translated, or if a rule decides that keeps state. It is blocked where a
-   state has one of both keys on the same side (`state-insert`), or else there are as many as there may be
+8. Where it passes, a state is made if it was translated, or if a rule decides that keeps state. The state is bound to the
+   packet's place if its policy is `if-bound`, and to all places if that is `floating`. The policy is that of the rule
+   that keeps state; without such a rule it is that of `set state-policy`. The packet is blocked where a state has one
+   of both keys on the same side, and their bindings meet (`state-insert`), or else there are as many as there may be
    (`state-limit`).
 
 A packet with IP options that would pass by 4, 5 or 7 may be blocked (`ip-option`), and then changes nothing. It is
@@ -31,8 +35,8 @@ from captures.frames import Packet
 from expansions.model import Ruleset
 from steps import translation
 from steps.filter import filtered, network_holds
+from steps.states import ALL, Entry
 from steps.translation import Passage
-from table.states import Entry
 from tracking.connections import connection, told_connection, tracked_packet
 
 # the verdict of a rule by what it does
@@ -51,6 +55,11 @@ class Job(NamedTuple):
     def seconds(self):
         """The timeouts in the order of their codes."""
         return tuple(self.ruleset.options.timeouts.values())
+
+    def policy(self, rule):
+        """The policy of a state by the number of its rule of the filter, or None for none."""
+        binding = None if rule is None else self.ruleset.rules.filter[rule].binding
+        return binding or self.ruleset.options.values["state-policy"]
 
     def direction_of(self, packet):
         return "out" if any(network_holds(network, packet.source) for network in self.inside) else "in"
@@ -84,10 +93,12 @@ def written(outcome, passage):
 
 
 class Arrival(NamedTuple):
-    """An IPv4 packet that is evaluated: its number, the clock at it, its bytes and the way it goes."""
+    """An IPv4 packet that is evaluated: its number, the clock at it, the place of its interface, its bytes and the way it
+    goes."""
     job: Job
     number: int
     clock: int
+    place: int
     packet: Packet
     datagram: bytes
     direction: str
@@ -149,36 +160,37 @@ class Arrival(NamedTuple):
         rule = None if outcome.rule is None else self.job.ruleset.rules.filter[outcome.rule]
         if outcome.verdict != "pass" or not translating and (rule is None or rule.binding is None):
             return outcome
+        binding = self.place if self.job.policy(outcome.rule) == "if-bound" else ALL
         # both keys are asked for, whatever the first answer is
-        if any([table.at("in", passage.wire), table.at("out", passage.stack)]):
+        if any([table.at("in", passage.wire, binding), table.at("out", passage.stack, binding)]):
             return self.blocked(outcome, "state-insert")
         if table.is_full():
             return self.blocked(outcome, "state-limit")
         state = tracking.model.first(self.tracked(), self.job.seconds())
         entry = Entry(self.number, *passage, outcome.rule, translating and translating.number,
-                      rule is not None and rule.allow_opts, state)
+                      rule is not None and rule.allow_opts, self.place, binding, state)
         return written(outcome._replace(state=self.number, change=("made", entry)), passage)
 
     def outcome(self, table):
         told = told_connection(self.packet, self.datagram, self.direction)
         if told:
-            entry = table.at(self.direction, told)
+            entry = table.at(self.direction, told, self.place)
             if entry:
                 return self.passed_by_state(entry, "state-error")
         key = connection(self.packet, self.datagram, self.direction)
         if key is None:
             return self.filtered(table)
-        entry = table.at(self.direction, key)
+        entry = table.at(self.direction, key, self.place)
         return self.followed(entry) if entry else self.opened(key, table)
 
 
-def step(job, number, clock, seen, datagram, table):
-    """What packet `number` comes to at a clock, where `seen` is what its record shows. The states whose deadline is at most
-    the clock are gone from the table."""
+def step(job, number, clock, place, seen, datagram, table):
+    """What packet `number` comes to at a clock, on the interface of a place, where `seen` is what its record shows. The
+    states whose deadline is at most the clock are gone from the table."""
     if seen == "skip":
         return Outcome("-", "skip", "not-ip")
     if job.is_skipped():
         return Outcome("-", "pass", "skip-on")
     if seen == "short":
         return Outcome("-", "block", "short")
-    return Arrival(job, number, clock, seen, datagram, job.direction_of(seen)).outcome(table)
+    return Arrival(job, number, clock, place, seen, datagram, job.direction_of(seen)).outcome(table)

@@ -13,6 +13,7 @@ from functools import lru_cache
 from itertools import chain
 
 from captures.frames import ICMP, TCP, UDP
+from steps.states import ALL
 
 CONSTANTS = struct.unpack("<4I", b"expand 32-byte k")
 # the words of the four quarter rounds over columns, and of the four over diagonals
@@ -90,5 +91,6 @@ def tried_ports(rule, key, seed, number):
 
 
 def picked(wires, table):
-    """Of the keys that a connection may have on the wire the first that no state has; None where each is taken."""
-    return next((wire for wire in wires if table.at("in", wire) is None), None)
+    """Of the keys that a connection may have on the wire the first that no state has, wherever that is bound; None where
+    each is taken."""
+    return next((wire for wire in wires if table.at("in", wire, ALL) is None), None)

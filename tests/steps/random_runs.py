@@ -8,16 +8,16 @@ import random
 import tracking.model
 import tracking.random_cases
 from captures.frames import ICMP, TCP, UDP
-from captures.model import Record, Refused
+from captures.model import Refused
 from captures.packets import (ACK, ETHER_ARP, ETHER_IPV4, ETHER_IPV6, FIN, IGMP, LINKTYPE_ETHERNET, LINKTYPE_LOOPBACK,
                               LINKTYPE_RAW, RST, SYN, echo, ethernet, ipv4, loopback, summed_message, tcp, udp)
 from expansions.model import dotted
 from rulesets.tree import Network
 from steps.filter_texts import INSIDE_HOSTS, OUTSIDE_HOSTS, PORTS
-from steps.replay import Interface, job_of, steps_of
+from steps.replay import Interface, Record, job_of, steps_of
 from steps.run import INSIDE, INTERFACE, Run
+from steps.states import StateTable
 from steps.texts import some_text
-from table.states import StateTable
 
 SEED = 20261123
 # packets of a run
@@ -102,6 +102,8 @@ def ends_of(key):
 
 class Packets:
     """The packets of a run: each is drawn by the table as it is then."""
+    # how many interfaces they come on, and how often one of a state's connection on another than made it
+    INTERFACES, ELSEWHERE = 1, 0.3
     # how often a packet belongs to a connection, begins one, tells of one, or is another message of ICMP
     SHARES = (12, 4, 4, 1)
     # seconds until the next, and how often it comes about when a state goes
@@ -115,6 +117,20 @@ class Packets:
         self.table = table
         self.clock = draw.choice((0, 0, 1000, 1000, 1000, LAST_SECOND - 100))
         self.earlier = []
+        # of the packet that is drawn
+        self.place = 0
+
+    # Places
+
+    def go_anywhere(self):
+        """The packet comes on any interface."""
+        if self.INTERFACES > 1:
+            self.place = self.draw.randrange(self.INTERFACES)
+
+    def go_near(self, entry):
+        """It comes mostly on the interface on which a state was made."""
+        if self.INTERFACES > 1 and self.draw.random() > self.ELSEWHERE:
+            self.place = entry.interface
 
     # Datagrams
 
@@ -143,6 +159,7 @@ class Packets:
         if not entries:
             return self.first()
         entry = draw.choice(entries)
+        self.go_near(entry)
         direction = draw.choice(("in", "out"))
         # a packet is looked up on the side from which it comes
         outside, inside = ends_of(entry.wire if direction == "in" else entry.stack)
@@ -210,6 +227,7 @@ class Packets:
 
     def frame(self):
         draw = self.draw
+        self.go_anywhere()
         if draw.random() < 0.03:
             return draw.choice(STRANGE_FRAMES[self.link])
         datagram = self.changed(self.datagram())
@@ -235,7 +253,8 @@ class Packets:
     def records(self, count):
         for _ in range(count):
             second = self.second()
-            yield Record(b"", second, self.frame())
+            frame = self.frame()
+            yield Record(b"", second, frame, self.place)
 
 
 def with_packets(draw, run, packets, count):
@@ -246,7 +265,9 @@ def with_packets(draw, run, packets, count):
         return run
     table = StateTable(job.ruleset.options.values["states"])
     steps = steps_of(job, run.link, packets(draw, run.link, table).records(count), table)
-    return run._replace(records=[(step.record.seconds, step.record.frame) for step in steps])
+    records = [step.record for step in steps]
+    return run._replace(records=[(each.seconds, each.frame) for each in records],
+                        places=tuple(each.place for each in records) if packets.INTERFACES > 1 else ())
 
 
 def some_run(draw, number, most, counts=COUNTS):

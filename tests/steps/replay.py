@@ -19,17 +19,18 @@ Counters and states are written only where the run comes to the capture's end, c
 """
 
 from functools import lru_cache
+from itertools import repeat
 from typing import NamedTuple
 
 from captures.frames import Packet, datagram_of, view
-from captures.model import Record, Refused, read_header, records_of
+from captures.model import Refused, read_header, records_of
 from expansions.model import Ruleset, expand
 from expansions.values import TOO_MANY
 from rulesets.model import worded
 from steps.model import Job, Outcome, step
 from steps.picks import ZERO_SEED
 from steps.rewriting import rewritten
-from table.states import StateTable
+from steps.states import StateTable
 
 COUNTED = ("rule", "nat-pass", "state", "state-error")
 # verdicts of packets that are written
@@ -42,6 +43,14 @@ class Interface(NamedTuple):
     name: str
     address: str
     bits: int
+
+
+class Record(NamedTuple):
+    """A record of a capture, and the place of the interface on which it was captured."""
+    header: bytes
+    seconds: int
+    frame: bytes
+    place: int = 0
 
 
 class Step(NamedTuple):
@@ -75,10 +84,12 @@ class Texts(NamedTuple):
 
 
 class Replay(NamedTuple):
-    """A whole run: its packets, its texts, and how the capture ends: `clean`, `cut` or what it is refused by."""
+    """A whole run: its packets, its texts, how the capture ends: `clean`, `cut` or what it is refused by; and the states
+    that are left."""
     steps: list
     texts: Texts
     tail: str
+    left: list
 
 
 def dashed(number):
@@ -111,7 +122,7 @@ def step_of(job, number, clock, link, record, table):
     """A packet of a run; of the table the states go whose time has come, and nothing else is changed."""
     purged = table.purge(clock)
     seen, datagram, frame = view(link, record.frame), datagram_of(link, record.frame), record.frame
-    outcome = step(job, number, clock, seen, datagram, table)
+    outcome = step(job, number, clock, record.place, seen, datagram, table)
     if outcome.passage:
         frame = rewritten(link, frame, outcome.direction, outcome.passage, outcome.reason == "state-error")
     length = int.from_bytes(datagram[2:4], "big") if isinstance(seen, Packet) else None
@@ -160,10 +171,12 @@ def counters(ruleset, steps):
             + f"total {len(steps)} {' '.join(map(str, totals.values()))}\n")
 
 
-def replay_of(job, capture):
-    """The whole run of a job over a capture's bytes."""
+def replay_of(job, capture, places=()):
+    """The whole run of a job over a capture's bytes. The places are those of the records, and 0 for each if there are
+    none."""
     header = read_header(capture)
-    records, tail = records_of(capture, header.order)
+    captured, tail = records_of(capture, header.order)
+    records = [Record(*each, place) for each, place in zip(captured, places or repeat(0))]
     table = StateTable(job.ruleset.options.values["states"])
     steps = list(steps_of(job, header.link, records, table))
     packets = capture[:24] + b"".join(each.text() for each in steps)
@@ -171,10 +184,10 @@ def replay_of(job, capture):
     if tail in ("clean", "cut"):
         texts = texts._replace(counters=counters(job.ruleset, steps),
                                states="".join(entry.text() + "\n" for entry in table.by_number()))
-    return Replay(steps, texts, tail)
+    return Replay(steps, texts, tail, table.by_number())
 
 
-def replay(text, interface, inside, capture, seed=ZERO_SEED):
-    """The whole run: the ruleset's text as bytes, an Interface, the inside networks, the capture as bytes, and the
-    seed."""
-    return replay_of(job_of(text, interface, inside, seed), capture)
+def replay(text, interface, inside, capture, seed=ZERO_SEED, places=()):
+    """The whole run: the ruleset's text as bytes, an Interface, the inside networks, the capture as bytes, the seed, and
+    the places of the records."""
+    return replay_of(job_of(text, interface, inside, seed), capture, places)

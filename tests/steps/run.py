@@ -17,8 +17,8 @@ def seed_of(byte):
 
 
 class Run(NamedTuple):
-    """A ruleset, and records: the second and the captured bytes of each. Only pfreplay takes a seed whose bytes
-    differ."""
+    """A ruleset, and records: the second and the captured bytes of each. The places are those of the interfaces on which
+    they were captured, and 0 for each if there are none. Only pfreplay takes a seed whose bytes differ."""
     name: str
     rules: str
     records: list
@@ -26,6 +26,12 @@ class Run(NamedTuple):
     interface: Interface = INTERFACE
     inside: tuple = INSIDE
     seed: bytes = ZERO_SEED
+    places: tuple = ()
+
+    def placed(self):
+        """Of each record the second, the captured bytes and the place."""
+        places = self.places or (0,) * len(self.records)
+        return [(*each, place) for each, place in zip(self.records, places, strict=True)]
 
     def capture(self):
         """The capture as bytes."""
@@ -35,7 +41,8 @@ class Run(NamedTuple):
 class Expected(NamedTuple):
     """A run and what is written out of it: words for each packet as `words_of` gives them; and where they are written,
     the texts of the states, the counters and the verdicts, the numbers of the packets that are written, and by their
-    numbers the frames of those that a translation writes into."""
+    numbers the frames of those that a translation writes into and the bindings of the states, as `binding_words` gives
+    them."""
     run: Run
     words: list
     states: str | None = None
@@ -43,6 +50,7 @@ class Expected(NamedTuple):
     verdicts: str | None = None
     passed: list | None = None
     written: dict | None = None
+    bindings: dict | None = None
 
 
 def words_of(line):

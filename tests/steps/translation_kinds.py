@@ -82,7 +82,7 @@ class Kinds:
             return
         direction = step.outcome.direction
         told, key = told_connection(seen, datagram, direction), connection(seen, datagram, direction)
-        entry = self.table.at(direction, told or key) if told or key else None
+        entry = self.table.at(direction, told or key, step.record.place) if told or key else None
         if entry and entry.translation is not None:
             yield from self.of_error(step.outcome, seen, entry) if told else self.of_state(step.outcome, entry)
         elif key and not entry:

@@ -79,6 +79,7 @@ class TranslatedPackets(Packets):
         draw, entry = self.draw, self.told_of()
         if entry is None or draw.random() < 0.1:
             return super().error()
+        self.go_near(entry)
         direction = draw.choice(("in", "out"))
         key = entry.wire if direction == "in" else entry.stack
         outside, inside = ends_of(key)

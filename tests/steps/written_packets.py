@@ -5,7 +5,8 @@
   embedded checksum of TCP may be wrong then. A UDP datagram without a checksum has none afterwards.
 - A packet of a state has the key of the state's other side, so that what answers it comes to the state. An error embeds
   a packet with the key that it has there.
-- No two states have a key in common on one side, and a port is one of those that the rule picks from.
+- A state stays bound as it was made. No two states whose bindings meet have a key in common on one side.
+- A port is one of those that the rule picks from, and no state has it, wherever that is bound.
 """
 
 from captures.frames import ICMP, TCP, UDP, datagram_of, view
@@ -76,10 +77,12 @@ def key_faults(link, step, entry):
         yield "it isn't written with the key of its state's other side"
 
 
-def pick_faults(rules, entry):
+def pick_faults(rules, entry, table):
     """What is wrong with the key on the wire of a state that is made."""
     kind, rule = rules.get(entry.translation, (None, None))
     port = entry.wire.inside[1]
+    if kind == "nat" and table.all_at("in", entry.wire):
+        yield "its port is taken"
     if kind == "nat" and walks_range(rule, entry.wire.protocol):
         low, high = range_of(rule, entry.wire.protocol)
         if not low <= port <= high:
@@ -88,10 +91,14 @@ def pick_faults(rules, entry):
         yield "its port had to stay"
 
 
+def is_bound_alike(entry, before):
+    return (entry.interface, entry.binding) == (before.interface, before.binding)
+
+
 def made_faults(rules, entry, table):
     """What is wrong with a state that is made beside those of a table."""
-    yield from pick_faults(rules, entry)
-    if any(entry.wire == other.wire or entry.stack == other.stack for other in table.by_number()):
+    yield from pick_faults(rules, entry, table)
+    if not all(map(entry.stands_beside, table.by_number())):
         yield "its state has the key of another one"
 
 
@@ -105,6 +112,8 @@ def faults_of(rules, link, step, table):
     kind, changed = outcome.change or (None, None)
     if kind == "made":
         yield from made_faults(rules, changed, table)
+    if kind == "touched" and not is_bound_alike(changed, table.entries[changed.number]):
+        yield "its state is bound otherwise"
     entry = changed if kind in ("made", "touched") else table.entries.get(outcome.state)
     if outcome.verdict == "pass" and entry:
         yield from key_faults(link, step, entry)

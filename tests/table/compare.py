@@ -1,7 +1,8 @@
 """Compares the program that calls a table of states with its model, and refuses it each allocation in turn.
 
-Compared are the answers to random lists of calls, to lists of some kinds, and to the list for which memory is refused.
-Where it is, a change that isn't taken leaves every answer as it was, and is taken when it is asked again.
+Compared are the answers to lists that are written by hand, to random lists of calls, to lists of some kinds, and to the
+list for which memory is refused. Where it is, a change that isn't taken leaves every answer as it was, and is taken when
+it is asked again. The model has to give the answers written by hand too.
 """
 
 import subprocess
@@ -10,14 +11,23 @@ from collections import Counter
 
 import building
 from faults.command import ends_lawfully
+from table import reach
 from table.kinds import all_kinds
 from table.lists import random_lists, refusals
+from table.model import Table, answer
+from table.rows import rows
+from table.sharing import sharing_lists
 
 LISTS = 24
 CALLS = 2500
 # the calls that are told, with their answers
 CALLS_TOLD = (("make", "done"), ("make", "key taken"), ("make", "full"), ("touch", "done"), ("touch", "key taken"),
               ("settle", "done"), ("purge", "done"), ("rule_room", "yes"), ("rule_room", "no"))
+# how often at least all lists together come upon what has a name
+DEMANDED = {reach.SEVERAL: 6000, reach.LEAST_DUE: 1500, reach.ALL_DUE: 800, reach.GREATER_DUE: 1500, reach.BESIDE: 1200,
+            reach.ELSEWHERE: 2500, reach.BOUND_BY_BOUND: 2000, reach.BOUND_BY_FLOATING: 300, reach.FLOATING_BY_BOUND: 500,
+            reach.FLOATING_BY_FLOATING: 2000, reach.MADE_BESIDE: 1200, reach.TOUCHED_BESIDE: 1500, reach.MOVED_BESIDE: 120,
+            reach.NOT_MOVED: 200, reach.MADE_AGAIN: 60, reach.LEAST_REMOVED: 300, reach.LEAST_PURGED: 250}
 # for one list, so that a program without an end is told
 TIME_LIMIT = 60
 # how many lists that differ are shown
@@ -31,8 +41,8 @@ def text_of(lines):
 def difference(lines, expected, seen):
     """The first call that is answered otherwise, in words; None where there is none."""
     seen = iter(seen)
-    for place, (call, answer) in enumerate(zip(lines[1:], expected), 2):
-        for line in answer:
+    for place, (call, answers) in enumerate(zip(lines[1:], expected), 2):
+        for line in answers:
             other = next(seen, "no line")
             if line != other:
                 return f"line {place}, {call}\n    expected {line}\n    seen     {other}"
@@ -50,22 +60,54 @@ def differing(command, lines, expected):
 
 
 def named_lists():
-    """All lists, each with the name of its kind."""
+    """All lists that the model answers, each with the name of its kind."""
     yield "of refusals", refusals()
     for writer in random_lists(LISTS, CALLS):
         yield "random", writer
     yield from all_kinds()
+    yield from sharing_lists()
+
+
+def answers_of_model(lines):
+    """The lines by which the model answers the calls of a list."""
+    table = Table(int(lines[0]))
+    return [line for call in lines[1:] for line in answer(table, call)]
+
+
+def compare_rows(who, differ):
+    """How many lists that are written by hand are answered otherwise; what differs in each, `differ` says in words."""
+    found = [(row, differ(row)) for row in rows()]
+    wrong = [f"{row.name}: {differs}" for row, differs in found if differs]
+    print(f"{len(found)} lists written by hand: {len(wrong)} differ from the {who}", *wrong[:SHOWN], sep="\n  ")
+    return len(wrong)
+
+
+def compare_model():
+    return compare_rows("model", lambda row: difference(row.lines, row.answers, answers_of_model(row.lines)))
+
+
+def compare_program(command):
+    return compare_rows("program", lambda row: differing(command, row.lines, row.answers))
+
+
+def compare_reach(counts):
+    """How much comes up less often than demanded."""
+    print("\n".join(reach.told(counts, names) for names in (reach.OF_LOOK_UPS, reach.OF_CHANGES)))
+    seldom = reach.seldom(counts, DEMANDED)
+    print(*(f"too seldom: {words}" for words in seldom), sep="\n", end="\n" if seldom else "")
+    return len(seldom)
 
 
 def compare(command):
-    """How many lists differ."""
+    """How many lists differ, and how much they reach too seldom."""
     count = 0
-    kinds, calls = Counter(), Counter()
+    kinds, calls, reached = Counter(), Counter(), Counter()
     for place, (kind, writer) in enumerate(named_lists()):
         lines, expected = writer.lines, writer.answers
         differs = differing(command, lines, expected)
         kinds[kind] += 1
-        calls.update((call.split()[0], answer[0]) for call, answer in zip(lines[1:], expected))
+        calls.update((call.split()[0], answers[0]) for call, answers in zip(lines[1:], expected))
+        reached.update(writer.reached)
         if differs:
             count += 1
             if count <= SHOWN:
@@ -73,10 +115,14 @@ def compare(command):
     changes = ", ".join(f"{calls[call]} {' '.join(call)}" for call in CALLS_TOLD)
     print(f"{kinds.total()} lists of calls to the table: {count} differ; of {calls.total()} calls {changes}")
     print(", ".join(f"{number} {kind}" for kind, number in kinds.items()))
-    return count
+    return count + compare_reach(reached)
+
+
+def model_alone():
+    sys.exit(bool(compare_model()))
 
 
 def main():
     command = building.answers("table")
-    wrong = compare(command)
+    wrong = compare_model() + compare_program(command) + compare(command)
     sys.exit(not ends_lawfully("table", command, text_of(refusals().lines)) or bool(wrong))

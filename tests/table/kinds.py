@@ -2,7 +2,8 @@
 used again, of keys that are near one another, and of rules that are asked how many states they have.
 """
 
-from table.lists import GREATEST_CLOCK, KEY, RULES, SIDES, Writer
+from table.lists import BINDINGS, GREATEST_CLOCK, KEY, RULES, Writer
+from table.model import SIDES
 
 NO_LIMIT = 100000
 # how many states have near keys, and how many of those are looked for after each of the changes
@@ -40,8 +41,8 @@ def shuffled(source, items):
 class KindWriter(Writer):
     """Writes a list of one kind, in which questions about deadlines come behind a settling or all without one."""
 
-    def __init__(self, seed, limit, settles):
-        super().__init__(seed, limit)
+    def __init__(self, seed, limit, settles, bindings=BINDINGS[-1]):
+        super().__init__(seed, limit, bindings)
         self.settles = settles
         self.last_number = 0
 
@@ -54,6 +55,10 @@ class KindWriter(Writer):
     def touch_by(self, state, deadline):
         """Touches a state so that it has this deadline from now on."""
         self.add_state("touch", state.number, state.wire, state.stack, deadline)
+
+    def touch_with(self, state, **parts):
+        """Touches a state so that it has these parts from now on, and counts other bytes."""
+        self.add("touch", state._replace(bytes=len(self.lines), **parts).text())
 
     def settle(self, clock):
         """Settles, now and then at another clock than the next questions, where the list has that."""
@@ -183,7 +188,7 @@ class KindWriter(Writer):
 
     def look_for(self, keys):
         for key in keys:
-            self.add("at", self.source.choice(SIDES), *key, self.clock)
+            self.look_up(self.source.choice(SIDES), key, self.clock)
 
     def with_near_keys(self):
         """Many states with keys that are near one another. They are looked for while some are removed, others made, and

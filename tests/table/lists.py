@@ -4,17 +4,18 @@ A list is of the lines that `answers table` reads: the limit, and then the calls
 """
 
 import random
+from collections import Counter
 from itertools import accumulate
 from typing import NamedTuple
 
-from table.model import State, Table, answer
+from table.model import ALL, SIDES, State, Table, answer, word_of
+from table.reach import reached
 
 LIMITS = (1, 2, 3, 100000)
 # the keys and numbers to pick from in every second list of the last limit
 MANY_KEYS = 20000
 MANY_NUMBERS = 20000
 GREATEST_CLOCK = 2**32 - 1
-SIDES = ("wire", "stack")
 KEY = (6, 167772165, 1000, 3325256711, 80)
 # keys that differ in one part each, and one that is turned round
 NEAR_KEYS = [KEY, (17, *KEY[1:]), (6, 167772166, *KEY[2:]), (6, 167772165, 1001, *KEY[3:]), (*KEY[:3], 3325256712, 80),
@@ -25,6 +26,10 @@ WEIGHTS = {"make": 30, "touch": 26, "remove": 6, "settle": 3, "purge": 3, "at": 
 # the rules of states, and how many states of a rule a question asks for
 RULES = (None, 0, 0, 1, 1, 1, 2, 2, 3, 40)
 MOST = range(5)
+# the bindings of states in a list: all have the same one, or those of few interfaces, among which there may be ALL
+BINDINGS = ((ALL,), (0, 1, 2), (ALL, 0, 0, 1, 1, 2, 2))
+# those of look-ups; to the last interface no state is bound
+SCOPES = (ALL, ALL, ALL, 0, 1, 2, 3)
 WORDS = tuple(WEIGHTS)
 WEIGHTS_SO_FAR = tuple(accumulate(WEIGHTS.values()))
 
@@ -44,7 +49,7 @@ def far_key(source):
 def pool_of(source, has_many):
     if has_many:
         return Pool([far_key(source) for _ in range(MANY_KEYS)], list(range(1, MANY_NUMBERS)), 50000)
-    return Pool(source.sample(NEAR_KEYS, source.randrange(4, len(NEAR_KEYS) + 1)), FEW_NUMBERS, source.choice((3, 8, 30)))
+    return Pool(source.sample(NEAR_KEYS, source.randrange(2, len(NEAR_KEYS) + 1)), FEW_NUMBERS, source.choice((3, 8, 30)))
 
 
 def words(*parts):
@@ -54,30 +59,45 @@ def words(*parts):
 class Writer:
     """Writes calls, along the model of the table."""
 
-    def __init__(self, seed, limit):
+    def __init__(self, seed, limit, bindings=BINDINGS[-1]):
         self.source = random.Random(seed)
         self.table = Table(limit)
+        self.bindings = bindings
         self.clock = 0
         self.lines = [str(limit)]
         # for each call the lines that answer it
         self.answers = []
+        # how often calls come upon what has a name
+        self.reached = Counter()
 
     def add(self, *parts):
         call = words(*parts)
         self.lines.append(call)
+        for name in reached(self.table, call):
+            self.reached[name] += 1
         self.answers.append(answer(self.table, call))
         return self.answers[-1]
 
     def add_state(self, word, number, wire, stack, deadline):
         """Makes or touches a state, which counts other bytes than all others."""
-        rule = self.rule_of(word, number)
-        return self.add(word, State(number, wire, stack, deadline, len(self.lines), rule).text())
+        rule, binding = self.rule_of(word, number), self.binding_of(word, number)
+        return self.add(word, State(number, wire, stack, deadline, len(self.lines), rule, binding).text())
 
     def rule_of(self, word, number):
-        """The rule of a state: one that is touched mostly keeps its own."""
+        return self.part_of("rule", RULES, word, number)
+
+    def binding_of(self, word, number):
+        return self.part_of("binding", self.bindings, word, number)
+
+    def part_of(self, name, choices, word, number):
+        """A part of a state: one that is touched mostly keeps its own."""
         if word == "touch" and number in self.table.states and self.source.randrange(8):
-            return self.table.states[number].rule
-        return self.source.choice(RULES)
+            return getattr(self.table.states[number], name)
+        return self.source.choice(choices)
+
+    def look_up(self, side, key, clock):
+        """Looks for a key, for all interfaces or for one."""
+        self.add("at", side, *key, word_of(self.source.choice(SCOPES)), clock)
 
     def any_state(self):
         return self.source.choice(list(self.table.states.values()))
@@ -86,11 +106,14 @@ class Writer:
 class RandomWriter(Writer):
     """Writes random calls."""
 
-    def __init__(self, seed, limit, has_many):
-        super().__init__(seed, limit)
+    def __init__(self, seed, limit, has_many, bindings):
+        super().__init__(seed, limit, bindings)
         self.pool = pool_of(self.source, has_many)
 
     def key(self):
+        """A key, now and then that of a state: few states share one of many keys otherwise."""
+        if self.table.states and not self.source.randrange(6):
+            return self.any_state().wire
         return self.source.choice(self.pool.keys)
 
     def kept(self):
@@ -105,7 +128,7 @@ class RandomWriter(Writer):
 
     def side_and_key(self):
         side, kept = self.source.choice(SIDES), self.kept()
-        return side, *((kept.wire if side == "wire" else kept.stack) if kept else self.key())
+        return side, dict(kept.keys())[side] if kept else self.key()
 
     def deadline(self):
         if self.source.randrange(12):
@@ -150,7 +173,7 @@ class RandomWriter(Writer):
             case "remove" | "after":
                 self.add(word, self.number())
             case "at":
-                self.add(word, *self.side_and_key(), self.any_clock())
+                self.look_up(*self.side_and_key(), self.any_clock())
             case "settle":
                 self.add(word, self.any_clock())
             case "purge" | "room" | "due":
@@ -175,8 +198,8 @@ class RandomWriter(Writer):
 def random_lists(count, calls):
     """`count` lists of `calls` calls, the settlings before others not counted, and what drains the table then."""
     for place in range(count):
-        limit = LIMITS[place % len(LIMITS)]
-        writer = RandomWriter(place, limit, limit == LIMITS[-1] and place // len(LIMITS) % 2 == 1)
+        turn, limit = place // len(LIMITS), LIMITS[place % len(LIMITS)]
+        writer = RandomWriter(place, limit, limit == LIMITS[-1] and turn % 2 == 1, BINDINGS[turn % len(BINDINGS)])
         for _ in range(calls):
             writer.step()
         writer.drain()
@@ -192,10 +215,11 @@ class Refusals(Writer):
         self.turn = 0
         self.keys = [far_key(self.source) for _ in range(34)]
 
-    def look_at_keys(self, *keys):
+    def look_at_keys(self, *keys, scopes=(ALL,)):
         for key in keys:
             for side in SIDES:
-                self.add("at", side, *key, 0)
+                for scope in scopes:
+                    self.add("at", side, *key, word_of(scope), 0)
 
     def look(self):
         """Questions that see the table, but of the order of deadlines its beginning alone."""
@@ -227,9 +251,15 @@ class Refusals(Writer):
         """A state keeps its rule. Those of greater numbers are mostly of later rules, so that more rules are counted."""
         return None if number % 7 == 0 else number // 9 * 8 + number % 2
 
+    def binding_of(self, word, number):
+        """A state keeps its binding, unless it is bound otherwise below."""
+        return BINDINGS[-1][number % 5]
+
     def text(self, number, wire, stack, deadline):
-        rule = self.rule_of("make", number)
-        return State(number, self.keys[wire], self.keys[stack], deadline, len(self.lines), rule).text()
+        return self.bound(number, self.keys[wire], self.keys[stack], deadline, self.binding_of("make", number))
+
+    def bound(self, number, wire, stack, deadline, binding):
+        return State(number, wire, stack, deadline, len(self.lines), self.rule_of("make", number), binding).text()
 
     def grow(self):
         """Makes states until each index of them has grown a few times, touches them, and makes one over another."""
@@ -265,6 +295,24 @@ class Refusals(Writer):
             state, new = self.any_state(), far_key(self.source)
             wire, stack = ((new, state.stack), (state.wire, new), (new, new))[turn % 3]
             self.change_twice("touch", state.number, wire, stack, state.deadline + turn % 5 - 2)
+        self.look()
+
+    def bind_otherwise(self):
+        """Makes states of few keys on some interfaces, and binds them otherwise over and over, each twice. Some may not be,
+        since others have their keys there."""
+        keys = [far_key(self.source) for _ in range(6)]
+        for number in range(60, 78):
+            key = keys[number % 6]
+            self.add("make", self.bound(number, key, key, 1000 + number, number // 6 - 10))
+        for turn in range(40):
+            state = self.table.states[self.source.randrange(60, 78)]
+            binding = self.source.choice((ALL, *range(8)))
+            for _ in range(2):
+                self.add("touch", self.bound(*state[:3], state.deadline - turn % 2, binding))
+                self.look_at_keys(state.wire, scopes=(ALL, state.binding, binding))
+        for number in range(60, 78, 2):
+            self.add("remove", number)
+            self.look_at_keys(keys[number % 6])
         self.look()
 
     def make_in_places(self):
@@ -308,6 +356,7 @@ def refusals():
     writer.grow()
     writer.touch_earlier()
     writer.touch_with_new_keys()
+    writer.bind_otherwise()
     writer.make_in_places()
     writer.purge_one_by_one({state.deadline for state in writer.table.states.values()})
     for count in (1, 2, 5, 12, 32):

@@ -1,0 +1,53 @@
+"""What comes up of results on several interfaces, by kinds that are counted.
+
+- One is of another interface than its packet, and its record holds.
+- One is taken although states have changed that have a key which it asks for, and are bound elsewhere.
+- One is dropped because of such states alone.
+- One is taken or dropped as it is, since of several states with a key the least is found, and not the greatest.
+"""
+
+from steps.states import ALL, meeting
+
+OF_ANOTHER, TAKEN_BESIDE, DROPPED_FOR, BY_LEAST = (
+    "of another interface", "taken beside changes elsewhere", "dropped for changes elsewhere", "by the least of several")
+COUNTED = (OF_ANOTHER, TAKEN_BESIDE, DROPPED_FOR, BY_LEAST)
+
+
+def least(states):
+    return states[:1]
+
+
+def greatest(states):
+    return states[-1:]
+
+
+def stays(found, question, table, scope, chosen=least):
+    """Whether a look-up of a result would find the same state in a table, if it had a scope."""
+    now = table.all_at(*question[1:3])
+    return chosen(meeting(found.around[question], scope)) == chosen(meeting(now, scope))
+
+
+def is_for_others(found, question, table):
+    """Whether a question is answered otherwise because of states that are bound elsewhere alone."""
+    return question in found.around and question[-1] is ALL and stays(found, question, table, found.place)
+
+
+def by_least(found, failing, table):
+    """Whether a result would be taken and not dropped, or the other way, if the greatest of several states were
+    found."""
+    others = [question for question in failing if question not in found.around]
+    changed = [question for question in found.around if not stays(found, question, table, question[-1], greatest)]
+    return not others and bool(failing) != bool(changed)
+
+
+def kinds_of(found, wanted, failing, table):
+    """The kinds of a result that is tried, by what it should be of, which of its questions the table at the packet's
+    clock answers otherwise, and that table."""
+    if found.is_of() != wanted:
+        is_elsewhere = found._replace(place=wanted[3]).is_of() == wanted
+        return [OF_ANOTHER] if is_elsewhere and not failing else []
+    is_changed = any(table.all_at(*question[1:3]) != states for question, states in found.around.items())
+    kinds = [BY_LEAST] if by_least(found, failing, table) else []
+    if failing and all(is_for_others(found, question, table) for question in failing):
+        kinds.append(DROPPED_FOR)
+    return [*kinds, TAKEN_BESIDE] if is_changed and not failing else kinds
