@@ -21,7 +21,7 @@ use Rattle.pfr_phrases.specs.declared.tracing.Piece.{Piece}
 
 -- the strict reader accepts a text
 abbrev pub is_accepted : List ℕ → Surroundings → Bool
-is_accepted text around = is_ok (ruleset_of text around.interface)
+is_accepted text around = is_ok (ruleset_of text (around.interface ∷ []))
 
 -- how many bytes stand before the first zero, with those before
 abbrev pub zero_from : ℕ → List ℕ → ℕ

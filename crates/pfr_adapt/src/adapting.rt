@@ -41,7 +41,7 @@ pub struct Adapted<'a> {
 fn is_accepted(alloc: Global, text: &[u8], around: &Surroundings) -> Result<bool, AllocError>
     ensures { IfOk result (λ accepted. accepted ≡ spec.is_accepted text.now around.now) }
 {
-    match ruleset_of(alloc, text, &around.interface) {
+    match ruleset_of(alloc, text, &[around.interface]) {
         Ok(_) => Ok(true),
         Err(fault) => match fault.kind {
             ConfErrorKind::Memory => Err(AllocError),

@@ -1,4 +1,5 @@
 pub mod BinatLemmas
 pub mod Members
+pub mod OwnLemmas
 pub mod PinLemmas
 pub mod SkipLemmas

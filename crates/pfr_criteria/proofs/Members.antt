@@ -8,14 +8,14 @@ use Rattle.pfr_ruleset.specs.declared.table.Entry.{Entry}
 use Rattle.pfr_ruleset.specs.Tables.{IsMember, bits_of, holds}
 use Rattle.pfr_criteria.specs.Hosts.{has, says_yes, is_longest}
 
-abbrev One : {X : Type 0} → (X → Bool) → List X → Type 0
+abbrev pub One : {X : Type 0} → (X → Bool) → List X → Type 0
 One {X} p xs = (x : X) × Contains xs x × (p x ≡ true)
 
 one_more : {X : Type 0} (p : X → Bool) (x : X) (xs : List X) (b : Bool) → p x ≡ b → (b || list_any p xs) ≡ true → (list_any p xs ≡ true → One p xs) → One p (x ∷ xs)
 one_more p x xs true is any rest = (x, Contains-append_left (x ∷ []) xs x (Contains-push [] x), is)
 one_more p x xs false is any rest = (let one = rest any in (one.0, Contains-append_right (x ∷ []) xs one.0 one.1, one.2))
 
-one_of : {X : Type 0} (p : X → Bool) (xs : List X) → list_any p xs ≡ true → One p xs
+pub one_of : {X : Type 0} (p : X → Bool) (xs : List X) → list_any p xs ≡ true → One p xs
 one_of p [] any = absurd cc
 one_of p (x ∷ xs) any = one_more p x xs (p x) refl any (one_of p xs)
 
@@ -23,7 +23,7 @@ or_true : (b c : Bool) → c ≡ true → (b || c) ≡ true
 or_true true c is = refl
 or_true false c is = is
 
-any_by : {X : Type 0} (p : X → Bool) (xs : List X) (y : X) → Contains xs y → p y ≡ true → list_any p xs ≡ true
+pub any_by : {X : Type 0} (p : X → Bool) (xs : List X) (y : X) → Contains xs y → p y ≡ true → list_any p xs ≡ true
 any_by p [] y (k, within, is) held = absurd (omega (arith, within))
 any_by p (x ∷ xs) y (zero, within, is) held = (let first : p x ≡ true = rw is held in rw first refl)
 any_by p (x ∷ xs) y (suc k, within, is) held = or_true (p x) (list_any p xs) (any_by p xs y (k, omega (arith, within), is) held)

@@ -1,22 +1,24 @@
 -- What the laws say.
-use Rattle.std.specs.Prelude.{◌≡◌, ◌↔◌, ◌≤◌, ◌<◌, List, ℕ, true, false, map, None, Some}
-use Rattle.std.specs.List.{Contains, slice_get}
+use Rattle.std.specs.Prelude.{◌≡◌, ◌↔◌, ◌≤◌, ◌<◌, ◌==◌, List, ◌∷◌, ℕ, true, false, map, None, Some}
+use Rattle.std.specs.List.{Contains, list_any, slice_get}
 use Rattle.pfr_net.specs.declared.address.Ipv4Address.{Ipv4Address}
 use Rattle.pfr_net.specs.declared.direction.Direction.{Direction}
 use Rattle.pfr_net.specs.declared.direction.Direction.TheVariants.{In, Out}
 use Rattle.pfr_net.specs.declared.interface.IfName.{IfName}
 use Rattle.pfr_ruleset.specs.Criteria.{asked_by, asked_by_translation, IsSkip}
+use Rattle.pfr_ruleset.specs.Interfaces.{own_addresses, own_table}
 use Rattle.pfr_ruleset.specs.Shapes.{covers, pins_of, shape_at, shape_place, key, key_of_rule}
 use Rattle.pfr_ruleset.specs.declared.criterion.Asked.{Asked}
 use Rattle.pfr_ruleset.specs.declared.criterion.Criterion.{Criterion}
 use Rattle.pfr_ruleset.specs.declared.flat.FlatRule.{FlatRule}
 use Rattle.pfr_ruleset.specs.declared.flat.FlatTranslation.{FlatTranslation}
 use Rattle.pfr_ruleset.specs.declared.flat.PacketMatch.{PacketMatch}
+use Rattle.pfr_ruleset.specs.declared.interface.Interface.{Interface}
 use Rattle.pfr_ruleset.specs.declared.shape.Shape.{Shape}
 use Rattle.pfr_ruleset.specs.declared.table.Entry.{Entry}
 use Rattle.pfr_headers.specs.declared.packet.Packet.{Packet}
 use Rattle.pfr_criteria.specs.Asking.{part_holds}
-use Rattle.pfr_criteria.specs.Hosts.{has}
+use Rattle.pfr_criteria.specs.Hosts.{among, has}
 use Rattle.pfr_criteria.specs.Packets.{match_holds, rule_holds}
 use Rattle.pfr_criteria.specs.Pins.{pins_in}
 use Rattle.pfr_criteria.specs.Translations.{binat_holds, single, translation_holds}
@@ -30,6 +32,12 @@ TablesHoldByTheirEntries =
     → ((e : Entry) → Contains others e → Contains entries e)
     → (address : ℕ)
     → has entries address ≡ has others address
+
+-- where the first table is that of the interfaces' addresses, what `self` of several interfaces stands for holds just these
+abbrev pub OwnAddressesAreHeld : Type 0
+OwnAddressesAreHeld =
+    (interfaces : List Interface) (rest : List (List Entry)) (address : ℕ)
+    → among (own_table interfaces ∷ rest) own_addresses address ≡ list_any (λ interface. interface.address.0 == address) interfaces
 
 -- where a filter rule fails at a criterion, each one before its skip fails
 abbrev pub RulesFailUpToSkips : Type 0

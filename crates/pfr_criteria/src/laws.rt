@@ -1,9 +1,16 @@
 //! Laws of the definitions, each the contract of a function that does nothing.
-ghost use Rattle.pfr_criteria.specs.Laws.{BinatHoldsBothWays, KeysAgree, PinsAgree, RulesFailUpToSkips, TablesHoldByTheirEntries, TranslationsFailUpToSkips};
+ghost use Rattle.pfr_criteria.specs.Laws.{BinatHoldsBothWays, KeysAgree, OwnAddressesAreHeld, PinsAgree, RulesFailUpToSkips};
+ghost use Rattle.pfr_criteria.specs.Laws.{TablesHoldByTheirEntries, TranslationsFailUpToSkips};
 
 /// Which addresses a table holds rests on which entries it has, and neither on their order nor on how often one is written.
 pub fn tables_hold_by_their_entries()
     ensures { TablesHoldByTheirEntries }
+{}
+
+/// Where the first table is that of the addresses of the run's interfaces, what `self` of several interfaces stands for holds
+/// these addresses and no others.
+pub fn own_addresses_are_those_of_the_interfaces()
+    ensures { OwnAddressesAreHeld }
 {}
 
 /// Where a filter rule fails at a criterion, so does each one up to the next that may write something else there.

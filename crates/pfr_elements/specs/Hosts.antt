@@ -1,7 +1,6 @@
--- What addresses mean in a list: interface forms by the run's interface, tables by their places.
+-- What addresses mean in a list: interface forms by the run's interfaces, tables by their places.
 use Rattle.std.specs.Prelude.{ℕ, ◌+◌, min, nat_lt, if◌then◌else◌, Bool, true, false, List, Option, Some, None, Result, Ok, Err, codes}
 use Rattle.pfr_net.specs.declared.network.Net.{Net}
-use Rattle.pfr_ruleset.specs.declared.table.Entry.{Entry}
 use Rattle.pfr_ruleset.specs.declared.interface.Interface.{Interface}
 use Rattle.pfr_ruleset.specs.declared.hosts.HostSet.{HostSet}
 use Rattle.pfr_ruleset.specs.declared.hosts.HostSet.TheVariants as set
@@ -27,10 +26,10 @@ use Rattle.pfr_elements.specs.declared.definition.ListMeanings.{ListMeanings}
 use Rattle.pfr_elements.specs.declared.definition.Taken.{Taken}
 use Rattle.pfr_elements.specs.declared.definition.Taken.TheVariants as taken
 use Rattle.pfr_elements.specs.Values.{taken_at}
-use Rattle.pfr_elements.specs.Interfaces.{whole, masked, form_of}
+use Rattle.pfr_elements.specs.Interfaces.{whole, masked, first_form, own_hosts}
 use Rattle.pfr_elements.specs.Names.{last_place}
 use Rattle.pfr_elements.specs.Elements.{Kind, noted, one_read, fault_on, undefined_table}
-use Rattle.pfr_elements.specs.Terms.{use_in, misplaced, no_table}
+use Rattle.pfr_elements.specs.Terms.{use_in, misplaced}
 
 -- ---- interface forms
 
@@ -38,40 +37,44 @@ abbrev pub form_by : ℕ → Option Net → Result Net ConfError
 form_by line (Some network) = Ok network
 form_by line None = Err (left_out_at line (codes "host name"))
 
--- a word that is no form of the interface is the name of a host
-unfoldable pub form_meaning : Interface → Name → Result Net ConfError
-form_meaning interface name = form_by name.line (form_of interface name.text)
+-- a word that is no form of an interface is the name of a host
+unfoldable pub form_meaning : List Interface → Name → Result Net ConfError
+form_meaning interfaces name = form_by name.line (first_form interfaces name.text)
 
 -- the one name in the value of a macro
-unfoldable pub value_form : Interface → Parser (Option Net)
-value_form interface = do
+unfoldable pub value_form : List Interface → Parser (Option Net)
+value_form interfaces = do
   name ← free_word
-  found ← noted (form_meaning interface name)
+  found ← noted (form_meaning interfaces name)
   _ ← finish
   pure found
 
 -- what the words of a value mean in round brackets on this line
-abbrev pub form_read : Interface → ℕ → List Word → Result Net ConfError
-form_read interface line ws = one_read line (value_form interface (of_value ws))
+abbrev pub form_read : List Interface → ℕ → List Word → Result Net ConfError
+form_read interfaces line ws = one_read line (value_form interfaces (of_value ws))
 
-abbrev pub form_in : Interface → ℕ → Result Taken ConfError → Result Net ConfError
-form_in interface line (Err e) = Err e
-form_in interface line (Ok (taken.TooLong is_list)) = Err (unknown_word line)
-form_in interface line (Ok (taken.Word word)) = form_read interface line (words word)
-form_in interface line (Ok (taken.Whole text)) = fault_on line text.meanings.form
+abbrev pub form_in : List Interface → ℕ → Result Taken ConfError → Result Net ConfError
+form_in interfaces line (Err e) = Err e
+form_in interfaces line (Ok (taken.TooLong is_list)) = Err (unknown_word line)
+form_in interfaces line (Ok (taken.Word word)) = form_read interfaces line (words word)
+form_in interfaces line (Ok (taken.Whole text)) = fault_on line text.meanings.form
 
 -- the use of a macro in round brackets
 unfoldable pub used_form : Scope → MacroUse → Result Net ConfError
-used_form scope found = form_in scope.interface found.line (taken_at scope.macros false found)
+used_form scope found = form_in scope.interfaces found.line (taken_at scope.macros false found)
 
 -- ---- hosts
 
-unfoldable pub host_meaning : Scope → Host → Result Net ConfError
-host_meaning scope (h.Address address) = Ok (whole address)
-host_meaning scope (h.Network network) = Ok (masked network)
-host_meaning scope h.Own = Ok (whole scope.interface.address)
-host_meaning scope (h.Interface name) = form_meaning scope.interface name
-host_meaning scope (h.InterfaceMacro found) = used_form scope found
+abbrev pub network_set : Result Net ConfError → Result HostSet ConfError
+network_set (Ok network) = Ok (set.Network network)
+network_set (Err e) = Err e
+
+unfoldable pub host_meaning : Scope → Host → Result HostSet ConfError
+host_meaning scope (h.Address address) = Ok (set.Network (whole address))
+host_meaning scope (h.Network network) = Ok (set.Network (masked network))
+host_meaning scope h.Own = Ok (own_hosts scope.interfaces)
+host_meaning scope (h.Interface name) = network_set (form_meaning scope.interfaces name)
+host_meaning scope (h.InterfaceMacro found) = network_set (used_form scope found)
 
 -- ---- addresses of rules
 
@@ -80,13 +83,9 @@ abbrev pub table_by : Name → ℕ → Option ℕ → Result HostSet ConfError
 table_by name defined (Some place) = if nat_lt place defined then Ok (set.Table place) else Err (undefined_table name.line)
 table_by name defined None = Err (undefined_table name.line)
 
-abbrev pub network_set : Result Net ConfError → Result HostSet ConfError
-network_set (Ok network) = Ok (set.Network network)
-network_set (Err e) = Err e
-
 unfoldable pub address_meaning : Scope → Address → Result HostSet ConfError
 address_meaning scope a.Any = Ok set.Any
-address_meaning scope (a.Host host) = network_set (host_meaning scope host)
+address_meaning scope (a.Host host) = host_meaning scope host
 address_meaning scope (a.Range first last) = Ok (set.Range first last)
 address_meaning scope (a.Table name) = table_by name scope.defined (last_place name.text scope.tables)
 address_meaning scope (a.Macro found) = Err (misplaced found)
@@ -135,12 +134,8 @@ host_kind = record {
 
 -- ---- entries of tables
 
-abbrev pub entry_of : Bool → Result Net ConfError → Result Entry ConfError
-entry_of is_negated (Ok network) = Ok (record { network = network; is_negated = is_negated })
-entry_of is_negated (Err e) = Err e
-
-abbrev pub entry_by : Scope → Bool → Written Host → Result Entry ConfError
-entry_by scope is_negated (w.Item host) = entry_of is_negated (host_meaning scope host)
+abbrev pub entry_by : Scope → Bool → Written Host → Result HostCriterion ConfError
+entry_by scope is_negated (w.Item host) = with_sign is_negated (host_meaning scope host)
 entry_by scope is_negated (w.Macro found) = Err (misplaced found)
 
 abbrev pub entry_use : TableEntry → Option MacroUse
@@ -149,22 +144,20 @@ entry_use e = use_in e.host
 abbrev pub entry_negated : TableEntry → Bool
 entry_negated e = e.is_negated
 
-abbrev pub entry_meaning : Scope → TableEntry → Result Entry ConfError
+-- a network, or the addresses of the interfaces
+abbrev pub entry_meaning : Scope → TableEntry → Result HostCriterion ConfError
 entry_meaning scope e = entry_by scope e.is_negated e.host
 
-abbrev pub entry_turned : Entry → Entry
-entry_turned e = record e { is_negated = true }
-
-abbrev pub entry_lists : ListMeanings → ListMeaning Entry
+abbrev pub entry_lists : ListMeanings → ListMeaning HostCriterion
 entry_lists m = m.entries
 
-abbrev pub entry_kind : Kind TableEntry Entry
+abbrev pub entry_kind : Kind TableEntry HostCriterion
 entry_kind = record {
   form = addresses.table_entry;
   use_in = entry_use;
   negated = entry_negated;
   meaning = entry_meaning;
-  turned = entry_turned;
-  tables = no_table;
+  turned = host_turned;
+  tables = host_tables;
   list_in = entry_lists;
 }

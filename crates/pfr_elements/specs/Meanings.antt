@@ -46,7 +46,7 @@ meanings_of scope ws = record {
   is_one_word = length ws == 1;
   word = only_plain ws;
   lists = list_meanings scope ws;
-  form = form_read scope.interface 0 ws;
+  form = form_read scope.interfaces 0 ws;
   target = single_read true scope 0 ws;
   source = single_read false scope 0 ws;
 }

@@ -3,6 +3,7 @@
 use Rattle.std.specs.Prelude.{ℕ, Bool, true, false, nat_lt, if◌then◌else◌, List, Option, None, Result, Ok, Err, codes}
 use Rattle.pfr_net.specs.declared.address.Ipv4Address.{Ipv4Address}
 use Rattle.pfr_net.specs.declared.network.Net.{Net}
+use Rattle.pfr_ruleset.specs.declared.hosts.HostSet.{HostSet}
 use Rattle.pfr_ruleset.specs.declared.hosts.HostSet.TheVariants as set
 use Rattle.pfr_ruleset.specs.declared.hosts.HostCriterion.{HostCriterion}
 use Rattle.pfr_words.specs.declared.sign.Sign.TheVariants as s
@@ -54,12 +55,17 @@ host_line line (h.Interface name) = name.line
 host_line line (h.InterfaceMacro found) = found.line
 host_line line other = line
 
-abbrev pub one_network : ℕ → Result Net ConfError → Result Ipv4Address ConfError
-one_network line (Err e) = Err e
-one_network line (Ok network) = if nat_lt network.bits 32 then Err (pool line) else Ok network.address
+abbrev pub one_network : ℕ → Net → Result Ipv4Address ConfError
+one_network line network = if nat_lt network.bits 32 then Err (pool line) else Ok network.address
+
+-- the addresses of several interfaces are more than one
+abbrev pub one_address : ℕ → Result HostSet ConfError → Result Ipv4Address ConfError
+one_address line (Err e) = Err e
+one_address line (Ok (set.Network network)) = one_network line network
+one_address line (Ok other) = Err (pool line)
 
 abbrev pub one_host : Scope → ℕ → Host → Result Ipv4Address ConfError
-one_host scope line host = one_network (host_line line host) (host_meaning scope host)
+one_host scope line host = one_address (host_line line host) (host_meaning scope host)
 
 -- ---- the value of a macro
 

@@ -3,7 +3,7 @@ ghost use Rattle.std.specs.Prelude.{◌≡◌};
 
 use pfr_items::Items;
 use pfr_net::{IfName, Ipv4Address, Net, Protocol};
-use pfr_ruleset::{Entry, HostCriterion, IcmpMatch, InterfaceCriterion, PortMatch};
+use pfr_ruleset::{HostCriterion, IcmpMatch, InterfaceCriterion, PortMatch};
 use pfr_terms::ConfError;
 use std::marker::Model;
 
@@ -25,7 +25,7 @@ pub struct ListMeanings {
     pub protocols: ListMeaning<Protocol>,
     pub icmp_types: ListMeaning<IcmpMatch>,
     pub hosts: ListMeaning<HostCriterion>,
-    pub entries: ListMeaning<Entry>,
+    pub entries: ListMeaning<HostCriterion>,
     pub ports: ListMeaning<PortMatch>,
 }
 
@@ -37,7 +37,7 @@ pub struct Meanings {
     /// Its word, if it is one plain word, which may have a suffix behind it.
     pub word: Option<Items<u8>>,
     pub lists: ListMeanings,
-    /// As a form of the interface, in round brackets.
+    /// As a form of an interface, in round brackets.
     pub form: Result<Net, ConfError>,
     /// As the target of a translation rule.
     pub target: Result<Ipv4Address, ConfError>,

@@ -6,17 +6,16 @@ ghost use Rattle.pfr_elements.specs.Elements.{value_item};
 ghost use Rattle.pfr_elements.specs.Hosts as spec;
 ghost use Rattle.pfr_elements.specs.Meanings.{IsListOf};
 ghost use Rattle.pfr_elements.specs.Names.{last_place};
-ghost use Rattle.pfr_elements.specs.Terms.{no_table};
 ghost use Rattle.pfr_elements.specs.Values.{Makes};
 
 use crate::definition::{ListMeaning, ListMeanings, Taken};
 use crate::element::{Element, noted, one_fault, one_gathered};
 use crate::faults::{copied_on, left_out, undefined_table, unknown_word};
-use crate::interface::{form_of, masked, whole};
+use crate::interface::{first_form, masked, own_hosts, whole};
 use crate::scope::Scope;
 use crate::terms::{copied, misplaced, use_in};
 use pfr_net::Net;
-use pfr_ruleset::{Entry, HostCriterion, HostSet, Interface};
+use pfr_ruleset::{HostCriterion, HostSet, Interface};
 use pfr_terms::lists::Item;
 use pfr_terms::{
     Address, AddressMatch, ConfError, Host, MacroUse, Name, Reader, TableEntry, Written,
@@ -25,16 +24,16 @@ use pfr_words::Word;
 use pfr_words::spelling::words;
 use std::alloc::Global;
 
-/// What a name means as a form of the interface.
+/// What a name means as a form of an interface.
 #[tactic(auto, unfolding(crate::specs::Hosts::form_meaning))]
 fn form_meaning(
     alloc: Global,
-    interface: &Interface,
+    interfaces: &[Interface],
     name: &Name<'_>,
 ) -> Result<Result<Net, ConfError>, ConfError>
-    ensures { Makes (spec.form_meaning interface.now name.now) result }
+    ensures { Makes (spec.form_meaning interfaces.now name.now) result }
 {
-    match form_of(interface, name.text.as_slice()) {
+    match first_form(interfaces, name.text.as_slice()) {
         Some(network) => Ok(Ok(network)),
         None => Ok(Err(left_out(alloc, name.line, b"host name")?)),
     }
@@ -44,13 +43,13 @@ fn form_meaning(
 #[tactic(auto, unfolding(crate::specs::Hosts::value_form))]
 fn value_form(
     alloc: Global,
-    interface: &Interface,
+    interfaces: &[Interface],
     reader: &mut Reader<'_, '_>,
 ) -> Result<Option<Net>, ConfError>
-    ensures { Reads (spec.value_form interface.now reader.old) result reader.new }
+    ensures { Reads (spec.value_form interfaces.now reader.old) result reader.new }
 {
     let name = reader.free_word(alloc)?;
-    let meaning = form_meaning(alloc, interface, &name)?;
+    let meaning = form_meaning(alloc, interfaces, &name)?;
     let found = noted(reader, meaning);
     reader.finish(alloc).and(Ok(found))
 }
@@ -58,14 +57,14 @@ fn value_form(
 /// What the words of a macro's value mean in round brackets.
 pub(crate) fn form_read(
     alloc: Global,
-    interface: &Interface,
+    interfaces: &[Interface],
     line: usize,
     value: &[Word<'_>],
 ) -> Result<Result<Net, ConfError>, ConfError>
-    ensures { Makes (spec.form_read interface.now line value.now) result }
+    ensures { Makes (spec.form_read interfaces.now line value.now) result }
 {
     let mut reader = Reader::of_value(value);
-    match value_form(alloc, interface, &mut reader) {
+    match value_form(alloc, interfaces, &mut reader) {
         Ok(found) => Ok(one_gathered(line, found, reader.into_gathered())),
         Err(fault) => one_fault(line, fault),
     }
@@ -74,28 +73,28 @@ pub(crate) fn form_read(
 /// What the words of a text mean in round brackets.
 fn text_form(
     alloc: Global,
-    interface: &Interface,
+    interfaces: &[Interface],
     line: usize,
     text: &[u8],
 ) -> Result<Result<Net, ConfError>, ConfError>
-    ensures { Makes (spec.form_read interface.now line (words text.now)) result }
+    ensures { Makes (spec.form_read interfaces.now line (words text.now)) result }
 {
     let value = words(alloc, text)?;
-    form_read(alloc, interface, line, value.as_slice())
+    form_read(alloc, interfaces, line, value.as_slice())
 }
 
 /// What that which a use stands for means in round brackets.
 fn taken_form(
     alloc: Global,
-    interface: &Interface,
+    interfaces: &[Interface],
     line: usize,
     taken: &Taken<'_>,
 ) -> Result<Result<Net, ConfError>, ConfError>
-    ensures { Makes (spec.form_in interface.now line (Ok taken.now)) result }
+    ensures { Makes (spec.form_in interfaces.now line (Ok taken.now)) result }
 {
     match taken {
         Taken::TooLong(_) => Ok(Err(unknown_word(line))),
-        Taken::Word(text) => text_form(alloc, interface, line, text.as_slice()),
+        Taken::Word(text) => text_form(alloc, interfaces, line, text.as_slice()),
         Taken::Whole(text) => Ok(copied_on(alloc, line, &text.get().meanings.form)?),
     }
 }
@@ -110,26 +109,37 @@ fn used_form(
     ensures { Makes (spec.used_form scope.now found.now) result }
 {
     match scope.macros.taken_at(alloc, found, false)? {
-        Ok(taken) => taken_form(alloc, &scope.interface, found.line, &taken),
+        Ok(taken) => taken_form(alloc, scope.interfaces.as_slice(), found.line, &taken),
         Err(fault) => Ok(Err(fault)),
     }
 }
 
-/// What one address or network means.
+/// The network that is meant, if one is.
+fn network_set(meaning: Result<Net, ConfError>) -> Result<HostSet, ConfError>
+    ensures { result ≡ spec.network_set meaning }
+{
+    match meaning {
+        Ok(network) => Ok(HostSet::Network(network)),
+        Err(fault) => Err(fault),
+    }
+}
+
+/// What an address, a network, an interface's form or `self` means.
 #[tactic(auto, unfolding(crate::specs::Hosts::host_meaning))]
 pub fn host_meaning(
     alloc: Global,
     scope: &Scope<'_>,
     host: &Host<'_>,
-) -> Result<Result<Net, ConfError>, ConfError>
+) -> Result<Result<HostSet, ConfError>, ConfError>
     ensures { Makes (spec.host_meaning scope.now host.now) result }
 {
+    let interfaces = scope.interfaces.as_slice();
     match host {
-        Host::Address(address) => Ok(Ok(whole(*address))),
-        Host::Network(network) => Ok(Ok(masked(*network))),
-        Host::Own => Ok(Ok(whole(scope.interface.address))),
-        Host::Interface(name) => form_meaning(alloc, &scope.interface, name),
-        Host::InterfaceMacro(found) => used_form(alloc, scope, found),
+        Host::Address(address) => Ok(Ok(HostSet::Network(whole(*address)))),
+        Host::Network(network) => Ok(Ok(HostSet::Network(masked(*network)))),
+        Host::Own => Ok(Ok(own_hosts(interfaces))),
+        Host::Interface(name) => Ok(network_set(form_meaning(alloc, interfaces, name)?)),
+        Host::InterfaceMacro(found) => Ok(network_set(used_form(alloc, scope, found)?)),
     }
 }
 
@@ -153,13 +163,23 @@ fn address_meaning(
 {
     match address {
         Address::Any => Ok(Ok(HostSet::Any)),
-        Address::Host(host) => match host_meaning(alloc, scope, host)? {
-            Ok(network) => Ok(Ok(HostSet::Network(network))),
-            Err(fault) => Ok(Err(fault)),
-        },
+        Address::Host(host) => host_meaning(alloc, scope, host),
         Address::Range(first, last) => Ok(Ok(HostSet::Range(*first, *last))),
         Address::Table(name) => Ok(table_meaning(scope, name)),
         Address::Macro(found) => Ok(Err(misplaced(found))),
+    }
+}
+
+/// Addresses with a sign.
+fn with_sign(
+    is_negated: bool,
+    meaning: Result<HostSet, ConfError>,
+) -> Result<HostCriterion, ConfError>
+    ensures { result ≡ spec.with_sign is_negated meaning }
+{
+    match meaning {
+        Ok(hosts) => Ok(HostCriterion { is_negated, hosts }),
+        Err(fault) => Err(fault),
     }
 }
 
@@ -170,12 +190,27 @@ fn criterion(
 ) -> Result<Result<HostCriterion, ConfError>, ConfError>
     ensures { Makes (spec.host_criterion scope.now found.now) result }
 {
-    match address_meaning(alloc, scope, &found.address)? {
-        Ok(hosts) => Ok(Ok(HostCriterion {
-            is_negated: found.is_negated,
-            hosts,
-        })),
-        Err(fault) => Ok(Err(fault)),
+    let meaning = address_meaning(alloc, scope, &found.address)?;
+    Ok(with_sign(found.is_negated, meaning))
+}
+
+/// The same with a `!`.
+fn turned(hosts: HostCriterion) -> HostCriterion
+    ensures { result ≡ spec.host_turned hosts }
+{
+    HostCriterion {
+        is_negated: true,
+        ..hosts
+    }
+}
+
+/// How many of the ruleset's tables have to be defined for these addresses.
+fn tables_for(hosts: HostCriterion) -> usize
+    ensures { result ≡ spec.host_tables hosts }
+{
+    match hosts.hosts {
+        HostSet::Table(place) => place.saturating_add(1),
+        _ => 0,
     }
 }
 
@@ -208,19 +243,13 @@ impl<'a> Element for AddressMatch<'a> {
     fn turn(flat: HostCriterion) -> HostCriterion
         ensures { result ≡ spec.host_turned flat }
     {
-        HostCriterion {
-            is_negated: true,
-            ..flat
-        }
+        turned(flat)
     }
 
     fn tables(flat: HostCriterion) -> usize
         ensures { result ≡ spec.host_tables flat }
     {
-        match flat.hosts {
-            HostSet::Table(place) => place.saturating_add(1),
-            _ => 0,
-        }
+        tables_for(flat)
     }
 
     #[tactic(auto, unfolding(crate::specs::Meanings::list_meanings))]
@@ -248,17 +277,14 @@ fn entry(
     alloc: Global,
     scope: &Scope<'_>,
     found: &TableEntry<'_>,
-) -> Result<Result<Entry, ConfError>, ConfError>
+) -> Result<Result<HostCriterion, ConfError>, ConfError>
     ensures { Makes (spec.entry_meaning scope.now found.now) result }
 {
     match &found.host {
-        Written::Item(host) => match host_meaning(alloc, scope, host)? {
-            Ok(network) => Ok(Ok(Entry {
-                network,
-                is_negated: found.is_negated,
-            })),
-            Err(fault) => Ok(Err(fault)),
-        },
+        Written::Item(host) => {
+            let meaning = host_meaning(alloc, scope, host)?;
+            Ok(with_sign(found.is_negated, meaning))
+        }
         Written::Macro(used) => Ok(Err(misplaced(used))),
     }
 }
@@ -266,7 +292,7 @@ fn entry(
 impl<'a> Element for TableEntry<'a> {
     ghost use Rattle.pfr_elements.specs.Hosts as spec;
 
-    type Flat = Entry;
+    type Flat = HostCriterion;
 
     ghost kind = { spec.entry_kind };
 
@@ -282,27 +308,24 @@ impl<'a> Element for TableEntry<'a> {
         &self,
         alloc: Global,
         scope: &Scope<'_>,
-    ) -> Result<Result<Entry, ConfError>, ConfError> {
+    ) -> Result<Result<HostCriterion, ConfError>, ConfError> {
         entry(alloc, scope, self)
     }
 
-    fn turn(flat: Entry) -> Entry
-        ensures { result ≡ spec.entry_turned flat }
+    fn turn(flat: HostCriterion) -> HostCriterion
+        ensures { result ≡ spec.host_turned flat }
     {
-        Entry {
-            is_negated: true,
-            ..flat
-        }
+        turned(flat)
     }
 
-    fn tables(_flat: Entry) -> usize
-        ensures { result ≡ no_table _flat }
+    fn tables(flat: HostCriterion) -> usize
+        ensures { result ≡ spec.host_tables flat }
     {
-        0
+        tables_for(flat)
     }
 
     #[tactic(auto, unfolding(crate::specs::Meanings::list_meanings))]
-    fn list_in(meanings: &ListMeanings) -> &ListMeaning<Entry>
+    fn list_in(meanings: &ListMeanings) -> &ListMeaning<HostCriterion>
         ensures value { result.now ≡ spec.entry_lists meanings.now }
         ensures read { IsListOf spec.entry_kind meanings.now result.now }
     {
@@ -313,7 +336,7 @@ impl<'a> Element for TableEntry<'a> {
         alloc: Global,
         scope: &Scope<'_>,
         reader: &mut Reader<'_, '_>,
-    ) -> Result<Option<Entry>, ConfError>
+    ) -> Result<Option<HostCriterion>, ConfError>
         ensures { Reads (value_item spec.entry_kind scope.now reader.old) result reader.new }
     {
         let found = TableEntry::read(alloc, reader)?;

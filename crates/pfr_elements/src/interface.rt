@@ -1,11 +1,11 @@
-//! What the forms of an interface mean.
+//! What the forms of interfaces mean.
 ghost use Rattle.std.specs.Prelude.{◌≡◌, ◌<◌};
 ghost use Rattle.pfr_elements.specs.Interfaces as spec;
 
 use pfr_net::interface::LONGEST_NAME;
 use pfr_net::network::prefix;
 use pfr_net::{IfName, Ipv4Address, Net};
-use pfr_ruleset::Interface;
+use pfr_ruleset::{HostSet, Interface, OWN_ADDRESSES};
 
 /// A network of one address.
 pub fn whole(address: Ipv4Address) -> Net
@@ -45,7 +45,7 @@ fn is_named_with(interface: &Interface, end: &[u8], word: &[u8]) -> bool
 
 /// What a word means as a form of an interface: `NAME`, `NAME:0` or `NAME:network`.
 #[tactic(auto, unfolding(crate::specs::Interfaces::form_of))]
-pub fn form_of(interface: &Interface, word: &[u8]) -> Option<Net>
+fn form_of(interface: &Interface, word: &[u8]) -> Option<Net>
     ensures { result ≡ spec.form_of interface.now word.now }
 {
     if is_named(interface, word) || is_named_with(interface, b":0", word) {
@@ -57,5 +57,28 @@ pub fn form_of(interface: &Interface, word: &[u8]) -> Option<Net>
         }))
     } else {
         None
+    }
+}
+
+/// What a word means as a form of the first of the interfaces of which it is one.
+pub fn first_form(interfaces: &[Interface], word: &[u8]) -> Option<Net>
+    ensures { result ≡ spec.first_form interfaces.now word.now }
+{
+    for interface in interfaces {
+        if let Some(network) = form_of(interface, word) {
+            return Some(network);
+        }
+    }
+    None
+}
+
+/// What `self` means: the address of the one interface, or the addresses of several.
+pub fn own_hosts(interfaces: &[Interface]) -> HostSet
+    ensures { result ≡ spec.own_hosts interfaces.now }
+{
+    if interfaces.len() == 1 {
+        HostSet::Network(whole(interfaces[0].address))
+    } else {
+        OWN_ADDRESSES
     }
 }

@@ -1,4 +1,4 @@
-//! What the lists of a ruleset come to, once its macros, its tables and the run's interface are known.
+//! What the lists of a ruleset come to, once its macros, its tables and the run's interfaces are known.
 //!
 //! A list stands in a statement as it is written. [`elements_of`] gives each of its elements a meaning:
 //! a word that is an interface form its address, a table's name its place, the use of a macro all elements of its value.

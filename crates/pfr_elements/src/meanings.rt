@@ -122,7 +122,7 @@ fn copied(alloc: Global, word: Option<&[u8]>) -> Result<Option<Items<u8>>, ConfE
 fn meanings_of(alloc: Global, scope: &Scope<'_>, value: &[Word<'_>]) -> Result<Meanings, ConfError>
     ensures { Makes (spec.meanings_of scope.now value.now) result }
 {
-    let form = form_read(alloc, &scope.interface, 0, value);
+    let form = form_read(alloc, scope.interfaces.as_slice(), 0, value);
     let target = single_read(alloc, scope, true, 0, value);
     let source = single_read(alloc, scope, false, 0, value);
     let word = copied(alloc, only_plain(value));

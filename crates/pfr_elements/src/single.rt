@@ -68,12 +68,26 @@ fn one_network(
     line: usize,
     network: Net,
 ) -> Result<Result<Ipv4Address, ConfError>, ConfError>
-    ensures { Makes (spec.one_network line (Ok network)) result }
+    ensures { Makes (spec.one_network line network) result }
 {
     if network.bits < 32 {
         Ok(Err(pool(alloc, line)?))
     } else {
         Ok(Ok(network.address))
+    }
+}
+
+/// The address of a host that means these addresses.
+fn one_address(
+    alloc: Global,
+    line: usize,
+    hosts: HostSet,
+) -> Result<Result<Ipv4Address, ConfError>, ConfError>
+    ensures { Makes (spec.one_address line (Ok hosts)) result }
+{
+    match hosts {
+        HostSet::Network(network) => one_network(alloc, line, network),
+        _ => Ok(Err(pool(alloc, line)?)),
     }
 }
 
@@ -87,7 +101,7 @@ fn one_host(
     ensures { Makes (spec.one_host scope.now line host.now) result }
 {
     match host_meaning(alloc, scope, host)? {
-        Ok(network) => one_network(alloc, host_line(line, host), network),
+        Ok(hosts) => one_address(alloc, host_line(line, host), hosts),
         Err(fault) => Ok(Err(fault)),
     }
 }

@@ -7,7 +7,6 @@ use Rattle.pfr_net.specs.declared.protocol.Protocol.{Protocol}
 use Rattle.pfr_ruleset.specs.declared.port.PortMatch.{PortMatch}
 use Rattle.pfr_ruleset.specs.declared.icmp.IcmpMatch.{IcmpMatch}
 use Rattle.pfr_ruleset.specs.declared.hosts.HostCriterion.{HostCriterion}
-use Rattle.pfr_words.specs.declared.word.Word.{Word}
 use Rattle.pfr_words.specs.Words.{words}
 use Rattle.pfr_terms.specs.declared.address.AddressMatch.{AddressMatch}
 use Rattle.pfr_terms.specs.declared.error.ConfError.{ConfError}

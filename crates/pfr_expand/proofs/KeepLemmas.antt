@@ -75,13 +75,13 @@ all_keep P statements each (x ∷ xs) there work next is stands = by_first (λ b
     by_first others (Ok between) first_is is = others between is (statement_keeps P statements each x work between (there x (0, omega arith, refl)) first_is stands)
 
 -- what is true of no translation rules, and is kept up by each, is true of those of a ruleset
-pub all_stand : (P : ℕ → Translations → Type 0) (statements : S.Statements) (interface : Interface) (r : R.Ruleset) → EachKeeps P statements.statements → P 0 no_translations → expanded statements interface ≡ Ok r → (number : ℕ) × P number r.translations
+pub all_stand : (P : ℕ → Translations → Type 0) (statements : S.Statements) (interfaces : List Interface) (r : R.Ruleset) → EachKeeps P statements.statements → P 0 no_translations → expanded statements interfaces ≡ Ok r → (number : ℕ) × P number r.translations
 unfolding expanded
-all_stand P statements interface r each none is = by_work (expanded_from (started interface (table_names statements.statements)) statements.statements) refl is
+all_stand P statements interfaces r each none is = by_work (expanded_from (started interfaces (table_names statements.statements)) statements.statements) refl is
   where
-    by_work : (found : Result Work ConfError) → expanded_from (started interface (table_names statements.statements)) statements.statements ≡ found → ruleset_in found ≡ Ok r → (number : ℕ) × P number r.translations
+    by_work : (found : Result Work ConfError) → expanded_from (started interfaces (table_names statements.statements)) statements.statements ≡ found → ruleset_in found ≡ Ok r → (number : ℕ) × P number r.translations
     by_work (Err e) work_is is = absurd (cc is)
     by_work (Ok work) work_is is =
         let same : work.flat ≡ r = cc is in
-        let all = all_keep P statements.statements each statements.statements (λ x there. there) (started interface (table_names statements.statements)) work work_is none in
+        let all = all_keep P statements.statements each statements.statements (λ x there. there) (started interfaces (table_names statements.statements)) work work_is none in
         (work.translations, subst (λ (r : R.Ruleset). P work.translations r.translations) same all)

@@ -2,6 +2,7 @@ pub mod CountLemmas
 pub mod Depths
 pub mod KeepLemmas
 pub mod NumberLemmas
+pub mod OwnLemmas
 pub mod Places
 pub mod PlainLemmas
 pub mod RuleLemmas

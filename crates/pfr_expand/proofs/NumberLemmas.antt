@@ -149,21 +149,21 @@ each_is_numbered statements rule work next there made are =
     let new = rules_are_numbered work.translations rule.line rule.passes made.change (combinations made.choices) made.count work.flat.translations few are in
     subst (λ (number : ℕ). AreNumbered number next.flat.translations) (sym made.taken) (subst (AreNumbered (work.translations + made.count)) (sym made.rules) new)
 
-own_numbers : (statements : S.Statements) (interface : Interface) (r : R.Ruleset) → expanded statements interface ≡ Ok r → HaveOwnNumbers r.translations
-own_numbers statements interface r is number =
-    let are = (all_stand AreNumbered statements interface r (each_is_numbered statements.statements) (record { own = λ n. omega arith; free = λ n high. refl }) is).1 in
+own_numbers : (statements : S.Statements) (interfaces : List Interface) (r : R.Ruleset) → expanded statements interfaces ≡ Ok r → HaveOwnNumbers r.translations
+own_numbers statements interfaces r is number =
+    let are = (all_stand AreNumbered statements interfaces r (each_is_numbered statements.statements) (record { own = λ n. omega arith; free = λ n high. refl }) is).1 in
     let own = are.own number in
     let all = times_over_kinds number r.translations in
     omega (arith, own, all)
 
-pub text_has_own_numbers : (text : List ℕ) (interface : Interface) (r : R.Ruleset) → ruleset_of text interface ≡ Ok r → HaveOwnNumbers r.translations
+pub text_has_own_numbers : (text : List ℕ) (interfaces : List Interface) (r : R.Ruleset) → ruleset_of text interfaces ≡ Ok r → HaveOwnNumbers r.translations
 unfolding ruleset_of
-text_has_own_numbers text interface r is = by_size (nat_lt 1048576 (length text)) is
+text_has_own_numbers text interfaces r is = by_size (nat_lt 1048576 (length text)) is
   where
-    by_statements : (found : Result S.Statements ConfError) → expanded_by found interface ≡ Ok r → HaveOwnNumbers r.translations
+    by_statements : (found : Result S.Statements ConfError) → expanded_by found interfaces ≡ Ok r → HaveOwnNumbers r.translations
     by_statements (Err e) is = absurd (cc is)
-    by_statements (Ok statements) is = own_numbers statements interface r is
+    by_statements (Ok statements) is = own_numbers statements interfaces r is
 
-    by_size : (long : Bool) → (if long then Err (record { line = 1; kind = TooMany }) else expanded_by (statements_of text) interface) ≡ Ok r → HaveOwnNumbers r.translations
+    by_size : (long : Bool) → (if long then Err (record { line = 1; kind = TooMany }) else expanded_by (statements_of text) interfaces) ≡ Ok r → HaveOwnNumbers r.translations
     by_size true is = absurd (cc is)
     by_size false is = by_statements (statements_of text) is

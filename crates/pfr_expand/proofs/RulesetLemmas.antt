@@ -232,18 +232,18 @@ pub record IsOfAll (xs : List Statement) (r : R.Ruleset) : Type 0 where
   pub rules : AreInTurn (AreOf r.labels) xs r.filter.rules
   pub most : length r.filter.rules + translation_count r.translations ≤ 65536
 
-abbrev begin_of : S.Statements → Interface → Work
-begin_of statements interface = started interface (table_names statements.statements)
+abbrev begin_of : S.Statements → List Interface → Work
+begin_of statements interfaces = started interfaces (table_names statements.statements)
 
-of_all : (statements : S.Statements) (interface : Interface) (r : R.Ruleset) → expanded statements interface ≡ Ok r → IsOfAll statements.statements r
+of_all : (statements : S.Statements) (interfaces : List Interface) (r : R.Ruleset) → expanded statements interfaces ≡ Ok r → IsOfAll statements.statements r
 unfolding expanded
-of_all statements interface r is = by_work (expanded_from (begin_of statements interface) statements.statements) refl is
+of_all statements interfaces r is = by_work (expanded_from (begin_of statements interfaces) statements.statements) refl is
   where
-    by_work : (found : Result Work ConfError) → expanded_from (begin_of statements interface) statements.statements ≡ found → ruleset_in found ≡ Ok r → IsOfAll statements.statements r
+    by_work : (found : Result Work ConfError) → expanded_from (begin_of statements interfaces) statements.statements ≡ found → ruleset_in found ≡ Ok r → IsOfAll statements.statements r
     by_work (Err e) work_is is = absurd (cc is)
     by_work (Ok work) work_is is =
         let same : work.flat ≡ r = cc is in
-        let all = all_advance statements.statements (begin_of statements interface) work work_is in
+        let all = all_advance statements.statements (begin_of statements interfaces) work work_is in
         let few = all.few (record { all = omega arith; translations = omega arith }) in
         let total = few.all in
         let least = few.translations in
@@ -252,11 +252,11 @@ of_all statements interface r is = by_work (expanded_from (begin_of statements i
           most = omega (arith, total, least);
         })
 
-pub rules_of : (statements : S.Statements) (interface : Interface) (r : R.Ruleset) → expanded statements interface ≡ Ok r → AreInTurn (AreOf r.labels) statements.statements r.filter.rules
-rules_of statements interface r is = (of_all statements interface r is).rules
+pub rules_of : (statements : S.Statements) (interfaces : List Interface) (r : R.Ruleset) → expanded statements interfaces ≡ Ok r → AreInTurn (AreOf r.labels) statements.statements r.filter.rules
+rules_of statements interfaces r is = (of_all statements interfaces r is).rules
 
-pub most_of : (statements : S.Statements) (interface : Interface) (r : R.Ruleset) → expanded statements interface ≡ Ok r → length r.filter.rules + translation_count r.translations ≤ 65536
-most_of statements interface r is = (of_all statements interface r is).most
+pub most_of : (statements : S.Statements) (interfaces : List Interface) (r : R.Ruleset) → expanded statements interfaces ≡ Ok r → length r.filter.rules + translation_count r.translations ≤ 65536
+most_of statements interfaces r is = (of_all statements interfaces r is).most
 
 -- a limit that isn't reached cuts nothing
 uncut : (a b : ℕ) → a + b ≤ 65536 → ◌≡◌ {A = ℕ × ℕ} (min a 4294967295, min b 4294967295) (a, b)
@@ -265,5 +265,5 @@ uncut a b few =
     let second : min b 4294967295 ≡ b = omega arith in
     rw (first, second) refl
 
-pub counts_of : (statements : S.Statements) (interface : Interface) (r : R.Ruleset) → expanded statements interface ≡ Ok r → counts r ≡ (length r.filter.rules, translation_count r.translations)
-counts_of statements interface r is = uncut (length r.filter.rules) (translation_count r.translations) (most_of statements interface r is)
+pub counts_of : (statements : S.Statements) (interfaces : List Interface) (r : R.Ruleset) → expanded statements interfaces ≡ Ok r → counts r ≡ (length r.filter.rules, translation_count r.translations)
+counts_of statements interfaces r is = uncut (length r.filter.rules) (translation_count r.translations) (most_of statements interfaces r is)

@@ -151,12 +151,12 @@ rule_is_of statements rule work next there is are =
 
 -- ---- all statements
 
-pub all_of_ones : (statements : S.Statements) (interface : Interface) (r : R.Ruleset) → expanded statements interface ≡ Ok r → AreOfOnes statements.statements r.translations
-all_of_ones statements interface r is =
+pub all_of_ones : (statements : S.Statements) (interfaces : List Interface) (r : R.Ruleset) → expanded statements interfaces ≡ Ok r → AreOfOnes statements.statements r.translations
+all_of_ones statements interfaces r is =
     let none : AreOfOnes statements.statements no_translations = record {
       nats = All-nil (IsOfOneOf statements.statements);
       rdrs = All-nil (IsOfOneOf statements.statements);
       binats = All-nil (IsOfOneOf statements.statements);
       moved = All-nil MovesWithinPorts;
     } in
-    (all_stand (λ number. AreOfOnes statements.statements) statements interface r (rule_is_of statements.statements) none is).1
+    (all_stand (λ number. AreOfOnes statements.statements) statements interfaces r (rule_is_of statements.statements) none is).1

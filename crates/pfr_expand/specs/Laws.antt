@@ -16,6 +16,8 @@ use Rattle.pfr_ruleset.specs.declared.interface.Interface.{Interface}
 use Rattle.pfr_ruleset.specs.declared.label.Label.{Label}
 use Rattle.pfr_ruleset.specs.declared.ruleset.Ruleset.{Ruleset}
 use Rattle.pfr_ruleset.specs.declared.translations.Translations.{Translations}
+use Rattle.pfr_ruleset.specs.declared.table.Entry.{Entry}
+use Rattle.pfr_ruleset.specs.Interfaces.{own_table}
 use Rattle.pfr_ruleset.specs.Rulesets.{counts, label_at}
 use Rattle.pfr_ruleset.specs.Translations.{HaveOwnNumbers}
 use Rattle.pfr_terms.specs.declared.address.Address.{Address}
@@ -210,34 +212,41 @@ pub record AreOfOnes (statements : List Statement) (translations : Translations)
 -- the counts of a ruleset are the lengths of its lists
 abbrev pub CountsAreLengths : Type 0
 CountsAreLengths =
-    (statements : Statements) (interface : Interface) (r : Ruleset)
-    → expanded statements interface ≡ Ok r
+    (statements : Statements) (interfaces : List Interface) (r : Ruleset)
+    → expanded statements interfaces ≡ Ok r
     → counts r ≡ (length r.filter.rules, length r.translations.nats + length r.translations.rdrs + length r.translations.binats)
 
 -- there are at most 65536 rules of the filter and of translation together
 abbrev pub AtMostAllRules : Type 0
 AtMostAllRules =
-    (statements : Statements) (interface : Interface) (r : Ruleset)
-    → expanded statements interface ≡ Ok r
+    (statements : Statements) (interfaces : List Interface) (r : Ruleset)
+    → expanded statements interfaces ≡ Ok r
     → length r.filter.rules + (length r.translations.nats + length r.translations.rdrs + length r.translations.binats) ≤ 65536
 
 -- the filter rules are those of the statements, one after the other
 abbrev pub EveryRuleIsOfOneStatement : Type 0
 EveryRuleIsOfOneStatement =
-    (statements : Statements) (interface : Interface) (r : Ruleset)
-    → expanded statements interface ≡ Ok r
+    (statements : Statements) (interfaces : List Interface) (r : Ruleset)
+    → expanded statements interfaces ≡ Ok r
     → AreInTurn (AreOf r.labels) statements.statements r.filter.rules
 
 -- each translation rule is of a statement
 abbrev pub EveryTranslationIsOfAStatement : Type 0
 EveryTranslationIsOfAStatement =
-    (statements : Statements) (interface : Interface) (r : Ruleset)
-    → expanded statements interface ≡ Ok r
+    (statements : Statements) (interfaces : List Interface) (r : Ruleset)
+    → expanded statements interfaces ≡ Ok r
     → AreOfOnes statements.statements r.translations
 
 -- the translation rules of a ruleset that a text means have numbers of their own
 abbrev pub TranslationsHaveOwnNumbers : Type 0
 TranslationsHaveOwnNumbers =
-    (text : List ℕ) (interface : Interface) (r : Ruleset)
-    → ruleset_of text interface ≡ Ok r
+    (text : List ℕ) (interfaces : List Interface) (r : Ruleset)
+    → ruleset_of text interfaces ≡ Ok r
     → HaveOwnNumbers r.translations
+
+-- a ruleset is for the interfaces of the run, and the first of its tables is that of their addresses
+abbrev pub OwnAddressesAreFirst : Type 0
+OwnAddressesAreFirst =
+    (text : List ℕ) (interfaces : List Interface) (r : Ruleset)
+    → ruleset_of text interfaces ≡ Ok r
+    → (r.interfaces ≡ interfaces) × (rest : List (List Entry)) × (r.tables ≡ own_table interfaces ∷ rest)

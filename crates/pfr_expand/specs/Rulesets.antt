@@ -1,5 +1,5 @@
 -- The flat ruleset of statements, or the first fault of theirs.
-use Rattle.std.specs.Prelude.{ℕ, ◌+◌, ◌||◌, Bool, true, false, nat_lt, if◌then◌else◌, List, [], ◌∷◌, ◌++◌, length, fold, min, Option, Some, None, Result, Ok, Err}
+use Rattle.std.specs.Prelude.{ℕ, ◌+◌, ◌||◌, Bool, true, false, nat_lt, if◌then◌else◌, List, [], ◌∷◌, ◌++◌, length, fold, min, Option, Some, None, Result, Ok, Err, codes}
 use Rattle.pfr_ruleset.specs.declared.interface.Interface.{Interface}
 use Rattle.pfr_ruleset.specs.Places.{joined}
 use Rattle.pfr_ruleset.specs.declared.options.Options as O
@@ -183,16 +183,23 @@ with_table_name names (s.Table d) = with_name names d.name.text (last_place d.na
 with_table_name names other = names
 
 -- the names of the tables that statements define, each once
+-- behind that of the table of the interfaces' own addresses, which no text can write
 abbrev pub table_names : List Statement → List (List ℕ)
-table_names statements = fold with_table_name [] statements
+table_names statements = fold with_table_name (codes "(self)" ∷ []) statements
 
-abbrev pub started : Interface → List (List ℕ) → Work
-started interface names = record { scope = record { interface = interface; macros = no_macros; tables = names; defined = 0 }; entries = 0; translations = 0; flat = empty_ruleset interface }
+-- before the first statement that table is defined alone
+abbrev pub started : List Interface → List (List ℕ) → Work
+started interfaces names = record {
+  scope = record { interfaces = interfaces; macros = no_macros; tables = names; defined = 1 };
+  entries = 0;
+  translations = 0;
+  flat = empty_ruleset interfaces;
+}
 
 abbrev pub ruleset_in : Result Work ConfError → Result R.Ruleset ConfError
 ruleset_in (Ok work) = Ok work.flat
 ruleset_in (Err e) = Err e
 
--- what the statements mean for an interface
-unfoldable pub expanded : S.Statements → Interface → Result R.Ruleset ConfError
-expanded statements interface = ruleset_in (expanded_from (started interface (table_names statements.statements)) statements.statements)
+-- what the statements mean for the interfaces of a run
+unfoldable pub expanded : S.Statements → List Interface → Result R.Ruleset ConfError
+expanded statements interfaces = ruleset_in (expanded_from (started interfaces (table_names statements.statements)) statements.statements)

@@ -1,6 +1,11 @@
 -- Tables, as pf.conf(5) has them: each entry as often as it is written with one sign, and none with both.
-use Rattle.std.specs.Prelude.{ℕ, ◌+◌, ◌||◌, Bool, nat_lt, if◌then◌else◌, true, List, [], ◌∷◌, length, drop, fold, Option, Some, None, Result, Ok, Err}
+use Rattle.std.specs.Prelude.{ℕ, ◌+◌, ◌-◌, ◌||◌, Bool, nat_lt, if◌then◌else◌, true, List, [], ◌∷◌, length, drop, fold, min, Option, Some, None, Result, Ok, Err}
+use Rattle.pfr_ruleset.specs.declared.hosts.HostCriterion.{HostCriterion}
+use Rattle.pfr_ruleset.specs.declared.hosts.HostSet.{HostSet}
+use Rattle.pfr_ruleset.specs.declared.hosts.HostSet.TheVariants as set
+use Rattle.pfr_ruleset.specs.declared.interface.Interface.{Interface}
 use Rattle.pfr_ruleset.specs.declared.table.Entry.{Entry}
+use Rattle.pfr_ruleset.specs.Interfaces.{own_entry}
 use Rattle.pfr_ruleset.specs.Tables.{clashes, with_entry}
 use Rattle.pfr_terms.specs.declared.error.ConfError.{ConfError}
 use Rattle.pfr_terms.specs.declared.error.ConfErrorKind.TheVariants.{Clash}
@@ -18,17 +23,45 @@ clash line = record { line = line; kind = Clash }
 abbrev pub put_entry : ℕ → List Entry × Option ConfError → Entry → List Entry × Option ConfError
 put_entry line p e = if clashes p.0 e then (p.0, first_fault p.1 (clash line)) else (with_entry p.0 e, p.1)
 
-abbrev pub put_entries : ℕ → List Entry × Option ConfError → List Entry → List Entry × Option ConfError
-put_entries line p entries = fold (put_entry line) p entries
+-- with one interface's address more
+abbrev pub put_own : ℕ → Bool → List Entry × Option ConfError → Interface → List Entry × Option ConfError
+put_own line is_negated p interface = put_entry line p (own_entry is_negated interface)
 
-abbrev pub filled_by : ℕ → Filling → E.Elements Entry → Filling
-filled_by line filling found =
-    let p : List Entry × Option ConfError = put_entries line (filling.table, found.fault) (drop (length filling.found.items) found.items) in
-    record { table = p.0; found = record found { fault = p.1 } }
+abbrev pub put_by : List Interface → ℕ → Bool → List Entry × Option ConfError → HostSet → List Entry × Option ConfError
+put_by interfaces line is_negated p (set.Network network) = put_entry line p (record { network = network; is_negated = is_negated })
+put_by interfaces line is_negated p (set.Table place) = fold (put_own line is_negated) p interfaces
+put_by interfaces line is_negated p other = p
 
--- one entry more as it is written, which may be the use of a macro
+-- a network is one entry, and the run's own addresses are one for each interface; nothing else is written in a table
+abbrev pub put_hosts : List Interface → ℕ → List Entry × Option ConfError → HostCriterion → List Entry × Option ConfError
+put_hosts interfaces line p c = put_by interfaces line c.is_negated p c.hosts
+
+-- how many entries more than one stand for what is written at one place
+abbrev pub more_by : List Interface → HostSet → ℕ
+more_by interfaces (set.Table place) = length interfaces - 1
+more_by interfaces other = 0
+
+abbrev pub more_in : List Interface → HostCriterion → ℕ
+more_in interfaces c = more_by interfaces c.hosts
+
+-- the same of several places, as a number of 64 bits
+abbrev pub with_more : List Interface → ℕ → HostCriterion → ℕ
+with_more interfaces more c = min (more + more_in interfaces c) 18446744073709551615
+
+-- more than a list may have are one more than that
+abbrev pub more_of : List Interface → List HostCriterion → ℕ
+more_of interfaces written = min (fold (with_more interfaces) 0 written) (most_elements + 1)
+
+abbrev pub filled_by : List Interface → ℕ → Filling → E.Elements HostCriterion → Filling
+filled_by interfaces line filling found =
+    let written : List HostCriterion = drop (length filling.found.items) found.items in
+    let p : List Entry × Option ConfError = fold (put_hosts interfaces line) (filling.table, found.fault) written in
+    let count : ℕ = min (found.count + more_of interfaces written) 18446744073709551615 in
+    record { table = p.0; found = record found { fault = p.1; count = count } }
+
+-- with what is written at one place more, which may be the use of a macro
 unfoldable pub with_written : Scope → Filling → TableEntry → Filling
-with_written scope filling x = filled_by x.line filling (with_element entry_kind scope true filling.found x)
+with_written scope filling x = filled_by scope.interfaces x.line filling (with_element entry_kind scope true filling.found x)
 
 -- all entries; those behind the one that is too many aren't looked at
 abbrev pub filled : Scope → Filling → List TableEntry → Filling

@@ -1,4 +1,4 @@
--- What a ruleset text means for an interface.
+-- What a ruleset text means for the interfaces of a run.
 use Rattle.std.specs.Prelude.{ℕ, nat_lt, if◌then◌else◌, List, length, Result, Ok, Err}
 use Rattle.pfr_ruleset.specs.declared.interface.Interface.{Interface}
 use Rattle.pfr_ruleset.specs.declared.ruleset.Ruleset.{Ruleset}
@@ -8,12 +8,12 @@ use Rattle.pfr_conf.specs.declared.statement.Statements.{Statements}
 use Rattle.pfr_conf.specs.Statements.{statements_of}
 use Rattle.pfr_expand.specs.Rulesets.{expanded}
 
-abbrev pub expanded_by : Result Statements ConfError → Interface → Result Ruleset ConfError
-expanded_by (Err fault) interface = Err fault
-expanded_by (Ok statements) interface = expanded statements interface
+abbrev pub expanded_by : Result Statements ConfError → List Interface → Result Ruleset ConfError
+expanded_by (Err fault) interfaces = Err fault
+expanded_by (Ok statements) interfaces = expanded statements interfaces
 
 -- a text longer than a MiB is refused whole; else the first fault of its statements is reported, and then of what they mean
-unfoldable pub ruleset_of : List ℕ → Interface → Result Ruleset ConfError
-ruleset_of text interface =
+unfoldable pub ruleset_of : List ℕ → List Interface → Result Ruleset ConfError
+ruleset_of text interfaces =
     if nat_lt 1048576 (length text) then Err (record { line = 1; kind = TooMany })
-    else expanded_by (statements_of text) interface
+    else expanded_by (statements_of text) interfaces

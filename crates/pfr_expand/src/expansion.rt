@@ -24,6 +24,9 @@ use pfr_ruleset::{FilterRules, FlatAnchor, FlatRule, Interface, Label, Ruleset};
 use std::alloc::{AllocError, Global};
 use std::mem::{drop, replace};
 
+/// The name by which the table of the interfaces' own addresses is known. No text can write it.
+const OWN_TABLE: &[u8] = b"(self)";
+
 /// How far an expansion has come: what gives words their meaning, how many entries all tables have together, and the
 /// ruleset so far.
 #[derive(Drop)]
@@ -104,20 +107,27 @@ fn add_rules(
 }
 
 impl<'a> Work<'a> {
-    fn new(alloc: Global, interface: Interface, tables: Names<'a>) -> Work<'a>
-        ensures { result ≡ spec.started interface tables.entry }
+    /// Before the first statement the table of the interfaces' own addresses is defined alone.
+    fn new(
+        alloc: Global,
+        interfaces: &[Interface],
+        tables: Names<'a>,
+    ) -> Result<Work<'a>, AllocError>
+        ensures { IfOk result (λ work. work ≡ spec.started interfaces.now tables.entry) }
     {
-        Work {
+        let flat = Ruleset::new(alloc, interfaces)?;
+        let interfaces = Items::copied(alloc, interfaces)?;
+        Ok(Work {
             scope: Scope {
-                interface,
+                interfaces,
                 macros: Macros::new(alloc),
                 tables,
-                defined: 0,
+                defined: 1,
             },
             entries: 0,
             translations: 0,
-            flat: Ruleset::new(alloc, interface),
-        }
+            flat,
+        })
     }
 
     /// How many rules there are; one more than there may be stands for all from there on.
@@ -321,11 +331,12 @@ fn add_table_name<'a>(names: &mut Names<'a>, statement: &Statement<'a>) -> Resul
     }
 }
 
-/// The names of the tables that statements define, each once.
+/// The names of the tables that statements define, each once, behind that of the interfaces' own addresses.
 fn table_names<'a>(alloc: Global, statements: &[Statement<'a>]) -> Result<Names<'a>, AllocError>
     ensures { IfOk result (λ names. names ≡ spec.table_names statements.now) }
 {
     let mut names = Names::new(alloc);
+    names.push(Bytes::new(OWN_TABLE))?;
     for statement in statements {
         add_table_name(&mut names, statement)?;
     }
@@ -336,27 +347,26 @@ fn table_names<'a>(alloc: Global, statements: &[Statement<'a>]) -> Result<Names<
 fn work_of<'a>(
     alloc: Global,
     statements: &[Statement<'a>],
-    interface: Interface,
+    interfaces: &[Interface],
 ) -> Result<Work<'a>, ConfError>
-    ensures { Gives (spec.expanded_from (spec.started interface (spec.table_names statements.now)) statements.now) result }
+    ensures { Gives (spec.expanded_from (spec.started interfaces.now (spec.table_names statements.now)) statements.now) result }
 {
     let names = table_names(alloc, statements)?;
-    let mut work = Work::new(alloc, interface, names);
+    let mut work = Work::new(alloc, interfaces, names)?;
     work.add_all(alloc, statements).and(Ok(work))
 }
 
-/// The flat ruleset that statements mean for an interface, or the first fault of theirs in the order of the text: of a
-/// macro's value, a table that isn't defined or clashes, a name that isn't the interface's, or of too many rules or
-/// entries.
+/// The flat ruleset that statements mean for the interfaces of a run, or the first fault of theirs in the order of the text: of
+/// a macro's value, a table that isn't defined or clashes, a name that is no interface's, or of too many rules or entries.
 #[tactic(auto, unfolding(crate::specs::Rulesets::expanded))]
 pub fn expand(
     alloc: Global,
     statements: &Statements<'_>,
-    interface: &Interface,
+    interfaces: &[Interface],
 ) -> Result<Ruleset, ConfError>
-    ensures { Gives (spec.expanded statements.now interface.now) result }
+    ensures { Gives (spec.expanded statements.now interfaces.now) result }
 {
-    let mut ruleset = work_of(alloc, statements.statements.as_slice(), *interface)?.flat;
+    let mut ruleset = work_of(alloc, statements.statements.as_slice(), interfaces)?.flat;
     ruleset.index(alloc)?;
     Ok(ruleset)
 }

@@ -1,5 +1,6 @@
 //! Laws of the definitions, each the contract of a function that does nothing.
-ghost use Rattle.pfr_expand.specs.Laws.{AtMostAllRules, CountsAreLengths, EveryRuleIsOfOneStatement, EveryTranslationIsOfAStatement, TranslationsHaveOwnNumbers};
+ghost use Rattle.pfr_expand.specs.Laws.{AtMostAllRules, CountsAreLengths, EveryRuleIsOfOneStatement, EveryTranslationIsOfAStatement};
+ghost use Rattle.pfr_expand.specs.Laws.{OwnAddressesAreFirst, TranslationsHaveOwnNumbers};
 
 /// A ruleset that statements mean has at most 65536 rules of the filter and of translation together, so their counts
 /// are the lengths of the lists, and no limit of the counts is met.
@@ -25,4 +26,10 @@ pub fn every_translation_is_of_a_statement()
 /// In a ruleset that a text means no two translation rules have the same number, be they of one kind or of two.
 pub fn translations_have_numbers_of_their_own()
     ensures { TranslationsHaveOwnNumbers }
+{}
+
+/// A ruleset that a text means is for the interfaces of the run, and the first of its tables is that of their addresses: no
+/// statement changes it, and each table that the text defines stands behind it.
+pub fn the_first_table_is_of_the_interfaces()
+    ensures { OwnAddressesAreFirst }
 {}

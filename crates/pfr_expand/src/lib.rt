@@ -1,4 +1,4 @@
-//! The flat ruleset: what the statements of a ruleset mean for one interface.
+//! The flat ruleset: what the statements of a ruleset mean for the interfaces of a run.
 //!
 //! [`ruleset_of`] reads a text, and [`expand`] makes the ruleset of its statements. It gives macros their values, tables
 //! their entries and interface forms their addresses, and makes one flat rule of each combination of the elements of a

@@ -1,5 +1,5 @@
 //! Tables and their entries.
-ghost use Rattle.std.specs.Prelude.{◌≡◌, ◌≤◌, drop, OnOk, IfOk, IfErr};
+ghost use Rattle.std.specs.Prelude.{◌≡◌, ◌≤◌, drop, fold, OnOk, IfOk, IfErr};
 ghost use Rattle.pfr_terms.specs.declared.error.ConfErrorKind.TheVariants.{Memory};
 ghost use Rattle.pfr_elements.specs.Values.{Makes};
 ghost use Rattle.pfr_expand.specs.Tables as spec;
@@ -8,15 +8,15 @@ use pfr_conf::{ConfError, ConfErrorKind, TableEntry};
 use pfr_elements::element::{add_element, first_fault};
 use pfr_elements::{Elements, MOST_ELEMENTS, Scope};
 use pfr_flat::MOST_RULES;
-use pfr_ruleset::{AddressTable, Entry};
+use pfr_ruleset::{AddressTable, Entry, HostCriterion, HostSet, Interface};
 use std::alloc::{AllocError, Global};
 use std::mem::replace;
 
-/// A table that is being filled, and its entries as they are written, with their first fault.
+/// A table that is being filled, and what is written in it, with the first fault.
 #[derive(Drop)]
 pub struct Filling {
     pub table: AddressTable,
-    pub found: Elements<Entry>,
+    pub found: Elements<HostCriterion>,
 }
 
 /// Two entries that are one with both signs, or a table that is defined twice.
@@ -36,30 +36,107 @@ pub(crate) fn exceeds(others: usize, count: usize) -> bool
     count > MOST_ELEMENTS || others > MOST_RULES || count > MOST_RULES - others
 }
 
-/// Puts entries that are written on this line into a table; answers the first fault.
-fn put_entries(
+/// Puts an entry that is written on this line into a table; answers the first fault.
+fn put_entry(
     table: &mut AddressTable,
     fault: Option<ConfError>,
     line: usize,
-    entries: &[Entry],
+    entry: Entry,
 ) -> Result<Option<ConfError>, AllocError>
-    ensures { IfOk result (λ fault_behind. (table.new, fault_behind) ≡ spec.put_entries line (table.old, fault) entries.now) }
+    ensures { IfOk result (λ first. (table.new, first) ≡ spec.put_entry line (table.old, fault) entry) }
+{
+    if table.add(entry)? {
+        Ok(fault)
+    } else {
+        Ok(first_fault(fault, clash(line)))
+    }
+}
+
+/// Puts the addresses of interfaces into a table.
+fn put_own(
+    table: &mut AddressTable,
+    fault: Option<ConfError>,
+    line: usize,
+    interfaces: &[Interface],
+    is_negated: bool,
+) -> Result<Option<ConfError>, AllocError>
+    ensures { IfOk result (λ first. (table.new, first) ≡ fold (spec.put_own line is_negated) (table.old, fault) interfaces.now) }
 {
     let mut first = fault;
-    for entry in entries {
-        if !table.add(*entry)? {
-            first = first_fault(first, clash(line));
-        }
+    for interface in interfaces {
+        first = put_entry(table, first, line, interface.own_entry(is_negated))?;
     }
     Ok(first)
 }
 
-/// The entries behind so many.
-fn behind(entries: &[Entry], count: usize) -> &[Entry]
-    ensures { result.now ≡ drop count entries.now }
+/// Puts what is written at one place into a table: a network, or the addresses of the interfaces.
+fn put_hosts(
+    table: &mut AddressTable,
+    fault: Option<ConfError>,
+    line: usize,
+    interfaces: &[Interface],
+    hosts: HostCriterion,
+) -> Result<Option<ConfError>, AllocError>
+    ensures { IfOk result (λ first. (table.new, first) ≡ spec.put_hosts interfaces.now line (table.old, fault) hosts) }
 {
-    if count < entries.len() {
-        &entries[count..]
+    let is_negated = hosts.is_negated;
+    match hosts.hosts {
+        HostSet::Network(network) => {
+            let entry = Entry {
+                network,
+                is_negated,
+            };
+            put_entry(table, fault, line, entry)
+        }
+        HostSet::Table(_) => put_own(table, fault, line, interfaces, is_negated),
+        _ => Ok(fault),
+    }
+}
+
+/// Puts what is written on this line into a table; answers the first fault.
+fn put_all(
+    table: &mut AddressTable,
+    fault: Option<ConfError>,
+    line: usize,
+    interfaces: &[Interface],
+    written: &[HostCriterion],
+) -> Result<Option<ConfError>, AllocError>
+    ensures { IfOk result (λ first. (table.new, first) ≡ fold (spec.put_hosts interfaces.now line) (table.old, fault) written.now) }
+{
+    let mut first = fault;
+    for hosts in written {
+        first = put_hosts(table, first, line, interfaces, *hosts)?;
+    }
+    Ok(first)
+}
+
+/// How many entries more than one stand for what is written at one place.
+fn more_in(interfaces: &[Interface], hosts: HostCriterion) -> usize
+    ensures { result ≡ spec.more_in interfaces.now hosts }
+{
+    match hosts.hosts {
+        HostSet::Table(_) => interfaces.len().saturating_sub(1),
+        _ => 0,
+    }
+}
+
+/// How many entries more there are than places at which something is written. More than a list may have are one more than that.
+fn more_of(interfaces: &[Interface], written: &[HostCriterion]) -> usize
+    ensures { result ≡ spec.more_of interfaces.now written.now }
+{
+    let mut more: usize = 0;
+    for hosts in written {
+        more = more.saturating_add(more_in(interfaces, *hosts));
+    }
+    more.min(MOST_ELEMENTS + 1)
+}
+
+/// What is written behind so many things.
+fn behind(written: &[HostCriterion], count: usize) -> &[HostCriterion]
+    ensures { result.now ≡ drop count written.now }
+{
+    if count < written.len() {
+        &written[count..]
     } else {
         &[]
     }
@@ -93,8 +170,11 @@ impl Filling {
         let before = self.found.items.len();
         add_element(alloc, scope, true, &mut self.found, entry)?;
         let fault = replace(&mut self.found.fault, None);
-        let entries = behind(self.found.items.as_slice(), before);
-        self.found.fault = put_entries(&mut self.table, fault, entry.line, entries)?;
+        let interfaces = scope.interfaces.as_slice();
+        let written = behind(self.found.items.as_slice(), before);
+        self.found.fault = put_all(&mut self.table, fault, entry.line, interfaces, written)?;
+        let more = more_of(interfaces, written);
+        self.found.count = self.found.count.saturating_add(more);
         Ok(())
     }
 

@@ -12,10 +12,10 @@ use std::alloc::Global;
 /// The longest ruleset text, in bytes: one MiB.
 pub const LONGEST_TEXT: usize = 1048576;
 
-/// What a text means for an interface, or its first fault, or want of memory.
+/// What a text means for the interfaces of a run, or its first fault, or want of memory.
 #[tactic(auto, unfolding(crate::specs::Texts::ruleset_of))]
-fn meaning_of(alloc: Global, text: &[u8], interface: &Interface) -> Result<Ruleset, ConfError>
-    ensures { Gives (spec.ruleset_of text.now interface.now) result }
+fn meaning_of(alloc: Global, text: &[u8], interfaces: &[Interface]) -> Result<Ruleset, ConfError>
+    ensures { Gives (spec.ruleset_of text.now interfaces.now) result }
 {
     if text.len() > LONGEST_TEXT {
         return Err(ConfError {
@@ -24,7 +24,7 @@ fn meaning_of(alloc: Global, text: &[u8], interface: &Interface) -> Result<Rules
         });
     }
     let statements = read(alloc, text)?;
-    expand(alloc, &statements, interface)
+    expand(alloc, &statements, interfaces)
 }
 
 /// The same fault. Want of memory is no line's, so it has line 0.
@@ -42,13 +42,17 @@ fn by_line(fault: ConfError) -> ConfError
     }
 }
 
-/// What a ruleset text means for an interface, or the first fault of the text. One that is longer than
+/// What a ruleset text means for the interfaces of a run, or the first fault of the text. One that is longer than
 /// [`LONGEST_TEXT`] has too many words in its first line, and isn't read. Want of memory has line 0.
-pub fn ruleset_of(alloc: Global, text: &[u8], interface: &Interface) -> Result<Ruleset, ConfError>
-    ensures meaning { Gives (spec.ruleset_of text.now interface.now) result }
+pub fn ruleset_of(
+    alloc: Global,
+    text: &[u8],
+    interfaces: &[Interface],
+) -> Result<Ruleset, ConfError>
+    ensures meaning { Gives (spec.ruleset_of text.now interfaces.now) result }
     ensures memory { IfErr result (λ fault. fault.kind ≡ Memory → fault.line ≡ 0) }
 {
-    match meaning_of(alloc, text, interface) {
+    match meaning_of(alloc, text, interfaces) {
         Ok(ruleset) => Ok(ruleset),
         Err(fault) => Err(by_line(fault)),
     }

@@ -7,27 +7,27 @@ use Rattle.pfr_faults.specs.Faults.{fault_list, faults_from, first_hit, goes_on,
 use Rattle.pfr_faults.specs.declared.faults.Fault.{Fault}
 
 -- there are more
-pub one_fault : (found : List Fault) (left : ℕ) (words : Left) (interface : Interface) → 0 < left
-    → goes_on (first_hit words.marks interface) ≡ true
-    → (found ++ fault_list (first_hit words.marks interface) words) ++ faults_from (left - 1) (left_behind (first_hit words.marks interface) words) interface
-    ≡ found ++ faults_from left words interface
+pub one_fault : (found : List Fault) (left : ℕ) (words : Left) (interfaces : List Interface) → 0 < left
+    → goes_on (first_hit words.marks interfaces) ≡ true
+    → (found ++ fault_list (first_hit words.marks interfaces) words) ++ faults_from (left - 1) (left_behind (first_hit words.marks interfaces) words) interfaces
+    ≡ found ++ faults_from left words interfaces
 unfolding faults_from
-one_fault found zero words interface some more = absurd (omega arith)
-one_fault found (suc left) words interface some more =
+one_fault found zero words interfaces some more = absurd (omega arith)
+one_fault found (suc left) words interfaces some more =
     let less : suc left - 1 ≡ left = omega arith in
     rw (more, less) (append_assoc found _ _)
 
 -- there are none behind
-pub last_fault : (found : List Fault) (left : ℕ) (words : Left) (interface : Interface) → 0 < left
-    → goes_on (first_hit words.marks interface) ≡ false
-    → found ++ fault_list (first_hit words.marks interface) words ≡ found ++ faults_from left words interface
+pub last_fault : (found : List Fault) (left : ℕ) (words : Left) (interfaces : List Interface) → 0 < left
+    → goes_on (first_hit words.marks interfaces) ≡ false
+    → found ++ fault_list (first_hit words.marks interfaces) words ≡ found ++ faults_from left words interfaces
 unfolding faults_from
-last_fault found zero words interface some more = absurd (omega arith)
-last_fault found (suc left) words interface some more = rw (more, append-nil) refl
+last_fault found zero words interfaces some more = absurd (omega arith)
+last_fault found (suc left) words interfaces some more = rw (more, append-nil) refl
 
 -- no more are asked for
-pub none_left : (found : List Fault) (left : ℕ) (words : Left) (interface : Interface) (all : List Fault) → left ≡ 0
-    → found ++ faults_from left words interface ≡ all → found ≡ all
+pub none_left : (found : List Fault) (left : ℕ) (words : Left) (interfaces : List Interface) (all : List Fault) → left ≡ 0
+    → found ++ faults_from left words interfaces ≡ all → found ≡ all
 unfolding faults_from
-none_left found zero words interface all none is = sym (append-nil found) ∙ is
-none_left found (suc left) words interface all none is = absurd (omega (arith, none))
+none_left found zero words interfaces all none is = sym (append-nil found) ∙ is
+none_left found (suc left) words interfaces all none is = absurd (omega (arith, none))

@@ -8,9 +8,9 @@ use Rattle.pfr_faults.specs.Faults.{all_faults, alone, faults_behind, faults_of,
 use Rattle.pfr_faults.specs.Spread.{is_too_long}
 use Rattle.pfr_faults.specs.declared.faults.Fault.{Fault}
 
-pub accepted_has_none : (text : List ℕ) (interface : Interface) → first_fault text interface ≡ None → all_faults text interface ≡ []
+pub accepted_has_none : (text : List ℕ) (interfaces : List Interface) → first_fault text interfaces ≡ None → all_faults text interfaces ≡ []
 unfolding all_faults
-accepted_has_none text interface none = rw none refl
+accepted_has_none text interfaces none = rw none refl
 
 -- one at least of these: all, if they aren't nothing, else another one
 either : (all : List Fault) (fault : ConfError) (words : List Mark)
@@ -18,16 +18,16 @@ either : (all : List Fault) (fault : ConfError) (words : List Mark)
 either [] fault words = omega arith
 either (first ∷ all) fault words = omega arith
 
-behind_has_one : (fault : ConfError) (words : List Mark) (interface : Interface) → 0 < length (faults_behind fault words interface)
+behind_has_one : (fault : ConfError) (words : List Mark) (interfaces : List Interface) → 0 < length (faults_behind fault words interfaces)
 unfolding faults_behind
-behind_has_one fault words interface = either (faults_of words interface) fault words
+behind_has_one fault words interfaces = either (faults_of words interfaces) fault words
 
-by_length : (long : Bool) (fault : ConfError) (words : List Mark) (interface : Interface)
-    → 0 < length (if long then alone fault words else faults_behind fault words interface)
-by_length true fault words interface = omega arith
-by_length false fault words interface = behind_has_one fault words interface
+by_length : (long : Bool) (fault : ConfError) (words : List Mark) (interfaces : List Interface)
+    → 0 < length (if long then alone fault words else faults_behind fault words interfaces)
+by_length true fault words interfaces = omega arith
+by_length false fault words interfaces = behind_has_one fault words interfaces
 
-pub refused_has_one : (text : List ℕ) (interface : Interface) (fault : ConfError) → first_fault text interface ≡ Some fault
-    → 0 < length (all_faults text interface)
+pub refused_has_one : (text : List ℕ) (interfaces : List Interface) (fault : ConfError) → first_fault text interfaces ≡ Some fault
+    → 0 < length (all_faults text interfaces)
 unfolding all_faults
-refused_has_one text interface fault is = rw is (by_length (is_too_long text) fault (marks text) interface)
+refused_has_one text interfaces fault is = rw is (by_length (is_too_long text) fault (marks text) interfaces)

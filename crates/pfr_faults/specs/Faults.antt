@@ -23,8 +23,8 @@ abbrev pub fault_in : Result Ruleset ConfError → Option ConfError
 fault_in (Ok rules) = None
 fault_in (Err fault) = Some fault
 
-abbrev pub first_fault : List ℕ → Interface → Option ConfError
-first_fault text interface = fault_in (ruleset_of text interface)
+abbrev pub first_fault : List ℕ → List Interface → Option ConfError
+first_fault text interfaces = fault_in (ruleset_of text interfaces)
 
 abbrev pub hit_at : Option ℕ → ConfErrorKind → Option Hit
 hit_at None kind = None
@@ -34,12 +34,12 @@ abbrev pub hit_in : Separator → List Mark → Option ConfError → Option Hit
 hit_in separator marks None = None
 hit_in separator marks (Some fault) = hit_at (word_from separator fault.line 1 0 marks) fault.kind
 
-abbrev pub hit_of : Spread → List Mark → Interface → Option Hit
-hit_of made marks interface = hit_in made.separator marks (first_fault made.text interface)
+abbrev pub hit_of : Spread → List Mark → List Interface → Option Hit
+hit_of made marks interfaces = hit_in made.separator marks (first_fault made.text interfaces)
 
 -- of some words, each on a line of its own
-unfoldable pub first_hit : List Mark → Interface → Option Hit
-first_hit marks interface = hit_of (spread_out marks) marks interface
+unfoldable pub first_hit : List Mark → List Interface → Option Hit
+first_hit marks interfaces = hit_of (spread_out marks) marks interfaces
 
 -- ---- one after the other
 
@@ -81,14 +81,14 @@ goes_on None = false
 goes_on (Some hit) = true
 
 -- at most `left` faults: the first one, and then those of the words without its statement
-unfoldable pub faults_from : (left : ℕ) → Left → Interface → List Fault
-faults_from zero words interface = []
-faults_from (suc left) words interface =
-    let hit = first_hit words.marks interface in
-    fault_list hit words ++ (if goes_on hit then faults_from left (left_behind hit words) interface else [])
+unfoldable pub faults_from : (left : ℕ) → Left → List Interface → List Fault
+faults_from zero words interfaces = []
+faults_from (suc left) words interfaces =
+    let hit = first_hit words.marks interfaces in
+    fault_list hit words ++ (if goes_on hit then faults_from left (left_behind hit words) interfaces else [])
 
-unfoldable pub faults_of : List Mark → Interface → List Fault
-faults_of marks interface = faults_from 100 (all_left marks) interface
+unfoldable pub faults_of : List Mark → List Interface → List Fault
+faults_of marks interfaces = faults_from 100 (all_left marks) interfaces
 
 -- ---- the faults of a text
 
@@ -108,14 +108,14 @@ is_nothing [] = true
 is_nothing (fault ∷ faults) = false
 
 -- of a text that has this fault first
-unfoldable pub faults_behind : ConfError → List Mark → Interface → List Fault
-faults_behind fault marks interface =
-    if is_nothing (faults_of marks interface) then alone fault marks else faults_of marks interface
+unfoldable pub faults_behind : ConfError → List Mark → List Interface → List Fault
+faults_behind fault marks interfaces =
+    if is_nothing (faults_of marks interfaces) then alone fault marks else faults_of marks interfaces
 
-abbrev pub faults_in : Option ConfError → List ℕ → Interface → List Fault
-faults_in None text interface = []
-faults_in (Some fault) text interface =
-    if is_too_long text then alone fault (marks text) else faults_behind fault (marks text) interface
+abbrev pub faults_in : Option ConfError → List ℕ → List Interface → List Fault
+faults_in None text interfaces = []
+faults_in (Some fault) text interfaces =
+    if is_too_long text then alone fault (marks text) else faults_behind fault (marks text) interfaces
 
-unfoldable pub all_faults : List ℕ → Interface → List Fault
-all_faults text interface = faults_in (first_fault text interface) text interface
+unfoldable pub all_faults : List ℕ → List Interface → List Fault
+all_faults text interfaces = faults_in (first_fault text interfaces) text interfaces

@@ -6,9 +6,9 @@ use Rattle.pfr_faults.specs.Faults.{all_faults, first_fault}
 
 -- a text that the strict reader accepts has none
 abbrev pub AnAcceptedTextHasNone : Type 0
-AnAcceptedTextHasNone = (text : List ℕ) (interface : Interface) → first_fault text interface ≡ None → all_faults text interface ≡ []
+AnAcceptedTextHasNone = (text : List ℕ) (interfaces : List Interface) → first_fault text interfaces ≡ None → all_faults text interfaces ≡ []
 
 -- one that it refuses has at least one
 abbrev pub ARefusedTextHasOne : Type 0
-ARefusedTextHasOne = (text : List ℕ) (interface : Interface) (fault : ConfError)
-    → first_fault text interface ≡ Some fault → 0 < length (all_faults text interface)
+ARefusedTextHasOne = (text : List ℕ) (interfaces : List Interface) (fault : ConfError)
+    → first_fault text interfaces ≡ Some fault → 0 < length (all_faults text interfaces)

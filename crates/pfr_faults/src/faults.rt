@@ -37,11 +37,11 @@ struct Hit {
 fn first_fault(
     alloc: Global,
     text: &[u8],
-    interface: &Interface,
+    interfaces: &[Interface],
 ) -> Result<Option<ConfError>, AllocError>
-    ensures { IfOk result (λ fault. fault ≡ spec.first_fault text.now interface.now) }
+    ensures { IfOk result (λ fault. fault ≡ spec.first_fault text.now interfaces.now) }
 {
-    match ruleset_of(alloc, text, interface) {
+    match ruleset_of(alloc, text, interfaces) {
         Ok(_) => Ok(None),
         Err(fault) => match fault.kind {
             ConfErrorKind::Memory => Err(AllocError),
@@ -64,12 +64,12 @@ fn hit_at(at: Option<usize>, kind: ConfErrorKind) -> Option<Hit>
 fn first_hit(
     alloc: Global,
     marks: &[Mark<'_>],
-    interface: &Interface,
+    interfaces: &[Interface],
 ) -> Result<Option<Hit>, AllocError>
-    ensures { IfOk result (λ hit. hit ≡ spec.first_hit marks.now interface.now) }
+    ensures { IfOk result (λ hit. hit ≡ spec.first_hit marks.now interfaces.now) }
 {
     let spread = spread_out(alloc, marks)?;
-    match first_fault(alloc, spread.text.as_slice(), interface)? {
+    match first_fault(alloc, spread.text.as_slice(), interfaces)? {
         Some(fault) => Ok(hit_at(word_on(spread.separator, fault.line, marks), fault.kind)),
         None => Ok(None),
     }
@@ -138,13 +138,13 @@ fn find<'a>(
     alloc: Global,
     found: &mut Items<Fault<'a>>,
     left: &mut Left<'a>,
-    interface: &Interface,
+    interfaces: &[Interface],
 ) -> Result<bool, AllocError>
-    ensures found { OnOk result (found.new ≡ found.old ++ spec.fault_list (spec.first_hit left.old.marks interface.now) left.old) }
-    ensures left { OnOk result (left.new ≡ spec.left_behind (spec.first_hit left.old.marks interface.now) left.old) }
-    ensures more { IfOk result (λ more. more ≡ spec.goes_on (spec.first_hit left.old.marks interface.now)) }
+    ensures found { OnOk result (found.new ≡ found.old ++ spec.fault_list (spec.first_hit left.old.marks interfaces.now) left.old) }
+    ensures left { OnOk result (left.new ≡ spec.left_behind (spec.first_hit left.old.marks interfaces.now) left.old) }
+    ensures more { IfOk result (λ more. more ≡ spec.goes_on (spec.first_hit left.old.marks interfaces.now)) }
 {
-    let Some(hit) = first_hit(alloc, left.marks.as_slice(), interface)? else {
+    let Some(hit) = first_hit(alloc, left.marks.as_slice(), interfaces)? else {
         return Ok(false);
     };
     let is_open = is_open(&hit.kind);
@@ -161,15 +161,15 @@ fn find<'a>(
 fn faults_of<'a>(
     alloc: Global,
     marks: &[Mark<'a>],
-    interface: &Interface,
+    interfaces: &[Interface],
 ) -> Result<Items<Fault<'a>>, AllocError>
-    ensures { IfOk result (λ faults. faults ≡ spec.faults_of marks.now interface.now) }
+    ensures { IfOk result (λ faults. faults ≡ spec.faults_of marks.now interfaces.now) }
 {
     let mut found = Items::new(alloc);
     let mut words = Left::of(alloc, marks)?;
     let mut left = MOST_FAULTS;
     while left > 0 {
-        if !find(alloc, &mut found, &mut words, interface)? {
+        if !find(alloc, &mut found, &mut words, interfaces)? {
             return Ok(found);
         }
         left -= 1;
@@ -220,11 +220,11 @@ fn faults_behind<'a>(
     alloc: Global,
     fault: ConfError,
     marks: &[Mark<'a>],
-    interface: &Interface,
+    interfaces: &[Interface],
 ) -> Result<Items<Fault<'a>>, AllocError>
-    ensures { IfOk result (λ faults. faults ≡ spec.faults_behind fault marks.now interface.now) }
+    ensures { IfOk result (λ faults. faults ≡ spec.faults_behind fault marks.now interfaces.now) }
 {
-    let found = faults_of(alloc, marks, interface)?;
+    let found = faults_of(alloc, marks, interfaces)?;
     if is_nothing(found.as_slice()) {
         alone(alloc, fault, marks)
     } else {
@@ -232,23 +232,23 @@ fn faults_behind<'a>(
     }
 }
 
-/// The faults of a text for an interface, 100 at most: the first one, then that of the text without the statement that has it, and so on.
+/// The faults of a text for the interfaces of a run, 100 at most: the first one, then that of the text without the statement that has it, and so on.
 /// Of a table at fault the name stays, and of an anchor the body. A text that is too long has this fault alone.
 #[tactic(auto, unfolding(crate::specs::Faults::all_faults))]
 pub fn all_faults<'a>(
     alloc: Global,
     text: &'a [u8],
-    interface: &Interface,
+    interfaces: &[Interface],
 ) -> Result<Items<Fault<'a>>, AllocError>
-    ensures { IfOk result (λ faults. faults ≡ spec.all_faults text.now interface.now) }
+    ensures { IfOk result (λ faults. faults ≡ spec.all_faults text.now interfaces.now) }
 {
-    let Some(fault) = first_fault(alloc, text, interface)? else {
+    let Some(fault) = first_fault(alloc, text, interfaces)? else {
         return Ok(Items::new(alloc));
     };
     let words = marks(alloc, text)?;
     if is_too_long(text) {
         alone(alloc, fault, words.as_slice())
     } else {
-        faults_behind(alloc, fault, words.as_slice(), interface)
+        faults_behind(alloc, fault, words.as_slice(), interfaces)
     }
 }

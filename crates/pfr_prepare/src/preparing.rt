@@ -80,7 +80,7 @@ pub fn say_faults<E: Write>(
 ) -> Result<bool, AllocError>
     ensures { IfOk result (λ refused. refused ≡ spec.is_refused request.now.interface prepared.now) }
 {
-    let faults = all_faults(alloc, prepared.text.as_slice(), &request.interface)?;
+    let faults = all_faults(alloc, prepared.text.as_slice(), &[request.interface])?;
     say_all_faults(request, prepared, faults.as_slice(), err);
     Ok(faults.len() > 0)
 }

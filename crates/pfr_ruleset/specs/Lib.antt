@@ -1,6 +1,7 @@
 pub mod Criteria
 pub mod FilterAids
 pub mod Indexes
+pub mod Interfaces
 pub mod Keys
 pub mod Membership
 pub mod Options

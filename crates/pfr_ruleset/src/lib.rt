@@ -1,7 +1,7 @@
 //! A ruleset as data: flat filter rules and the anchors round them, translation rules, what they ask of a packet, tables of
 //! addresses, options (pf.conf(5)).
 //!
-//! A [`Ruleset`] is what the text of a ruleset means for one interface. Each of its rules asks for one thing of a kind.
+//! A [`Ruleset`] is what the text of a ruleset means for the interfaces of a run. Each of its rules asks for one thing of a kind.
 //! In a table `{ 10.0.0.0/8, !10.1.0.0/16, 10.1.2.0/24 }` an entry is a network, maybe with a `!`; of the entries that hold
 //! an address the longest decides by its sign, and where none holds it, the table doesn't.
 #![tactic(auto)]
@@ -40,7 +40,7 @@ pub use flat::{
 pub use hosts::{HostCriterion, HostSet};
 pub use icmp::IcmpMatch;
 pub use index::{Index, MOST_SHAPES};
-pub use interface::{Interface, InterfaceCriterion};
+pub use interface::{Interface, InterfaceCriterion, OWN_ADDRESSES};
 pub use label::Label;
 pub use options::Options;
 pub use policy::{BlockPolicy, StatePolicy};

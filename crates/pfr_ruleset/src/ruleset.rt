@@ -1,25 +1,27 @@
 //! The flat ruleset.
-ghost use Rattle.std.specs.Prelude.{◌≡◌, min};
+ghost use Rattle.std.specs.Prelude.{◌≡◌, [], ◌∷◌, min, IfOk};
 ghost use Rattle.std.specs.Option.{option_map};
+ghost use Rattle.pfr_ruleset.specs.Interfaces.{name_at as name_of, own_table as table_of_own};
 ghost use Rattle.pfr_ruleset.specs.Rulesets as spec;
 
 use crate::filter_rules::FilterRules;
 use crate::flat::FlatRule;
-use crate::interface::Interface;
+use crate::interface::{Interface, own_table};
 use crate::label::Label;
 use crate::options::Options;
 use crate::table::AddressTable;
 use crate::translations::Translations;
 use pfr_items::Items;
+use pfr_net::{IfName, InterfacePlace};
 use std::alloc::{AllocError, Global};
 
-/// What a ruleset means for one interface.
+/// What a ruleset means for the interfaces of a run.
 #[derive(Drop)]
 pub struct Ruleset {
-    /// The interface on which packets are.
-    pub interface: Interface,
+    /// The interfaces on which packets are, by their places.
+    pub interfaces: Items<Interface>,
     pub options: Options,
-    /// The tables in the order in which they are defined.
+    /// The table of the interfaces' own addresses, and behind it those of the text in the order in which they are defined.
     pub tables: Items<AddressTable>,
     /// The filter rules, of which each has its place as its number, and the anchors round them.
     pub filter: FilterRules,
@@ -30,16 +32,29 @@ pub struct Ruleset {
 
 impl Ruleset {
     /// A ruleset that says nothing.
-    pub fn new(alloc: Global, interface: Interface) -> Ruleset
-        ensures { result ≡ spec.empty_ruleset interface }
+    pub fn new(alloc: Global, interfaces: &[Interface]) -> Result<Ruleset, AllocError>
+        ensures { IfOk result (λ made. made ≡ spec.empty_ruleset interfaces.now) }
     {
-        Ruleset {
-            interface,
+        let tables = own_tables(alloc, interfaces)?;
+        let interfaces = Items::copied(alloc, interfaces)?;
+        Ok(Ruleset {
+            interfaces,
             options: Options::new(alloc),
-            tables: Items::new(alloc),
+            tables,
             filter: FilterRules::new(alloc),
             labels: Items::new(alloc),
             translations: Translations::new(alloc),
+        })
+    }
+
+    /// The name of the interface at a place. Behind the last one it is the name without letters, which no interface has.
+    #[inline]
+    pub fn name_at(&self, place: InterfacePlace) -> IfName
+        ensures { result ≡ name_of self.now.interfaces place }
+    {
+        match self.interfaces.as_slice().get(usize::from(place.0)) {
+            Some(interface) => interface.name,
+            None => IfName::new(b""),
         }
     }
 
@@ -71,6 +86,15 @@ impl Ruleset {
             .saturating_add(self.translations.binats.len());
         (counted(self.filter.rules().len()), counted(translations))
     }
+}
+
+/// The tables before a text defines one.
+fn own_tables(alloc: Global, interfaces: &[Interface]) -> Result<Items<AddressTable>, AllocError>
+    ensures { IfOk result (λ tables. tables ≡ table_of_own interfaces.now ∷ []) }
+{
+    let mut tables = Items::new(alloc);
+    tables.push(own_table(alloc, interfaces)?)?;
+    Ok(tables)
 }
 
 fn counted(count: usize) -> u32
