@@ -36,16 +36,16 @@ use Rattle.pfr_packet.proofs.AnswerLemmas.{goes_back}
 use Rattle.pfr_packet.proofs.ConnectionLemmas.{GoThrough, IsKeyed, keyed_of}
 use Rattle.pfr_packet.proofs.OpeningLemmas.{either_blocked, lacks_leave}
 
--- ---- the job filters
+-- ---- the packet's interface is filtered
 
 not_skipped : (table : StateTable) (other : Plan) (state : State) (skipped : Bool) → (outcome_of table (cond skipped (done passed_over) other)).change ≡ Some (Made state) → skipped ≡ false
 not_skipped table other state true is = absurd (cc is)
 not_skipped table other state false is = refl
 
-filters : (job : RunJob) (number : ℕ) (clock : Clock) (place : InterfacePlace) (packet : Packet) (table : StateTable) (state : State) → (step_of job number clock place (Ipv4 packet) table).change ≡ Some (Made state) → is_skipped job ≡ false
+filters : (job : RunJob) (number : ℕ) (clock : Clock) (place : InterfacePlace) (packet : Packet) (table : StateTable) (state : State) → (step_of job number clock place (Ipv4 packet) table).change ≡ Some (Made state) → is_skipped job place ≡ false
 unfolding step_of plan
 filters job number clock place packet table state is =
-    not_skipped (purged_at clock table) (packet_plan job number clock place packet (direction_of job.inside packet)) state (is_skipped job) is
+    not_skipped (purged_at clock table) (packet_plan job number clock place packet (direction_of job.inside packet)) state (is_skipped job place) is
 
 -- ---- by the state
 
@@ -93,9 +93,9 @@ found_back job next now place direction packet answer table later is_table is_th
 
 pub brought_back : (job : RunJob) (number next : ℕ) (clock now : Clock) (place again : InterfacePlace) (packet answer : Packet) (table after : StateTable) (state later : State) → (step_of job number clock place (Ipv4 packet) table).change ≡ Some (Made state)
     → IsAnswerTo (sent_on packet (step_of job number clock place (Ipv4 packet) table).bytes) answer → direction_of job.inside answer ≡ opposite (direction_of job.inside packet)
-    → IsTable after → Contains after.states later → lives now later ≡ true → IsLater state later → meets later.rules.binding (To again) ≡ true → IsBroughtBack packet answer later (step_of job next now again (Ipv4 answer) after)
+    → IsTable after → Contains after.states later → lives now later ≡ true → IsLater state later → meets later.rules.binding (To again) ≡ true → is_skipped job again ≡ is_skipped job place → IsBroughtBack packet answer later (step_of job next now again (Ipv4 answer) after)
 unfolding step_of plan
-brought_back job number next clock now place again packet answer table after state later is answers way is_table is_there alive is_later met =
+brought_back job number next clock now place again packet answer table after state later is answers way is_table is_there alive is_later met filtered =
     let direction = direction_of job.inside packet in
     let bytes = (step_of job number clock place (Ipv4 packet) table).bytes in
     let keyed = later_keyed direction packet bytes state later is_later (keyed_of job number clock place packet table state is) in
@@ -103,4 +103,4 @@ brought_back job number next clock now place again packet answer table after sta
     let found_is = found_back job next now again direction packet answer purged later (purged_table now after is_table) (still_there now after later is_there alive) met (goes_back direction packet answer bytes later keyed answers) in
     let by_way : IsBroughtBack packet answer later (outcome_of purged (packet_plan job next now again answer (direction_of job.inside answer))) =
     subst (λ (d : Direction). IsBroughtBack packet answer later (outcome_of purged (packet_plan job next now again answer d))) (sym way) found_is in
-    subst (λ (skipped : Bool). IsBroughtBack packet answer later (outcome_of purged (cond skipped (done passed_over) (packet_plan job next now again answer (direction_of job.inside answer))))) (sym (filters job number clock place packet table state is)) by_way
+    subst (λ (skipped : Bool). IsBroughtBack packet answer later (outcome_of purged (cond skipped (done passed_over) (packet_plan job next now again answer (direction_of job.inside answer))))) (sym (filtered ∙ filters job number clock place packet table state is)) by_way

@@ -29,7 +29,7 @@ use Rattle.pfr_packet.specs.declared.verdict.Reason.{Reason}
 use Rattle.pfr_packet.specs.declared.verdict.Reason.TheVariants as reason
 use Rattle.pfr_packet.specs.Filtering.{conduct_of, decided, filtered}
 use Rattle.pfr_packet.specs.Found.{passed, tracked}
-use Rattle.pfr_packet.specs.Job.{RunJob, is_skipped, timeouts_of}
+use Rattle.pfr_packet.specs.Job.{RunJob, is_skipped, name_in, timeouts_of}
 use Rattle.pfr_packet.specs.Keys.{side_of, subject_of, written_by}
 use Rattle.pfr_packet.specs.Making.{making, with_keys, with_room}
 use Rattle.pfr_packet.specs.Outcomes.{blocked, without_leave}
@@ -102,15 +102,15 @@ unwritten_writes packet outcome is = subst (IsOf packet) (sym is) tt
 
 opening_writes : (job : RunJob) (number : ℕ) (clock : Clock) (place : InterfacePlace) (table : StateTable) (packet : Packet) (direction : Direction) (key : Key) → Writes packet (outcome_of table (opening job number clock place packet direction key))
 opening_writes job number clock place table packet direction key = opening_way job number clock place table packet direction (Writes packet) (record {
-  goes = λ visits passage. (let answer = answer_for job.rules table direction packet passage in going_way job number clock place table packet direction (Writes packet) visits passage
+  goes = λ visits passage. (let answer = answer_for job.rules (name_in job place) table direction packet passage in going_way job number clock place table packet direction (Writes packet) visits passage
       (opened_writes job number clock place table packet direction passage (judged job.rules answer direction packet passage visits)
       (unwritten_writes packet (judged job.rules answer direction packet passage visits) (judged_writes_nothing job.rules answer direction packet passage visits)) (judged_kept place job.rules answer direction packet passage)));
   has_no_port = λ rule visits. tt;
 }) key
 
-by_embedded_writes : (job : RunJob) (table : StateTable) (packet : Packet) (direction : Direction) (found : Option State) → Writes packet (outcome_of table (by_embedded job packet direction found))
-by_embedded_writes job table packet direction None = filtered_writes job.rules (filter_answer job.rules table packet direction) packet direction
-by_embedded_writes job table packet direction (Some state) = passed_writes direction packet state reason.StateError None
+by_embedded_writes : (job : RunJob) (place : InterfacePlace) (table : StateTable) (packet : Packet) (direction : Direction) (found : Option State) → Writes packet (outcome_of table (by_embedded job place packet direction found))
+by_embedded_writes job place table packet direction None = filtered_writes job.rules (filter_answer job.rules (name_in job place) table packet direction) packet direction
+by_embedded_writes job place table packet direction (Some state) = passed_writes direction packet state reason.StateError None
 
 by_connection_writes : (job : RunJob) (number : ℕ) (clock : Clock) (place : InterfacePlace) (table : StateTable) (packet : Packet) (direction : Direction) (key : Key) (found : Option State)
     → Writes packet (outcome_of table (by_connection job number clock place packet direction key found))
@@ -119,8 +119,8 @@ by_connection_writes job number clock place table packet direction key (Some sta
 
 subject_writes : (job : RunJob) (number : ℕ) (clock : Clock) (place : InterfacePlace) (table : StateTable) (packet : Packet) (direction : Direction) (subject : Subject)
     → Writes packet (outcome_of table (subject_plan job number clock place packet direction subject))
-subject_writes job number clock place table packet direction Alone = filtered_writes job.rules (filter_answer job.rules table packet direction) packet direction
-subject_writes job number clock place table packet direction (Embedded key) = by_embedded_writes job table packet direction (found_in table (side_of direction) key (binding.To place))
+subject_writes job number clock place table packet direction Alone = filtered_writes job.rules (filter_answer job.rules (name_in job place) table packet direction) packet direction
+subject_writes job number clock place table packet direction (Embedded key) = by_embedded_writes job place table packet direction (found_in table (side_of direction) key (binding.To place))
 subject_writes job number clock place table packet direction (Connection key) = by_connection_writes job number clock place table packet direction key (found_in table (side_of direction) key (binding.To place))
 
 packet_writes : (job : RunJob) (number : ℕ) (clock : Clock) (place : InterfacePlace) (table : StateTable) (packet : Packet) (direction : Direction)
@@ -150,9 +150,9 @@ short_writes table false other h = rw h tt
 plan_writes : (job : RunJob) (number : ℕ) (clock : Clock) (place : InterfacePlace) (table : StateTable) (view : View) → IsOfView view (outcome_of table (plan job number clock place view)).bytes
 unfolding plan
 plan_writes job number clock place table Skip = tt
-plan_writes job number clock place table Short = short_writes table (is_skipped job) _ refl
+plan_writes job number clock place table Short = short_writes table (is_skipped job place) _ refl
 plan_writes job number clock place table (Ipv4 packet) =
-    of_packet packet _ (skipped_writes table packet (is_skipped job) (packet_plan job number clock place packet (direction_of job.inside packet))
+    of_packet packet _ (skipped_writes table packet (is_skipped job place) (packet_plan job number clock place packet (direction_of job.inside packet))
     (packet_writes job number clock place table packet (direction_of job.inside packet)))
 
 of_view : (view : View) (is : Option Change) (change : Change) → is ≡ Some change → IsOfView view is → view ≡ Ipv4 change.packet

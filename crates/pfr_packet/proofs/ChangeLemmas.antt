@@ -35,7 +35,7 @@ use Rattle.pfr_packet.specs.declared.verdict.Verdict.{Verdict}
 use Rattle.pfr_packet.specs.declared.verdict.Verdict.TheVariants as verdict
 use Rattle.pfr_packet.specs.Filtering.{conduct_of, decided, filtered}
 use Rattle.pfr_packet.specs.Found.{passed, embedded, tracked}
-use Rattle.pfr_packet.specs.Job.{RunJob, is_skipped, timeouts_of}
+use Rattle.pfr_packet.specs.Job.{RunJob, is_skipped, name_in, timeouts_of}
 use Rattle.pfr_packet.specs.Keys.{side_of, subject_of, written_by}
 use Rattle.pfr_packet.specs.Laws.{IsOwnChange, only_removes}
 use Rattle.pfr_packet.specs.Making.{making, with_keys, with_room}
@@ -183,7 +183,7 @@ opened_stands job number clock place table packet direction passage outcome h (S
 
 opening_stands : (job : RunJob) (number : ℕ) (clock : Clock) (place : InterfacePlace) (table : StateTable) (packet : Packet) (direction : Direction) (key : Key) → Stands number clock place table (outcome_of table (opening job number clock place packet direction key))
 opening_stands job number clock place table packet direction key = opening_way job number clock place table packet direction (Stands number clock place table) (record {
-  goes = λ visits passage. (let answer = answer_for job.rules table direction packet passage in going_way job number clock place table packet direction (Stands number clock place table) visits passage
+  goes = λ visits passage. (let answer = answer_for job.rules (name_in job place) table direction packet passage in going_way job number clock place table packet direction (Stands number clock place table) visits passage
       (opened_stands job number clock place table packet direction passage (judged job.rules answer direction packet passage visits)
       (unchanged_stands number clock place table (judged job.rules answer direction packet passage visits) (judged_changes_nothing job.rules answer direction packet passage visits)) (judged_kept place job.rules answer direction packet passage)));
   has_no_port = λ rule visits. tt;
@@ -191,8 +191,8 @@ opening_stands job number clock place table packet direction key = opening_way j
 
 -- ---- a packet
 
-by_embedded_stands : (job : RunJob) (number : ℕ) (clock : Clock) (place : InterfacePlace) (table : StateTable) (packet : Packet) (direction : Direction) (found : Option State) → Stands number clock place table (outcome_of table (by_embedded job packet direction found))
-by_embedded_stands job number clock place table packet direction None = filtered_stands number clock place table job.rules (filter_answer job.rules table packet direction) packet direction
+by_embedded_stands : (job : RunJob) (number : ℕ) (clock : Clock) (place : InterfacePlace) (table : StateTable) (packet : Packet) (direction : Direction) (found : Option State) → Stands number clock place table (outcome_of table (by_embedded job place packet direction found))
+by_embedded_stands job number clock place table packet direction None = filtered_stands number clock place table job.rules (filter_answer job.rules (name_in job place) table packet direction) packet direction
 by_embedded_stands job number clock place table packet direction (Some state) = embedded_stands number clock place table direction packet state
 
 by_connection_stands : Leaves → (job : RunJob) (number : ℕ) (clock : Clock) (place : InterfacePlace) (table : StateTable) (packet : Packet) (direction : Direction) (key : Key)
@@ -204,7 +204,7 @@ by_connection_stands leaves job number clock place table packet direction key (S
 
 subject_stands : Leaves → (job : RunJob) (number : ℕ) (clock : Clock) (place : InterfacePlace) (table : StateTable) (packet : Packet) (direction : Direction) (subject : Subject)
     → Stands number clock place table (outcome_of table (subject_plan job number clock place packet direction subject))
-subject_stands leaves job number clock place table packet direction Alone = filtered_stands number clock place table job.rules (filter_answer job.rules table packet direction) packet direction
+subject_stands leaves job number clock place table packet direction Alone = filtered_stands number clock place table job.rules (filter_answer job.rules (name_in job place) table packet direction) packet direction
 subject_stands leaves job number clock place table packet direction (Embedded key) = by_embedded_stands job number clock place table packet direction (found_in table (side_of direction) key (binding.To place))
 subject_stands leaves job number clock place table packet direction (Connection key) =
     by_connection_stands leaves job number clock place table packet direction key (found_in table (side_of direction) key (binding.To place)) refl
@@ -225,9 +225,9 @@ skipped_stands number clock place table false other h = h
 pub plan_stands : Leaves → (job : RunJob) (number : ℕ) (clock : Clock) (place : InterfacePlace) (table : StateTable) (view : View) → Stands number clock place table (outcome_of table (plan job number clock place view))
 unfolding plan
 plan_stands leaves job number clock place table Skip = tt
-plan_stands leaves job number clock place table Short = skipped_stands number clock place table (is_skipped job) _ tt
+plan_stands leaves job number clock place table Short = skipped_stands number clock place table (is_skipped job place) _ tt
 plan_stands leaves job number clock place table (Ipv4 packet) =
-    skipped_stands number clock place table (is_skipped job) (packet_plan job number clock place packet (direction_of job.inside packet))
+    skipped_stands number clock place table (is_skipped job place) (packet_plan job number clock place packet (direction_of job.inside packet))
     (packet_stands leaves job number clock place table packet (direction_of job.inside packet))
 
 -- ---- the laws

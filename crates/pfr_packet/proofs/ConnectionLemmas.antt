@@ -8,6 +8,7 @@ use Rattle.pfr_net.specs.declared.address.Ipv4Address.{Ipv4Address}
 use Rattle.pfr_net.specs.declared.direction.Direction.{Direction}
 use Rattle.pfr_net.specs.declared.direction.Direction.TheVariants.{In, Out}
 use Rattle.pfr_net.specs.declared.interface.Binding.TheVariants as binding
+use Rattle.pfr_net.specs.declared.interface.IfName.{IfName}
 use Rattle.pfr_net.specs.declared.interface.InterfacePlace.{InterfacePlace}
 use Rattle.pfr_net.specs.declared.port.Port.{Port}
 use Rattle.pfr_ruleset.specs.declared.flat.FlatTranslation.{FlatTranslation}
@@ -48,7 +49,7 @@ use Rattle.pfr_packet.specs.declared.verdict.Verdict.TheVariants as verdict
 use Rattle.pfr_packet.specs.Connections.{GoesBy}
 use Rattle.pfr_packet.specs.Filtering.{filtered}
 use Rattle.pfr_packet.specs.Found.{passed, tracked}
-use Rattle.pfr_packet.specs.Job.{RunJob, is_skipped, timeouts_of}
+use Rattle.pfr_packet.specs.Job.{RunJob, is_skipped, name_in, timeouts_of}
 use Rattle.pfr_packet.specs.Keys.{side_of, subject_of, written_by}
 use Rattle.pfr_packet.specs.Making.{making, with_keys, with_room}
 use Rattle.pfr_packet.specs.Outcomes.{by_state}
@@ -125,7 +126,7 @@ opened_keyed job answer number clock place table packet direction visits passage
 going_keyed : (job : RunJob) (number : ℕ) (clock : Clock) (place : InterfacePlace) (table : StateTable) (packet : Packet) (direction : Direction) (visits : List ℕ) (passage : Passage)
     → GoThrough direction packet passage.wire passage.stack → Keyed direction packet (outcome_of table (going job number clock place packet direction visits passage))
 going_keyed job number clock place table packet direction visits passage through =
-    let answer = answer_for job.rules table direction packet passage in
+    let answer = answer_for job.rules (name_in job place) table direction packet passage in
     going_way job number clock place table packet direction (Keyed direction packet) visits passage
     (opened_keyed job answer number clock place table packet direction visits passage through (judged_kept place job.rules answer direction packet passage))
 
@@ -236,12 +237,12 @@ any_hit : (hit : Option Hit) → IsHitFor Out hit
 any_hit None = tt
 any_hit (Some hit) = any_end hit.new_end
 
-hit_for : (rules : Ruleset) (packet : Packet) (direction : Direction) → IsHitFor direction (hit_of rules packet direction)
+hit_for : (rules : Ruleset) (name : IfName) (packet : Packet) (direction : Direction) → IsHitFor direction (hit_of rules name packet direction)
 unfolding hit_of
-hit_for rules packet In = either_hit (binat_of rules packet In) (other_hit rules packet In)
-    (binat_first packet (find (binats.holds rules packet In) rules.translations.binats))
-    (rdr_first (find (rdrs.holds rules packet In) rules.translations.rdrs))
-hit_for rules packet Out = any_hit (hit_of rules packet Out)
+hit_for rules name packet In = either_hit (binat_of rules name packet In) (other_hit rules name packet In)
+    (binat_first packet (find (binats.holds rules name packet In) rules.translations.binats))
+    (rdr_first (find (rdrs.holds rules name packet In) rules.translations.rdrs))
+hit_for rules name packet Out = any_hit (hit_of rules name packet Out)
 
 -- ---- up to the passage
 
@@ -265,7 +266,7 @@ hit_keyed job number clock place table packet direction visits key is (Some hit)
 opening_keyed : (job : RunJob) (number : ℕ) (clock : Clock) (place : InterfacePlace) (table : StateTable) (packet : Packet) (direction : Direction) (key : Key) → IsKeyOf direction packet key
     → Keyed direction packet (outcome_of table (opening job number clock place packet direction key))
 opening_keyed job number clock place table packet direction key is =
-    hit_keyed job number clock place table packet direction (translations_visited job.rules packet direction) key is (hit_of job.rules packet direction) (hit_for job.rules packet direction)
+    hit_keyed job number clock place table packet direction (translations_visited job.rules (name_in job place) packet direction) key is (hit_of job.rules (name_in job place) packet direction) (hit_for job.rules (name_in job place) packet direction)
 
 -- ---- along the plan
 
@@ -283,9 +284,9 @@ tracked_keyed direction packet state (touch.Touched next) = passed_keyed directi
 tracked_keyed direction packet state touch.Mismatch = tt
 tracked_keyed direction packet state touch.Removed = tt
 
-by_embedded_keyed : (job : RunJob) (table : StateTable) (packet : Packet) (direction : Direction) (found : Option State) → Keyed direction packet (outcome_of table (by_embedded job packet direction found))
-by_embedded_keyed job table packet direction None = filtered_keyed job.rules (filter_answer job.rules table packet direction) packet direction
-by_embedded_keyed job table packet direction (Some state) = passed_keyed direction packet state reason.StateError None (λ bytes. tt)
+by_embedded_keyed : (job : RunJob) (place : InterfacePlace) (table : StateTable) (packet : Packet) (direction : Direction) (found : Option State) → Keyed direction packet (outcome_of table (by_embedded job place packet direction found))
+by_embedded_keyed job place table packet direction None = filtered_keyed job.rules (filter_answer job.rules (name_in job place) table packet direction) packet direction
+by_embedded_keyed job place table packet direction (Some state) = passed_keyed direction packet state reason.StateError None (λ bytes. tt)
 
 by_connection_keyed : (job : RunJob) (number : ℕ) (clock : Clock) (place : InterfacePlace) (table : StateTable) (packet : Packet) (direction : Direction) (key : Key) → IsKeyOf direction packet key
     → (found : Option State) → Keyed direction packet (outcome_of table (by_connection job number clock place packet direction key found))
@@ -294,8 +295,8 @@ by_connection_keyed job number clock place table packet direction key is (Some s
 
 subject_keyed : (job : RunJob) (number : ℕ) (clock : Clock) (place : InterfacePlace) (table : StateTable) (packet : Packet) (direction : Direction) (subject : Subject) → subject_of direction packet ≡ subject
     → Keyed direction packet (outcome_of table (subject_plan job number clock place packet direction subject))
-subject_keyed job number clock place table packet direction Alone is = filtered_keyed job.rules (filter_answer job.rules table packet direction) packet direction
-subject_keyed job number clock place table packet direction (Embedded key) is = by_embedded_keyed job table packet direction (found_in table (side_of direction) key (binding.To place))
+subject_keyed job number clock place table packet direction Alone is = filtered_keyed job.rules (filter_answer job.rules (name_in job place) table packet direction) packet direction
+subject_keyed job number clock place table packet direction (Embedded key) is = by_embedded_keyed job place table packet direction (found_in table (side_of direction) key (binding.To place))
 subject_keyed job number clock place table packet direction (Connection key) is =
     by_connection_keyed job number clock place table packet direction key (key_of_subject direction packet key is) (found_in table (side_of direction) key (binding.To place))
 
@@ -312,7 +313,7 @@ plan_keyed : (job : RunJob) (number : ℕ) (clock : Clock) (place : InterfacePla
 unfolding plan
 plan_keyed job number clock place table packet =
     let direction = direction_of job.inside packet in
-    skipped_keyed direction packet table (is_skipped job) (packet_plan job number clock place packet direction) (packet_keyed job number clock place table packet direction)
+    skipped_keyed direction packet table (is_skipped job place) (packet_plan job number clock place packet direction) (packet_keyed job number clock place table packet direction)
 
 made_keyed : (direction : Direction) (packet : Packet) (bytes : Option Change) (state : State) (change : Option TableChange) → change ≡ Some (Made state) → KeyedIf direction packet bytes change
     → IsKeyed direction packet bytes state

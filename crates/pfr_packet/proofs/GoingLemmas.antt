@@ -5,6 +5,7 @@ use Rattle.std.proofs.lemmas.List.{append_assoc}
 use Rattle.std.proofs.lemmas.List.Elements.{All-append, All-cons, All-nil, All-weaker}
 use Rattle.pfr_net.specs.declared.direction.Direction.{Direction}
 use Rattle.pfr_net.specs.declared.interface.Binding.{Binding}
+use Rattle.pfr_net.specs.declared.interface.IfName.{IfName}
 use Rattle.pfr_ruleset.specs.declared.ruleset.Ruleset.{Ruleset}
 use Rattle.pfr_headers.specs.declared.packet.Packet.{Packet}
 use Rattle.pfr_rules.specs.Filter.{rooms_asked, rooms_in}
@@ -19,7 +20,7 @@ use Rattle.pfr_states.specs.Answers.{found_in}
 use Rattle.pfr_packet.specs.declared.evaluation.Arrival.{Arrival}
 use Rattle.pfr_packet.specs.declared.passage.Passage.{Passage}
 use Rattle.pfr_packet.specs.Plan.{FilterAnswer, Goes, GoesUpTo, Plan, ask_at, filter_answer, no_answer, questions_of}
-use Rattle.pfr_packet.specs.Steps.{asked_for, behind_passage, going_on, going_plan, judged_for, kept_for, opened_plan, unless_passed}
+use Rattle.pfr_packet.specs.Steps.{asked_for, behind_passage, going_on, going_plan, judged_for, kept_for, name_of, opened_plan, unless_passed}
 
 -- what was asked stays asked
 abbrev pub Keeps : (Question → Type 0) → (Question → Type 0) → Type 0
@@ -60,13 +61,13 @@ to_the_end table steps rest outcome asked after gone kept goes = record {
 -- ---- what is asked of the filter
 
 -- unless the packet isn't filtered
-pass_goes : (table : StateTable) (rules : Ruleset) (packet : Packet) (direction : Direction) (next : FilterAnswer → Plan) (outcome : Outcome) (asked after : Question → Type 0) (passes : Bool)
-    → All asked (cond passes [] (rooms_asked rules (rooms_in table) packet direction)) → Keeps asked after
-    → Goes table (next (cond passes no_answer (filter_answer rules table packet direction))) outcome after → Goes table (unless_passed rules packet direction passes next) outcome after
-pass_goes table rules packet direction next outcome asked after true all kept goes = goes
-pass_goes table rules packet direction next outcome asked after false all kept goes = record {
+pass_goes : (table : StateTable) (rules : Ruleset) (name : IfName) (packet : Packet) (direction : Direction) (next : FilterAnswer → Plan) (outcome : Outcome) (asked after : Question → Type 0) (passes : Bool)
+    → All asked (cond passes [] (rooms_asked rules (rooms_in table) name packet direction)) → Keeps asked after
+    → Goes table (next (cond passes no_answer (filter_answer rules name table packet direction))) outcome after → Goes table (unless_passed rules name packet direction passes next) outcome after
+pass_goes table rules name packet direction next outcome asked after true all kept goes = goes
+pass_goes table rules name packet direction next outcome asked after false all kept goes = record {
   outcome_is = goes.outcome_is;
-  asked_all = All-append after (rooms_asked rules (rooms_in table) packet direction) (questions_of table (next (filter_answer rules table packet direction))) (All-weaker asked after kept (rooms_asked rules (rooms_in table) packet direction) all) goes.asked_all;
+  asked_all = All-append after (rooms_asked rules (rooms_in table) name packet direction) (questions_of table (next (filter_answer rules name table packet direction))) (All-weaker asked after kept (rooms_asked rules (rooms_in table) name packet direction) all) goes.asked_all;
 }
 
 -- a packet goes through by a passage: the filter is asked, unless it isn't filtered, and then the rest
@@ -75,4 +76,4 @@ pub going_goes : (arrival : Arrival) (table : StateTable) (visits : List ℕ) (p
     → Goes table (opened_plan arrival passage (judged_for arrival table passage visits) (kept_for arrival table passage)) outcome after
     → Goes table (going_plan arrival visits passage) outcome after
 going_goes arrival table visits passage outcome asked after all kept goes =
-    pass_goes table arrival.job.now.rules (behind_passage arrival passage) arrival.direction (going_on arrival.job.now arrival.number arrival.clock arrival.place arrival.packet.now arrival.direction visits passage) outcome asked after passage.passes all kept goes
+    pass_goes table arrival.job.now.rules (name_of arrival) (behind_passage arrival passage) arrival.direction (going_on arrival.job.now arrival.number arrival.clock arrival.place arrival.packet.now arrival.direction visits passage) outcome asked after passage.passes all kept goes

@@ -3,6 +3,7 @@ use Rattle.std.proofs.Common.{◌≡◌, ◌<◌, ℕ, Bool, true, false, Option
 use Rattle.std.proofs.lemmas.Bool.{ltb-true}
 use Rattle.pfr_net.specs.declared.direction.Direction.{Direction}
 use Rattle.pfr_net.specs.declared.direction.Direction.TheVariants.{In, Out}
+use Rattle.pfr_net.specs.declared.interface.IfName.{IfName}
 use Rattle.pfr_net.specs.declared.interface.InterfacePlace.{InterfacePlace}
 use Rattle.pfr_net.specs.declared.port.Port.{Port}
 use Rattle.pfr_net.specs.declared.rule_number.RuleNumber.{RuleNumber}
@@ -38,7 +39,7 @@ use Rattle.pfr_packet.specs.declared.verdict.Reason.TheVariants as reason
 use Rattle.pfr_packet.specs.declared.verdict.Verdict.TheVariants as verdict
 use Rattle.pfr_packet.specs.Filtering.{filtered}
 use Rattle.pfr_packet.specs.Found.{tracked}
-use Rattle.pfr_packet.specs.Job.{RunJob, is_skipped}
+use Rattle.pfr_packet.specs.Job.{RunJob, is_skipped, name_in}
 use Rattle.pfr_packet.specs.Keys.{message_subject, subject_by, translated_end}
 use Rattle.pfr_packet.specs.Outcomes.{unseen}
 use Rattle.pfr_packet.specs.Passages.{behind, by_way, judged, nat_passed, unfiltered}
@@ -95,9 +96,9 @@ names_by rules direction packet passage visits answer true =
 names_by rules direction packet passage visits answer false = filtered_rule rules answer (behind direction passage packet) direction
 
 -- what becomes of the packet names the rule that decides
-judged_names : (rules : Ruleset) (table : StateTable) (direction : Direction) (packet : Packet) (passage : Passage) (visits : List ℕ)
-    → (judged rules (answer_for rules table direction packet passage) direction packet passage visits).rule ≡ (answer_for rules table direction packet passage).decision.rule
-judged_names rules table direction packet passage visits = names_by rules direction packet passage visits (filter_answer rules table (behind direction passage packet) direction) passage.passes
+judged_names : (rules : Ruleset) (name : IfName) (table : StateTable) (direction : Direction) (packet : Packet) (passage : Passage) (visits : List ℕ)
+    → (judged rules (answer_for rules name table direction packet passage) direction packet passage visits).rule ≡ (answer_for rules name table direction packet passage).decision.rule
+judged_names rules name table direction packet passage visits = names_by rules direction packet passage visits (filter_answer rules name table (behind direction passage packet) direction) passage.passes
 
 -- where one is named the filter was asked
 asked_by : (answer : FilterAnswer) (by : RuleNumber) (passes : Bool) → (cond passes no_answer answer).decision.rule ≡ Some by → answer.decision.rule ≡ Some by
@@ -115,13 +116,13 @@ limit_is rule most true is most_is = most_is
 limit_is rule most false is most_is = absurd (cc is)
 
 -- a rule by which a state is made has room
-has_room : (job : RunJob) (table : StateTable) (packet : Packet) (direction : Direction) (passage : Passage) (by : RuleNumber) (rule : FlatRule) (most : ℕ) → opens_connection packet.transport ≡ true
-    → (answer_for job.rules table direction packet passage).decision.rule ≡ Some by → slice_get job.rules.filter.rules by.0 ≡ Some rule → most_of rule.state ≡ Some most → has_rule_room_in table by.0 most ≡ true
-has_room job table packet direction passage by rule most opens named at most_is =
+has_room : (job : RunJob) (place : InterfacePlace) (table : StateTable) (packet : Packet) (direction : Direction) (passage : Passage) (by : RuleNumber) (rule : FlatRule) (most : ℕ) → opens_connection packet.transport ≡ true
+    → (answer_for job.rules (name_in job place) table direction packet passage).decision.rule ≡ Some by → slice_get job.rules.filter.rules by.0 ≡ Some rule → most_of rule.state ≡ Some most → has_rule_room_in table by.0 most ≡ true
+has_room job place table packet direction passage by rule most opens named at most_is =
     let other : Packet = behind direction passage packet in
-    let asked = asked_by (filter_answer job.rules table other direction) by passage.passes named in
-    decides_with_room job.rules (rooms_in table) other direction by.0 most rule
-    (place_of job.rules.filter.rules (deciding job.rules (rooms_in table) other direction) by asked) at
+    let asked = asked_by (filter_answer job.rules (name_in job place) table other direction) by passage.passes named in
+    decides_with_room job.rules (rooms_in table) (name_in job place) other direction by.0 most rule
+    (place_of job.rules.filter.rules (deciding job.rules (rooms_in table) (name_in job place) other direction) by asked) at
     (limit_is rule most (opens_connection other.transport) (behind_opens direction passage packet ∙ opens) most_is)
 
 -- ---- along the ways of a packet
@@ -148,10 +149,10 @@ tracked_room rules table direction packet state touch.Removed = tt
 made_room : (job : RunJob) (place : InterfacePlace) (table : StateTable) (packet : Packet) (direction : Direction) (passage : Passage) (visits : List ℕ) (state : State) → IsFirst place table packet direction → kept_in job place table packet direction passage ≡ Some state.rules
     → RoomIf job.rules table (Some (Made state))
 made_room job place table packet direction passage visits state first kept by rule most filter_is at most_is =
-    let answer = answer_for job.rules table direction packet passage in
+    let answer = answer_for job.rules (name_in job place) table direction packet passage in
     let said = judged_says job.rules place answer direction packet passage visits state.rules kept in
-    let named : answer.decision.rule ≡ Some by = sym (judged_names job.rules table direction packet passage visits) ∙ sym said.filter ∙ filter_is in
-    has_room job table packet direction passage by rule most (connection_opens direction packet packet.transport first.key first.subject_is) named at most_is
+    let named : answer.decision.rule ≡ Some by = sym (judged_names job.rules (name_in job place) table direction packet passage visits) ∙ sym said.filter ∙ filter_is in
+    has_room job place table packet direction passage by rule most (connection_opens direction packet packet.transport first.key first.subject_is) named at most_is
 
 short_room : (rules : Ruleset) (table : StateTable) (skipped : Bool) → HasRoom rules table (outcome_of table (cond skipped (done passed_over) (done (unseen verdict.Block reason.Short))))
 short_room rules table true = tt
@@ -160,15 +161,15 @@ short_room rules table false = tt
 view_room : (job : RunJob) (number : ℕ) (clock : Clock) (place : InterfacePlace) (view : View) (table : StateTable) → HasRoom job.rules (purged_at clock table) (step_of job number clock place view table)
 unfolding step_of plan
 view_room job number clock place Skip table = tt
-view_room job number clock place Short table = short_room job.rules (purged_at clock table) (is_skipped job)
+view_room job number clock place Short table = short_room job.rules (purged_at clock table) (is_skipped job place)
 view_room job number clock place (Ipv4 packet) table =
     let direction = direction_of job.inside packet in
     let now = purged_at clock table in
     step_way job number clock place table packet (HasRoom job.rules now) tt (record {
-      by_rules = λ none. filtered_way job.rules (filter_answer job.rules now packet direction) packet direction (HasRoom job.rules now) (λ free. tt) tt;
+      by_rules = λ none. filtered_way job.rules (filter_answer job.rules (name_in job place) now packet direction) packet direction (HasRoom job.rules now) (λ free. tt) tt;
       by_error = λ key state is found. either_blocked (HasRoom job.rules now) _ reason.IpOption (passing direction packet state reason.StateError None) (λ free. tt) tt;
       by_state = λ key state t is found. tracked_room job.rules now direction packet state t;
-      goes = λ passage visits first. unchanged job.rules now (judged_in job now packet direction passage visits) (judged_changes_nothing job.rules (answer_for job.rules now direction packet passage) direction packet passage visits);
+      goes = λ passage visits first. unchanged job.rules now (judged_in job place now packet direction passage visits) (judged_changes_nothing job.rules (answer_for job.rules (name_in job place) now direction packet passage) direction packet passage visits);
       makes = λ passage visits state first passes kept. made_room job place now packet direction passage visits state first kept;
       has_no_place = λ passage visits first. tt;
       has_no_room = λ passage visits first full. tt;

@@ -3,6 +3,7 @@ use Rattle.std.proofs.Common.{◌≡◌, Bool, Option, ◌∷◌, ◌++◌, refl
 use Rattle.std.specs.List.{All}
 use Rattle.std.proofs.lemmas.List.Elements.{All-head, All-tail, All-weaker}
 use Rattle.pfr_net.specs.declared.direction.Direction.{Direction}
+use Rattle.pfr_net.specs.declared.interface.IfName.{IfName}
 use Rattle.pfr_ruleset.specs.declared.ruleset.Ruleset.{Ruleset}
 use Rattle.pfr_headers.specs.declared.packet.Packet.{Packet}
 use Rattle.pfr_rules.specs.Filter.{rooms_asked, rooms_in}
@@ -21,10 +22,10 @@ room_by table other Room same = refl
 room_by table other (RuleRoom rule most) same = sym same
 
 -- the filter's answer over another table, and what it asks there
-filter_same : (table other : StateTable) (rules : Ruleset) (packet : Packet) (direction : Direction) → All (SameAnswer table other) (rooms_asked rules (rooms_in table) packet direction)
-    → (filter_answer rules table packet direction ≡ filter_answer rules other packet direction) × (rooms_asked rules (rooms_in other) packet direction ≡ rooms_asked rules (rooms_in table) packet direction)
-filter_same table other rules packet direction asked =
-    let both = same_rooms rules (rooms_in table) (rooms_in other) packet direction (All-weaker (SameAnswer table other) (SameRoom (rooms_in table) (rooms_in other)) (room_by table other) (rooms_asked rules (rooms_in table) packet direction) asked) in
+filter_same : (table other : StateTable) (rules : Ruleset) (name : IfName) (packet : Packet) (direction : Direction) → All (SameAnswer table other) (rooms_asked rules (rooms_in table) name packet direction)
+    → (filter_answer rules name table packet direction ≡ filter_answer rules name other packet direction) × (rooms_asked rules (rooms_in other) name packet direction ≡ rooms_asked rules (rooms_in table) name packet direction)
+filter_same table other rules name packet direction asked =
+    let both = same_rooms rules (rooms_in table) (rooms_in other) name packet direction (All-weaker (SameAnswer table other) (SameRoom (rooms_in table) (rooms_in other)) (room_by table other) (rooms_asked rules (rooms_in table) name packet direction) asked) in
     (rw (both.0, both.1) refl, rw both.1 refl)
 
 pub local : (table other : StateTable) (steps : Plan) → All (SameAnswer table other) (questions_of table steps)
@@ -45,12 +46,12 @@ local table other (ask_room next) h =
       subst (λ (room : Bool). Room ∷ questions_of other (next room) ≡ Room ∷ questions_of table (next (has_room_in table))) same
           (ap (λ questions. Room ∷ questions) rest.1),
     )
-local table other (ask_filter rules packet direction next) h =
-    let asked = rooms_asked rules (rooms_in table) packet direction in
-    let here = filter_answer rules table packet direction in
-    let same = filter_same table other rules packet direction (all_left (SameAnswer table other) asked (questions_of table (next here)) h) in
+local table other (ask_filter rules name packet direction next) h =
+    let asked = rooms_asked rules (rooms_in table) name packet direction in
+    let here = filter_answer rules name table packet direction in
+    let same = filter_same table other rules name packet direction (all_left (SameAnswer table other) asked (questions_of table (next here)) h) in
     let rest = local table other (next here) (all_right (SameAnswer table other) asked (questions_of table (next here)) h) in (
       subst (λ (answer : FilterAnswer). outcome_of other (next answer) ≡ outcome_of table (next here)) same.0 rest.0,
-      subst (λ (answer : FilterAnswer). rooms_asked rules (rooms_in other) packet direction ++ questions_of other (next answer) ≡ asked ++ questions_of table (next here)) same.0
+      subst (λ (answer : FilterAnswer). rooms_asked rules (rooms_in other) name packet direction ++ questions_of other (next answer) ≡ asked ++ questions_of table (next here)) same.0
           (rw (same.1, rest.1) refl),
     )

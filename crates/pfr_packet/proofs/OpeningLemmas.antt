@@ -3,6 +3,7 @@ use Rattle.std.proofs.Common.{◌≡◌, ◌&&◌, ℕ, Bool, true, false, not, 
 use Rattle.pfr_net.specs.declared.direction.Direction.{Direction}
 use Rattle.pfr_net.specs.declared.direction.Direction.TheVariants.{In, Out}
 use Rattle.pfr_net.specs.declared.interface.Binding.TheVariants as binding
+use Rattle.pfr_net.specs.declared.interface.IfName.{IfName}
 use Rattle.pfr_net.specs.declared.interface.InterfacePlace.{InterfacePlace}
 use Rattle.pfr_net.specs.declared.rule_number.RuleNumber.{RuleNumber}
 use Rattle.pfr_ruleset.specs.declared.ruleset.Ruleset.{Ruleset}
@@ -22,7 +23,7 @@ use Rattle.pfr_packet.specs.declared.passage.Passage.{Passage}
 use Rattle.pfr_packet.specs.declared.verdict.Reason.{Reason}
 use Rattle.pfr_packet.specs.declared.verdict.Reason.TheVariants as reason
 use Rattle.pfr_packet.specs.Filtering.{conduct_of, decided, filtered}
-use Rattle.pfr_packet.specs.Job.{RunJob}
+use Rattle.pfr_packet.specs.Job.{RunJob, name_in}
 use Rattle.pfr_packet.specs.Outcomes.{blocked}
 use Rattle.pfr_packet.specs.Passages.{behind, by_way, exhausted, judged, mapped_end, mapped_passage, nat_passed, picked_passage, unfiltered, untranslated}
 use Rattle.pfr_packet.specs.Picks.{picking, ports_for, tries, wire_with, word_of}
@@ -89,16 +90,16 @@ judged_writes_nothing rules answer direction packet passage visits =
 
 -- ---- the filter's answer behind a passage
 
-by_pass : (rules : Ruleset) (table : StateTable) (packet : Packet) (direction : Direction) (P : Outcome → Type 0) (next : FilterAnswer → Plan) (passes : Bool)
-    → P (outcome_of table (next (cond passes no_answer (filter_answer rules table packet direction)))) → P (outcome_of table (unless_passed rules packet direction passes next))
-by_pass rules table packet direction P next true h = h
-by_pass rules table packet direction P next false h = h
+by_pass : (rules : Ruleset) (name : IfName) (table : StateTable) (packet : Packet) (direction : Direction) (P : Outcome → Type 0) (next : FilterAnswer → Plan) (passes : Bool)
+    → P (outcome_of table (next (cond passes no_answer (filter_answer rules name table packet direction)))) → P (outcome_of table (unless_passed rules name packet direction passes next))
+by_pass rules name table packet direction P next true h = h
+by_pass rules name table packet direction P next false h = h
 
 -- what holds of a packet that goes on by the filter's answer holds of one that goes through by the passage
 pub going_way : (job : RunJob) (number : ℕ) (clock : Clock) (place : InterfacePlace) (table : StateTable) (packet : Packet) (direction : Direction) (P : Outcome → Type 0) (visits : List ℕ) (passage : Passage)
-    → P (outcome_of table (going_on job number clock place packet direction visits passage (answer_for job.rules table direction packet passage))) → P (outcome_of table (going job number clock place packet direction visits passage))
+    → P (outcome_of table (going_on job number clock place packet direction visits passage (answer_for job.rules (name_in job place) table direction packet passage))) → P (outcome_of table (going job number clock place packet direction visits passage))
 going_way job number clock place table packet direction P visits passage h =
-    by_pass job.rules table (behind direction passage packet) direction P (going_on job number clock place packet direction visits passage) passage.passes h
+    by_pass job.rules (name_in job place) table (behind direction passage packet) direction P (going_on job number clock place packet direction visits passage) passage.passes h
 
 -- ---- up to the passage
 
@@ -135,7 +136,7 @@ hit_way job number clock place table packet direction P o visits key (Some hit) 
 pub opening_way : (job : RunJob) (number : ℕ) (clock : Clock) (place : InterfacePlace) (table : StateTable) (packet : Packet) (direction : Direction) (P : Outcome → Type 0) → Opening job number clock place table packet direction P
     → (key : Key) → P (outcome_of table (opening job number clock place packet direction key))
 opening_way job number clock place table packet direction P o key =
-    hit_way job number clock place table packet direction P o (translations_visited job.rules packet direction) key (hit_of job.rules packet direction)
+    hit_way job number clock place table packet direction P o (translations_visited job.rules (name_in job place) packet direction) key (hit_of job.rules (name_in job place) packet direction)
 
 -- ---- the packet that is judged
 

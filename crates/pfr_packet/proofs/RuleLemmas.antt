@@ -32,7 +32,7 @@ use Rattle.pfr_packet.specs.declared.verdict.Reason.TheVariants as reason
 use Rattle.pfr_packet.specs.declared.verdict.Verdict.TheVariants as verdict
 use Rattle.pfr_packet.specs.Filtering.{allows_options, conduct_at, conduct_of, filtered, kept}
 use Rattle.pfr_packet.specs.Found.{passed, tracked}
-use Rattle.pfr_packet.specs.Job.{RunJob, is_skipped, timeouts_of}
+use Rattle.pfr_packet.specs.Job.{RunJob, is_skipped, name_in, timeouts_of}
 use Rattle.pfr_packet.specs.Keys.{side_of, subject_of, written_by}
 use Rattle.pfr_packet.specs.Laws.{AreRulesOf, SaysAsItsRule, policy_for, policy_of, says_no_sync}
 use Rattle.pfr_packet.specs.Making.{making, with_keys, with_room}
@@ -172,7 +172,7 @@ opened_told job answer number clock place table packet direction visits passage 
 
 opening_told : (job : RunJob) (number : ℕ) (clock : Clock) (place : InterfacePlace) (table : StateTable) (packet : Packet) (direction : Direction) (key : Key) → Told job.rules place (outcome_of table (opening job number clock place packet direction key))
 opening_told job number clock place table packet direction key = opening_way job number clock place table packet direction (Told job.rules place) (record {
-  goes = λ visits passage. (let answer = answer_for job.rules table direction packet passage in going_way job number clock place table packet direction (Told job.rules place) visits passage
+  goes = λ visits passage. (let answer = answer_for job.rules (name_in job place) table direction packet passage in going_way job number clock place table packet direction (Told job.rules place) visits passage
       (opened_told job answer number clock place table packet direction visits passage (judged_kept place job.rules answer direction packet passage) refl));
   has_no_port = λ rule visits. tt;
 }) key
@@ -190,8 +190,8 @@ tracked_told rules place direction packet state (touch.Touched next) = passed_to
 tracked_told rules place direction packet state touch.Mismatch = tt
 tracked_told rules place direction packet state touch.Removed = tt
 
-by_embedded_told : (job : RunJob) (place : InterfacePlace) (table : StateTable) (packet : Packet) (direction : Direction) (found : Option State) → Told job.rules place (outcome_of table (by_embedded job packet direction found))
-by_embedded_told job place table packet direction None = filtered_told job.rules place job.rules (filter_answer job.rules table packet direction) packet direction
+by_embedded_told : (job : RunJob) (place : InterfacePlace) (table : StateTable) (packet : Packet) (direction : Direction) (found : Option State) → Told job.rules place (outcome_of table (by_embedded job place packet direction found))
+by_embedded_told job place table packet direction None = filtered_told job.rules place job.rules (filter_answer job.rules (name_in job place) table packet direction) packet direction
 by_embedded_told job place table packet direction (Some state) = passed_told job.rules place direction packet state reason.StateError None (λ outcome. tt)
 
 by_connection_told : (job : RunJob) (number : ℕ) (clock : Clock) (place : InterfacePlace) (table : StateTable) (packet : Packet) (direction : Direction) (key : Key) (found : Option State)
@@ -201,7 +201,7 @@ by_connection_told job number clock place table packet direction key (Some state
 
 subject_told : (job : RunJob) (number : ℕ) (clock : Clock) (place : InterfacePlace) (table : StateTable) (packet : Packet) (direction : Direction) (subject : Subject)
     → Told job.rules place (outcome_of table (subject_plan job number clock place packet direction subject))
-subject_told job number clock place table packet direction Alone = filtered_told job.rules place job.rules (filter_answer job.rules table packet direction) packet direction
+subject_told job number clock place table packet direction Alone = filtered_told job.rules place job.rules (filter_answer job.rules (name_in job place) table packet direction) packet direction
 subject_told job number clock place table packet direction (Embedded key) = by_embedded_told job place table packet direction (found_in table (side_of direction) key (binding.To place))
 subject_told job number clock place table packet direction (Connection key) = by_connection_told job number clock place table packet direction key (found_in table (side_of direction) key (binding.To place))
 
@@ -216,9 +216,9 @@ skipped_told rules place table false other told = told
 plan_told : (job : RunJob) (number : ℕ) (clock : Clock) (place : InterfacePlace) (table : StateTable) (view : View) → Told job.rules place (outcome_of table (plan job number clock place view))
 unfolding plan
 plan_told job number clock place table Skip = tt
-plan_told job number clock place table Short = skipped_told job.rules place table (is_skipped job) _ tt
+plan_told job number clock place table Short = skipped_told job.rules place table (is_skipped job place) _ tt
 plan_told job number clock place table (Ipv4 packet) =
-    skipped_told job.rules place table (is_skipped job) (packet_plan job number clock place packet (direction_of job.inside packet))
+    skipped_told job.rules place table (is_skipped job place) (packet_plan job number clock place packet (direction_of job.inside packet))
     (packet_told job number clock place table packet (direction_of job.inside packet))
 
 made_told : (rules : Ruleset) (place : InterfacePlace) (outcome : Outcome) (state : State) (change : Option TableChange) → change ≡ Some (Made state) → ToldIf rules place outcome change → AreRulesOf rules place outcome state.rules

@@ -3,6 +3,7 @@ use Rattle.std.proofs.Common.{◌≡◌, ◌==◌, ℕ, Bool, true, false, Optio
 use Rattle.std.specs.List.{count_by}
 use Rattle.pfr_net.specs.declared.direction.Direction.{Direction}
 use Rattle.pfr_net.specs.declared.interface.Binding.TheVariants as binding
+use Rattle.pfr_net.specs.declared.interface.IfName.{IfName}
 use Rattle.pfr_net.specs.declared.interface.InterfacePlace.{InterfacePlace}
 use Rattle.pfr_ruleset.specs.declared.ruleset.Ruleset.{Ruleset}
 use Rattle.pfr_ruleset.specs.Translations.{HaveOwnNumbers}
@@ -37,7 +38,7 @@ use Rattle.pfr_packet.specs.declared.verdict.Reason.{Reason}
 use Rattle.pfr_packet.specs.declared.verdict.Reason.TheVariants as reason
 use Rattle.pfr_packet.specs.Filtering.{filtered}
 use Rattle.pfr_packet.specs.Found.{passed, tracked}
-use Rattle.pfr_packet.specs.Job.{RunJob, is_skipped, timeouts_of}
+use Rattle.pfr_packet.specs.Job.{RunJob, is_skipped, name_in, timeouts_of}
 use Rattle.pfr_packet.specs.Keys.{side_of, subject_of}
 use Rattle.pfr_packet.specs.Laws.{AtMostOnce}
 use Rattle.pfr_packet.specs.Making.{making, with_keys, with_room}
@@ -62,29 +63,29 @@ none_once number = (let none : count_by (λ other. other == number) [] ≡ 0 = r
 
 -- ---- filtered
 
-filter_once : (rules : Ruleset) (table : StateTable) (packet : Packet) (direction : Direction) → AtMostOnce (filter_answer rules table packet direction).visits
-filter_once rules table packet direction number = visited_once rules (rooms_in table) packet direction number
+filter_once : (rules : Ruleset) (name : IfName) (table : StateTable) (packet : Packet) (direction : Direction) → AtMostOnce (filter_answer rules name table packet direction).visits
+filter_once rules name table packet direction number = visited_once rules (rooms_in table) name packet direction number
 
-filtered_once : (rules : Ruleset) (table : StateTable) (packet : Packet) (direction : Direction) → VisitsOnce (filtered rules (filter_answer rules table packet direction) packet direction)
-filtered_once rules table packet direction =
-    let once = filter_once rules table packet direction in
-    filtered_way rules (filter_answer rules table packet direction) packet direction VisitsOnce (λ free. (once, none_once)) (once, none_once)
+filtered_once : (rules : Ruleset) (name : IfName) (table : StateTable) (packet : Packet) (direction : Direction) → VisitsOnce (filtered rules (filter_answer rules name table packet direction) packet direction)
+filtered_once rules name table packet direction =
+    let once = filter_once rules name table packet direction in
+    filtered_way rules (filter_answer rules name table packet direction) packet direction VisitsOnce (λ free. (once, none_once)) (once, none_once)
 
 -- ---- behind a passage
 
 -- the filter's answer, unless the packet isn't filtered
-answer_once : (rules : Ruleset) (table : StateTable) (direction : Direction) (packet : Packet) (passage : Passage) → AtMostOnce (answer_for rules table direction packet passage).visits
-answer_once rules table direction packet passage = by_passes passage.passes
+answer_once : (rules : Ruleset) (name : IfName) (table : StateTable) (direction : Direction) (packet : Packet) (passage : Passage) → AtMostOnce (answer_for rules name table direction packet passage).visits
+answer_once rules name table direction packet passage = by_passes passage.passes
   where
-    by_passes : (passes : Bool) → AtMostOnce (cond passes no_answer (filter_answer rules table (behind direction passage packet) direction)).visits
+    by_passes : (passes : Bool) → AtMostOnce (cond passes no_answer (filter_answer rules name table (behind direction passage packet) direction)).visits
     by_passes true = none_once
-    by_passes false = filter_once rules table (behind direction passage packet) direction
+    by_passes false = filter_once rules name table (behind direction passage packet) direction
 
-judged_once : (rules : Ruleset) (table : StateTable) (direction : Direction) (packet : Packet) (passage : Passage) (visits : List ℕ) → AtMostOnce visits
-    → VisitsOnce (judged rules (answer_for rules table direction packet passage) direction packet passage visits)
-judged_once rules table direction packet passage visits once =
-    let answered = answer_once rules table direction packet passage in
-    judged_way rules (answer_for rules table direction packet passage) direction packet passage visits VisitsOnce (record {
+judged_once : (rules : Ruleset) (name : IfName) (table : StateTable) (direction : Direction) (packet : Packet) (passage : Passage) (visits : List ℕ) → AtMostOnce visits
+    → VisitsOnce (judged rules (answer_for rules name table direction packet passage) direction packet passage visits)
+judged_once rules name table direction packet passage visits once =
+    let answered = answer_once rules name table direction packet passage in
+    judged_way rules (answer_for rules name table direction packet passage) direction packet passage visits VisitsOnce (record {
       passed = λ free. (none_once, once);
       passed_blocked = (none_once, once);
       decides = λ free. (answered, once);
@@ -119,10 +120,10 @@ opened_visits job number clock place table packet direction passage outcome (Som
 going_once : (job : RunJob) (number : ℕ) (clock : Clock) (place : InterfacePlace) (table : StateTable) (packet : Packet) (direction : Direction) (visits : List ℕ) → AtMostOnce visits → (passage : Passage)
     → VisitsOnce (outcome_of table (going job number clock place packet direction visits passage))
 going_once job number clock place table packet direction visits once passage =
-    let answer : FilterAnswer = answer_for job.rules table direction packet passage in
+    let answer : FilterAnswer = answer_for job.rules (name_in job place) table direction packet passage in
     let outcome : Outcome = judged job.rules answer direction packet passage visits in
     let same = opened_visits job number clock place table packet direction passage outcome (judged_kept place job.rules answer direction packet passage) in
-    going_way job number clock place table packet direction VisitsOnce visits passage (subst EachOnce (sym same) (judged_once job.rules table direction packet passage visits once))
+    going_way job number clock place table packet direction VisitsOnce visits passage (subst EachOnce (sym same) (judged_once job.rules (name_in job place) table direction packet passage visits once))
 
 -- ---- the first packet of a connection
 
@@ -147,8 +148,8 @@ hit_once job number clock place table packet direction visits once key (Some hit
 opening_once : (job : RunJob) (number : ℕ) (clock : Clock) (place : InterfacePlace) (table : StateTable) (packet : Packet) (direction : Direction) → HaveOwnNumbers job.rules.translations → (key : Key)
     → VisitsOnce (outcome_of table (opening job number clock place packet direction key))
 opening_once job number clock place table packet direction own key =
-    let once : AtMostOnce (translations_visited job.rules packet direction) = λ rule. translation_visited_once job.rules packet direction rule own in
-    hit_once job number clock place table packet direction (translations_visited job.rules packet direction) once key (hit_of job.rules packet direction)
+    let once : AtMostOnce (translations_visited job.rules (name_in job place) packet direction) = λ rule. translation_visited_once job.rules (name_in job place) packet direction rule own in
+    hit_once job number clock place table packet direction (translations_visited job.rules (name_in job place) packet direction) once key (hit_of job.rules (name_in job place) packet direction)
 
 -- ---- a packet whose state is found
 
@@ -162,9 +163,9 @@ tracked_once direction packet state touch.Removed = (none_once, none_once)
 
 -- ---- along the plan
 
-embedded_once : (job : RunJob) (table : StateTable) (packet : Packet) (direction : Direction) (found : Option State) → VisitsOnce (outcome_of table (by_embedded job packet direction found))
-embedded_once job table packet direction None = filtered_once job.rules table packet direction
-embedded_once job table packet direction (Some state) = passed_once direction packet state reason.StateError None
+embedded_once : (job : RunJob) (place : InterfacePlace) (table : StateTable) (packet : Packet) (direction : Direction) (found : Option State) → VisitsOnce (outcome_of table (by_embedded job place packet direction found))
+embedded_once job place table packet direction None = filtered_once job.rules (name_in job place) table packet direction
+embedded_once job place table packet direction (Some state) = passed_once direction packet state reason.StateError None
 
 connection_once : (job : RunJob) (number : ℕ) (clock : Clock) (place : InterfacePlace) (table : StateTable) (packet : Packet) (direction : Direction) → HaveOwnNumbers job.rules.translations → (key : Key) (found : Option State)
     → VisitsOnce (outcome_of table (by_connection job number clock place packet direction key found))
@@ -173,8 +174,8 @@ connection_once job number clock place table packet direction own key (Some stat
 
 subject_once : (job : RunJob) (number : ℕ) (clock : Clock) (place : InterfacePlace) (table : StateTable) (packet : Packet) (direction : Direction) → HaveOwnNumbers job.rules.translations → (subject : Subject)
     → VisitsOnce (outcome_of table (subject_plan job number clock place packet direction subject))
-subject_once job number clock place table packet direction own Alone = filtered_once job.rules table packet direction
-subject_once job number clock place table packet direction own (Embedded key) = embedded_once job table packet direction (found_in table (side_of direction) key (binding.To place))
+subject_once job number clock place table packet direction own Alone = filtered_once job.rules (name_in job place) table packet direction
+subject_once job number clock place table packet direction own (Embedded key) = embedded_once job place table packet direction (found_in table (side_of direction) key (binding.To place))
 subject_once job number clock place table packet direction own (Connection key) = connection_once job number clock place table packet direction own key (found_in table (side_of direction) key (binding.To place))
 
 packet_once : (job : RunJob) (number : ℕ) (clock : Clock) (place : InterfacePlace) (table : StateTable) (packet : Packet) (direction : Direction) → HaveOwnNumbers job.rules.translations
@@ -189,9 +190,9 @@ skipped_once table false other once = once
 plan_once : (job : RunJob) (number : ℕ) (clock : Clock) (place : InterfacePlace) (table : StateTable) → HaveOwnNumbers job.rules.translations → (view : View) → VisitsOnce (outcome_of table (plan job number clock place view))
 unfolding plan
 plan_once job number clock place table own Skip = (none_once, none_once)
-plan_once job number clock place table own Short = skipped_once table (is_skipped job) _ (none_once, none_once)
+plan_once job number clock place table own Short = skipped_once table (is_skipped job place) _ (none_once, none_once)
 plan_once job number clock place table own (Ipv4 packet) =
-    skipped_once table (is_skipped job) (packet_plan job number clock place packet (direction_of job.inside packet)) (packet_once job number clock place table packet (direction_of job.inside packet) own)
+    skipped_once table (is_skipped job place) (packet_plan job number clock place packet (direction_of job.inside packet)) (packet_once job number clock place table packet (direction_of job.inside packet) own)
 
 pub visits_once : (job : RunJob) (number : ℕ) (clock : Clock) (place : InterfacePlace) (view : View) (table : StateTable) → HaveOwnNumbers job.rules.translations → VisitsOnce (step_of job number clock place view table)
 unfolding step_of

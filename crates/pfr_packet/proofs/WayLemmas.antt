@@ -37,12 +37,12 @@ use Rattle.pfr_packet.specs.declared.verdict.Reason.{Reason}
 use Rattle.pfr_packet.specs.declared.verdict.Reason.TheVariants as reason
 use Rattle.pfr_packet.specs.Filtering.{conduct_at, conduct_of, filtered, reason_of}
 use Rattle.pfr_packet.specs.Found.{embedded, tracked}
-use Rattle.pfr_packet.specs.Job.{RunJob, is_skipped, timeouts_of}
+use Rattle.pfr_packet.specs.Job.{RunJob, is_skipped, name_in, timeouts_of}
 use Rattle.pfr_packet.specs.Keys.{message_subject, side_of, subject_by, subject_of}
 use Rattle.pfr_packet.specs.Laws.{HasLeave, IsUntouched}
 use Rattle.pfr_packet.specs.Making.{making, with_keys, with_made, with_room}
 use Rattle.pfr_packet.specs.Outcomes.{blocked, none_visited, without_leave}
-use Rattle.pfr_packet.specs.Passages.{behind, exhausted, judged, judged_kept}
+use Rattle.pfr_packet.specs.Passages.{exhausted, judged, judged_kept}
 use Rattle.pfr_states.specs.Answers.{found_in, has_room_in, purged_at}
 use Rattle.pfr_packet.specs.Plan.{FilterAnswer, Plan, done, filter_answer, outcome_of}
 use Rattle.pfr_packet.specs.Steps.{answer_for, asked_of, by_connection, by_embedded, opened, packet_plan, passed_over, plan, step_of, subject_plan}
@@ -55,12 +55,12 @@ abbrev pub NoneFound : InterfacePlace → StateTable → Packet → Direction �
 NoneFound place table packet direction = (key : Key) → ((subject_of direction packet ≡ Embedded key) ⊎ (subject_of direction packet ≡ Connection key)) → found_in table (side_of direction) key (binding.To place) ≡ None
 
 -- what becomes of the first packet of a connection behind a passage
-abbrev pub judged_in : RunJob → StateTable → Packet → Direction → Passage → List ℕ → Outcome
-judged_in job table packet direction passage visits = judged job.rules (answer_for job.rules table direction packet passage) direction packet passage visits
+abbrev pub judged_in : RunJob → InterfacePlace → StateTable → Packet → Direction → Passage → List ℕ → Outcome
+judged_in job place table packet direction passage visits = judged job.rules (answer_for job.rules (name_in job place) table direction packet passage) direction packet passage visits
 
 -- what the state says of its rules that it may make
 abbrev pub kept_in : RunJob → InterfacePlace → StateTable → Packet → Direction → Passage → Option StateRules
-kept_in job place table packet direction passage = judged_kept place job.rules (answer_for job.rules table direction packet passage) direction packet passage
+kept_in job place table packet direction passage = judged_kept place job.rules (answer_for job.rules (name_in job place) table direction packet passage) direction packet passage
 
 -- it is the first packet of its connection
 pub record IsFirst (place : InterfacePlace) (table : StateTable) (packet : Packet) (direction : Direction) : Type 0 where
@@ -70,40 +70,40 @@ pub record IsFirst (place : InterfacePlace) (table : StateTable) (packet : Packe
 
 -- what holds of the outcome, whichever way the packet goes
 pub record Ways (job : RunJob) (place : InterfacePlace) (table : StateTable) (packet : Packet) (direction : Direction) (P : Outcome → Type 0) : Type 0 where
-  pub by_rules : NoneFound place table packet direction → P (filtered job.rules (filter_answer job.rules table packet direction) packet direction)
+  pub by_rules : NoneFound place table packet direction → P (filtered job.rules (filter_answer job.rules (name_in job place) table packet direction) packet direction)
   pub by_error : (key : Key) (state : State) → subject_of direction packet ≡ Embedded key → found_in table (side_of direction) key (binding.To place) ≡ Some state → P (embedded direction packet state)
   pub by_state : (key : Key) (state : State) (t : Touch) → subject_of direction packet ≡ Connection key → found_in table (side_of direction) key (binding.To place) ≡ Some state → P (tracked direction packet state t)
-  pub goes : (passage : Passage) (visits : List ℕ) → IsFirst place table packet direction → P (judged_in job table packet direction passage visits)
-  pub makes : (passage : Passage) (visits : List ℕ) (state : State) → IsFirst place table packet direction → lets_pass (judged_in job table packet direction passage visits).verdict ≡ true
-      → kept_in job place table packet direction passage ≡ Some state.rules → P (with_made packet state (judged_in job table packet direction passage visits))
-  pub has_no_place : (passage : Passage) (visits : List ℕ) → IsFirst place table packet direction → P (blocked reason.StateInsert (judged_in job table packet direction passage visits))
-  pub has_no_room : (passage : Passage) (visits : List ℕ) → IsFirst place table packet direction → has_room_in table ≡ false → P (blocked reason.StateLimit (judged_in job table packet direction passage visits))
+  pub goes : (passage : Passage) (visits : List ℕ) → IsFirst place table packet direction → P (judged_in job place table packet direction passage visits)
+  pub makes : (passage : Passage) (visits : List ℕ) (state : State) → IsFirst place table packet direction → lets_pass (judged_in job place table packet direction passage visits).verdict ≡ true
+      → kept_in job place table packet direction passage ≡ Some state.rules → P (with_made packet state (judged_in job place table packet direction passage visits))
+  pub has_no_place : (passage : Passage) (visits : List ℕ) → IsFirst place table packet direction → P (blocked reason.StateInsert (judged_in job place table packet direction passage visits))
+  pub has_no_room : (passage : Passage) (visits : List ℕ) → IsFirst place table packet direction → has_room_in table ≡ false → P (blocked reason.StateLimit (judged_in job place table packet direction passage visits))
   pub has_no_port : (rule : RuleNumber) (visits : List ℕ) → IsFirst place table packet direction → P (exhausted direction rule visits)
 
 room_way : (job : RunJob) (place : InterfacePlace) (table : StateTable) (packet : Packet) (direction : Direction) (P : Outcome → Type 0) → Ways job place table packet direction P → (passage : Passage) (visits : List ℕ) (state : State)
-    → IsFirst place table packet direction → lets_pass (judged_in job table packet direction passage visits).verdict ≡ true → kept_in job place table packet direction passage ≡ Some state.rules → (room : Bool) → has_room_in table ≡ room
-    → P (outcome_of table (with_room packet state (judged_in job table packet direction passage visits) room))
+    → IsFirst place table packet direction → lets_pass (judged_in job place table packet direction passage visits).verdict ≡ true → kept_in job place table packet direction passage ≡ Some state.rules → (room : Bool) → has_room_in table ≡ room
+    → P (outcome_of table (with_room packet state (judged_in job place table packet direction passage visits) room))
 room_way job place table packet direction P w passage visits state first passes kept true room = w.makes passage visits state first passes kept
 room_way job place table packet direction P w passage visits state first passes kept false room = w.has_no_room passage visits first room
 
 keys_way : (job : RunJob) (place : InterfacePlace) (table : StateTable) (packet : Packet) (direction : Direction) (P : Outcome → Type 0) → Ways job place table packet direction P → (passage : Passage) (visits : List ℕ) (state : State)
-    → IsFirst place table packet direction → lets_pass (judged_in job table packet direction passage visits).verdict ≡ true → kept_in job place table packet direction passage ≡ Some state.rules → (wire stack : Option State)
-    → P (outcome_of table (with_keys packet state (judged_in job table packet direction passage visits) wire stack))
+    → IsFirst place table packet direction → lets_pass (judged_in job place table packet direction passage visits).verdict ≡ true → kept_in job place table packet direction passage ≡ Some state.rules → (wire stack : Option State)
+    → P (outcome_of table (with_keys packet state (judged_in job place table packet direction passage visits) wire stack))
 keys_way job place table packet direction P w passage visits state first passes kept None None = room_way job place table packet direction P w passage visits state first passes kept (has_room_in table) refl
 keys_way job place table packet direction P w passage visits state first passes kept None (Some other) = w.has_no_place passage visits first
 keys_way job place table packet direction P w passage visits state first passes kept (Some other) _ = w.has_no_place passage visits first
 
 passing_way : (job : RunJob) (place : InterfacePlace) (table : StateTable) (packet : Packet) (direction : Direction) (P : Outcome → Type 0) → Ways job place table packet direction P → (passage : Passage) (visits : List ℕ) (state : State)
-    → IsFirst place table packet direction → kept_in job place table packet direction passage ≡ Some state.rules → (test : Bool) → lets_pass (judged_in job table packet direction passage visits).verdict ≡ test
-    → P (outcome_of table (cond test (making packet state (judged_in job table packet direction passage visits)) (done (judged_in job table packet direction passage visits))))
+    → IsFirst place table packet direction → kept_in job place table packet direction passage ≡ Some state.rules → (test : Bool) → lets_pass (judged_in job place table packet direction passage visits).verdict ≡ test
+    → P (outcome_of table (cond test (making packet state (judged_in job place table packet direction passage visits)) (done (judged_in job place table packet direction passage visits))))
 passing_way job place table packet direction P w passage visits state first kept true passes = keys_way job place table packet direction P w passage visits state first passes kept (found_in table Wire state.wire state.rules.binding) (found_in table Stack state.stack state.rules.binding)
 passing_way job place table packet direction P w passage visits state first kept false passes = w.goes passage visits first
 
 opened_way : (job : RunJob) (number : ℕ) (clock : Clock) (place : InterfacePlace) (table : StateTable) (packet : Packet) (direction : Direction) (passage : Passage) (visits : List ℕ) (P : Outcome → Type 0) → Ways job place table packet direction P
-    → IsFirst place table packet direction → (kept : Option StateRules) → kept_in job place table packet direction passage ≡ kept → P (outcome_of table (opened job number clock place packet direction passage (judged_in job table packet direction passage visits) kept))
+    → IsFirst place table packet direction → (kept : Option StateRules) → kept_in job place table packet direction passage ≡ kept → P (outcome_of table (opened job number clock place packet direction passage (judged_in job place table packet direction passage visits) kept))
 opened_way job number clock place table packet direction passage visits P w first None is = w.goes passage visits first
 opened_way job number clock place table packet direction passage visits P w first (Some rules) is =
-    passing_way job place table packet direction P w passage visits (made (record { 0 = number }) packet direction place passage.wire passage.stack rules clock (timeouts_of job)) first is (lets_pass (judged_in job table packet direction passage visits).verdict) refl
+    passing_way job place table packet direction P w passage visits (made (record { 0 = number }) packet direction place passage.wire passage.stack rules clock (timeouts_of job)) first is (lets_pass (judged_in job place table packet direction passage visits).verdict) refl
 
 -- the subject of a packet is one
 none_at : (place : InterfacePlace) (table : StateTable) (packet : Packet) (direction : Direction) (subject : Subject) (key : Key) → subject_of direction packet ≡ subject → (subject ≡ Embedded key) ⊎ (subject ≡ Connection key)
@@ -117,7 +117,7 @@ none_at place table packet direction subject key is one none = λ other at. rw (
     same_key other (inr a) (inr b) = (let e : Connection other ≡ Connection key = sym a ∙ b in cc e)
 
 embedded_way : (job : RunJob) (place : InterfacePlace) (table : StateTable) (packet : Packet) (direction : Direction) (P : Outcome → Type 0) → Ways job place table packet direction P → (key : Key) → subject_of direction packet ≡ Embedded key
-    → (found : Option State) → found_in table (side_of direction) key (binding.To place) ≡ found → P (outcome_of table (by_embedded job packet direction found))
+    → (found : Option State) → found_in table (side_of direction) key (binding.To place) ≡ found → P (outcome_of table (by_embedded job place packet direction found))
 embedded_way job place table packet direction P w key is None none = w.by_rules (none_at place table packet direction (Embedded key) key is (inl refl) none)
 embedded_way job place table packet direction P w key is (Some state) found = w.by_error key state is found
 
@@ -154,7 +154,7 @@ pub step_way : (job : RunJob) (number : ℕ) (clock : Clock) (place : InterfaceP
     → P (step_of job number clock place (Ipv4 packet) table)
 unfolding step_of plan
 step_way job number clock place table packet P over w =
-    skipped_way (purged_at clock table) P (is_skipped job) (packet_plan job number clock place packet (direction_of job.inside packet)) over
+    skipped_way (purged_at clock table) P (is_skipped job place) (packet_plan job number clock place packet (direction_of job.inside packet)) over
     (packet_way job number clock place (purged_at clock table) packet (direction_of job.inside packet) P w)
 
 -- ---- what holds of every outcome
@@ -175,7 +175,7 @@ subject_opens direction packet transport.Other key opens is = cc opens
 pub no_state_of : (job : RunJob) (number : ℕ) (clock : Clock) (place : InterfacePlace) (packet : Packet) (table : StateTable) → opens_connection packet.transport ≡ false → (step_of job number clock place (Ipv4 packet) table).change ≡ None
 no_state_of job number clock place packet table opens =
     let direction = direction_of job.inside packet in
-    let answer = filter_answer job.rules (purged_at clock table) packet direction in
+    let answer = filter_answer job.rules (name_in job place) (purged_at clock table) packet direction in
     let by_rules : (filtered job.rules answer packet direction).change ≡ None = filtered_way job.rules answer packet direction (λ o. o.change ≡ None) (λ free. refl) refl in
     step_way job number clock place table packet (λ o. o.change ≡ None) refl (record {
       by_rules = λ none. by_rules;
@@ -223,16 +223,16 @@ reason_by decision is = by_rule decision.rule is
     by_rule None is = cc is
     by_rule (Some number) is = cc is
 
-filtered_lacks : (job : RunJob) (table : StateTable) (packet : Packet) (direction : Direction) → LacksRoom table (filtered job.rules (filter_answer job.rules table packet direction) packet direction)
-filtered_lacks job table packet direction =
-    let answer = filter_answer job.rules table packet direction in
+filtered_lacks : (job : RunJob) (place : InterfacePlace) (table : StateTable) (packet : Packet) (direction : Direction) → LacksRoom table (filtered job.rules (filter_answer job.rules (name_in job place) table packet direction) packet direction)
+filtered_lacks job place table packet direction =
+    let answer = filter_answer job.rules (name_in job place) table packet direction in
     filtered_way job.rules answer packet direction (LacksRoom table) (λ free is. absurd (reason_by answer.decision is)) (λ is. absurd (cc is))
 
-judged_lacks : (job : RunJob) (table : StateTable) (packet : Packet) (direction : Direction) (passage : Passage) (visits : List ℕ) → LacksRoom table (judged_in job table packet direction passage visits)
-judged_lacks job table packet direction passage visits = judged_way job.rules (answer_for job.rules table direction packet passage) direction packet passage visits (LacksRoom table) (record {
+judged_lacks : (job : RunJob) (place : InterfacePlace) (table : StateTable) (packet : Packet) (direction : Direction) (passage : Passage) (visits : List ℕ) → LacksRoom table (judged_in job place table packet direction passage visits)
+judged_lacks job place table packet direction passage visits = judged_way job.rules (answer_for job.rules (name_in job place) table direction packet passage) direction packet passage visits (LacksRoom table) (record {
   passed = λ free is. absurd (cc is);
   passed_blocked = λ is. absurd (cc is);
-  decides = λ free is. absurd (reason_by (answer_for job.rules table direction packet passage).decision is);
+  decides = λ free is. absurd (reason_by (answer_for job.rules (name_in job place) table direction packet passage).decision is);
   decides_blocked = λ is. absurd (cc is);
 })
 
@@ -246,11 +246,11 @@ limit_of job number clock place packet table =
     let direction = direction_of job.inside packet in
     let now = purged_at clock table in
     step_way job number clock place table packet (LacksRoom now) (λ is. absurd (cc is)) (record {
-      by_rules = λ none. filtered_lacks job now packet direction;
+      by_rules = λ none. filtered_lacks job place now packet direction;
       by_error = λ key state is found. either_blocked (LacksRoom now) _ reason.IpOption (passing direction packet state reason.StateError None) (λ free is. absurd (cc is)) (λ is. absurd (cc is));
       by_state = λ key state t is found. tracked_lacks now direction packet state t;
-      goes = λ passage visits first. judged_lacks job now packet direction passage visits;
-      makes = λ passage visits state first passes kept. judged_lacks job now packet direction passage visits;
+      goes = λ passage visits first. judged_lacks job place now packet direction passage visits;
+      makes = λ passage visits state first passes kept. judged_lacks job place now packet direction passage visits;
       has_no_place = λ passage visits first is. absurd (cc is);
       has_no_room = λ passage visits first full is. full;
       has_no_port = λ rule visits first is. absurd (cc is);
@@ -269,10 +269,10 @@ pub unwritten_of : (job : RunJob) (number : ℕ) (clock : Clock) (place : Interf
 unwritten_of job number clock place packet table =
     let direction = direction_of job.inside packet in
     step_way job number clock place table packet Unwritten (λ stops. absurd (cc stops)) (record {
-      by_rules = λ none. filtered_way job.rules (filter_answer job.rules (purged_at clock table) packet direction) packet direction Unwritten (λ free stops. refl) (λ stops. refl);
+      by_rules = λ none. filtered_way job.rules (filter_answer job.rules (name_in job place) (purged_at clock table) packet direction) packet direction Unwritten (λ free stops. refl) (λ stops. refl);
       by_error = λ key state is found. either_blocked Unwritten _ reason.IpOption (passing direction packet state reason.StateError None) (λ free stops. absurd (cc stops)) (λ stops. refl);
       by_state = λ key state t is found. tracked_unwritten direction packet state t;
-      goes = λ passage visits first stops. judged_writes_nothing job.rules (answer_for job.rules (purged_at clock table) direction packet passage) direction packet passage visits;
+      goes = λ passage visits first stops. judged_writes_nothing job.rules (answer_for job.rules (name_in job place) (purged_at clock table) direction packet passage) direction packet passage visits;
       makes = λ passage visits state first passes kept stops. (let both : true ≡ false = sym passes ∙ stops in absurd (cc both));
       has_no_place = λ passage visits first stops. refl;
       has_no_room = λ passage visits first full stops. refl;
@@ -322,13 +322,13 @@ no_options true none is = cc none
 no_options false none is = cc is
 
 -- the rule that decides on a packet behind its translation, where its IP options pass
-judged_rule : (job : RunJob) (table : StateTable) (packet : Packet) (direction : Direction) (passage : Passage) (visits : List ℕ) → has_options packet ≡ true → lets_pass (judged_in job table packet direction passage visits).verdict ≡ true
-    → RuleWithLeave job.rules.filter.rules (judged_in job table packet direction passage visits).rule
-judged_rule job table packet direction passage visits options lets =
-    judged_way job.rules (answer_for job.rules table direction packet passage) direction packet passage visits (λ o. lets_pass o.verdict ≡ true → RuleWithLeave job.rules.filter.rules o.rule) (record {
+judged_rule : (job : RunJob) (place : InterfacePlace) (table : StateTable) (packet : Packet) (direction : Direction) (passage : Passage) (visits : List ℕ) → has_options packet ≡ true → lets_pass (judged_in job place table packet direction passage visits).verdict ≡ true
+    → RuleWithLeave job.rules.filter.rules (judged_in job place table packet direction passage visits).rule
+judged_rule job place table packet direction passage visits options lets =
+    judged_way job.rules (answer_for job.rules (name_in job place) table direction packet passage) direction packet passage visits (λ o. lets_pass o.verdict ≡ true → RuleWithLeave job.rules.filter.rules o.rule) (record {
       passed = λ free passes. absurd (no_options (has_options packet) free options);
       passed_blocked = λ passes. absurd (cc passes);
-      decides = λ free passes. rule_with_leave job.rules.filter.rules (answer_for job.rules table direction packet passage).decision.rule
+      decides = λ free passes. rule_with_leave job.rules.filter.rules (answer_for job.rules (name_in job place) table direction packet passage).decision.rule
           (third_false _ _ _ free passes (behind_options direction passage packet ∙ options));
       decides_blocked = λ passes. absurd (cc passes);
     }) lets
@@ -339,18 +339,18 @@ leave_of job number clock place packet table =
     let now = purged_at clock table in
     let rules = job.rules.filter.rules in
     step_way job number clock place table packet (ByLeave rules now.states packet) (λ options passes skipped. absurd (skipped refl)) (record {
-      by_rules = λ none. filtered_leave job (filter_answer job.rules now packet direction) now.states packet direction;
+      by_rules = λ none. filtered_leave job (filter_answer job.rules (name_in job place) now packet direction) now.states packet direction;
       by_error = λ key state is found. state_leave now rules direction packet state reason.StateError None (found_in_states now (side_of direction) key (binding.To place) state found);
       by_state = λ key state t is found. tracked_leave now rules direction packet state t (found_in_states now (side_of direction) key (binding.To place) state found);
-      goes = λ passage visits first options passes skipped. inl (judged_rule job now packet direction passage visits options passes);
-      makes = λ passage visits state first lets kept options passes skipped. inl (judged_rule job now packet direction passage visits options lets);
+      goes = λ passage visits first options passes skipped. inl (judged_rule job place now packet direction passage visits options passes);
+      makes = λ passage visits state first lets kept options passes skipped. inl (judged_rule job place now packet direction passage visits options lets);
       has_no_place = λ passage visits first options passes skipped. absurd (cc passes);
       has_no_room = λ passage visits first full options passes skipped. absurd (cc passes);
       has_no_port = λ rule visits first options passes skipped. absurd (cc passes);
     })
 
 -- what is passed over
-pub untouched_of : (job : RunJob) (number : ℕ) (clock : Clock) (place : InterfacePlace) (view : View) (table : StateTable) → (view ≡ Skip) ⊎ (is_skipped job ≡ true) → IsUntouched (step_of job number clock place view table) × (asked_of job number clock place view table ≡ [])
+pub untouched_of : (job : RunJob) (number : ℕ) (clock : Clock) (place : InterfacePlace) (view : View) (table : StateTable) → (view ≡ Skip) ⊎ (is_skipped job place ≡ true) → IsUntouched (step_of job number clock place view table) × (asked_of job number clock place view table ≡ [])
 unfolding step_of asked_of plan
 untouched_of job number clock place Skip table over = (record { goes_on = inr refl; change_is = refl; bytes_are = refl; state_is = refl; rule_is = refl; translation_is = refl; visited_is = refl }, refl)
 untouched_of job number clock place Short table (inl is) = absurd (cc is)

@@ -28,7 +28,7 @@ use Rattle.pfr_states.specs.Answers.{found_in}
 use Rattle.pfr_states.specs.States.{IsTable, StateTable, lives}
 use Rattle.pfr_packet.specs.declared.keys.Subject.TheVariants.{Connection}
 use Rattle.pfr_packet.specs.declared.outcome.Outcome.{Outcome}
-use Rattle.pfr_packet.specs.Job.{RunJob}
+use Rattle.pfr_packet.specs.Job.{RunJob, is_skipped}
 use Rattle.pfr_packet.specs.Keys.{opposite, side_of, subject_of, written_by}
 use Rattle.pfr_packet.specs.Steps.{step_of}
 use Rattle.pfr_packet.specs.Verdicts.{lets_pass}
@@ -141,7 +141,8 @@ AnswersGoBack =
     → IsAnswerTo (sent_on packet (step_of job number clock place (Ipv4 packet) table).bytes) answer
     → GoesBack (direction_of job.inside packet) packet answer state
 
--- and so it is evaluated on each interface to which the state is bound, over each later table in which the state still lives
+-- and so it is evaluated on each interface to which the state is bound and which is filtered as the packet's own is, over each
+-- later table in which the state still lives
 abbrev pub AnswersAreBroughtBack : Type 0
 AnswersAreBroughtBack =
     (job : RunJob) (number next : ℕ) (clock now : Clock) (place back : InterfacePlace) (packet answer : Packet) (table after : StateTable) (state later : State)
@@ -153,4 +154,5 @@ AnswersAreBroughtBack =
     → lives now later ≡ true
     → IsLater state later
     → meets later.rules.binding (To back) ≡ true
+    → is_skipped job back ≡ is_skipped job place
     → IsBroughtBack packet answer later (step_of job next now back (Ipv4 answer) after)

@@ -2,6 +2,7 @@
 use Rattle.std.specs.Prelude.{ℕ, Bool, false, List, [], Option, Some, None}
 use Rattle.std.specs.List.{slice_get}
 use Rattle.pfr_net.specs.declared.direction.Direction.{Direction}
+use Rattle.pfr_net.specs.declared.interface.IfName.{IfName}
 use Rattle.pfr_net.specs.declared.rule_number.RuleNumber.{RuleNumber}
 use Rattle.pfr_ruleset.specs.declared.flat.FilterAction.{FilterAction}
 use Rattle.pfr_ruleset.specs.declared.flat.FilterAction.TheVariants as action
@@ -71,12 +72,12 @@ allows_options rules answer = (conduct_of rules.filter.rules answer.decision.rul
 unfoldable pub kept : Ruleset → FilterAnswer → Option StateRule
 kept rules answer = (conduct_of rules.filter.rules answer.decision.rule).state
 
--- all three, where a table says which rules have room
-abbrev pub filtered_over : Ruleset → StateTable → Packet → Direction → Outcome
-filtered_over rules table packet direction = filtered rules (filter_answer rules table packet direction) packet direction
+-- all three for a packet on the interface of a name, where a table says which rules have room
+abbrev pub filtered_over : Ruleset → IfName → StateTable → Packet → Direction → Outcome
+filtered_over rules name table packet direction = filtered rules (filter_answer rules name table packet direction) packet direction
 
-abbrev pub leave_over : Ruleset → StateTable → Packet → Direction → Bool
-leave_over rules table packet direction = allows_options rules (filter_answer rules table packet direction)
+abbrev pub leave_over : Ruleset → IfName → StateTable → Packet → Direction → Bool
+leave_over rules name table packet direction = allows_options rules (filter_answer rules name table packet direction)
 
-abbrev pub kept_over : Ruleset → StateTable → Packet → Direction → Option StateRule
-kept_over rules table packet direction = kept rules (filter_answer rules table packet direction)
+abbrev pub kept_over : Ruleset → IfName → StateTable → Packet → Direction → Option StateRule
+kept_over rules name table packet direction = kept rules (filter_answer rules name table packet direction)

@@ -220,7 +220,7 @@ BlockedOnlyRemoves =
 abbrev pub PassedOverChangesNothing : Type 0
 PassedOverChangesNothing =
     (job : RunJob) (number : ℕ) (clock : Clock) (place : InterfacePlace) (view : View) (table : StateTable)
-    → (view ≡ Skip) ⊎ (is_skipped job ≡ true)
+    → (view ≡ Skip) ⊎ (is_skipped job place ≡ true)
     → IsUntouched (step_of job number clock place view table) × (asked_of job number clock place view table ≡ [])
 
 -- what opens no connection changes no state

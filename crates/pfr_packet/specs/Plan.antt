@@ -3,6 +3,7 @@ use Rattle.std.specs.Prelude.{◌≡◌, ℕ, Bool, List, [], ◌∷◌, ◌++�
 use Rattle.std.specs.List.{All}
 use Rattle.pfr_net.specs.declared.direction.Direction.{Direction}
 use Rattle.pfr_net.specs.declared.interface.Binding.{Binding}
+use Rattle.pfr_net.specs.declared.interface.IfName.{IfName}
 use Rattle.pfr_ruleset.specs.declared.flat.FilterAction.TheVariants.{Pass}
 use Rattle.pfr_ruleset.specs.declared.ruleset.Ruleset.{Ruleset}
 use Rattle.pfr_headers.specs.declared.packet.Packet.{Packet}
@@ -19,7 +20,7 @@ use Rattle.pfr_packet.specs.declared.outcome.Outcome.{Outcome}
 
 -- ---- the filter's answer
 
--- what the filter answers for a packet: which rule decides, and which were visited
+-- what the filter answers for a packet on the interface of a name: which rule decides, and which were visited
 pub record FilterAnswer : Type 0 where
   pub decision : Decision
   pub visits : List ℕ
@@ -29,35 +30,36 @@ abbrev pub no_answer : FilterAnswer
 no_answer = record { decision = record { rule = None; action = Pass }; visits = [] }
 
 -- where a table says which rules have room
-abbrev pub filter_answer : Ruleset → StateTable → Packet → Direction → FilterAnswer
-filter_answer rules table packet direction = record {
-  decision = decision_of rules (rooms_in table) packet direction;
-  visits = visited rules (rooms_in table) packet direction;
+abbrev pub filter_answer : Ruleset → IfName → StateTable → Packet → Direction → FilterAnswer
+filter_answer rules name table packet direction = record {
+  decision = decision_of rules (rooms_in table) name packet direction;
+  visits = visited rules (rooms_in table) name packet direction;
 }
 
 -- ---- plans
 
--- An evaluation is done with an outcome, or it asks a question, or what the filter makes of a packet, and goes on by the answer.
+-- An evaluation is done with an outcome, or it asks a question, or what the filter makes of a packet on the interface of a name,
+-- and goes on by the answer.
 pub data Plan : Type 0 where
   done : Outcome → Plan
   ask_at : Side → Key → Binding → (Option State → Plan) → Plan
   ask_room : (Bool → Plan) → Plan
-  ask_filter : Ruleset → Packet → Direction → (FilterAnswer → Plan) → Plan
+  ask_filter : Ruleset → IfName → Packet → Direction → (FilterAnswer → Plan) → Plan
 
 -- what it comes to, where a table answers
 abbrev pub outcome_of : StateTable → Plan → Outcome
 outcome_of table (done outcome) = outcome
 outcome_of table (ask_at side key scope next) = outcome_of table (next (found_in table side key scope))
 outcome_of table (ask_room next) = outcome_of table (next (has_room_in table))
-outcome_of table (ask_filter rules packet direction next) = outcome_of table (next (filter_answer rules table packet direction))
+outcome_of table (ask_filter rules name packet direction next) = outcome_of table (next (filter_answer rules name table packet direction))
 
 -- what it asks, where a table answers
 abbrev pub questions_of : StateTable → Plan → List Question
 questions_of table (done outcome) = []
 questions_of table (ask_at side key scope next) = At side key scope ∷ questions_of table (next (found_in table side key scope))
 questions_of table (ask_room next) = Room ∷ questions_of table (next (has_room_in table))
-questions_of table (ask_filter rules packet direction next) =
-    rooms_asked rules (rooms_in table) packet direction ++ questions_of table (next (filter_answer rules table packet direction))
+questions_of table (ask_filter rules name packet direction next) =
+    rooms_asked rules (rooms_in table) name packet direction ++ questions_of table (next (filter_answer rules name table packet direction))
 
 -- what went as a plan says: the outcome is the plan's, and all that the plan asks was asked
 pub record Goes (table : StateTable) (steps : Plan) (outcome : Outcome) (asked : Question → Type 0) : Type 0 where

@@ -14,6 +14,7 @@
 use Rattle.std.specs.Prelude.{ℕ, Bool, true, false, if◌then◌else◌, List, [], Option, Some, None}
 use Rattle.pfr_net.specs.declared.direction.Direction.{Direction}
 use Rattle.pfr_net.specs.declared.interface.Binding.TheVariants.{To}
+use Rattle.pfr_net.specs.declared.interface.IfName.{IfName}
 use Rattle.pfr_net.specs.declared.interface.InterfacePlace.{InterfacePlace}
 use Rattle.pfr_ruleset.specs.declared.flat.NatAddress.{NatAddress}
 use Rattle.pfr_ruleset.specs.declared.flat.StateRule.{StateRule}
@@ -44,7 +45,7 @@ use Rattle.pfr_packet.specs.declared.verdict.Reason.TheVariants as reason
 use Rattle.pfr_packet.specs.declared.verdict.Verdict.TheVariants as verdict
 use Rattle.pfr_packet.specs.Filtering.{filtered, filtered_over, kept_over, leave_over}
 use Rattle.pfr_packet.specs.Found.{embedded, tracked}
-use Rattle.pfr_packet.specs.Job.{RunJob, is_skipped, timeouts_of}
+use Rattle.pfr_packet.specs.Job.{RunJob, is_skipped, name_in, timeouts_of}
 use Rattle.pfr_packet.specs.Keys.{side_of, subject_of}
 use Rattle.pfr_packet.specs.Making.{making}
 use Rattle.pfr_packet.specs.Outcomes.{unseen}
@@ -55,17 +56,18 @@ use Rattle.pfr_packet.specs.Verdicts.{lets_pass}
 
 -- ---- filtered without a state
 
-abbrev pub alone : RunJob → Packet → Direction → Plan
-alone job packet direction = ask_filter job.rules packet direction (λ answer. done (filtered job.rules answer packet direction))
+abbrev pub alone : RunJob → InterfacePlace → Packet → Direction → Plan
+alone job place packet direction =
+    ask_filter job.rules (name_in job place) packet direction (λ answer. done (filtered job.rules answer packet direction))
 
 -- ---- an error, by the packet that it embeds
 
-abbrev pub by_embedded : RunJob → Packet → Direction → Option State → Plan
-by_embedded job packet direction None = alone job packet direction
-by_embedded job packet direction (Some state) = done (embedded direction packet state)
+abbrev pub by_embedded : RunJob → InterfacePlace → Packet → Direction → Option State → Plan
+by_embedded job place packet direction None = alone job place packet direction
+by_embedded job place packet direction (Some state) = done (embedded direction packet state)
 
 abbrev pub asking_embedded : RunJob → InterfacePlace → Packet → Direction → Key → Plan
-asking_embedded job place packet direction key = ask_at (side_of direction) key (To place) (by_embedded job packet direction)
+asking_embedded job place packet direction key = ask_at (side_of direction) key (To place) (by_embedded job place packet direction)
 
 -- ---- a packet of a connection
 
@@ -81,14 +83,15 @@ opened job number clock place packet direction passage outcome (Some rules) =
     then making packet (made (record { 0 = number }) packet direction place passage.wire passage.stack rules clock (timeouts_of job)) outcome
     else done outcome
 
--- what the filter answers for a packet behind a passage over a table, unless the packet isn't filtered
-abbrev pub answer_for : Ruleset → StateTable → Direction → Packet → Passage → FilterAnswer
-answer_for rules table direction packet passage = if passage.passes then no_answer else filter_answer rules table (behind direction passage packet) direction
+-- what the filter answers for a packet on the interface of a name, behind a passage over a table, unless the packet isn't filtered
+abbrev pub answer_for : Ruleset → IfName → StateTable → Direction → Packet → Passage → FilterAnswer
+answer_for rules name table direction packet passage =
+    if passage.passes then no_answer else filter_answer rules name table (behind direction passage packet) direction
 
 -- the filter is asked, unless the packet isn't filtered
-abbrev pub unless_passed : Ruleset → Packet → Direction → Bool → (FilterAnswer → Plan) → Plan
-unless_passed rules packet direction true next = next no_answer
-unless_passed rules packet direction false next = ask_filter rules packet direction next
+abbrev pub unless_passed : Ruleset → IfName → Packet → Direction → Bool → (FilterAnswer → Plan) → Plan
+unless_passed rules name packet direction true next = next no_answer
+unless_passed rules name packet direction false next = ask_filter rules name packet direction next
 
 -- it goes on by the filter's answer
 abbrev pub going_on : RunJob → ℕ → Clock → InterfacePlace → Packet → Direction → List ℕ → Passage → FilterAnswer → Plan
@@ -98,7 +101,8 @@ going_on job number clock place packet direction visits passage answer =
 -- it goes through by a passage; these translation rules were visited
 abbrev pub going : RunJob → ℕ → Clock → InterfacePlace → Packet → Direction → List ℕ → Passage → Plan
 going job number clock place packet direction visits passage =
-    unless_passed job.rules (behind direction passage packet) direction passage.passes (going_on job number clock place packet direction visits passage)
+    unless_passed job.rules (name_in job place) (behind direction passage packet) direction passage.passes
+    (going_on job number clock place packet direction visits passage)
 
 -- with a key on the wire that was picked, if one is free
 abbrev pub by_pick : RunJob → ℕ → Clock → InterfacePlace → Packet → Direction → List ℕ → Key → Hit → Option Key → Plan
@@ -120,7 +124,8 @@ by_hit job number clock place packet direction visits key (Some hit) = by_end jo
 
 abbrev pub opening : RunJob → ℕ → Clock → InterfacePlace → Packet → Direction → Key → Plan
 opening job number clock place packet direction key =
-    by_hit job number clock place packet direction (translations_visited job.rules packet direction) key (hit_of job.rules packet direction)
+    by_hit job number clock place packet direction
+    (translations_visited job.rules (name_in job place) packet direction) key (hit_of job.rules (name_in job place) packet direction)
 
 abbrev pub by_connection : RunJob → ℕ → Clock → InterfacePlace → Packet → Direction → Key → Option State → Plan
 by_connection job number clock place packet direction key None = opening job number clock place packet direction key
@@ -132,7 +137,7 @@ asking_connection job number clock place packet direction key = ask_at (side_of 
 -- ---- an IPv4 packet
 
 abbrev pub subject_plan : RunJob → ℕ → Clock → InterfacePlace → Packet → Direction → Subject → Plan
-subject_plan job number clock place packet direction Alone = alone job packet direction
+subject_plan job number clock place packet direction Alone = alone job place packet direction
 subject_plan job number clock place packet direction (Embedded key) = asking_embedded job place packet direction key
 subject_plan job number clock place packet direction (Connection key) = asking_connection job number clock place packet direction key
 
@@ -145,14 +150,19 @@ abbrev pub embedded_plan : Arrival → Key → Plan
 embedded_plan arrival key = asking_embedded arrival.job.now arrival.place arrival.packet.now arrival.direction key
 
 abbrev pub alone_plan : Arrival → Plan
-alone_plan arrival = alone arrival.job.now arrival.packet.now arrival.direction
+alone_plan arrival = alone arrival.job.now arrival.place arrival.packet.now arrival.direction
 
 abbrev pub behind_passage : Arrival → Passage → Packet
 behind_passage arrival passage = behind arrival.direction passage arrival.packet.now
 
+-- the name of its interface
+abbrev pub name_of : Arrival → IfName
+name_of arrival = name_in arrival.job.now arrival.place
+
 -- what is asked for it of the rooms of rules
 abbrev pub asked_behind : Arrival → StateTable → Passage → List Question
-asked_behind arrival table passage = rooms_asked arrival.job.now.rules (rooms_in table) (behind_passage arrival passage) arrival.direction
+asked_behind arrival table passage =
+    rooms_asked arrival.job.now.rules (rooms_in table) (name_of arrival) (behind_passage arrival passage) arrival.direction
 
 abbrev pub asked_for : Arrival → StateTable → Passage → List Question
 asked_for arrival table passage = if passage.passes then [] else asked_behind arrival table passage
@@ -160,23 +170,26 @@ asked_for arrival table passage = if passage.passes then [] else asked_behind ar
 -- what the filter makes of it there over a table, whether the rule that decides allows IP options, and the state that this rule
 -- keeps
 abbrev pub filtered_behind : Arrival → StateTable → Passage → Outcome
-filtered_behind arrival table passage = filtered_over arrival.job.now.rules table (behind_passage arrival passage) arrival.direction
+filtered_behind arrival table passage = filtered_over arrival.job.now.rules (name_of arrival) table (behind_passage arrival passage) arrival.direction
 
 abbrev pub leave_behind : Arrival → StateTable → Passage → Bool
-leave_behind arrival table passage = leave_over arrival.job.now.rules table (behind_passage arrival passage) arrival.direction
+leave_behind arrival table passage = leave_over arrival.job.now.rules (name_of arrival) table (behind_passage arrival passage) arrival.direction
 
 abbrev pub state_behind : Arrival → StateTable → Passage → Option StateRule
-state_behind arrival table passage = kept_over arrival.job.now.rules table (behind_passage arrival passage) arrival.direction
+state_behind arrival table passage = kept_over arrival.job.now.rules (name_of arrival) table (behind_passage arrival passage) arrival.direction
 
 -- what becomes of it behind a passage over a table, which isn't filtered where the passage lets it pass, and what the state says of
 -- its rules that it may make
 abbrev pub judged_for : Arrival → StateTable → Passage → List ℕ → Outcome
 judged_for arrival table passage visits =
-    judged arrival.job.now.rules (answer_for arrival.job.now.rules table arrival.direction arrival.packet.now passage) arrival.direction arrival.packet.now passage visits
+    judged arrival.job.now.rules (answer_for arrival.job.now.rules (name_of arrival) table arrival.direction arrival.packet.now passage)
+    arrival.direction arrival.packet.now passage visits
 
 abbrev pub kept_for : Arrival → StateTable → Passage → Option StateRules
 kept_for arrival table passage =
-    judged_kept arrival.place arrival.job.now.rules (answer_for arrival.job.now.rules table arrival.direction arrival.packet.now passage) arrival.direction arrival.packet.now passage
+    judged_kept arrival.place arrival.job.now.rules
+    (answer_for arrival.job.now.rules (name_of arrival) table arrival.direction arrival.packet.now passage)
+    arrival.direction arrival.packet.now passage
 
 abbrev pub opened_plan : Arrival → Passage → Outcome → Option StateRules → Plan
 opened_plan arrival passage outcome kept = opened arrival.job.now arrival.number arrival.clock arrival.place arrival.packet.now arrival.direction passage outcome kept
@@ -200,8 +213,9 @@ passed_over = unseen verdict.Pass reason.SkipOn
 
 unfoldable pub plan : RunJob → ℕ → Clock → InterfacePlace → View → Plan
 plan job number clock place Skip = done (unseen verdict.Skip reason.NotIp)
-plan job number clock place Short = if is_skipped job then done passed_over else done (unseen verdict.Block reason.Short)
-plan job number clock place (Ipv4 packet) = if is_skipped job then done passed_over else packet_plan job number clock place packet (direction_of job.inside packet)
+plan job number clock place Short = if is_skipped job place then done passed_over else done (unseen verdict.Block reason.Short)
+plan job number clock place (Ipv4 packet) =
+    if is_skipped job place then done passed_over else packet_plan job number clock place packet (direction_of job.inside packet)
 
 -- ---- over a table
 

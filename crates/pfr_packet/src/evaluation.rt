@@ -62,9 +62,11 @@ impl Arrival<'_> {
         ensures kept { (question : Question) → A.asked answers.old question → A.asked answers.new question }
     {
         let rules = self.job.rules();
+        let name = self.job.name_in(self.place);
         filter_into(
             self.alloc,
             rules,
+            &name,
             self.packet,
             self.direction,
             answers,
@@ -169,10 +171,12 @@ impl Arrival<'_> {
         ensures kept { (question : Question) → A.asked answers.old question → A.asked answers.new question }
     {
         let rules = self.job.rules();
+        let name = self.job.name_in(self.place);
         match passage.translated(self.direction, self.packet) {
             None => filter_into(
                 self.alloc,
                 rules,
+                &name,
                 self.packet,
                 self.direction,
                 answers,
@@ -181,6 +185,7 @@ impl Arrival<'_> {
             Some(packet) => filter_into(
                 self.alloc,
                 rules,
+                &name,
                 &packet,
                 self.direction,
                 answers,
@@ -309,7 +314,14 @@ impl Arrival<'_> {
         ensures goes { OnOk result (Goes (A.seen answers.old) (spec.opening_plan self.now key.now) outcome.new (A.asked answers.new)) }
         ensures kept { (question : Question) → A.asked answers.old question → A.asked answers.new question }
     {
-        let (hit, visits) = translate(self.alloc, self.job.rules(), self.packet, self.direction)?;
+        let name = self.job.name_in(self.place);
+        let (hit, visits) = translate(
+            self.alloc,
+            self.job.rules(),
+            &name,
+            self.packet,
+            self.direction,
+        )?;
         self.by_hit(key, hit, visits, answers, outcome)
     }
 }
@@ -366,11 +378,11 @@ pub fn step_into<A: Answers>(
     let packet = match view {
         // A fresh outcome is that of such a packet.
         View::Skip => return Ok(()),
-        View::Short if !job.is_skipped() => {
+        View::Short if !job.is_skipped(place) => {
             *outcome = Outcome::unseen(alloc, Verdict::Block, Reason::Short);
             return Ok(());
         }
-        View::Ipv4(packet) if !job.is_skipped() => packet,
+        View::Ipv4(packet) if !job.is_skipped(place) => packet,
         View::Short | View::Ipv4(_) => {
             *outcome = Outcome::unseen(alloc, Verdict::Pass, Reason::SkipOn);
             return Ok(());

@@ -9,7 +9,7 @@ ghost use Rattle.pfr_packet.specs.Outcomes.{fresh};
 use crate::outcome::Outcome;
 use crate::verdict::{Reason, Verdict};
 use pfr_headers::Packet;
-use pfr_net::{Direction, RuleNumber};
+use pfr_net::{Direction, IfName, RuleNumber};
 use pfr_rules::{Decision, RuleRoom, Visits, filter};
 use pfr_ruleset::{FilterAction, FlatRule, Ruleset, StateRule};
 use std::alloc::{AllocError, Global};
@@ -76,12 +76,14 @@ fn decide(outcome: &mut Outcome, direction: Direction, decision: Decision, visit
     outcome.visited.filter = visits;
 }
 
-/// What the filter makes of a packet by itself, written over a fresh outcome. One with IP options that are not allowed doesn't pass.
-/// It answers what the rule that decides says beyond its verdict. Rules with `max` are asked whether they have room.
+/// What the filter makes of a packet on the interface of this name by itself, written over a fresh outcome. One with IP
+/// options that are not allowed doesn't pass. It answers what the rule that decides says beyond its verdict. Rules with `max`
+/// are asked whether they have room.
 #[tactic(auto, unfolding(crate::specs::Filtering::filtered, crate::specs::Filtering::allows_options, crate::specs::Filtering::kept))]
 pub(crate) fn filter_into<R: RuleRoom>(
     alloc: Global,
     rules: &Ruleset,
+    name: &IfName,
     packet: &Packet,
     direction: Direction,
     rooms: &mut R,
@@ -89,13 +91,13 @@ pub(crate) fn filter_into<R: RuleRoom>(
 ) -> Result<Conduct, AllocError>
     requires { outcome.old ≡ fresh }
     ensures seen { R.seen rooms.new ≡ R.seen rooms.old }
-    ensures outcome { OnOk result (outcome.new ≡ spec.filtered_over rules.now (R.seen rooms.old) packet.now direction) }
-    ensures leave { IfOk result (λ conduct. conduct.allows_options ≡ spec.leave_over rules.now (R.seen rooms.old) packet.now direction) }
-    ensures state { IfOk result (λ conduct. conduct.state ≡ spec.kept_over rules.now (R.seen rooms.old) packet.now direction) }
-    ensures asked { OnOk result (All (R.asked rooms.new) (rooms_asked rules.now (rooms_in (R.seen rooms.old)) packet.now direction)) }
+    ensures outcome { OnOk result (outcome.new ≡ spec.filtered_over rules.now name.now (R.seen rooms.old) packet.now direction) }
+    ensures leave { IfOk result (λ conduct. conduct.allows_options ≡ spec.leave_over rules.now name.now (R.seen rooms.old) packet.now direction) }
+    ensures state { IfOk result (λ conduct. conduct.state ≡ spec.kept_over rules.now name.now (R.seen rooms.old) packet.now direction) }
+    ensures asked { OnOk result (All (R.asked rooms.new) (rooms_asked rules.now (rooms_in (R.seen rooms.old)) name.now packet.now direction)) }
     ensures kept { (question : Question) → R.asked rooms.old question → R.asked rooms.new question }
 {
-    let (decision, visits) = filter(alloc, rules, packet, direction, rooms)?;
+    let (decision, visits) = filter(alloc, rules, name, packet, direction, rooms)?;
     let conduct = conduct_of(rules.filter.rules(), decision.rule);
     decide(outcome, direction, decision, visits);
     outcome.ask_leave(packet, conduct.allows_options);

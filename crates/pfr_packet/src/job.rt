@@ -9,17 +9,17 @@ use pfr_conf::{ConfError, ConfErrorKind};
 use pfr_criteria::is_named;
 use pfr_expand::ruleset_of;
 use pfr_items::Items;
-use pfr_net::{Net, Timeouts};
+use pfr_net::{IfName, InterfacePlace, Net, Timeouts};
 use pfr_ruleset::{Interface, Ruleset};
 use std::alloc::Global;
 use std::marker::Model;
 
-/// What every packet of a run is evaluated by: the ruleset's text, the interface, the inside networks and the seed, and the
-/// ruleset that the text means for the interface. Two jobs are one where the first four are.
+/// What every packet of a run is evaluated by: the ruleset's text, the interfaces, the inside networks and the seed, and
+/// the ruleset that the text means for the interfaces. Two jobs are one where the first four are.
 #[derive(Drop)]
 pub struct Job {
     text: Items<u8>,
-    interface: Interface,
+    interfaces: Items<Interface>,
     inside: Items<Net>,
     seed: [u8; 32],
     rules: Ruleset,
@@ -32,9 +32,9 @@ impl Model for Job {
 
     ghost Value = { RunJob };
 
-    ghost view = { λ j. record { text = j.text; interface = j.interface; inside = j.inside; seed = j.seed; rules = j.rules } };
+    ghost view = { λ j. record { text = j.text; interfaces = j.interfaces; inside = j.inside; seed = j.seed; rules = j.rules } };
 
-    ghost invariant = { λ j. ruleset_of j.text j.interface ≡ Ok j.rules };
+    ghost invariant = { λ j. ruleset_of j.text j.interfaces ≡ Ok j.rules };
 }
 
 impl Job {
@@ -43,35 +43,39 @@ impl Job {
     pub fn new(
         alloc: Global,
         text: &[u8],
-        interface: Interface,
+        interfaces: &[Interface],
         inside: &[Net],
         seed: [u8; 32],
     ) -> Result<Job, ConfError>
-        ensures inputs { IfOk result (λ job. (job.text ≡ text.now) × (job.interface ≡ interface) × (job.inside ≡ inside.now) × (job.seed ≡ seed)) }
-        ensures meaning { IfOk result (λ job. ruleset_of text.now interface ≡ Ok job.rules) }
-        ensures fault { IfErr result (λ fault. Gives (ruleset_of text.now interface) (Err fault)) }
+        ensures inputs { IfOk result (λ j. (j.text ≡ text.now) × (j.interfaces ≡ interfaces.now) × (j.inside ≡ inside.now) × (j.seed ≡ seed)) }
+        ensures meaning { IfOk result (λ job. ruleset_of text.now interfaces.now ≡ Ok job.rules) }
+        ensures fault { IfErr result (λ fault. Gives (ruleset_of text.now interfaces.now) (Err fault)) }
         ensures memory { IfErr result (λ fault. fault.kind ≡ Memory → fault.line ≡ 0) }
     {
-        let rules = ruleset_of(alloc, text, &interface)?;
-        Job::of(alloc, text, interface, inside, seed, rules)
+        let rules = ruleset_of(alloc, text, interfaces)?;
+        Job::of(alloc, text, interfaces, inside, seed, rules)
     }
 
     /// A job whose ruleset is known.
     fn of(
         alloc: Global,
         text: &[u8],
-        interface: Interface,
+        interfaces: &[Interface],
         inside: &[Net],
         seed: [u8; 32],
         rules: Ruleset,
     ) -> Result<Job, ConfError>
-        requires { ruleset_of text.now interface ≡ Ok rules }
-        ensures inputs { IfOk result (λ job. (job.text ≡ text.now) × (job.interface ≡ interface) × (job.inside ≡ inside.now) × (job.seed ≡ seed)) }
+        requires { ruleset_of text.now interfaces.now ≡ Ok rules }
+        ensures inputs { IfOk result (λ j. (j.text ≡ text.now) × (j.interfaces ≡ interfaces.now) × (j.inside ≡ inside.now) × (j.seed ≡ seed)) }
         ensures meaning { IfOk result (λ job. job.rules ≡ rules) }
         ensures memory { IfErr result (λ fault. (fault.kind ≡ Memory) × (fault.line ≡ 0)) }
     {
         let text = match Items::copied(alloc, text) {
             Ok(text) => text,
+            Err(_) => return Err(no_memory()),
+        };
+        let interfaces = match Items::copied(alloc, interfaces) {
+            Ok(interfaces) => interfaces,
             Err(_) => return Err(no_memory()),
         };
         let inside = match Items::copied(alloc, inside) {
@@ -80,7 +84,7 @@ impl Job {
         };
         Ok(Job {
             text,
-            interface,
+            interfaces,
             inside,
             seed,
             rules,
@@ -91,7 +95,7 @@ impl Job {
     pub fn is_same(&self, other: &Job) -> bool
         ensures { IsTrue result ↔ (self.now ≡ other.now) }
     {
-        is_same_interface(&self.interface, &other.interface)
+        are_same_interfaces(self.interfaces.as_slice(), other.interfaces.as_slice())
             && is_same_bytes(&self.seed, &other.seed)
             && are_same_networks(self.inside.as_slice(), other.inside.as_slice())
             && is_same_bytes(self.text.as_slice(), other.text.as_slice())
@@ -105,12 +109,12 @@ impl Job {
         self.text.as_slice()
     }
 
-    /// The interface on which the packets were captured.
+    /// The interfaces on which the packets were captured, by their places.
     #[inline]
-    pub fn interface(&self) -> &Interface
-        ensures { result.now ≡ self.now.interface }
+    pub fn interfaces(&self) -> &[Interface]
+        ensures { result.now ≡ self.now.interfaces }
     {
-        &self.interface
+        self.interfaces.as_slice()
     }
 
     /// The ruleset that the text means.
@@ -137,13 +141,21 @@ impl Job {
         &self.seed
     }
 
-    /// Whether packets of the interface aren't filtered (pf.conf(5), "set skip on").
-    pub(crate) fn is_skipped(&self) -> bool
-        ensures { result ≡ spec.is_skipped self.now }
+    /// The name of the interface at a place.
+    #[inline]
+    pub fn name_in(&self, place: InterfacePlace) -> IfName
+        ensures { result ≡ spec.name_in self.now place }
     {
-        let name = &self.interface.name;
+        self.rules.name_at(place)
+    }
+
+    /// Whether packets of the interface at a place aren't filtered (pf.conf(5), "set skip on").
+    pub(crate) fn is_skipped(&self, place: InterfacePlace) -> bool
+        ensures { result ≡ spec.is_skipped self.now place }
+    {
+        let name = self.name_in(place);
         let skipped = self.rules.options.skipped.as_slice();
-        skipped.iter().any(|other| is_named(other, name))
+        skipped.iter().any(|other| is_named(other, &name))
     }
 
     /// The timeouts of the ruleset.
@@ -167,7 +179,7 @@ fn are_same_networks(first: &[Net], second: &[Net]) -> bool
     first == second
 }
 
-fn is_same_interface(first: &Interface, second: &Interface) -> bool
+fn are_same_interfaces(first: &[Interface], second: &[Interface]) -> bool
     ensures { IsTrue result ↔ (first.now ≡ second.now) }
 {
     first == second

@@ -59,8 +59,8 @@ pub fn answers_go_back()
     ensures { AnswersGoBack }
 {}
 
-/// Such an answer is evaluated by that state, on an interface to which it is bound and as long as it lives: it names the state, and if it passes it is
-/// sent on from where the packet was going to where the packet came from.
+/// Such an answer is evaluated by that state, as long as it lives, on an interface to which it is bound and which is filtered
+/// as the packet's own is: it names the state, and if it passes it is sent on from where the packet was going to where the packet came from.
 pub fn answers_are_brought_back()
     ensures { AnswersAreBroughtBack }
 {}
@@ -78,8 +78,8 @@ pub fn what_is_blocked_only_removes()
     what_a_packet_leaves();
 }
 
-/// What is no IPv4 packet, and all packets where those of the interface aren't filtered, are passed over: they go on as they
-/// are, nothing is asked of the table, and nothing changes.
+/// What is no IPv4 packet, and each packet whose interface isn't filtered, is passed over: it goes on as it is,
+/// nothing is asked of the table, and nothing changes.
 pub fn what_is_passed_over_changes_nothing()
     ensures { PassedOverChangesNothing }
 {}

@@ -4,6 +4,7 @@ use Rattle.std.specs.List.{Contains, slice_get, list_any, list_all, filter}
 use Rattle.std.proofs.lemmas.Bool.{cases_lt, leb-true, le-leb, lt-leb}
 use Rattle.std.proofs.lemmas.List.Elements.{All-contains, filter_passes}
 use Rattle.pfr_net.specs.declared.direction.Direction.{Direction}
+use Rattle.pfr_net.specs.declared.interface.IfName.{IfName}
 use Rattle.pfr_ruleset.specs.declared.flat.FlatAnchor.{FlatAnchor}
 use Rattle.pfr_ruleset.specs.declared.ruleset.Ruleset.{Ruleset}
 use Rattle.pfr_headers.specs.declared.packet.Packet.{Packet}
@@ -30,30 +31,30 @@ all_for p a b (x ∷ before) behind same = (let rest = all_for p a b before behi
 not_round : (round x y : Bool) → round ≡ false → (not round || x) ≡ (not round || y)
 not_round round x y is = rw is refl
 
-module _ (flat other : Ruleset) (rooms : Rooms) (packet : Packet) (direction : Direction) (a b : FlatAnchor) (s : IsSameButAnchor a b flat other) where
+module _ (flat other : Ruleset) (rooms : Rooms) (name : IfName) (packet : Packet) (direction : Direction) (a b : FlatAnchor) (s : IsSameButAnchor a b flat other) where
   abbrev here : ℕ → Bool
-  here = hit flat rooms packet direction
+  here = hit flat rooms name packet direction
 
   abbrev there : ℕ → Bool
-  there = hit other rooms packet direction
+  there = hit other rooms name packet direction
 
   abbrev inside_here : ℕ → Bool
-  inside_here = is_inside (anchored flat packet direction) flat.filter.anchors
+  inside_here = is_inside (anchored flat name packet direction) flat.filter.anchors
 
   abbrev inside_there : ℕ → Bool
-  inside_there = is_inside (anchored other packet direction) other.filter.anchors
+  inside_there = is_inside (anchored other name packet direction) other.filter.anchors
 
   -- whether an anchor lets in a place
   abbrev lets_in : ℕ → FlatAnchor → Bool
-  lets_in k x = not (is_round x k) || anchored flat packet direction x
+  lets_in k x = not (is_round x k) || anchored flat name packet direction x
 
   inside_kept : (k : ℕ) → lets_in k b ≡ lets_in k a → inside_there k ≡ inside_here k
   inside_kept k same =
-      inside_same (anchored flat packet direction) (anchored other packet direction) other.filter.anchors k (λ x. rw (s.name_is, s.tables_are) refl)
+      inside_same (anchored flat name packet direction) (anchored other name packet direction) other.filter.anchors k (λ x. rw s.tables_are refl)
       ∙ ap (list_all (lets_in k)) s.others_are ∙ all_for (lets_in k) a b s.before s.behind same ∙ sym (ap (list_all (lets_in k)) s.anchors_are)
 
   hit_kept : (k : ℕ) → inside_there k ≡ inside_here k → there k ≡ here k
-  hit_kept k inside = rw (inside, s.rules_are, s.name_is, s.tables_are) refl
+  hit_kept k inside = rw (inside, s.rules_are, s.tables_are) refl
 
   -- all hits are the same, and which places the anchor ends
   module _ (hits : (k : ℕ) → there k ≡ here k) (alike : (k : ℕ) → ends here k b ≡ ends here k a) where
@@ -83,42 +84,42 @@ none_in p a none = none_below (λ k. nat_le a.first k && p k) (a.last + 1) (λ k
 ends_nowhere : (p : ℕ → Bool) (k : ℕ) (a : FlatAnchor) → some_in p a ≡ false → ends p k a ≡ false
 ends_nowhere p k a none = and_right a.is_quick (a.last == k && some_in p a) (and_right (a.last == k) (some_in p a) none)
 
-module _ (flat other : Ruleset) (rooms : Rooms) (packet : Packet) (direction : Direction) (anchor : FlatAnchor) (quick : Bool) (none : NoneHits anchor flat rooms packet direction) (s : IsSameButAnchor anchor (quick_or_not quick anchor) flat other) where
-  insides_quick : (k : ℕ) → is_inside (anchored other packet direction) other.filter.anchors k ≡ is_inside (anchored flat packet direction) flat.filter.anchors k
+module _ (flat other : Ruleset) (rooms : Rooms) (name : IfName) (packet : Packet) (direction : Direction) (anchor : FlatAnchor) (quick : Bool) (none : NoneHits anchor flat rooms name packet direction) (s : IsSameButAnchor anchor (quick_or_not quick anchor) flat other) where
+  insides_quick : (k : ℕ) → is_inside (anchored other name packet direction) other.filter.anchors k ≡ is_inside (anchored flat name packet direction) flat.filter.anchors k
   unfolding anchor_holds
-  insides_quick k = inside_kept flat other rooms packet direction anchor (quick_or_not quick anchor) s k refl
+  insides_quick k = inside_kept flat other rooms name packet direction anchor (quick_or_not quick anchor) s k refl
 
-  hits_quick : (k : ℕ) → hit other rooms packet direction k ≡ hit flat rooms packet direction k
-  hits_quick k = hit_kept flat other rooms packet direction anchor (quick_or_not quick anchor) s k (insides_quick k)
+  hits_quick : (k : ℕ) → hit other rooms name packet direction k ≡ hit flat rooms name packet direction k
+  hits_quick k = hit_kept flat other rooms name packet direction anchor (quick_or_not quick anchor) s k (insides_quick k)
 
-  nowhere : some_in (hit flat rooms packet direction) anchor ≡ false
-  nowhere = none_in (hit flat rooms packet direction) anchor none
+  nowhere : some_in (hit flat rooms name packet direction) anchor ≡ false
+  nowhere = none_in (hit flat rooms name packet direction) anchor none
 
-  ends_quick : (k : ℕ) → ends (hit flat rooms packet direction) k (quick_or_not quick anchor) ≡ ends (hit flat rooms packet direction) k anchor
-  ends_quick k = ends_nowhere (hit flat rooms packet direction) k (quick_or_not quick anchor) nowhere ∙ sym (ends_nowhere (hit flat rooms packet direction) k anchor nowhere)
+  ends_quick : (k : ℕ) → ends (hit flat rooms name packet direction) k (quick_or_not quick anchor) ≡ ends (hit flat rooms name packet direction) k anchor
+  ends_quick k = ends_nowhere (hit flat rooms name packet direction) k (quick_or_not quick anchor) nowhere ∙ sym (ends_nowhere (hit flat rooms name packet direction) k anchor nowhere)
 
-  reached_quick : reach_by (hit other rooms packet direction) other.filter ≡ reach_by (hit flat rooms packet direction) flat.filter
-  reached_quick = reached_kept flat other rooms packet direction anchor (quick_or_not quick anchor) s hits_quick ends_quick
+  reached_quick : reach_by (hit other rooms name packet direction) other.filter ≡ reach_by (hit flat rooms name packet direction) flat.filter
+  reached_quick = reached_kept flat other rooms name packet direction anchor (quick_or_not quick anchor) s hits_quick ends_quick
 
-  walks_quick : AreSameWalks (hit flat rooms packet direction) (hit other rooms packet direction) (is_inside (anchored flat packet direction) flat.filter.anchors) (is_inside (anchored other packet direction) other.filter.anchors) (reach_by (hit flat rooms packet direction) flat.filter) (reach_by (hit other rooms packet direction) other.filter)
-  walks_quick = same_walks (hit flat rooms packet direction) (hit other rooms packet direction) (is_inside (anchored flat packet direction) flat.filter.anchors) (is_inside (anchored other packet direction) other.filter.anchors)
-      (reach_by (hit flat rooms packet direction) flat.filter) (reach_by (hit other rooms packet direction) other.filter) reached_quick (λ k below. hits_quick k) (λ k below. insides_quick k)
+  walks_quick : AreSameWalks (hit flat rooms name packet direction) (hit other rooms name packet direction) (is_inside (anchored flat name packet direction) flat.filter.anchors) (is_inside (anchored other name packet direction) other.filter.anchors) (reach_by (hit flat rooms name packet direction) flat.filter) (reach_by (hit other rooms name packet direction) other.filter)
+  walks_quick = same_walks (hit flat rooms name packet direction) (hit other rooms name packet direction) (is_inside (anchored flat name packet direction) flat.filter.anchors) (is_inside (anchored other name packet direction) other.filter.anchors)
+      (reach_by (hit flat rooms name packet direction) flat.filter) (reach_by (hit other rooms name packet direction) other.filter) reached_quick (λ k below. hits_quick k) (λ k below. insides_quick k)
 
-pub quick_says_nothing : (flat other : Ruleset) (rooms : Rooms) (packet : Packet) (direction : Direction) (anchor : FlatAnchor) (quick : Bool) → NoneHits anchor flat rooms packet direction → IsSameButAnchor anchor (quick_or_not quick anchor) flat other
-    → GoesTheSameWay flat other rooms packet direction
+pub quick_says_nothing : (flat other : Ruleset) (rooms : Rooms) (name : IfName) (packet : Packet) (direction : Direction) (anchor : FlatAnchor) (quick : Bool) → NoneHits anchor flat rooms name packet direction → IsSameButAnchor anchor (quick_or_not quick anchor) flat other
+    → GoesTheSameWay flat other rooms name packet direction
 unfolding deciding reach visited
-quick_says_nothing flat other rooms packet direction anchor quick none s = (let both = walks_quick flat other rooms packet direction anchor quick none s in record { decides = both.0; visits = both.1 })
+quick_says_nothing flat other rooms name packet direction anchor quick none s = (let both = walks_quick flat other rooms name packet direction anchor quick none s in record { decides = both.0; visits = both.1 })
 
 -- ---- an anchor that asks for something else
 
-module _ (flat other : Ruleset) (rooms : Rooms) (packet : Packet) (direction : Direction) (anchor asked : FlatAnchor) (none_here : NoneHits anchor flat rooms packet direction) (none_there : NoneHits anchor other rooms packet direction) (s : IsSameButAnchor anchor (asking_like asked anchor) flat other) where
+module _ (flat other : Ruleset) (rooms : Rooms) (name : IfName) (packet : Packet) (direction : Direction) (anchor asked : FlatAnchor) (none_here : NoneHits anchor flat rooms name packet direction) (none_there : NoneHits anchor other rooms name packet direction) (s : IsSameButAnchor anchor (asking_like asked anchor) flat other) where
   -- a place that the anchor doesn't stand round
-  kept_outside : (k : ℕ) → is_round anchor k ≡ false → hit other rooms packet direction k ≡ hit flat rooms packet direction k
-  kept_outside k outside = hit_kept flat other rooms packet direction anchor (asking_like asked anchor) s k
-      (inside_kept flat other rooms packet direction anchor (asking_like asked anchor) s k
-      (not_round (is_round anchor k) (anchored flat packet direction (asking_like asked anchor)) (anchored flat packet direction anchor) outside))
+  kept_outside : (k : ℕ) → is_round anchor k ≡ false → hit other rooms name packet direction k ≡ hit flat rooms name packet direction k
+  kept_outside k outside = hit_kept flat other rooms name packet direction anchor (asking_like asked anchor) s k
+      (inside_kept flat other rooms name packet direction anchor (asking_like asked anchor) s k
+      (not_round (is_round anchor k) (anchored flat name packet direction (asking_like asked anchor)) (anchored flat name packet direction anchor) outside))
 
-  hits_asked : (k : ℕ) → hit other rooms packet direction k ≡ hit flat rooms packet direction k
+  hits_asked : (k : ℕ) → hit other rooms name packet direction k ≡ hit flat rooms name packet direction k
   hits_asked k = elim (cases_lt k anchor.first) [
     | inl before ↦ kept_outside k (and_left (nat_le anchor.first k) (nat_le k anchor.last) (lt-leb anchor.first k before))
     | inr from ↦ elim (cases_lt anchor.last k) [
@@ -127,16 +128,16 @@ module _ (flat other : Ruleset) (rooms : Rooms) (packet : Packet) (direction : D
     ]
   ]
 
-  reached_asked : reach_by (hit other rooms packet direction) other.filter ≡ reach_by (hit flat rooms packet direction) flat.filter
-  reached_asked = reached_kept flat other rooms packet direction anchor (asking_like asked anchor) s hits_asked (λ k. refl)
+  reached_asked : reach_by (hit other rooms name packet direction) other.filter ≡ reach_by (hit flat rooms name packet direction) flat.filter
+  reached_asked = reached_kept flat other rooms name packet direction anchor (asking_like asked anchor) s hits_asked (λ k. refl)
 
-  decides_asked : last_below (hit other rooms packet direction) (reach_by (hit other rooms packet direction) other.filter) ≡ last_below (hit flat rooms packet direction) (reach_by (hit flat rooms packet direction) flat.filter)
-  decides_asked = ap (last_below (hit other rooms packet direction)) reached_asked ∙ last_same (reach_by (hit flat rooms packet direction) flat.filter) (hit flat rooms packet direction) (hit other rooms packet direction) (λ k below. hits_asked k)
+  decides_asked : last_below (hit other rooms name packet direction) (reach_by (hit other rooms name packet direction) other.filter) ≡ last_below (hit flat rooms name packet direction) (reach_by (hit flat rooms name packet direction) flat.filter)
+  decides_asked = ap (last_below (hit other rooms name packet direction)) reached_asked ∙ last_same (reach_by (hit flat rooms name packet direction) flat.filter) (hit flat rooms name packet direction) (hit other rooms name packet direction) (λ k below. hits_asked k)
 
-pub same_decides : (flat other : Ruleset) (rooms : Rooms) (packet : Packet) (direction : Direction) (anchor asked : FlatAnchor) → NoneHits anchor flat rooms packet direction → NoneHits anchor other rooms packet direction → IsSameButAnchor anchor (asking_like asked anchor) flat other
-    → deciding other rooms packet direction ≡ deciding flat rooms packet direction
+pub same_decides : (flat other : Ruleset) (rooms : Rooms) (name : IfName) (packet : Packet) (direction : Direction) (anchor asked : FlatAnchor) → NoneHits anchor flat rooms name packet direction → NoneHits anchor other rooms name packet direction → IsSameButAnchor anchor (asking_like asked anchor) flat other
+    → deciding other rooms name packet direction ≡ deciding flat rooms name packet direction
 unfolding deciding reach
-same_decides flat other rooms packet direction anchor asked none_here none_there s = decides_asked flat other rooms packet direction anchor asked none_here none_there s
+same_decides flat other rooms name packet direction anchor asked none_here none_there s = decides_asked flat other rooms name packet direction anchor asked none_here none_there s
 
 -- ---- an anchor that doesn't hold
 
@@ -148,23 +149,23 @@ all_fails p (y ∷ xs) x (suc k, within, is) fails = and_right (p y) (list_all p
 not_in : (round holds : Bool) → round ≡ true → holds ≡ false → (not round || holds) ≡ false
 not_in round holds is fails = rw (is, fails) refl
 
-shut_out : (flat : Ruleset) (packet : Packet) (direction : Direction) (anchor : FlatAnchor) (place : ℕ) → Contains flat.filter.anchors anchor → anchor_holds anchor flat.interface.name flat.tables packet direction ≡ false → anchor.first ≤ place → place ≤ anchor.last
-    → is_inside (anchored flat packet direction) flat.filter.anchors place ≡ false
-shut_out flat packet direction anchor place among fails from to =
+shut_out : (flat : Ruleset) (name : IfName) (packet : Packet) (direction : Direction) (anchor : FlatAnchor) (place : ℕ) → Contains flat.filter.anchors anchor → anchor_holds anchor name flat.tables packet direction ≡ false → anchor.first ≤ place → place ≤ anchor.last
+    → is_inside (anchored flat name packet direction) flat.filter.anchors place ≡ false
+shut_out flat name packet direction anchor place among fails from to =
     let above : nat_le anchor.first place ≡ true = le-leb anchor.first place from in
     let below : nat_le place anchor.last ≡ true = le-leb place anchor.last to in
     let round : is_round anchor place ≡ true = rw (above, below) refl in
-    all_fails (λ x. not (is_round x place) || anchored flat packet direction x) flat.filter.anchors anchor among (not_in (is_round anchor place) (anchored flat packet direction anchor) round fails)
+    all_fails (λ x. not (is_round x place) || anchored flat name packet direction x) flat.filter.anchors anchor among (not_in (is_round anchor place) (anchored flat name packet direction anchor) round fails)
 
-pub passes_by : (flat : Ruleset) (rooms : Rooms) (packet : Packet) (direction : Direction) (anchor : FlatAnchor) (place : ℕ) → Contains flat.filter.anchors anchor → anchor_holds anchor flat.interface.name flat.tables packet direction ≡ false → anchor.first ≤ place → place ≤ anchor.last
-    → PassesBy flat rooms packet direction place
+pub passes_by : (flat : Ruleset) (rooms : Rooms) (name : IfName) (packet : Packet) (direction : Direction) (anchor : FlatAnchor) (place : ℕ) → Contains flat.filter.anchors anchor → anchor_holds anchor name flat.tables packet direction ≡ false → anchor.first ≤ place → place ≤ anchor.last
+    → PassesBy flat rooms name packet direction place
 unfolding deciding reach visited
-passes_by flat rooms packet direction anchor place among fails from to =
-    let inside = is_inside (anchored flat packet direction) flat.filter.anchors in
-    let reached = reach_by (hit flat rooms packet direction) flat.filter in
-    let out : inside place ≡ false = shut_out flat packet direction anchor place among fails from to in
-    let missed : hit flat rooms packet direction place ≡ false = and_left (inside place) (passes (matched flat rooms packet direction place) (slice_get flat.filter.rules place)) out in
+passes_by flat rooms name packet direction anchor place among fails from to =
+    let inside = is_inside (anchored flat name packet direction) flat.filter.anchors in
+    let reached = reach_by (hit flat rooms name packet direction) flat.filter in
+    let out : inside place ≡ false = shut_out flat name packet direction anchor place among fails from to in
+    let missed : hit flat rooms name packet direction place ≡ false = and_left (inside place) (passes (matched flat rooms name packet direction place) (slice_get flat.filter.rules place)) out in
     record {
-      decides = λ is. (let last = last_within (hit flat rooms packet direction) reached place is in let held = last.1 in absurd (cc (held, missed)));
+      decides = λ is. (let last = last_within (hit flat rooms name packet direction) reached place is in let held = last.1 in absurd (cc (held, missed)));
       visits = λ there. (let held : inside place ≡ true = All-contains (λ k. inside k ≡ true) (filter inside (numbers_below reached)) place (filter_passes inside (numbers_below reached)) there in absurd (cc (held, out)));
     }

@@ -54,18 +54,18 @@ behind_by test rules place next ahead within fails = record {
   fails = λ q from below. passes_not test (slice_get rules q) (λ other there. fails q other from below there);
 }
 
-pub behind_by_skip : (flat : Ruleset) (packet : Packet) (direction : Direction) (c : Criterion) (place next : ℕ) (rule : FlatRule) → IsSkip c (map asked_by flat.filter.rules) place next → length (map asked_by flat.filter.rules) ≡ length flat.filter.rules
-    → slice_get flat.filter.rules place ≡ Some rule → part_holds c (asked_by rule) flat.interface.name flat.tables packet direction ≡ false → IsBehind (ruled flat packet direction) flat.filter.rules place next
-behind_by_skip flat packet direction c place next rule skip size at fails =
-    behind_by (ruled flat packet direction) flat.filter.rules place next skip.ahead (omega (arith, skip.within, size))
-    (skip_fails c flat.filter.rules place next rule flat.interface.name flat.tables packet direction skip at fails)
+pub behind_by_skip : (flat : Ruleset) (name : IfName) (packet : Packet) (direction : Direction) (c : Criterion) (place next : ℕ) (rule : FlatRule) → IsSkip c (map asked_by flat.filter.rules) place next → length (map asked_by flat.filter.rules) ≡ length flat.filter.rules
+    → slice_get flat.filter.rules place ≡ Some rule → part_holds c (asked_by rule) name flat.tables packet direction ≡ false → IsBehind (ruled flat name packet direction) flat.filter.rules place next
+behind_by_skip flat name packet direction c place next rule skip size at fails =
+    behind_by (ruled flat name packet direction) flat.filter.rules place next skip.ahead (omega (arith, skip.within, size))
+    (skip_fails c flat.filter.rules place next rule name flat.tables packet direction skip at fails)
 
-pub translation_behind_by_skip : {T : Type 0} → (flat : Ruleset) (packet : Packet) (direction : Direction) (c : Criterion) (rules : List (FlatTranslation T)) (place next : ℕ) (rule : FlatTranslation T)
+pub translation_behind_by_skip : {T : Type 0} → (flat : Ruleset) (name : IfName) (packet : Packet) (direction : Direction) (c : Criterion) (rules : List (FlatTranslation T)) (place next : ℕ) (rule : FlatTranslation T)
     → IsSkip c (map asked_by_translation rules) place next → length (map asked_by_translation rules) ≡ length rules
-    → slice_get rules place ≡ Some rule → part_holds c (asked_by_translation rule) flat.interface.name flat.tables packet direction ≡ false → IsBehind (held flat packet) rules place next
-translation_behind_by_skip flat packet direction c rules place next rule skip size at fails =
-    behind_by (held flat packet) rules place next skip.ahead (omega (arith, skip.within, size))
-    (translation_skip_fails c rules place next rule flat.interface.name flat.tables packet direction skip at fails)
+    → slice_get rules place ≡ Some rule → part_holds c (asked_by_translation rule) name flat.tables packet direction ≡ false → IsBehind (held flat name packet) rules place next
+translation_behind_by_skip flat name packet direction c rules place next rule skip size at fails =
+    behind_by (held flat name packet) rules place next skip.ahead (omega (arith, skip.within, size))
+    (translation_skip_fails c rules place next rule name flat.tables packet direction skip at fails)
 
 -- ---- candidates
 
@@ -122,15 +122,15 @@ module _ {R : Type 0} (asked : R → Asked) (test : R → Bool) (rules : List R)
         followed = candidate.followed;
       }
 
-pub is_asked : (flat : Ruleset) (packet : Packet) (direction : Direction) (index : Option Index) (from to : ℕ) (before after : Trail) → length (map asked_by flat.filter.rules) ≡ length flat.filter.rules → from ≤ length flat.filter.rules
-    → MayBeIndex (map asked_by flat.filter.rules) index → IsFollowingIn index packet from before → FindsAsked index from before to after → IsAsked (ruled flat packet direction) flat.filter.rules packet index from to after
-is_asked flat packet direction =
-    is_asked_of asked_by (ruled flat packet direction) flat.filter.rules flat.interface.name flat.tables packet (λ rule holds. rule_matches rule flat.interface.name flat.tables packet direction holds)
+pub is_asked : (flat : Ruleset) (name : IfName) (packet : Packet) (direction : Direction) (index : Option Index) (from to : ℕ) (before after : Trail) → length (map asked_by flat.filter.rules) ≡ length flat.filter.rules → from ≤ length flat.filter.rules
+    → MayBeIndex (map asked_by flat.filter.rules) index → IsFollowingIn index packet from before → FindsAsked index from before to after → IsAsked (ruled flat name packet direction) flat.filter.rules packet index from to after
+is_asked flat name packet direction =
+    is_asked_of asked_by (ruled flat name packet direction) flat.filter.rules name flat.tables packet (λ rule holds. rule_matches rule name flat.tables packet direction holds)
 
-pub translation_is_asked : {T : Type 0} → (flat : Ruleset) (packet : Packet) (rules : List (FlatTranslation T)) (index : Option Index) (from to : ℕ) (before after : Trail) → length (map asked_by_translation rules) ≡ length rules → from ≤ length rules
-    → MayBeIndex (map asked_by_translation rules) index → IsFollowingIn index packet from before → FindsAsked index from before to after → IsAsked (held flat packet) rules packet index from to after
-translation_is_asked flat packet rules =
-    is_asked_of asked_by_translation (held flat packet) rules flat.interface.name flat.tables packet (λ rule holds. holds)
+pub translation_is_asked : {T : Type 0} → (flat : Ruleset) (name : IfName) (packet : Packet) (rules : List (FlatTranslation T)) (index : Option Index) (from to : ℕ) (before after : Trail) → length (map asked_by_translation rules) ≡ length rules → from ≤ length rules
+    → MayBeIndex (map asked_by_translation rules) index → IsFollowingIn index packet from before → FindsAsked index from before to after → IsAsked (held flat name packet) rules packet index from to after
+translation_is_asked flat name packet rules =
+    is_asked_of asked_by_translation (held flat name packet) rules name flat.tables packet (λ rule holds. holds)
 
 -- ---- stretches
 

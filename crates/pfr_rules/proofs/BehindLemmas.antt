@@ -4,6 +4,7 @@ use Rattle.std.specs.List.{slice_get, list_any, list_all}
 use Rattle.std.proofs.lemmas.Bool.{cases_lt, eqb-true, ne_eqb, le-leb, lt-leb, leb-false}
 use Rattle.std.proofs.lemmas.Option.{slice_get_within}
 use Rattle.pfr_net.specs.declared.direction.Direction.{Direction}
+use Rattle.pfr_net.specs.declared.interface.IfName.{IfName}
 use Rattle.pfr_ruleset.specs.declared.flat.FlatRule.{FlatRule}
 use Rattle.pfr_ruleset.specs.declared.flat.FlatAnchor.{FlatAnchor}
 use Rattle.pfr_ruleset.specs.declared.ruleset.Ruleset.{Ruleset}
@@ -88,18 +89,18 @@ ends_up_to p place k xs before = any_up_to (ends p k) place (λ a is. ends_cut p
 own_stop : (found : Option FlatRule) (rule : FlatRule) (held rest : Bool) → found ≡ Some rule → rule.is_quick ≡ true → held ≡ true → ((passes is_quick found && held) || rest) ≡ true
 own_stop found rule held rest at quick is = rw (at, quick, is) refl
 
-module _ (flat other : Ruleset) (rooms : Rooms) (packet : Packet) (direction : Direction) (place : ℕ) (rule : FlatRule) (at : slice_get flat.filter.rules place ≡ Some rule) (quick : rule.is_quick ≡ true) (held : hit flat rooms packet direction place ≡ true) (s : IsSameUpTo place flat other) where
+module _ (flat other : Ruleset) (rooms : Rooms) (name : IfName) (packet : Packet) (direction : Direction) (place : ℕ) (rule : FlatRule) (at : slice_get flat.filter.rules place ≡ Some rule) (quick : rule.is_quick ≡ true) (held : hit flat rooms name packet direction place ≡ true) (s : IsSameUpTo place flat other) where
   abbrev here : ℕ → Bool
-  here = hit flat rooms packet direction
+  here = hit flat rooms name packet direction
 
   abbrev there : ℕ → Bool
-  there = hit other rooms packet direction
+  there = hit other rooms name packet direction
 
   abbrev inside_here : ℕ → Bool
-  inside_here = is_inside (anchored flat packet direction) flat.filter.anchors
+  inside_here = is_inside (anchored flat name packet direction) flat.filter.anchors
 
   abbrev inside_there : ℕ → Bool
-  inside_there = is_inside (anchored other packet direction) other.filter.anchors
+  inside_there = is_inside (anchored other name packet direction) other.filter.anchors
 
   abbrev stops_here : ℕ → Bool
   stops_here = is_stop here flat.filter
@@ -107,22 +108,22 @@ module _ (flat other : Ruleset) (rooms : Rooms) (packet : Packet) (direction : D
   abbrev stops_there : ℕ → Bool
   stops_there = is_stop there other.filter
 
-  anchor_cut : (a : FlatAnchor) → anchored flat packet direction (cut_at place a) ≡ anchored flat packet direction a
+  anchor_cut : (a : FlatAnchor) → anchored flat name packet direction (cut_at place a) ≡ anchored flat name packet direction a
   unfolding anchor_holds
   anchor_cut a = refl
 
   inside_kept : AgreeBelow (place + 1) inside_here inside_there
   inside_kept k below =
       let le : k ≤ place = omega (arith, below) in
-      inside_same (anchored flat packet direction) (anchored other packet direction) other.filter.anchors k (λ a. rw (s.name_is, s.tables_are) refl)
-      ∙ sym (inside_up_to (anchored flat packet direction) place k other.filter.anchors anchor_cut le)
-      ∙ rw s.anchors_are (inside_up_to (anchored flat packet direction) place k flat.filter.anchors anchor_cut le)
+      inside_same (anchored flat name packet direction) (anchored other name packet direction) other.filter.anchors k (λ a. rw s.tables_are refl)
+      ∙ sym (inside_up_to (anchored flat name packet direction) place k other.filter.anchors anchor_cut le)
+      ∙ rw s.anchors_are (inside_up_to (anchored flat name packet direction) place k flat.filter.anchors anchor_cut le)
 
   hits_kept : AgreeBelow (place + 1) here there
   hits_kept k below =
       let inside = inside_kept k below in
       let rules = s.rules_are k (omega (arith, below)) in
-      rw (inside, rules, s.name_is, s.tables_are) refl
+      rw (inside, rules, s.tables_are) refl
 
   stops_before : AgreeBelow place stops_here stops_there
   stops_before k below =
@@ -156,7 +157,7 @@ module _ (flat other : Ruleset) (rooms : Rooms) (packet : Packet) (direction : D
       same_walks here there inside_here inside_there (reach_by here flat.filter) (reach_by there other.filter) (rw (moved, stop) refl)
       (rw stop (λ k below. hits_kept k (omega (arith, below, upto)))) (rw stop (λ k below. inside_kept k (omega (arith, below, upto))))
 
-pub same_way : (flat other : Ruleset) (rooms : Rooms) (packet : Packet) (direction : Direction) (place : ℕ) (rule : FlatRule) → slice_get flat.filter.rules place ≡ Some rule → rule.is_quick ≡ true → hit flat rooms packet direction place ≡ true → IsSameUpTo place flat other
-    → GoesTheSameWay flat other rooms packet direction
+pub same_way : (flat other : Ruleset) (rooms : Rooms) (name : IfName) (packet : Packet) (direction : Direction) (place : ℕ) (rule : FlatRule) → slice_get flat.filter.rules place ≡ Some rule → rule.is_quick ≡ true → hit flat rooms name packet direction place ≡ true → IsSameUpTo place flat other
+    → GoesTheSameWay flat other rooms name packet direction
 unfolding deciding reach visited
-same_way flat other rooms packet direction place rule at quick held s = (let both = walks flat other rooms packet direction place rule at quick held s in record { decides = both.0; visits = both.1 })
+same_way flat other rooms name packet direction place rule at quick held s = (let both = walks flat other rooms name packet direction place rule at quick held s in record { decides = both.0; visits = both.1 })

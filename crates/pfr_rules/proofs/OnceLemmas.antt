@@ -5,6 +5,7 @@ use Rattle.std.proofs.lemmas.Bool.{eqb-true}
 use Rattle.std.proofs.lemmas.List.Sums.{sum_by-append, sum_by-cons, sum_by_push}
 use Rattle.pfr_net.specs.declared.direction.Direction.{Direction}
 use Rattle.pfr_net.specs.declared.direction.Direction.TheVariants.{In, Out}
+use Rattle.pfr_net.specs.declared.interface.IfName.{IfName}
 use Rattle.pfr_headers.specs.declared.packet.Packet.{Packet}
 use Rattle.pfr_ruleset.specs.declared.ruleset.Ruleset.{Ruleset}
 use Rattle.pfr_ruleset.specs.declared.translations.Translations.{Translations}
@@ -67,11 +68,11 @@ filtered rule test (x ∷ xs) = by_test (test x) (filtered rule test xs)
 
 -- ---- the filter
 
-pub visited_once : (flat : Ruleset) (rooms : Rooms) (packet : Packet) (direction : Direction) (rule : ℕ) → times rule (visited flat rooms packet direction) ≤ 1
+pub visited_once : (flat : Ruleset) (rooms : Rooms) (name : IfName) (packet : Packet) (direction : Direction) (rule : ℕ) → times rule (visited flat rooms name packet direction) ≤ 1
 unfolding visited
-visited_once flat rooms packet direction rule =
-    let reached : ℕ = reach flat rooms packet direction in
-    let kept = filtered rule (is_inside (anchored flat packet direction) flat.filter.anchors) (numbers_below reached) in
+visited_once flat rooms name packet direction rule =
+    let reached : ℕ = reach flat rooms name packet direction in
+    let kept = filtered rule (is_inside (anchored flat name packet direction) flat.filter.anchors) (numbers_below reached) in
     let once = once_below rule reached in
     omega (arith, kept, once)
 
@@ -94,10 +95,10 @@ asked_once rule test number (x ∷ xs) = by_test (test x) (asked_once rule test 
         let all = sum_by-cons (λ n. cond (n == rule) 1 0) (number x) (map number xs) in
         omega (arith, rest, some, all)
 
-others_once : (flat : Ruleset) (packet : Packet) (direction : Direction) (rule : ℕ)
-    → times rule (others_asked flat packet direction) ≤ times rule (map numbered flat.translations.nats) + times rule (map numbered flat.translations.rdrs)
-others_once flat packet In rule = (let some = asked_once rule (translation_holds flat packet In) numbered flat.translations.rdrs in omega (arith, some))
-others_once flat packet Out rule = (let some = asked_once rule (translation_holds flat packet Out) numbered flat.translations.nats in omega (arith, some))
+others_once : (flat : Ruleset) (name : IfName) (packet : Packet) (direction : Direction) (rule : ℕ)
+    → times rule (others_asked flat name packet direction) ≤ times rule (map numbered flat.translations.nats) + times rule (map numbered flat.translations.rdrs)
+others_once flat name packet In rule = (let some = asked_once rule (translation_holds flat name packet In) numbered flat.translations.rdrs in omega (arith, some))
+others_once flat name packet Out rule = (let some = asked_once rule (translation_holds flat name packet Out) numbered flat.translations.nats in omega (arith, some))
 
 behind_once : (rule : ℕ) (found : Option Hit) (others : List ℕ) → times rule (asked_behind found others) ≤ times rule others
 behind_once rule None others = omega arith
@@ -110,15 +111,15 @@ times_over_kinds rule all =
     let others = sum_by-append (λ n. cond (n == rule) 1 0) (map numbered all.rdrs) (map numbered all.binats) in
     omega (arith, first, others)
 
-pub translation_visited_once : (flat : Ruleset) (packet : Packet) (direction : Direction) (rule : ℕ) → HaveOwnNumbers flat.translations → times rule (translations_visited flat packet direction) ≤ 1
+pub translation_visited_once : (flat : Ruleset) (name : IfName) (packet : Packet) (direction : Direction) (rule : ℕ) → HaveOwnNumbers flat.translations → times rule (translations_visited flat name packet direction) ≤ 1
 unfolding translations_visited
-translation_visited_once flat packet direction rule own =
-    let first : List ℕ = asked_in binats flat packet direction flat.translations.binats in
-    let others : List ℕ = others_asked flat packet direction in
-    let both = sum_by-append (λ n. cond (n == rule) 1 0) first (asked_behind (binat_of flat packet direction) others) in
-    let asked = asked_once rule (binat_holds flat packet direction) numbered flat.translations.binats in
-    let behind = behind_once rule (binat_of flat packet direction) others in
-    let rest = others_once flat packet direction rule in
+translation_visited_once flat name packet direction rule own =
+    let first : List ℕ = asked_in binats flat name packet direction flat.translations.binats in
+    let others : List ℕ = others_asked flat name packet direction in
+    let both = sum_by-append (λ n. cond (n == rule) 1 0) first (asked_behind (binat_of flat name packet direction) others) in
+    let asked = asked_once rule (binat_holds flat name packet direction) numbered flat.translations.binats in
+    let behind = behind_once rule (binat_of flat name packet direction) others in
+    let rest = others_once flat name packet direction rule in
     let all = times_over_kinds rule flat.translations in
     let once = own rule in
     omega (arith, both, asked, behind, rest, all, once)

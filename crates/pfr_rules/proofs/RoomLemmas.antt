@@ -5,6 +5,7 @@ use Rattle.std.proofs.lemmas.Grind.{flat_map-append}
 use Rattle.std.proofs.lemmas.List.{append-nil}
 use Rattle.std.proofs.lemmas.List.Elements.{All-append, All-cons, All-head, All-nil, All-tail}
 use Rattle.pfr_net.specs.declared.direction.Direction.{Direction}
+use Rattle.pfr_net.specs.declared.interface.IfName.{IfName}
 use Rattle.pfr_ruleset.specs.declared.flat.FlatRule.{FlatRule}
 use Rattle.pfr_ruleset.specs.declared.ruleset.Ruleset.{Ruleset}
 use Rattle.pfr_headers.specs.declared.packet.Packet.{Packet}
@@ -22,13 +23,13 @@ use Rattle.pfr_rules.proofs.Stretches.{IsStricter}
 use Rattle.pfr_rules.proofs.UnvisitedLemmas.{number_there}
 
 -- no rule matches of which not all holds that it writes
-pub stricter : (flat : Ruleset) (rooms : Rooms) (packet : Packet) (direction : Direction) (place : ℕ) → IsStricter (ruled flat packet direction) (matched flat rooms packet direction place)
-stricter flat rooms packet direction place rule fails = and_left (ruled flat packet direction rule) (has_room_by rooms place (limit_for rule packet)) fails
+pub stricter : (flat : Ruleset) (rooms : Rooms) (name : IfName) (packet : Packet) (direction : Direction) (place : ℕ) → IsStricter (ruled flat name packet direction) (matched flat rooms name packet direction place)
+stricter flat rooms name packet direction place rule fails = and_left (ruled flat name packet direction rule) (has_room_by rooms place (limit_for rule packet)) fails
 
 -- and nothing is asked of it
-none_asked : (flat : Ruleset) (packet : Packet) (direction : Direction) (place : ℕ) (found : Option FlatRule) → passes (ruled flat packet direction) found ≡ false → asked_of flat packet direction place found ≡ []
-none_asked flat packet direction place None fails = refl
-none_asked flat packet direction place (Some rule) fails = rw fails refl
+none_asked : (flat : Ruleset) (name : IfName) (packet : Packet) (direction : Direction) (place : ℕ) (found : Option FlatRule) → passes (ruled flat name packet direction) found ≡ false → asked_of flat name packet direction place found ≡ []
+none_asked flat name packet direction place None fails = refl
+none_asked flat name packet direction place (Some rule) fails = rw fails refl
 
 -- so nothing is asked of a run of such rules
 run_asks : (ask : ℕ → List Question) (first n : ℕ) → ((q : ℕ) → first ≤ q → q < first + n → ask q ≡ []) → flat_map ask (numbers_from first n) ≡ []
@@ -38,29 +39,29 @@ run_asks ask first (suc n) none =
     let last = none (first + n) (omega arith) (omega arith) in
     flat_map-append ask (numbers_from first n) ((first + n) ∷ []) ∙ rw (rest, last) refl
 
-module _ (flat : Ruleset) (packet : Packet) (direction : Direction) (place to : ℕ) (visits : List ℕ) (P : Question → Type 0) (from : place ≤ to) (fails : NoneHolds (ruled flat packet direction) flat.filter.rules place to) (asked : All P (flat_map (asked_at flat packet direction) visits)) where
+module _ (flat : Ruleset) (name : IfName) (packet : Packet) (direction : Direction) (place to : ℕ) (visits : List ℕ) (P : Question → Type 0) (from : place ≤ to) (fails : NoneHolds (ruled flat name packet direction) flat.filter.rules place to) (asked : All P (flat_map (asked_at flat name packet direction) visits)) where
   abbrev run : List ℕ
   run = numbers_from place (to - place)
 
-  none : flat_map (asked_at flat packet direction) run ≡ []
-  none = run_asks (asked_at flat packet direction) place (to - place) (λ q above below. none_asked flat packet direction q (slice_get flat.filter.rules q) (fails q above (omega (arith, below, from))))
+  none : flat_map (asked_at flat name packet direction) run ≡ []
+  none = run_asks (asked_at flat name packet direction) place (to - place) (λ q above below. none_asked flat name packet direction q (slice_get flat.filter.rules q) (fails q above (omega (arith, below, from))))
 
   -- all was asked, behind a run of rules that don't hold
-  pub asked_on : All P (flat_map (asked_at flat packet direction) (visits ++ run))
-  asked_on = subst (λ questions. All P questions) (sym (flat_map-append (asked_at flat packet direction) visits run ∙ ap (λ (more : List Question). flat_map (asked_at flat packet direction) visits ++ more) none ∙ append-nil (flat_map (asked_at flat packet direction) visits))) asked
+  pub asked_on : All P (flat_map (asked_at flat name packet direction) (visits ++ run))
+  asked_on = subst (λ questions. All P questions) (sym (flat_map-append (asked_at flat name packet direction) visits run ∙ ap (λ (more : List Question). flat_map (asked_at flat name packet direction) visits ++ more) none ∙ append-nil (flat_map (asked_at flat name packet direction) visits))) asked
 
   -- and behind the rule that follows it
-  pub asked_behind : (more : List ℕ) (rule : FlatRule) → slice_get flat.filter.rules to ≡ Some rule → All P (asked_of flat packet direction to (Some rule)) → more ≡ visits ++ numbers_from place (to + 1 - place) → All P (flat_map (asked_at flat packet direction) more)
+  pub asked_behind : (more : List ℕ) (rule : FlatRule) → slice_get flat.filter.rules to ≡ Some rule → All P (asked_of flat name packet direction to (Some rule)) → more ≡ visits ++ numbers_from place (to + 1 - place) → All P (flat_map (asked_at flat name packet direction) more)
   asked_behind more rule at asks more_is =
-      let ask = asked_at flat packet direction in
-      let own : flat_map ask (to ∷ []) ≡ asked_of flat packet direction to (Some rule) = append-nil (ask to) ∙ ap (λ found. asked_of flat packet direction to found) at in
-      let last : flat_map ask (numbers_from place (to + 1 - place)) ≡ asked_of flat packet direction to (Some rule) = ap (λ (numbers : List ℕ). flat_map ask numbers) (one_behind place to from) ∙ flat_map-append ask run (to ∷ []) ∙ rw (none, own) refl in
+      let ask = asked_at flat name packet direction in
+      let own : flat_map ask (to ∷ []) ≡ asked_of flat name packet direction to (Some rule) = append-nil (ask to) ∙ ap (λ found. asked_of flat name packet direction to found) at in
+      let last : flat_map ask (numbers_from place (to + 1 - place)) ≡ asked_of flat name packet direction to (Some rule) = ap (λ (numbers : List ℕ). flat_map ask numbers) (one_behind place to from) ∙ flat_map-append ask run (to ∷ []) ∙ rw (none, own) refl in
       subst (λ questions. All P questions) (sym (ap (λ (numbers : List ℕ). flat_map ask numbers) more_is ∙ flat_map-append ask visits (numbers_from place (to + 1 - place)) ∙ ap (λ (those : List Question). flat_map ask visits ++ those) last))
-      (All-append P (flat_map ask visits) (asked_of flat packet direction to (Some rule)) asked asks)
+      (All-append P (flat_map ask visits) (asked_of flat name packet direction to (Some rule)) asked asks)
 
 -- what was asked of all visits, where these are the visits of a packet
-pub asked_for : (flat : Ruleset) (rooms : Rooms) (packet : Packet) (direction : Direction) (visits : List ℕ) (P : Question → Type 0) → visits ≡ visited flat rooms packet direction → All P (flat_map (asked_at flat packet direction) visits) → All P (rooms_asked flat rooms packet direction)
-asked_for flat rooms packet direction visits P are asked = subst (λ (numbers : List ℕ). All P (flat_map (asked_at flat packet direction) numbers)) are asked
+pub asked_for : (flat : Ruleset) (rooms : Rooms) (name : IfName) (packet : Packet) (direction : Direction) (visits : List ℕ) (P : Question → Type 0) → visits ≡ visited flat rooms name packet direction → All P (flat_map (asked_at flat name packet direction) visits) → All P (rooms_asked flat rooms name packet direction)
+asked_for flat rooms name packet direction visits P are asked = subst (λ (numbers : List ℕ). All P (flat_map (asked_at flat name packet direction) numbers)) are asked
 
 -- ---- what isn't asked
 
@@ -70,9 +71,9 @@ room_same rooms other true None number asked = refl
 room_same rooms other true (Some most) number asked = All-head (SameRoom rooms other) (RuleRoom (record { 0 = number }) most) [] asked
 
 -- a rule matches by two rooms that answer alike what it asks
-match_same : (flat : Ruleset) (rooms other : Rooms) (packet : Packet) (direction : Direction) (number : ℕ) (found : Option FlatRule) → All (SameRoom rooms other) (asked_of flat packet direction number found) → passes (matched flat other packet direction number) found ≡ passes (matched flat rooms packet direction number) found
-match_same flat rooms other packet direction number None asked = refl
-match_same flat rooms other packet direction number (Some rule) asked = room_same rooms other (ruled flat packet direction rule) (limit_for rule packet) number asked
+match_same : (flat : Ruleset) (rooms other : Rooms) (name : IfName) (packet : Packet) (direction : Direction) (number : ℕ) (found : Option FlatRule) → All (SameRoom rooms other) (asked_of flat name packet direction number found) → passes (matched flat other name packet direction number) found ≡ passes (matched flat rooms name packet direction number) found
+match_same flat rooms other name packet direction number None asked = refl
+match_same flat rooms other name packet direction number (Some rule) asked = room_same rooms other (ruled flat name packet direction rule) (limit_for rule packet) number asked
 
 -- what holds of all elements of two lists behind one another holds of those of each
 pub all_left : {X : Type 0} (P : X → Type 0) (xs ys : List X) → All P (xs ++ ys) → All P xs
@@ -89,24 +90,24 @@ asked_each P ask [] n (k, within, is) all = absurd (omega (arith, within))
 asked_each P ask (m ∷ numbers) n (zero, within, is) all = (let same : m ≡ n = is in rw (← same) (all_left P (ask m) (flat_map ask numbers) all))
 asked_each P ask (m ∷ numbers) n (suc k, within, is) all = asked_each P ask numbers n (k, omega (arith, within), is) (all_right P (ask m) (flat_map ask numbers) all)
 
-module _ (flat : Ruleset) (rooms other : Rooms) (packet : Packet) (direction : Direction) (asked : All (SameRoom rooms other) (rooms_asked flat rooms packet direction)) where
+module _ (flat : Ruleset) (rooms other : Rooms) (name : IfName) (packet : Packet) (direction : Direction) (asked : All (SameRoom rooms other) (rooms_asked flat rooms name packet direction)) where
   abbrev here : ℕ → Bool
-  here = hit flat rooms packet direction
+  here = hit flat rooms name packet direction
 
   abbrev there : ℕ → Bool
-  there = hit flat other packet direction
+  there = hit flat other name packet direction
 
   abbrev inside : ℕ → Bool
-  inside = is_inside (anchored flat packet direction) flat.filter.anchors
+  inside = is_inside (anchored flat name packet direction) flat.filter.anchors
 
   abbrev reached : ℕ
   reached = reach_by here flat.filter
 
   hit_by : (k : ℕ) (is_in : Bool) → inside k ≡ is_in → k < reached → there k ≡ here k
   unfolding visited reach
-  hit_by k false shut below = and_left (inside k) (passes (matched flat other packet direction k) (slice_get flat.filter.rules k)) shut ∙ sym (and_left (inside k) (passes (matched flat rooms packet direction k) (slice_get flat.filter.rules k)) shut)
+  hit_by k false shut below = and_left (inside k) (passes (matched flat other name packet direction k) (slice_get flat.filter.rules k)) shut ∙ sym (and_left (inside k) (passes (matched flat rooms name packet direction k) (slice_get flat.filter.rules k)) shut)
   hit_by k true lets below =
-      let same = match_same flat rooms other packet direction k (slice_get flat.filter.rules k) (asked_each (SameRoom rooms other) (asked_at flat packet direction) (filter inside (numbers_below reached)) k (number_there inside reached k below lets) asked) in
+      let same = match_same flat rooms other name packet direction k (slice_get flat.filter.rules k) (asked_each (SameRoom rooms other) (asked_at flat name packet direction) (filter inside (numbers_below reached)) k (number_there inside reached k below lets) asked) in
       ap (λ (b : Bool). inside k && b) same
 
   hits_same : AgreeBelow reached here there
@@ -122,17 +123,17 @@ module _ (flat : Ruleset) (rooms other : Rooms) (packet : Packet) (direction : D
   walks : AreSameWalks here there inside inside reached (reach_by there flat.filter)
   walks = same_walks here there inside inside reached (reach_by there flat.filter) reached_same hits_same (λ k below. refl)
 
-pub same_rooms : (flat : Ruleset) (rooms other : Rooms) (packet : Packet) (direction : Direction) → All (SameRoom rooms other) (rooms_asked flat rooms packet direction)
-    → (deciding flat other packet direction ≡ deciding flat rooms packet direction) × (visited flat other packet direction ≡ visited flat rooms packet direction)
+pub same_rooms : (flat : Ruleset) (rooms other : Rooms) (name : IfName) (packet : Packet) (direction : Direction) → All (SameRoom rooms other) (rooms_asked flat rooms name packet direction)
+    → (deciding flat other name packet direction ≡ deciding flat rooms name packet direction) × (visited flat other name packet direction ≡ visited flat rooms name packet direction)
 unfolding deciding reach visited
-same_rooms flat rooms other packet direction asked = walks flat rooms other packet direction asked
+same_rooms flat rooms other name packet direction asked = walks flat rooms other name packet direction asked
 
 -- ---- over one table
 
 -- a hit is one over the same table
-pub hit_over : (flat : Ruleset) (before after : StateTable) (packet : Packet) (direction : Direction) (place : ℕ) (rule : FlatRule) (is_hit : Bool) → before ≡ after
-    → is_hit ≡ matched flat (rooms_in before) packet direction place rule → is_hit ≡ matched flat (rooms_in after) packet direction place rule
-hit_over flat before after packet direction place rule is_hit same is = subst (λ (table : StateTable). is_hit ≡ matched flat (rooms_in table) packet direction place rule) same is
+pub hit_over : (flat : Ruleset) (before after : StateTable) (name : IfName) (packet : Packet) (direction : Direction) (place : ℕ) (rule : FlatRule) (is_hit : Bool) → before ≡ after
+    → is_hit ≡ matched flat (rooms_in before) name packet direction place rule → is_hit ≡ matched flat (rooms_in after) name packet direction place rule
+hit_over flat before after name packet direction place rule is_hit same is = subst (λ (table : StateTable). is_hit ≡ matched flat (rooms_in table) name packet direction place rule) same is
 
 -- ---- the rule that decides
 
@@ -140,17 +141,17 @@ both_true : (b c : Bool) → (b && c) ≡ true → c ≡ true
 both_true true c is = is
 both_true false c is = absurd cc
 
-has_room_at : (flat : Ruleset) (rooms : Rooms) (packet : Packet) (direction : Direction) (place most : ℕ) (rule : FlatRule) (found : Option FlatRule) → found ≡ Some rule → limit_for rule packet ≡ Some most
-    → passes (matched flat rooms packet direction place) found ≡ true → rooms place most ≡ true
-has_room_at flat rooms packet direction place most rule None at limit is = absurd cc
-has_room_at flat rooms packet direction place most rule (Some other) at limit is =
+has_room_at : (flat : Ruleset) (rooms : Rooms) (name : IfName) (packet : Packet) (direction : Direction) (place most : ℕ) (rule : FlatRule) (found : Option FlatRule) → found ≡ Some rule → limit_for rule packet ≡ Some most
+    → passes (matched flat rooms name packet direction place) found ≡ true → rooms place most ≡ true
+has_room_at flat rooms name packet direction place most rule None at limit is = absurd cc
+has_room_at flat rooms name packet direction place most rule (Some other) at limit is =
     let same : other ≡ rule = cc at in
-    let room : has_room_by rooms place (limit_for other packet) ≡ true = both_true (ruled flat packet direction other) (has_room_by rooms place (limit_for other packet)) is in
+    let room : has_room_by rooms place (limit_for other packet) ≡ true = both_true (ruled flat name packet direction other) (has_room_by rooms place (limit_for other packet)) is in
     subst (λ (bound : Option ℕ). has_room_by rooms place bound ≡ true) (ap (λ (r : FlatRule). limit_for r packet) same ∙ limit) room
 
 -- a rule that decides has room
-pub decides_with_room : (flat : Ruleset) (rooms : Rooms) (packet : Packet) (direction : Direction) (place most : ℕ) (rule : FlatRule) → deciding flat rooms packet direction ≡ Some place → slice_get flat.filter.rules place ≡ Some rule → limit_for rule packet ≡ Some most → rooms place most ≡ true
+pub decides_with_room : (flat : Ruleset) (rooms : Rooms) (name : IfName) (packet : Packet) (direction : Direction) (place most : ℕ) (rule : FlatRule) → deciding flat rooms name packet direction ≡ Some place → slice_get flat.filter.rules place ≡ Some rule → limit_for rule packet ≡ Some most → rooms place most ≡ true
 unfolding deciding reach
-decides_with_room flat rooms packet direction place most rule decides at limit =
-    let last = last_within (hit flat rooms packet direction) (reach_by (hit flat rooms packet direction) flat.filter) place decides in
-    has_room_at flat rooms packet direction place most rule (slice_get flat.filter.rules place) at limit (both_true (is_inside (anchored flat packet direction) flat.filter.anchors place) (passes (matched flat rooms packet direction place) (slice_get flat.filter.rules place)) last.1)
+decides_with_room flat rooms name packet direction place most rule decides at limit =
+    let last = last_within (hit flat rooms name packet direction) (reach_by (hit flat rooms name packet direction) flat.filter) place decides in
+    has_room_at flat rooms name packet direction place most rule (slice_get flat.filter.rules place) at limit (both_true (is_inside (anchored flat name packet direction) flat.filter.anchors place) (passes (matched flat rooms name packet direction place) (slice_get flat.filter.rules place)) last.1)

@@ -4,6 +4,7 @@ use Rattle.std.specs.List.{Contains, slice_get, filter}
 use Rattle.std.proofs.lemmas.Bool.{cases_eq, cases_lt}
 use Rattle.std.proofs.lemmas.List.Elements.{Contains-append_left, Contains-push, filter-append}
 use Rattle.pfr_net.specs.declared.direction.Direction.{Direction}
+use Rattle.pfr_net.specs.declared.interface.IfName.{IfName}
 use Rattle.pfr_ruleset.specs.declared.flat.FlatRule.{FlatRule}
 use Rattle.pfr_ruleset.specs.declared.ruleset.Ruleset.{Ruleset}
 use Rattle.pfr_headers.specs.declared.packet.Packet.{Packet}
@@ -35,25 +36,25 @@ no_match : (found : Option FlatRule) (holds : FlatRule → Bool) (rooms : Rooms)
 no_match None holds rooms place packet fails = refl
 no_match (Some rule) holds rooms place packet fails = and_left (holds rule) (has_room_by rooms place (limit_for rule packet)) fails
 
-module _ (flat other : Ruleset) (rooms : Rooms) (packet : Packet) (direction : Direction) (place : ℕ) (s : IsSameBut place flat other) where
+module _ (flat other : Ruleset) (rooms : Rooms) (name : IfName) (packet : Packet) (direction : Direction) (place : ℕ) (s : IsSameBut place flat other) where
   abbrev here : ℕ → Bool
-  here = hit flat rooms packet direction
+  here = hit flat rooms name packet direction
 
   abbrev there : ℕ → Bool
-  there = hit other rooms packet direction
+  there = hit other rooms name packet direction
 
   abbrev inside_here : ℕ → Bool
-  inside_here = is_inside (anchored flat packet direction) flat.filter.anchors
+  inside_here = is_inside (anchored flat name packet direction) flat.filter.anchors
 
   abbrev inside_there : ℕ → Bool
-  inside_there = is_inside (anchored other packet direction) other.filter.anchors
+  inside_there = is_inside (anchored other name packet direction) other.filter.anchors
 
   abbrev reached : ℕ
   reached = reach_by here flat.filter
 
   inside_kept : (k : ℕ) → inside_there k ≡ inside_here k
   inside_kept k =
-      inside_same (anchored flat packet direction) (anchored other packet direction) other.filter.anchors k (λ a. rw (s.name_is, s.tables_are) refl)
+      inside_same (anchored flat name packet direction) (anchored other name packet direction) other.filter.anchors k (λ a. rw s.tables_are refl)
       ∙ rw s.anchors_are refl
 
   -- another place, or one at which neither rule hits
@@ -64,7 +65,7 @@ module _ (flat other : Ruleset) (rooms : Rooms) (packet : Packet) (direction : D
   hit_kept k (inl differs) =
       let inside = inside_kept k in
       let rules = s.rules_are k differs in
-      rw (inside, rules, s.name_is, s.tables_are) refl
+      rw (inside, rules, s.tables_are) refl
   hit_kept k (inr misses) = misses.1 ∙ sym misses.0
 
   own_kept : (k : ℕ) → Apart k → (passes is_quick (slice_get other.filter.rules k) && there k) ≡ (passes is_quick (slice_get flat.filter.rules k) && here k)
@@ -84,24 +85,24 @@ module _ (flat other : Ruleset) (rooms : Rooms) (packet : Packet) (direction : D
     walks : AreSameWalks here there inside_here inside_there reached (reach_by there other.filter)
     walks = same_walks here there inside_here inside_there reached (reach_by there other.filter) reached_kept (λ k below. hit_kept k (apart k below)) (λ k below. inside_kept k)
 
-    goes : GoesTheSameWay flat other rooms packet direction
+    goes : GoesTheSameWay flat other rooms name packet direction
     unfolding deciding reach visited
     goes = record { decides = walks.0; visits = walks.1 }
 
   -- ---- a rule that isn't visited
 
-  shut_out : (Contains (visited flat rooms packet direction) place → ⊥) → (inside : Bool) → inside_here place ≡ inside → place < reached → inside_here place ≡ false
+  shut_out : (Contains (visited flat rooms name packet direction) place → ⊥) → (inside : Bool) → inside_here place ≡ inside → place < reached → inside_here place ≡ false
   unfolding visited reach
   shut_out unvisited true is below = absurd (unvisited (number_there inside_here reached place below is))
   shut_out unvisited false is below = is
 
   no_hits : (k : ℕ) → inside_here k ≡ false → (here k ≡ false) × (there k ≡ false)
   no_hits k shut = (
-    and_left (inside_here k) (passes (matched flat rooms packet direction k) (slice_get flat.filter.rules k)) shut,
-    and_left (inside_there k) (passes (matched other rooms packet direction k) (slice_get other.filter.rules k)) (inside_kept k ∙ shut),
+    and_left (inside_here k) (passes (matched flat rooms name packet direction k) (slice_get flat.filter.rules k)) shut,
+    and_left (inside_there k) (passes (matched other rooms name packet direction k) (slice_get other.filter.rules k)) (inside_kept k ∙ shut),
   )
 
-  unvisited_apart : (Contains (visited flat rooms packet direction) place → ⊥) → (k : ℕ) → k < reached → Apart k
+  unvisited_apart : (Contains (visited flat rooms name packet direction) place → ⊥) → (k : ℕ) → k < reached → Apart k
   unvisited_apart unvisited k below = elim (cases_eq k place) [
     | inl same ↦ inr (no_hits k (rw same (shut_out unvisited (inside_here place) refl (rw same at below))))
     | inr differs ↦ inl differs
@@ -115,12 +116,12 @@ module _ (flat other : Ruleset) (rooms : Rooms) (packet : Packet) (direction : D
     | inr differs ↦ inl differs
   ]
 
-pub same_way : (flat other : Ruleset) (rooms : Rooms) (packet : Packet) (direction : Direction) (place : ℕ) → (Contains (visited flat rooms packet direction) place → ⊥) → IsSameBut place flat other → GoesTheSameWay flat other rooms packet direction
-same_way flat other rooms packet direction place unvisited s = goes flat other rooms packet direction place s (unvisited_apart flat other rooms packet direction place s unvisited)
+pub same_way : (flat other : Ruleset) (rooms : Rooms) (name : IfName) (packet : Packet) (direction : Direction) (place : ℕ) → (Contains (visited flat rooms name packet direction) place → ⊥) → IsSameBut place flat other → GoesTheSameWay flat other rooms name packet direction
+same_way flat other rooms name packet direction place unvisited s = goes flat other rooms name packet direction place s (unvisited_apart flat other rooms name packet direction place s unvisited)
 
-pub lets_by : (flat other : Ruleset) (rooms : Rooms) (packet : Packet) (direction : Direction) (place most : ℕ) (rule : FlatRule) → slice_get flat.filter.rules place ≡ Some rule → limit_for rule packet ≡ Some most → rooms place most ≡ false → IsSameBut place flat other
-    → passes (ruled other packet direction) (slice_get other.filter.rules place) ≡ false → GoesTheSameWay flat other rooms packet direction
-lets_by flat other rooms packet direction place most rule at limit none s fails =
-    let here : hit flat rooms packet direction place ≡ false = and_right (is_inside (anchored flat packet direction) flat.filter.anchors place) (passes (matched flat rooms packet direction place) (slice_get flat.filter.rules place)) (no_room (slice_get flat.filter.rules place) rule (ruled flat packet direction) rooms place most packet at limit none) in
-    let there : hit other rooms packet direction place ≡ false = and_right (is_inside (anchored other packet direction) other.filter.anchors place) (passes (matched other rooms packet direction place) (slice_get other.filter.rules place)) (no_match (slice_get other.filter.rules place) (ruled other packet direction) rooms place packet fails) in
-    goes flat other rooms packet direction place s (full_apart flat other rooms packet direction place s (here, there))
+pub lets_by : (flat other : Ruleset) (rooms : Rooms) (name : IfName) (packet : Packet) (direction : Direction) (place most : ℕ) (rule : FlatRule) → slice_get flat.filter.rules place ≡ Some rule → limit_for rule packet ≡ Some most → rooms place most ≡ false → IsSameBut place flat other
+    → passes (ruled other name packet direction) (slice_get other.filter.rules place) ≡ false → GoesTheSameWay flat other rooms name packet direction
+lets_by flat other rooms name packet direction place most rule at limit none s fails =
+    let here : hit flat rooms name packet direction place ≡ false = and_right (is_inside (anchored flat name packet direction) flat.filter.anchors place) (passes (matched flat rooms name packet direction place) (slice_get flat.filter.rules place)) (no_room (slice_get flat.filter.rules place) rule (ruled flat name packet direction) rooms place most packet at limit none) in
+    let there : hit other rooms name packet direction place ≡ false = and_right (is_inside (anchored other name packet direction) other.filter.anchors place) (passes (matched other rooms name packet direction place) (slice_get other.filter.rules place)) (no_match (slice_get other.filter.rules place) (ruled other name packet direction) rooms place packet fails) in
+    goes flat other rooms name packet direction place s (full_apart flat other rooms name packet direction place s (here, there))

@@ -7,6 +7,7 @@ use Rattle.std.proofs.lemmas.List.{append-nil}
 use Rattle.std.proofs.lemmas.List.Elements.{All-nil, All-cons, All-head, All-tail, All-weaker, All-contains, Contains-append_left, Contains-append_right, Contains-push, filter-append}
 use Rattle.std.proofs.lemmas.Option.{slice_get_within}
 use Rattle.pfr_net.specs.declared.direction.Direction.{Direction}
+use Rattle.pfr_net.specs.declared.interface.IfName.{IfName}
 use Rattle.pfr_ruleset.specs.declared.flat.FlatRule.{FlatRule}
 use Rattle.pfr_ruleset.specs.declared.flat.FlatAnchor.{FlatAnchor}
 use Rattle.pfr_ruleset.specs.declared.filter_rules.RuleLists.{RuleLists}
@@ -361,13 +362,13 @@ nested_of rules anchors placed = placed.1
 
 -- ---- what a walk says of a packet
 
-pub ended_decides : (flat : Ruleset) (rooms : Rooms) (packet : Packet) (direction : Direction) (decided : Option ℕ) (visits : List ℕ) → Ended (anchored_of flat packet direction) (matched_of flat rooms packet direction) flat.filter decided visits → decided ≡ deciding flat rooms packet direction
+pub ended_decides : (flat : Ruleset) (rooms : Rooms) (name : IfName) (packet : Packet) (direction : Direction) (decided : Option ℕ) (visits : List ℕ) → Ended (anchored_of flat name packet direction) (matched_of flat rooms name packet direction) flat.filter decided visits → decided ≡ deciding flat rooms name packet direction
 unfolding deciding reach
-ended_decides flat rooms packet direction decided visits e = e.decides
+ended_decides flat rooms name packet direction decided visits e = e.decides
 
-pub ended_visits : (flat : Ruleset) (rooms : Rooms) (packet : Packet) (direction : Direction) (decided : Option ℕ) (visits : List ℕ) → Ended (anchored_of flat packet direction) (matched_of flat rooms packet direction) flat.filter decided visits → visits ≡ visited_of flat rooms packet direction
+pub ended_visits : (flat : Ruleset) (rooms : Rooms) (name : IfName) (packet : Packet) (direction : Direction) (decided : Option ℕ) (visits : List ℕ) → Ended (anchored_of flat name packet direction) (matched_of flat rooms name packet direction) flat.filter decided visits → visits ≡ visited_of flat rooms name packet direction
 unfolding visited_of reach
-ended_visits flat rooms packet direction decided visits e = e.visited
+ended_visits flat rooms name packet direction decided visits e = e.visited
 
 -- a rule that was visited, by what the loop knows of it
 pub visited_rule : (anchored : FlatAnchor → Bool) (matched : ℕ → FlatRule → Bool) (lists : RuleLists) (place next : ℕ) (decided new : Option ℕ) (visits more : List ℕ) (found : Option FlatAnchor) (rule : FlatRule) (is_hit : Bool) → So anchored matched lists place next decided visits → ArePlaced lists.rules lists.anchors → slice_get lists.anchors next ≡ found → IsNext place found → slice_get lists.rules place ≡ Some rule → is_hit ≡ matched place rule → new ≡ (if is_hit then Some place else decided) → more ≡ visits ++ place ∷ []

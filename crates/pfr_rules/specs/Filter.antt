@@ -7,6 +7,7 @@
 use Rattle.std.specs.Prelude.{ℕ, zero, suc, ◌+◌, ◌==◌, ◌&&◌, ◌||◌, Bool, true, false, not, nat_le, if◌then◌else◌, List, [], ◌∷◌, length, Option, Some, None}
 use Rattle.std.specs.List.{slice_get, list_any, list_all, filter, flat_map}
 use Rattle.pfr_net.specs.declared.direction.Direction.{Direction}
+use Rattle.pfr_net.specs.declared.interface.IfName.{IfName}
 use Rattle.pfr_ruleset.specs.declared.flat.FilterAction.{FilterAction}
 use Rattle.pfr_ruleset.specs.declared.flat.FilterAction.TheVariants as action
 use Rattle.pfr_ruleset.specs.declared.flat.FlatRule.{FlatRule}
@@ -122,27 +123,27 @@ abbrev pub room_question : ℕ → Option ℕ → List Question
 room_question number None = []
 room_question number (Some most) = RuleRoom (record { 0 = number }) most ∷ []
 
--- ---- a packet
+-- ---- a packet on the interface of a name
 
-abbrev pub anchored : Ruleset → Packet → Direction → FlatAnchor → Bool
-anchored flat packet direction anchor = anchor_holds anchor flat.interface.name flat.tables packet direction
+abbrev pub anchored : Ruleset → IfName → Packet → Direction → FlatAnchor → Bool
+anchored flat name packet direction anchor = anchor_holds anchor name flat.tables packet direction
 
-abbrev pub ruled : Ruleset → Packet → Direction → FlatRule → Bool
-ruled flat packet direction rule = rule_holds rule flat.interface.name flat.tables packet direction
+abbrev pub ruled : Ruleset → IfName → Packet → Direction → FlatRule → Bool
+ruled flat name packet direction rule = rule_holds rule name flat.tables packet direction
 
 -- all that the rule with a number writes holds, and it has room
-abbrev pub matched : Ruleset → Rooms → Packet → Direction → ℕ → FlatRule → Bool
-matched flat rooms packet direction number rule = ruled flat packet direction rule && has_room_by rooms number (limit_for rule packet)
+abbrev pub matched : Ruleset → Rooms → IfName → Packet → Direction → ℕ → FlatRule → Bool
+matched flat rooms name packet direction number rule = ruled flat name packet direction rule && has_room_by rooms number (limit_for rule packet)
 
-abbrev pub hit : Ruleset → Rooms → Packet → Direction → ℕ → Bool
-hit flat rooms packet direction = hits (anchored flat packet direction) (matched flat rooms packet direction) flat.filter
+abbrev pub hit : Ruleset → Rooms → IfName → Packet → Direction → ℕ → Bool
+hit flat rooms name packet direction = hits (anchored flat name packet direction) (matched flat rooms name packet direction) flat.filter
 
-unfoldable pub reach : Ruleset → Rooms → Packet → Direction → ℕ
-reach flat rooms packet direction = reach_by (hit flat rooms packet direction) flat.filter
+unfoldable pub reach : Ruleset → Rooms → IfName → Packet → Direction → ℕ
+reach flat rooms name packet direction = reach_by (hit flat rooms name packet direction) flat.filter
 
 -- the place of the rule that decides: the last that hits of those that are reached
-unfoldable pub deciding : Ruleset → Rooms → Packet → Direction → Option ℕ
-deciding flat rooms packet direction = last_below (hit flat rooms packet direction) (reach flat rooms packet direction)
+unfoldable pub deciding : Ruleset → Rooms → IfName → Packet → Direction → Option ℕ
+deciding flat rooms name packet direction = last_below (hit flat rooms name packet direction) (reach flat rooms name packet direction)
 
 -- what it decides; a packet that no rule hits passes
 abbrev pub action_of : Option FlatRule → FilterAction
@@ -153,23 +154,23 @@ abbrev pub decision_by : List FlatRule → Option ℕ → Decision
 decision_by rules None = record { rule = None; action = action.Pass }
 decision_by rules (Some place) = record { rule = Some (record { 0 = place }); action = action_of (slice_get rules place) }
 
-abbrev pub decision_of : Ruleset → Rooms → Packet → Direction → Decision
-decision_of flat rooms packet direction = decision_by flat.filter.rules (deciding flat rooms packet direction)
+abbrev pub decision_of : Ruleset → Rooms → IfName → Packet → Direction → Decision
+decision_of flat rooms name packet direction = decision_by flat.filter.rules (deciding flat rooms name packet direction)
 
 -- the numbers of the rules that are visited: of those that are reached all whose anchors hold
-unfoldable pub visited : Ruleset → Rooms → Packet → Direction → List ℕ
-visited flat rooms packet direction = filter (is_inside (anchored flat packet direction) flat.filter.anchors) (numbers_below (reach flat rooms packet direction))
+unfoldable pub visited : Ruleset → Rooms → IfName → Packet → Direction → List ℕ
+visited flat rooms name packet direction = filter (is_inside (anchored flat name packet direction) flat.filter.anchors) (numbers_below (reach flat rooms name packet direction))
 
 -- ---- what is asked
 
 -- a visited rule is asked whether it has room, if all that it writes holds and it says how many states it may have
-abbrev pub asked_of : Ruleset → Packet → Direction → ℕ → Option FlatRule → List Question
-asked_of flat packet direction number None = []
-asked_of flat packet direction number (Some rule) = if ruled flat packet direction rule then room_question number (limit_for rule packet) else []
+abbrev pub asked_of : Ruleset → IfName → Packet → Direction → ℕ → Option FlatRule → List Question
+asked_of flat name packet direction number None = []
+asked_of flat name packet direction number (Some rule) = if ruled flat name packet direction rule then room_question number (limit_for rule packet) else []
 
-abbrev pub asked_at : Ruleset → Packet → Direction → ℕ → List Question
-asked_at flat packet direction place = asked_of flat packet direction place (slice_get flat.filter.rules place)
+abbrev pub asked_at : Ruleset → IfName → Packet → Direction → ℕ → List Question
+asked_at flat name packet direction place = asked_of flat name packet direction place (slice_get flat.filter.rules place)
 
 -- what is asked of all that are visited
-abbrev pub rooms_asked : Ruleset → Rooms → Packet → Direction → List Question
-rooms_asked flat rooms packet direction = flat_map (asked_at flat packet direction) (visited flat rooms packet direction)
+abbrev pub rooms_asked : Ruleset → Rooms → IfName → Packet → Direction → List Question
+rooms_asked flat rooms name packet direction = flat_map (asked_at flat name packet direction) (visited flat rooms name packet direction)

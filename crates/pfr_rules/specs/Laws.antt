@@ -5,6 +5,7 @@ use Rattle.std.specs.List.{All, Contains, count_by, slice_get, filter}
 use Rattle.pfr_net.specs.declared.address.Ipv4Address.{Ipv4Address}
 use Rattle.pfr_net.specs.declared.direction.Direction.{Direction}
 use Rattle.pfr_net.specs.declared.direction.Direction.TheVariants.{In, Out}
+use Rattle.pfr_net.specs.declared.interface.IfName.{IfName}
 use Rattle.pfr_ruleset.specs.declared.flat.FlatAnchor.{FlatAnchor}
 use Rattle.pfr_ruleset.specs.declared.ruleset.Ruleset.{Ruleset}
 use Rattle.pfr_ruleset.specs.declared.flat.FlatRule.{FlatRule}
@@ -40,9 +41,7 @@ anchors_up_to place anchors = map (cut_at place) (filter (begins_by place) ancho
 
 -- what stands behind a place may differ, and nothing else that a filter asks for
 pub record IsSameUpTo (place : ℕ) (flat other : Ruleset) : Type 0 where
-  -- the interface's name is the same
-  pub name_is : other.interface.name ≡ flat.interface.name
-  -- and all tables
+  -- all tables are the same
   pub tables_are : other.tables ≡ flat.tables
   -- the rules up to the place
   pub rules_are : (at : ℕ) → at ≤ place → slice_get other.filter.rules at ≡ slice_get flat.filter.rules at
@@ -53,9 +52,7 @@ pub record IsSameUpTo (place : ℕ) (flat other : Ruleset) : Type 0 where
 
 -- the rule at a place may differ, and nothing else that a filter asks for
 pub record IsSameBut (place : ℕ) (flat other : Ruleset) : Type 0 where
-  -- the interface's name is the same
-  pub name_is : other.interface.name ≡ flat.interface.name
-  -- and all tables
+  -- all tables are the same
   pub tables_are : other.tables ≡ flat.tables
   -- all anchors
   pub anchors_are : other.filter.anchors ≡ flat.filter.anchors
@@ -76,9 +73,7 @@ asking_like asked anchor = record anchor { direction = asked.direction; packet =
 
 -- another anchor stands for one, and nothing else that a filter asks for may differ
 pub record IsSameButAnchor (anchor changed : FlatAnchor) (flat other : Ruleset) : Type 0 where
-  -- the interface's name is the same
-  pub name_is : other.interface.name ≡ flat.interface.name
-  -- and all tables
+  -- all tables are the same
   pub tables_are : other.tables ≡ flat.tables
   -- all rules
   pub rules_are : other.filter.rules ≡ flat.filter.rules
@@ -92,18 +87,18 @@ pub record IsSameButAnchor (anchor changed : FlatAnchor) (flat other : Ruleset) 
 -- ---- packets
 
 -- no rule in an anchor hits
-abbrev pub NoneHits : FlatAnchor → Ruleset → Rooms → Packet → Direction → Type 0
-NoneHits anchor flat rooms packet direction = (place : ℕ) → anchor.first ≤ place → place ≤ anchor.last → hit flat rooms packet direction place ≡ false
+abbrev pub NoneHits : FlatAnchor → Ruleset → Rooms → IfName → Packet → Direction → Type 0
+NoneHits anchor flat rooms name packet direction = (place : ℕ) → anchor.first ≤ place → place ≤ anchor.last → hit flat rooms name packet direction place ≡ false
 
 -- the rule at a place doesn't decide on a packet, and isn't visited
-pub record PassesBy (flat : Ruleset) (rooms : Rooms) (packet : Packet) (direction : Direction) (place : ℕ) : Type 0 where
-  pub decides : deciding flat rooms packet direction ≢ Some place
-  pub visits : Contains (visited flat rooms packet direction) place → ⊥
+pub record PassesBy (flat : Ruleset) (rooms : Rooms) (name : IfName) (packet : Packet) (direction : Direction) (place : ℕ) : Type 0 where
+  pub decides : deciding flat rooms name packet direction ≢ Some place
+  pub visits : Contains (visited flat rooms name packet direction) place → ⊥
 
 -- the same rule decides on a packet, and the same rules are visited
-pub record GoesTheSameWay (flat other : Ruleset) (rooms : Rooms) (packet : Packet) (direction : Direction) : Type 0 where
-  pub decides : deciding other rooms packet direction ≡ deciding flat rooms packet direction
-  pub visits : visited other rooms packet direction ≡ visited flat rooms packet direction
+pub record GoesTheSameWay (flat other : Ruleset) (rooms : Rooms) (name : IfName) (packet : Packet) (direction : Direction) : Type 0 where
+  pub decides : deciding other rooms name packet direction ≡ deciding flat rooms name packet direction
+  pub visits : visited other rooms name packet direction ≡ visited flat rooms name packet direction
 
 -- ---- rooms
 
@@ -117,60 +112,60 @@ SameRoom rooms other elsewhere = rooms ≡ rooms
 -- what stands behind a quick rule that hits says nothing
 abbrev pub BehindAQuickHit : Type 0
 BehindAQuickHit =
-    (flat other : Ruleset) (rooms : Rooms) (packet : Packet) (direction : Direction) (place : ℕ) (rule : FlatRule)
+    (flat other : Ruleset) (rooms : Rooms) (name : IfName) (packet : Packet) (direction : Direction) (place : ℕ) (rule : FlatRule)
     → slice_get flat.filter.rules place ≡ Some rule
     → rule.is_quick ≡ true
-    → hit flat rooms packet direction place ≡ true
+    → hit flat rooms name packet direction place ≡ true
     → IsSameUpTo place flat other
-    → GoesTheSameWay flat other rooms packet direction
+    → GoesTheSameWay flat other rooms name packet direction
 
 -- a rule that a packet doesn't visit says nothing of it
 abbrev pub WhatIsNotVisited : Type 0
 WhatIsNotVisited =
-    (flat other : Ruleset) (rooms : Rooms) (packet : Packet) (direction : Direction) (place : ℕ)
-    → (Contains (visited flat rooms packet direction) place → ⊥)
+    (flat other : Ruleset) (rooms : Rooms) (name : IfName) (packet : Packet) (direction : Direction) (place : ℕ)
+    → (Contains (visited flat rooms name packet direction) place → ⊥)
     → IsSameBut place flat other
-    → GoesTheSameWay flat other rooms packet direction
+    → GoesTheSameWay flat other rooms name packet direction
 
 -- whether an anchor is quick says nothing where no rule in it hits
 abbrev pub QuickWithoutAHit : Type 0
 QuickWithoutAHit =
-    (flat other : Ruleset) (rooms : Rooms) (packet : Packet) (direction : Direction) (anchor : FlatAnchor) (quick : Bool)
-    → NoneHits anchor flat rooms packet direction
+    (flat other : Ruleset) (rooms : Rooms) (name : IfName) (packet : Packet) (direction : Direction) (anchor : FlatAnchor) (quick : Bool)
+    → NoneHits anchor flat rooms name packet direction
     → IsSameButAnchor anchor (quick_or_not quick anchor) flat other
-    → GoesTheSameWay flat other rooms packet direction
+    → GoesTheSameWay flat other rooms name packet direction
 
 -- what an anchor asks for, it asks for the rules in it alone
 abbrev pub AnchorAsksForItsOwn : Type 0
 AnchorAsksForItsOwn =
-    (flat other : Ruleset) (rooms : Rooms) (packet : Packet) (direction : Direction) (anchor asked : FlatAnchor)
-    → NoneHits anchor flat rooms packet direction
-    → NoneHits anchor other rooms packet direction
+    (flat other : Ruleset) (rooms : Rooms) (name : IfName) (packet : Packet) (direction : Direction) (anchor asked : FlatAnchor)
+    → NoneHits anchor flat rooms name packet direction
+    → NoneHits anchor other rooms name packet direction
     → IsSameButAnchor anchor (asking_like asked anchor) flat other
-    → deciding other rooms packet direction ≡ deciding flat rooms packet direction
+    → deciding other rooms name packet direction ≡ deciding flat rooms name packet direction
 
 -- an anchor that doesn't hold lets a packet pass by all its rules
 abbrev pub AnchorLetsNothingIn : Type 0
 AnchorLetsNothingIn =
-    (flat : Ruleset) (rooms : Rooms) (packet : Packet) (direction : Direction) (anchor : FlatAnchor) (place : ℕ)
+    (flat : Ruleset) (rooms : Rooms) (name : IfName) (packet : Packet) (direction : Direction) (anchor : FlatAnchor) (place : ℕ)
     → Contains flat.filter.anchors anchor
-    → anchor_holds anchor flat.interface.name flat.tables packet direction ≡ false
+    → anchor_holds anchor name flat.tables packet direction ≡ false
     → anchor.first ≤ place
     → place ≤ anchor.last
-    → PassesBy flat rooms packet direction place
+    → PassesBy flat rooms name packet direction place
 
 -- rooms that answer alike what is asked of them make no difference
 abbrev pub WhatIsNotAsked : Type 0
 WhatIsNotAsked =
-    (flat : Ruleset) (rooms other : Rooms) (packet : Packet) (direction : Direction)
-    → All (SameRoom rooms other) (rooms_asked flat rooms packet direction)
-    → (deciding flat other packet direction ≡ deciding flat rooms packet direction) × (visited flat other packet direction ≡ visited flat rooms packet direction)
+    (flat : Ruleset) (rooms other : Rooms) (name : IfName) (packet : Packet) (direction : Direction)
+    → All (SameRoom rooms other) (rooms_asked flat rooms name packet direction)
+    → (deciding flat other name packet direction ≡ deciding flat rooms name packet direction) × (visited flat other name packet direction ≡ visited flat rooms name packet direction)
 
 -- a rule that decides on a packet which may make a state has room for it
 abbrev pub DecidesWithRoom : Type 0
 DecidesWithRoom =
-    (flat : Ruleset) (rooms : Rooms) (packet : Packet) (direction : Direction) (place most : ℕ) (rule : FlatRule)
-    → deciding flat rooms packet direction ≡ Some place
+    (flat : Ruleset) (rooms : Rooms) (name : IfName) (packet : Packet) (direction : Direction) (place most : ℕ) (rule : FlatRule)
+    → deciding flat rooms name packet direction ≡ Some place
     → slice_get flat.filter.rules place ≡ Some rule
     → limit_for rule packet ≡ Some most
     → rooms place most ≡ true
@@ -178,19 +173,19 @@ DecidesWithRoom =
 -- a rule without room lets a packet by as a rule does that asks for something else, and is visited as that one is
 abbrev pub NoRoomLetsBy : Type 0
 NoRoomLetsBy =
-    (flat other : Ruleset) (rooms : Rooms) (packet : Packet) (direction : Direction) (place most : ℕ) (rule : FlatRule)
+    (flat other : Ruleset) (rooms : Rooms) (name : IfName) (packet : Packet) (direction : Direction) (place most : ℕ) (rule : FlatRule)
     → slice_get flat.filter.rules place ≡ Some rule
     → limit_for rule packet ≡ Some most
     → rooms place most ≡ false
     → IsSameBut place flat other
-    → passes (ruled other packet direction) (slice_get other.filter.rules place) ≡ false
-    → GoesTheSameWay flat other rooms packet direction
+    → passes (ruled other name packet direction) (slice_get other.filter.rules place) ≡ false
+    → GoesTheSameWay flat other rooms name packet direction
 
 -- a packet visits no rule twice
 abbrev pub VisitsARuleOnce : Type 0
 VisitsARuleOnce =
-    (flat : Ruleset) (rooms : Rooms) (packet : Packet) (direction : Direction) (rule : ℕ)
-    → count_by (λ number. number == rule) (visited flat rooms packet direction) ≤ 1
+    (flat : Ruleset) (rooms : Rooms) (name : IfName) (packet : Packet) (direction : Direction) (rule : ℕ)
+    → count_by (λ number. number == rule) (visited flat rooms name packet direction) ≤ 1
 
 -- ---- translation
 
@@ -222,6 +217,6 @@ OnePortBecomesTheFirst =
 -- a packet visits no translation rule twice, if each has a number of its own
 abbrev pub VisitsATranslationRuleOnce : Type 0
 VisitsATranslationRuleOnce =
-    (flat : Ruleset) (packet : Packet) (direction : Direction) (rule : ℕ)
+    (flat : Ruleset) (name : IfName) (packet : Packet) (direction : Direction) (rule : ℕ)
     → HaveOwnNumbers flat.translations
-    → count_by (λ number. number == rule) (translations_visited flat packet direction) ≤ 1
+    → count_by (λ number. number == rule) (translations_visited flat name packet direction) ≤ 1

@@ -9,6 +9,7 @@ use Rattle.std.specs.Option.{option_map}
 use Rattle.pfr_net.specs.declared.address.Ipv4Address.{Ipv4Address}
 use Rattle.pfr_net.specs.declared.direction.Direction.{Direction}
 use Rattle.pfr_net.specs.declared.direction.Direction.TheVariants.{In, Out}
+use Rattle.pfr_net.specs.declared.interface.IfName.{IfName}
 use Rattle.pfr_net.specs.declared.port.Port.{Port}
 use Rattle.pfr_ruleset.specs.declared.flat.FlatTranslation.{FlatTranslation}
 use Rattle.pfr_ruleset.specs.declared.flat.NatAddress.{NatAddress}
@@ -75,20 +76,20 @@ binat_hit packet direction rule = hit_by (binat_end packet direction rule) rule
 
 -- ---- the rules of a kind
 
--- how rules of a kind are asked: whether one holds for a packet, what it makes of it, and its number
+-- how rules of a kind are asked: whether one holds for a packet on the interface of a name, what it makes of it, and its number
 pub record Kind (R : Type 0) : Type 0 where
-  pub holds : Ruleset → Packet → Direction → R → Bool
+  pub holds : Ruleset → IfName → Packet → Direction → R → Bool
   pub hit : Packet → Direction → R → Option Hit
   pub number : R → ℕ
 
 abbrev pub numbered : {T : Type 0} → FlatTranslation T → ℕ
 numbered rule = rule.number
 
-abbrev pub translation_holds : {T : Type 0} → Ruleset → Packet → Direction → FlatTranslation T → Bool
-translation_holds flat packet direction rule = criteria.translation_holds rule flat.interface.name flat.tables packet
+abbrev pub translation_holds : {T : Type 0} → Ruleset → IfName → Packet → Direction → FlatTranslation T → Bool
+translation_holds flat name packet direction rule = criteria.translation_holds rule name flat.tables packet
 
-abbrev pub binat_holds : Ruleset → Packet → Direction → FlatTranslation Ipv4Address → Bool
-binat_holds flat packet direction rule = criteria.binat_holds rule flat.interface.name flat.tables packet direction
+abbrev pub binat_holds : Ruleset → IfName → Packet → Direction → FlatTranslation Ipv4Address → Bool
+binat_holds flat name packet direction rule = criteria.binat_holds rule name flat.tables packet direction
 
 abbrev pub nats : Kind (FlatTranslation NatAddress)
 nats = record { holds = translation_holds; hit = λ packet direction. nat_hit; number = numbered }
@@ -104,8 +105,8 @@ hit_of_first hit None = None
 hit_of_first hit (Some rule) = hit rule
 
 -- what the first rule that holds makes of a packet
-abbrev pub hit_in : {R : Type 0} → Kind R → Ruleset → Packet → Direction → List R → Option Hit
-hit_in kind flat packet direction rules = hit_of_first (kind.hit packet direction) (find (kind.holds flat packet direction) rules)
+abbrev pub hit_in : {R : Type 0} → Kind R → Ruleset → IfName → Packet → Direction → List R → Option Hit
+hit_in kind flat name packet direction rules = hit_of_first (kind.hit packet direction) (find (kind.holds flat name packet direction) rules)
 
 -- of each thing up to the first for which a test holds, or of all where it holds for none
 abbrev pub up_to_first : {A B : Type 0} → (A → Bool) → (A → B) → List A → List B
@@ -113,22 +114,22 @@ up_to_first test of [] = []
 up_to_first test of (x ∷ xs) = of x ∷ (if test x then [] else up_to_first test of xs)
 
 -- the numbers of the rules that are asked for a packet
-abbrev pub asked_in : {R : Type 0} → Kind R → Ruleset → Packet → Direction → List R → List ℕ
-asked_in kind flat packet direction rules = up_to_first (kind.holds flat packet direction) kind.number rules
+abbrev pub asked_in : {R : Type 0} → Kind R → Ruleset → IfName → Packet → Direction → List R → List ℕ
+asked_in kind flat name packet direction rules = up_to_first (kind.holds flat name packet direction) kind.number rules
 
--- ---- a packet
+-- ---- a packet on the interface of a name
 
-abbrev pub binat_of : Ruleset → Packet → Direction → Option Hit
-binat_of flat packet direction = hit_in binats flat packet direction flat.translations.binats
+abbrev pub binat_of : Ruleset → IfName → Packet → Direction → Option Hit
+binat_of flat name packet direction = hit_in binats flat name packet direction flat.translations.binats
 
 -- by the kind that is asked behind `binat`
-abbrev pub other_hit : Ruleset → Packet → Direction → Option Hit
-other_hit flat packet In = hit_in rdrs flat packet In flat.translations.rdrs
-other_hit flat packet Out = hit_in nats flat packet Out flat.translations.nats
+abbrev pub other_hit : Ruleset → IfName → Packet → Direction → Option Hit
+other_hit flat name packet In = hit_in rdrs flat name packet In flat.translations.rdrs
+other_hit flat name packet Out = hit_in nats flat name packet Out flat.translations.nats
 
-abbrev pub others_asked : Ruleset → Packet → Direction → List ℕ
-others_asked flat packet In = asked_in rdrs flat packet In flat.translations.rdrs
-others_asked flat packet Out = asked_in nats flat packet Out flat.translations.nats
+abbrev pub others_asked : Ruleset → IfName → Packet → Direction → List ℕ
+others_asked flat name packet In = asked_in rdrs flat name packet In flat.translations.rdrs
+others_asked flat name packet Out = asked_in nats flat name packet Out flat.translations.nats
 
 abbrev pub hit_behind : Option Hit → Option Hit → Option Hit
 hit_behind (Some hit) other = Some hit
@@ -139,11 +140,11 @@ asked_behind (Some hit) others = []
 asked_behind None others = others
 
 -- what the rule that translates the packet makes of it
-unfoldable pub hit_of : Ruleset → Packet → Direction → Option Hit
-hit_of flat packet direction = hit_behind (binat_of flat packet direction) (other_hit flat packet direction)
+unfoldable pub hit_of : Ruleset → IfName → Packet → Direction → Option Hit
+hit_of flat name packet direction = hit_behind (binat_of flat name packet direction) (other_hit flat name packet direction)
 
 -- the numbers of the rules that are visited, in the order in which they are asked
-unfoldable pub translations_visited : Ruleset → Packet → Direction → List ℕ
-translations_visited flat packet direction =
-    asked_in binats flat packet direction flat.translations.binats
-    ++ asked_behind (binat_of flat packet direction) (others_asked flat packet direction)
+unfoldable pub translations_visited : Ruleset → IfName → Packet → Direction → List ℕ
+translations_visited flat name packet direction =
+    asked_in binats flat name packet direction flat.translations.binats
+    ++ asked_behind (binat_of flat name packet direction) (others_asked flat name packet direction)

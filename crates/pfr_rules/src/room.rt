@@ -10,7 +10,7 @@ ghost use Rattle.pfr_rules.specs.Filter as spec;
 use crate::stretch::rule_is;
 use pfr_criteria::opens_connection;
 use pfr_headers::Packet;
-use pfr_net::{Direction, RuleNumber};
+use pfr_net::{Direction, IfName, RuleNumber};
 use pfr_ruleset::{FlatRule, Ruleset};
 use std::alloc::AllocError;
 
@@ -48,18 +48,19 @@ pub(crate) fn is_match<R: RuleRoom>(
     flat: &Ruleset,
     rule: &FlatRule,
     place: usize,
+    name: &IfName,
     packet: &Packet,
     direction: Direction,
     is_known: bool,
     rooms: &mut R,
 ) -> Result<bool, AllocError>
-    requires known { is_known ≡ true → spec.ruled flat.now packet.now direction rule.now ≡ true }
+    requires known { is_known ≡ true → spec.ruled flat.now name.now packet.now direction rule.now ≡ true }
     ensures seen { R.seen rooms.new ≡ R.seen rooms.old }
-    ensures answer { IfOk result (λ matched. matched ≡ spec.matched flat.now (spec.rooms_in (R.seen rooms.old)) packet.now direction place rule.now) }
-    ensures asked { OnOk result (All (R.asked rooms.new) (spec.asked_of flat.now packet.now direction place (Some rule.now))) }
+    ensures answer { IfOk result (λ matched. matched ≡ spec.matched flat.now (spec.rooms_in (R.seen rooms.old)) name.now packet.now direction place rule.now) }
+    ensures asked { OnOk result (All (R.asked rooms.new) (spec.asked_of flat.now name.now packet.now direction place (Some rule.now))) }
     ensures kept { (question : Question) → R.asked rooms.old question → R.asked rooms.new question }
 {
-    if !is_known && !rule_is(flat, rule, packet, direction) {
+    if !is_known && !rule_is(flat, rule, name, packet, direction) {
         return Ok(false);
     }
     match limit_for(rule, packet) {

@@ -13,6 +13,7 @@ use crate::candidates::{begin_asking, next_asked};
 use crate::visits::Visits;
 use pfr_criteria::{Answer, ask_translation, translation_holds};
 use pfr_headers::Packet;
+use pfr_net::IfName;
 use pfr_ruleset::{Aids, FlatTranslation, Ruleset, TranslationAids, TranslationRules};
 use std::alloc::AllocError;
 
@@ -21,21 +22,17 @@ fn behind_failing<T>(
     rules: &[FlatTranslation<T>],
     aids: &Aids,
     flat: &Ruleset,
+    name: &IfName,
     packet: &Packet,
     place: usize,
 ) -> Option<usize>
     requires aids { AreAids (map asked_by_translation rules.now) aids.now }
     requires within { place < length rules.now }
     requires small { place < 18446744073709551615 }
-    ensures holds { IfNone result (HoldsAt (held flat.now packet.now) rules.now place) }
-    ensures fails { IfSome result (IsBehind (held flat.now packet.now) rules.now place) }
+    ensures holds { IfNone result (HoldsAt (held flat.now name.now packet.now) rules.now place) }
+    ensures fails { IfSome result (IsBehind (held flat.now name.now packet.now) rules.now place) }
 {
-    match ask_translation(
-        &rules[place],
-        &flat.interface.name,
-        flat.tables.as_slice(),
-        packet,
-    ) {
+    match ask_translation(&rules[place], name, flat.tables.as_slice(), packet) {
         Answer::Holds => None,
         Answer::Fails => Some(place + 1),
         Answer::FailsAt(criterion) => Some(aids.skips.next(criterion, place)),
@@ -48,13 +45,14 @@ fn first_by<T>(
     rules: &[FlatTranslation<T>],
     aids: &Aids,
     flat: &Ruleset,
+    name: &IfName,
     packet: &Packet,
     visits: &mut Visits,
 ) -> usize
     requires aids { AreAids (map asked_by_translation rules.now) aids.now }
     ensures within { result ≤ length rules.now }
-    ensures none { NoneHolds (held flat.now packet.now) rules.now 0 result }
-    ensures holds { result < length rules.now → HoldsAt (held flat.now packet.now) rules.now result }
+    ensures none { NoneHolds (held flat.now name.now packet.now) rules.now 0 result }
+    ensures holds { result < length rules.now → HoldsAt (held flat.now name.now packet.now) rules.now result }
     ensures visits { visits.new ≡ visits.old }
 {
     let end = rules.len();
@@ -66,7 +64,7 @@ fn first_by<T>(
             return end;
         }
         visits.ask(1);
-        match behind_failing(rules, aids, flat, packet, to) {
+        match behind_failing(rules, aids, flat, name, packet, to) {
             None => return to,
             Some(next) => from = next,
         }
@@ -78,23 +76,19 @@ fn first_by<T>(
 fn first_of_each<T>(
     rules: &[FlatTranslation<T>],
     flat: &Ruleset,
+    name: &IfName,
     packet: &Packet,
     visits: &mut Visits,
 ) -> usize
     ensures within { result ≤ length rules.now }
-    ensures none { NoneHolds (held flat.now packet.now) rules.now 0 result }
-    ensures holds { result < length rules.now → HoldsAt (held flat.now packet.now) rules.now result }
+    ensures none { NoneHolds (held flat.now name.now packet.now) rules.now 0 result }
+    ensures holds { result < length rules.now → HoldsAt (held flat.now name.now packet.now) rules.now result }
     ensures visits { visits.new ≡ visits.old }
 {
     let mut place = 0;
     while place < rules.len() {
         visits.ask(1);
-        if translation_holds(
-            &rules[place],
-            &flat.interface.name,
-            flat.tables.as_slice(),
-            packet,
-        ) {
+        if translation_holds(&rules[place], name, flat.tables.as_slice(), packet) {
             return place;
         }
         place += 1;
@@ -107,18 +101,19 @@ fn first_place<T>(
     rules: &[FlatTranslation<T>],
     aids: Option<&TranslationAids>,
     flat: &Ruleset,
+    name: &IfName,
     packet: &Packet,
     visits: &mut Visits,
 ) -> usize
     requires aids { HaveAids rules.now (option_copied aids) }
     ensures within { result ≤ length rules.now }
-    ensures none { NoneHolds (held flat.now packet.now) rules.now 0 result }
-    ensures holds { result < length rules.now → HoldsAt (held flat.now packet.now) rules.now result }
+    ensures none { NoneHolds (held flat.now name.now packet.now) rules.now 0 result }
+    ensures holds { result < length rules.now → HoldsAt (held flat.now name.now packet.now) rules.now result }
     ensures visits { visits.new ≡ visits.old }
 {
     match aids {
-        None => first_of_each(rules, flat, packet, visits),
-        Some(aids) => first_by(rules, &aids.rules, flat, packet, visits),
+        None => first_of_each(rules, flat, name, packet, visits),
+        Some(aids) => first_by(rules, &aids.rules, flat, name, packet, visits),
     }
 }
 
@@ -189,14 +184,15 @@ fn first_in<'a, T>(
     rules: &'a [FlatTranslation<T>],
     aids: Option<&TranslationAids>,
     flat: &Ruleset,
+    name: &IfName,
     packet: &Packet,
     visits: &mut Visits,
 ) -> Result<Option<&'a FlatTranslation<T>>, AllocError>
     requires aids { HaveAids rules.now (option_copied aids) }
-    ensures found { IfOk result (λ found. option_copied found ≡ find (held flat.now packet.now) rules.now) }
-    ensures visits { OnOk result (visits.new ≡ visits.old ++ up_to_first (held flat.now packet.now) numbered rules.now) }
+    ensures found { IfOk result (λ found. option_copied found ≡ find (held flat.now name.now packet.now) rules.now) }
+    ensures visits { OnOk result (visits.new ≡ visits.old ++ up_to_first (held flat.now name.now packet.now) numbered rules.now) }
 {
-    let place = first_place(rules, aids, flat, packet, visits);
+    let place = first_place(rules, aids, flat, name, packet, visits);
     let upto = asked_up_to(place, rules.len());
     visit(rules, aids, upto, visits)?;
     Ok(rule_at(rules, place))
@@ -206,11 +202,12 @@ fn first_in<'a, T>(
 pub(crate) fn first_of<'a, T>(
     rules: &'a TranslationRules<T>,
     flat: &Ruleset,
+    name: &IfName,
     packet: &Packet,
     visits: &mut Visits,
 ) -> Result<Option<&'a FlatTranslation<T>>, AllocError>
-    ensures found { IfOk result (λ found. option_copied found ≡ find (held flat.now packet.now) rules.now) }
-    ensures visits { OnOk result (visits.new ≡ visits.old ++ up_to_first (held flat.now packet.now) numbered rules.now) }
+    ensures found { IfOk result (λ found. option_copied found ≡ find (held flat.now name.now packet.now) rules.now) }
+    ensures visits { OnOk result (visits.new ≡ visits.old ++ up_to_first (held flat.now name.now packet.now) numbered rules.now) }
 {
-    first_in(rules.as_slice(), rules.aids(), flat, packet, visits)
+    first_in(rules.as_slice(), rules.aids(), flat, name, packet, visits)
 }

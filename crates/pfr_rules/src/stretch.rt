@@ -12,7 +12,7 @@ ghost use Rattle.pfr_rules.specs.Stretches as spec;
 use crate::candidates::{Trail, begin_asking, next_asked};
 use pfr_criteria::{Answer, ask_rule, rule_holds};
 use pfr_headers::Packet;
-use pfr_net::Direction;
+use pfr_net::{Direction, IfName};
 use pfr_ruleset::{Aids, FilterAids, FlatRule, Ruleset};
 
 /// Where a stretch of rules that don't hold ends.
@@ -25,22 +25,17 @@ pub(crate) struct StretchEnd {
     pub(crate) asked: u64,
 }
 
-/// Whether a rule holds for a packet of a direction.
+/// Whether a rule holds for a packet of a direction on the interface of this name.
 pub(crate) fn rule_is(
     flat: &Ruleset,
     rule: &FlatRule,
+    name: &IfName,
     packet: &Packet,
     direction: Direction,
 ) -> bool
-    ensures { result ≡ ruled flat.now packet.now direction rule.now }
+    ensures { result ≡ ruled flat.now name.now packet.now direction rule.now }
 {
-    rule_holds(
-        rule,
-        &flat.interface.name,
-        flat.tables.as_slice(),
-        packet,
-        direction,
-    )
+    rule_holds(rule, name, flat.tables.as_slice(), packet, direction)
 }
 
 /// A packet at the first rule of each chain that it follows, if there is an index.
@@ -59,6 +54,7 @@ fn behind_failing(
     flat: &Ruleset,
     aids: &Aids,
     rule: &FlatRule,
+    name: &IfName,
     packet: &Packet,
     direction: Direction,
     place: usize,
@@ -67,16 +63,10 @@ fn behind_failing(
     requires within { place < length flat.now.filter.rules }
     requires small { place < 18446744073709551615 }
     requires rule { slice_get flat.now.filter.rules place ≡ Some rule.now }
-    ensures holds { IfNone result (spec.HoldsAt (ruled flat.now packet.now direction) flat.now.filter.rules place) }
-    ensures fails { IfSome result (spec.IsBehind (ruled flat.now packet.now direction) flat.now.filter.rules place) }
+    ensures holds { IfNone result (spec.HoldsAt (ruled flat.now name.now packet.now direction) flat.now.filter.rules place) }
+    ensures fails { IfSome result (spec.IsBehind (ruled flat.now name.now packet.now direction) flat.now.filter.rules place) }
 {
-    match ask_rule(
-        rule,
-        &flat.interface.name,
-        flat.tables.as_slice(),
-        packet,
-        direction,
-    ) {
+    match ask_rule(rule, name, flat.tables.as_slice(), packet, direction) {
         Answer::Holds => None,
         Answer::Fails => Some(place + 1),
         Answer::FailsAt(criterion) => Some(aids.skips.next(criterion, place)),
@@ -87,6 +77,7 @@ fn behind_failing(
 fn stretch_by(
     flat: &Ruleset,
     aids: &Aids,
+    name: &IfName,
     packet: &Packet,
     direction: Direction,
     trail: &mut Trail,
@@ -99,8 +90,8 @@ fn stretch_by(
     requires from { place ≤ end }
     ensures from { place ≤ result.to }
     ensures within { result.to ≤ end }
-    ensures fails { spec.NoneHolds (ruled flat.now packet.now direction) flat.now.filter.rules place result.to }
-    ensures hits { result.hits ≡ true → result.to < end × spec.HoldsAt (ruled flat.now packet.now direction) flat.now.filter.rules result.to }
+    ensures fails { spec.NoneHolds (ruled flat.now name.now packet.now direction) flat.now.filter.rules place result.to }
+    ensures hits { result.hits ≡ true → result.to < end × spec.HoldsAt (ruled flat.now name.now packet.now direction) flat.now.filter.rules result.to }
     ensures followed { candidates.IsFollowingIn aids.now.index packet.now result.to trail.new }
 {
     let rules = flat.filter.rules();
@@ -116,7 +107,7 @@ fn stretch_by(
             };
         }
         asked = asked.saturating_add(1);
-        match behind_failing(flat, aids, &rules[to], packet, direction, to) {
+        match behind_failing(flat, aids, &rules[to], name, packet, direction, to) {
             None => {
                 return StretchEnd {
                     to,
@@ -165,6 +156,7 @@ fn end_of_each(place: usize, to: usize, hits: bool) -> StretchEnd
 /// How far a walk may jump from `place`, at most to `limit`, where nothing is kept beside the rules: each is asked.
 fn stretch_of_each(
     flat: &Ruleset,
+    name: &IfName,
     packet: &Packet,
     direction: Direction,
     place: usize,
@@ -174,9 +166,9 @@ fn stretch_of_each(
     requires from { place ≤ limit }
     ensures from { place ≤ result.to }
     ensures within { result.to ≤ limit }
-    ensures fails { spec.NoneHolds (ruled flat.now packet.now direction) flat.now.filter.rules place result.to }
+    ensures fails { spec.NoneHolds (ruled flat.now name.now packet.now direction) flat.now.filter.rules place result.to }
     ensures stops { spec.NoneStops flat.now.filter place result.to }
-    ensures hits { result.hits ≡ true → result.to < limit × spec.HoldsAt (ruled flat.now packet.now direction) flat.now.filter.rules result.to }
+    ensures hits { result.hits ≡ true → result.to < limit × spec.HoldsAt (ruled flat.now name.now packet.now direction) flat.now.filter.rules result.to }
 {
     let rules = flat.filter.rules();
     let openings = flat.filter.openings();
@@ -185,7 +177,7 @@ fn stretch_of_each(
         if openings[to] < to {
             return end_of_each(place, to, false);
         }
-        if rule_is(flat, &rules[to], packet, direction) {
+        if rule_is(flat, &rules[to], name, packet, direction) {
             return end_of_each(place, to, true);
         }
         to += 1;
@@ -198,6 +190,7 @@ fn stretch_of_each(
 pub(crate) fn stretch(
     flat: &Ruleset,
     aids: Option<&FilterAids>,
+    name: &IfName,
     packet: &Packet,
     direction: Direction,
     trail: &mut Trail,
@@ -210,16 +203,25 @@ pub(crate) fn stretch(
     requires from { place < limit }
     ensures from { place ≤ result.to }
     ensures within { result.to ≤ limit }
-    ensures fails { spec.NoneHolds (ruled flat.now packet.now direction) flat.now.filter.rules place result.to }
+    ensures fails { spec.NoneHolds (ruled flat.now name.now packet.now direction) flat.now.filter.rules place result.to }
     ensures stops { spec.NoneStops flat.now.filter place result.to }
-    ensures hits { result.hits ≡ true → result.to < limit × spec.HoldsAt (ruled flat.now packet.now direction) flat.now.filter.rules result.to }
+    ensures hits { result.hits ≡ true → result.to < limit × spec.HoldsAt (ruled flat.now name.now packet.now direction) flat.now.filter.rules result.to }
     ensures followed { candidates.IsFollowingBy (option_copied aids.entry) packet.now result.to trail.new }
 {
     match aids {
-        None => stretch_of_each(flat, packet, direction, place, limit),
+        None => stretch_of_each(flat, name, packet, direction, place, limit),
         Some(aids) => {
             let end = open_end(aids, flat.filter.openings(), place, limit);
-            stretch_by(flat, &aids.rules, packet, direction, trail, place, end)
+            stretch_by(
+                flat,
+                &aids.rules,
+                name,
+                packet,
+                direction,
+                trail,
+                place,
+                end,
+            )
         }
     }
 }

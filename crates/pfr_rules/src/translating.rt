@@ -10,7 +10,7 @@ use crate::searching::first_of;
 use crate::visits::Visits;
 use pfr_criteria::binat_holds;
 use pfr_headers::Packet;
-use pfr_net::{Direction, Ipv4Address, RuleNumber};
+use pfr_net::{Direction, IfName, Ipv4Address, RuleNumber};
 use pfr_ruleset::{FlatTranslation, HostSet, NatAddress, RdrAddress, Ruleset};
 use std::alloc::{AllocError, Global};
 
@@ -92,23 +92,18 @@ impl TranslationRule for FlatTranslation<Ipv4Address> {
 fn first_binat<'a>(
     rules: &'a [FlatTranslation<Ipv4Address>],
     flat: &Ruleset,
+    name: &IfName,
     packet: &Packet,
     direction: Direction,
     visits: &mut Visits,
 ) -> Result<Option<&'a FlatTranslation<Ipv4Address>>, AllocError>
-    ensures found { IfOk result (λ found. option_copied found ≡ find (spec.binat_holds flat.now packet.now direction) rules.now) }
-    ensures visits { OnOk result (visits.new ≡ visits.old ++ spec.asked_in spec.binats flat.now packet.now direction rules.now) }
+    ensures found { IfOk result (λ found. option_copied found ≡ find (spec.binat_holds flat.now name.now packet.now direction) rules.now) }
+    ensures visits { OnOk result (visits.new ≡ visits.old ++ spec.asked_in spec.binats flat.now name.now packet.now direction rules.now) }
 {
     for rule in rules {
         visits.ask(1);
         visits.push(rule.number)?;
-        if binat_holds(
-            rule,
-            &flat.interface.name,
-            flat.tables.as_slice(),
-            packet,
-            direction,
-        ) {
+        if binat_holds(rule, name, flat.tables.as_slice(), packet, direction) {
             return Ok(Some(rule));
         }
     }
@@ -132,57 +127,60 @@ fn hit_by_first<R: TranslationRule>(
 /// What the first `binat` rule that holds makes of a packet.
 fn binat_of(
     flat: &Ruleset,
+    name: &IfName,
     packet: &Packet,
     direction: Direction,
     visits: &mut Visits,
 ) -> Result<Option<Hit>, AllocError>
-    ensures hit { IfOk result (λ hit. hit ≡ spec.binat_of flat.now packet.now direction) }
-    ensures visits { OnOk result (visits.new ≡ visits.old ++ spec.asked_in spec.binats flat.now packet.now direction flat.now.translations.binats) }
+    ensures hit { IfOk result (λ hit. hit ≡ spec.binat_of flat.now name.now packet.now direction) }
+    ensures visits { OnOk result (visits.new ≡ visits.old ++ spec.asked_in spec.binats flat.now name.now packet.now direction flat.now.translations.binats) }
 {
     let binats = flat.translations.binats.as_slice();
-    let found = first_binat(binats, flat, packet, direction, visits)?;
+    let found = first_binat(binats, flat, name, packet, direction, visits)?;
     Ok(hit_by_first(found, packet, direction))
 }
 
 /// What the kind that is asked behind `binat` makes of a packet: `rdr` for one that comes in, `nat` for one that goes out.
 fn other_hit(
     flat: &Ruleset,
+    name: &IfName,
     packet: &Packet,
     direction: Direction,
     visits: &mut Visits,
 ) -> Result<Option<Hit>, AllocError>
-    ensures hit { IfOk result (λ hit. hit ≡ spec.other_hit flat.now packet.now direction) }
-    ensures visits { OnOk result (visits.new ≡ visits.old ++ spec.others_asked flat.now packet.now direction) }
+    ensures hit { IfOk result (λ hit. hit ≡ spec.other_hit flat.now name.now packet.now direction) }
+    ensures visits { OnOk result (visits.new ≡ visits.old ++ spec.others_asked flat.now name.now packet.now direction) }
 {
     match direction {
         Direction::In => {
-            let found = first_of(&flat.translations.rdrs, flat, packet, visits)?;
+            let found = first_of(&flat.translations.rdrs, flat, name, packet, visits)?;
             Ok(hit_by_first(found, packet, direction))
         }
         Direction::Out => {
-            let found = first_of(&flat.translations.nats, flat, packet, visits)?;
+            let found = first_of(&flat.translations.nats, flat, name, packet, visits)?;
             Ok(hit_by_first(found, packet, direction))
         }
     }
 }
 
-/// What the translation rules make of a packet, and which of them are visited, in the order in which they are asked. Of a kind
-/// the first rule that holds decides: it translates the packet, or behind `no` leaves it to the next kind. `binat` comes
-/// first, then `rdr` for a packet that comes in and `nat` for one that goes out.
+/// What the translation rules make of a packet on the interface of this name, and which of them are visited, in the order in
+/// which they are asked. Of a kind the first rule that holds decides: it translates the packet, or behind `no` leaves it to the
+/// next kind. `binat` comes first, then `rdr` for a packet that comes in and `nat` for one that goes out.
 #[tactic(auto, unfolding(crate::specs::Translating::hit_of, crate::specs::Translating::translations_visited))]
 pub fn translate(
     alloc: Global,
     flat: &Ruleset,
+    name: &IfName,
     packet: &Packet,
     direction: Direction,
 ) -> Result<(Option<Hit>, Visits), AllocError>
-    ensures hit { IfOk result (λ answer. answer.0 ≡ spec.hit_of flat.now packet.now direction) }
-    ensures visits { IfOk result (λ answer. answer.1 ≡ spec.translations_visited flat.now packet.now direction) }
+    ensures hit { IfOk result (λ answer. answer.0 ≡ spec.hit_of flat.now name.now packet.now direction) }
+    ensures visits { IfOk result (λ answer. answer.1 ≡ spec.translations_visited flat.now name.now packet.now direction) }
 {
     let mut visits = Visits::new(alloc);
-    let mut hit = binat_of(flat, packet, direction, &mut visits)?;
+    let mut hit = binat_of(flat, name, packet, direction, &mut visits)?;
     if hit.is_none() {
-        hit = other_hit(flat, packet, direction, &mut visits)?;
+        hit = other_hit(flat, name, packet, direction, &mut visits)?;
     }
     Ok((hit, visits))
 }

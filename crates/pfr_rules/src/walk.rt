@@ -12,7 +12,7 @@ use crate::stretch::{StretchEnd, follow, stretch};
 use crate::visits::Visits;
 use pfr_criteria::anchor_holds;
 use pfr_headers::Packet;
-use pfr_net::{Direction, RuleNumber};
+use pfr_net::{Direction, IfName, RuleNumber};
 use pfr_ruleset::{FilterAction, FlatAnchor, FlatRule, Ruleset};
 use std::alloc::{AllocError, Global};
 
@@ -45,16 +45,16 @@ fn stops(opening: usize, decided: Option<usize>) -> bool
     }
 }
 
-fn anchor_is(flat: &Ruleset, anchor: &FlatAnchor, packet: &Packet, direction: Direction) -> bool
-    ensures { result ≡ spec.anchored flat.now packet.now direction anchor.now }
+fn anchor_is(
+    flat: &Ruleset,
+    anchor: &FlatAnchor,
+    name: &IfName,
+    packet: &Packet,
+    direction: Direction,
+) -> bool
+    ensures { result ≡ spec.anchored flat.now name.now packet.now direction anchor.now }
 {
-    anchor_holds(
-        anchor,
-        &flat.interface.name,
-        flat.tables.as_slice(),
-        packet,
-        direction,
-    )
+    anchor_holds(anchor, name, flat.tables.as_slice(), packet, direction)
 }
 
 /// Whether a walk ends at a place, by the openings and the last hit.
@@ -120,15 +120,16 @@ struct Walked {
 fn walk<R: RuleRoom>(
     alloc: Global,
     flat: &Ruleset,
+    name: &IfName,
     packet: &Packet,
     direction: Direction,
     rooms: &mut R,
 ) -> Result<Walked, AllocError>
     ensures seen { R.seen rooms.new ≡ R.seen rooms.old }
-    ensures decided { IfOk result (λ walked. walked.decided ≡ spec.deciding flat.now (spec.rooms_in (R.seen rooms.old)) packet.now direction) }
-    ensures visits { IfOk result (λ walked. walked.visits ≡ spec.visited flat.now (spec.rooms_in (R.seen rooms.old)) packet.now direction) }
+    ensures decided { IfOk result (λ walked. walked.decided ≡ spec.deciding flat.now (spec.rooms_in (R.seen rooms.old)) name.now packet.now direction) }
+    ensures visits { IfOk result (λ walked. walked.visits ≡ spec.visited flat.now (spec.rooms_in (R.seen rooms.old)) name.now packet.now direction) }
     ensures within { IfOk result (λ walked. ForSome walked.decided (λ place. place < length flat.now.filter.rules)) }
-    ensures asked { OnOk result (All (R.asked rooms.new) (spec.rooms_asked flat.now (spec.rooms_in (R.seen rooms.old)) packet.now direction)) }
+    ensures asked { OnOk result (All (R.asked rooms.new) (spec.rooms_asked flat.now (spec.rooms_in (R.seen rooms.old)) name.now packet.now direction)) }
     ensures kept { (question : Question) → R.asked rooms.old question → R.asked rooms.new question }
 {
     let rules = flat.filter.rules();
@@ -146,7 +147,7 @@ fn walk<R: RuleRoom>(
             if anchor.last < place {
                 continue;
             }
-            if anchor_is(flat, anchor, packet, direction) {
+            if anchor_is(flat, anchor, name, packet, direction) {
                 continue;
             }
             if ends_at(openings, anchor.last, decided) {
@@ -157,7 +158,7 @@ fn walk<R: RuleRoom>(
         }
         let limit = next_first(anchors, next, rules.len());
         let StretchEnd { to, hits, asked } = stretch(
-            flat, aids, packet, direction, &mut trail, place, limit,
+            flat, aids, name, packet, direction, &mut trail, place, limit,
         );
         if to >= limit {
             visits.push_run(place, to - place, asked)?;
@@ -165,7 +166,7 @@ fn walk<R: RuleRoom>(
             continue;
         }
         visits.push_run(place, to + 1 - place, asked)?;
-        let is_hit = is_match(flat, &rules[to], to, packet, direction, hits, rooms)?;
+        let is_hit = is_match(flat, &rules[to], to, name, packet, direction, hits, rooms)?;
         decided = with_hit(decided, is_hit, to);
         if ends_at(openings, to, decided) {
             return Ok(Walked { decided, visits });
@@ -175,22 +176,23 @@ fn walk<R: RuleRoom>(
     Ok(Walked { decided, visits })
 }
 
-/// Which rule decides on a packet, and which rules are visited: the last that hits, of those up to the first stop. Where none
-/// hits the packet passes. A rule with `max` hits only where `rooms` answers that it has room; of which rules that was asked
-/// is said too.
+/// Which rule decides on a packet on the interface of this name, and which rules are visited: the last that hits, of those up to
+/// the first stop. Where none hits the packet passes. A rule with `max` hits only where `rooms` answers that it has room; of which
+/// rules that was asked is said too.
 pub fn filter<R: RuleRoom>(
     alloc: Global,
     flat: &Ruleset,
+    name: &IfName,
     packet: &Packet,
     direction: Direction,
     rooms: &mut R,
 ) -> Result<(Decision, Visits), AllocError>
     ensures seen { R.seen rooms.new ≡ R.seen rooms.old }
-    ensures decision { IfOk result (λ answer. answer.0 ≡ spec.decision_of flat.now (spec.rooms_in (R.seen rooms.old)) packet.now direction) }
-    ensures visits { IfOk result (λ answer. answer.1 ≡ spec.visited flat.now (spec.rooms_in (R.seen rooms.old)) packet.now direction) }
-    ensures asked { OnOk result (All (R.asked rooms.new) (spec.rooms_asked flat.now (spec.rooms_in (R.seen rooms.old)) packet.now direction)) }
+    ensures decision { IfOk result (λ answer. answer.0 ≡ spec.decision_of flat.now (spec.rooms_in (R.seen rooms.old)) name.now packet.now direction) }
+    ensures visits { IfOk result (λ answer. answer.1 ≡ spec.visited flat.now (spec.rooms_in (R.seen rooms.old)) name.now packet.now direction) }
+    ensures asked { OnOk result (All (R.asked rooms.new) (spec.rooms_asked flat.now (spec.rooms_in (R.seen rooms.old)) name.now packet.now direction)) }
     ensures kept { (question : Question) → R.asked rooms.old question → R.asked rooms.new question }
 {
-    let Walked { decided, visits } = walk(alloc, flat, packet, direction, rooms)?;
+    let Walked { decided, visits } = walk(alloc, flat, name, packet, direction, rooms)?;
     Ok((decision_by(flat.filter.rules(), decided), visits))
 }

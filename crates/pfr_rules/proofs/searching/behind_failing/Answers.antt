@@ -12,4 +12,4 @@ returns-in-FailsAt-clause-fails g c =
     let size : length (map asked_by_translation rules) ≡ length rules = length-map rules asked_by_translation in
     let skip = c.next.ensures (map asked_by_translation rules) c.requires.aids.skips (omega (arith, size, c.requires.within)) in
     let at = slice_get_read rules (length rules) c.args.place c.index-rules-place.result refl c.requires.within c.index-rules-place.is in
-    translation_behind_by_skip c.args.flat.now c.args.packet.now In c.in-FailsAt.criterion rules c.args.place c.next.result c.index-rules-place.result skip size at (rw (← c.as_slice.ensures) (c.in-FailsAt.ensures.fails In))
+    translation_behind_by_skip c.args.flat.now c.args.name.now c.args.packet.now In c.in-FailsAt.criterion rules c.args.place c.next.result c.index-rules-place.result skip size at (rw (← c.as_slice.ensures) (c.in-FailsAt.ensures.fails In))

@@ -7,7 +7,7 @@ use Rattle.pfr_rules.proofs.searching.first_by.Given as goal
 abbrev pub invariant-loop-from : goal.invariant-loop-from
 invariant-loop-from g l = record {
   within : l.from ≤ l.end;
-  fails : NoneHolds (held l.flat l.packet) l.rules 0 l.from;
+  fails : NoneHolds (held l.flat l.name l.packet) l.rules 0 l.from;
   visits : l.visits ≡ l.fn.visits;
   followed : IsFollowingIn l.aids.index l.packet l.from l.trail;
 }

@@ -6,7 +6,7 @@ use Rattle.pfr_rules.proofs.searching.first_of_each.Given as goal
 abbrev pub invariant-loop-place : goal.invariant-loop-place
 invariant-loop-place g l = record {
   within : l.place ≤ length l.rules;
-  fails : NoneHolds (held l.flat l.packet) l.rules 0 l.place;
+  fails : NoneHolds (held l.flat l.name l.packet) l.rules 0 l.place;
   visits : l.visits ≡ l.fn.visits;
 }
 

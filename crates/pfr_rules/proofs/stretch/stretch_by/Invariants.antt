@@ -8,7 +8,7 @@ abbrev pub invariant-loop-from : goal.invariant-loop-from
 invariant-loop-from l = record {
   from : l.place ≤ l.from;
   within : l.from ≤ l.end;
-  fails : NoneHolds (ruled l.flat l.packet l.direction) l.flat.filter.rules l.place l.from;
+  fails : NoneHolds (ruled l.flat l.name l.packet l.direction) l.flat.filter.rules l.place l.from;
   followed : IsFollowingIn l.aids.index l.packet l.from l.trail;
 }
 

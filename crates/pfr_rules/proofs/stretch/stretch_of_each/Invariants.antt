@@ -7,7 +7,7 @@ abbrev pub invariant-loop-to : goal.invariant-loop-to
 invariant-loop-to l = record {
   from : l.place ≤ l.to;
   within : l.to ≤ l.limit;
-  fails : NoneHolds (ruled l.flat l.packet l.direction) l.flat.filter.rules l.place l.to;
+  fails : NoneHolds (ruled l.flat l.name l.packet l.direction) l.flat.filter.rules l.place l.to;
   stops : NoneStops l.flat.filter l.place l.to;
 }
 
