@@ -190,7 +190,7 @@ pub(crate) fn put_answer(
     let name = IfName::new(given.bytes(length));
     let checksum = given.array();
     let creator = given.number();
-    let mut queue = Queue::new(alloc, &name, checksum, creator);
+    let mut queue = Queue::new(alloc, &[name], checksum, creator);
     let mut clock = Clock(0);
     for _ in 0..given.number() {
         let next = event(given);

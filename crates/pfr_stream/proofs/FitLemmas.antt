@@ -5,7 +5,6 @@ use Rattle.std.proofs.lemmas.Bool.{and_from, and_parts, cases_Bool, eqb-true}
 use Rattle.std.proofs.lemmas.List.Elements.{All-append, All-cons, All-filter, All-head, All-nil, All-push, All-tail, All-weaker, recursion_from_All}
 use Rattle.pfr_track.specs.declared.state.State.{State}
 use Rattle.pfr_track.specs.declared.time.Clock.{Clock}
-use Rattle.pfr_messages.specs.Fields.{name}
 use Rattle.pfr_messages.specs.Records.{deletion, insertion, update}
 use Rattle.pfr_messages.specs.Messages.{Fits}
 use Rattle.pfr_messages.proofs.Fitting.{all, deletion_tests, each, insertion_tests, update_tests}
@@ -14,14 +13,15 @@ use Rattle.pfr_sync.specs.declared.origin.Origin.{Origin}
 use Rattle.pfr_sync.specs.declared.queue.QueuedState.{QueuedState}
 use Rattle.pfr_sync.specs.Events.{deletion_of, insertion_of, is_made, is_of, is_removed, update_of}
 use Rattle.pfr_sync.specs.Messages.{Parts, belongs, content_of, entries_by, entries_of, is_delete, is_insert, is_short, is_update, last_of, message_of, messages_by, numbers_of, parts_of, told_by, told_of, with_event}
-use Rattle.pfr_sync.specs.Queues.{IsQueue, begun, rise}
+use Rattle.pfr_sync.specs.Queues.{begun, rise}
 use Rattle.pfr_sync.specs.Sizes.{has_room}
 use Rattle.pfr_sync.proofs.EntryLemmas.{entries_above, entries_push, entries_step}
-use Rattle.pfr_sync.proofs.MessageLemmas.{Fit, content_fits}
+use Rattle.pfr_sync.proofs.MessageLemmas.{AreTellable, Fit, content_fits}
+use Rattle.pfr_sync.proofs.NameLemmas.{fits_sixteen}
 use Rattle.pfr_sync.proofs.NumberLemmas.{all_above, ascend, numbers_ascend}
-use Rattle.pfr_sync.proofs.QueueLemmas.{one_short, queue_from}
+use Rattle.pfr_sync.proofs.QueueLemmas.{one_short}
 use Rattle.pfr_sync.proofs.RiseLemmas.{are_above}
-use Rattle.pfr_sync.proofs.SizeLemmas.{short_is}
+use Rattle.pfr_sync.proofs.SizeLemmas.{IsNamed, short_named}
 use Rattle.pfr_sync.proofs.ToldLemmas.{IsOf, told_at, told_is_of}
 use Rattle.pfr_stream.specs.Laws.{IsSpelled, MessagesOfEventsFit}
 
@@ -73,8 +73,15 @@ deletion_fits origin clock state fits =
     let parts = each (insertion_tests (insertion_of origin clock state)) fits in
     all (deletion_tests (deletion_of origin state)) (parts.0, (parts.1.1.1.1.1.1.1.1.1.1.1.1.1.1.0, tt))
 
-name_fits : (origin : Origin) (clock : Clock) (state : State) → FitsAt origin clock state → name.fits origin.interface ≡ true
-name_fits origin clock state fits = (each (insertion_tests (insertion_of origin clock state)) fits).1.0
+named_at : (origin : Origin) (clock : Clock) (entry : QueuedState) → FitsAt origin clock entry.state → IsNamed origin entry
+named_at origin clock entry fits =
+    let r = insertion_of origin clock entry.state in
+    fits_sixteen r.interface (each (insertion_tests r) fits).1.0
+
+all_named_at : (origin : Origin) (clock : Clock) (entries : List QueuedState) → All (λ (entry : QueuedState). FitsAt origin clock entry.state) entries
+    → All (IsNamed origin) entries
+all_named_at origin clock entries fit =
+    All-weaker (λ (entry : QueuedState). FitsAt origin clock entry.state) (IsNamed origin) (λ entry here. named_at origin clock entry here) entries fit
 
 records_fit : {R : Type 0} (fits : R → Bool) (f : QueuedState → R) (entries : List QueuedState) → AllByRecursion (λ (e : QueuedState). fits (f e) ≡ true) entries
     → list_all fits (map f entries) ≡ true
@@ -99,10 +106,10 @@ rise_by events (n ∷ numbers) in_order =
     let parts = and_parts (all_above n numbers) (ascend numbers) in_order in
     rw (entries_step events n numbers) (rise_put n (told_at n events) (entries_by events numbers) (told_is_of n events) (entries_above events n numbers parts.0) (rise_by events numbers parts.1))
 
-told_fit : (origin : Origin) (clock : Clock) (entries : List QueuedState) → IsQueue origin entries → All (λ (entry : QueuedState). FitsAt origin clock entry.state) entries
+told_fit : (origin : Origin) (clock : Clock) (entries : List QueuedState) → AreTellable origin entries → All (λ (entry : QueuedState). FitsAt origin clock entry.state) entries
     → All Fits (messages_by origin clock entries)
-told_fit origin clock [] queue fit = All-nil Fits
-told_fit origin clock (entry ∷ entries) queue fit =
+told_fit origin clock [] are fit = All-nil Fits
+told_fit origin clock (entry ∷ entries) are fit =
     let whole : List QueuedState = entry ∷ entries in
     let P : QueuedState → Type 0 = λ e. FitsAt origin clock e.state in
     let fits : Fit (content_of origin clock (entry ∷ entries)) = record {
@@ -110,7 +117,7 @@ told_fit origin clock (entry ∷ entries) queue fit =
       updates = kept_fit update.fits (λ e. update_of origin clock e.state) is_update whole (All-weaker P (λ e. update.fits (update_of origin clock e.state) ≡ true) (λ e here. update_fits origin clock e.state here) whole fit);
       deletions = kept_fit deletion.fits (λ e. deletion_of origin e.state) is_delete whole (All-weaker P (λ e. deletion.fits (deletion_of origin e.state) ≡ true) (λ e here. deletion_fits origin clock e.state here) whole fit);
     } in
-    All-cons Fits (content_of origin clock (entry ∷ entries)) [] (content_fits origin clock entry entries queue fits) (All-nil Fits)
+    All-cons Fits (content_of origin clock (entry ∷ entries)) [] (content_fits origin clock entry entries are fits) (All-nil Fits)
 
 -- a part whose message is short, and of states that fit at its clock
 abbrev IsPart : Origin → List Event → Type 0
@@ -121,9 +128,14 @@ part_fits : (origin : Origin) → length origin.checksum ≡ 16 → (part : List
 part_fits origin sixteen [] is = All-nil Fits
 part_fits origin sixteen (first ∷ part) is =
     let events : List Event = first ∷ part in
-    let here : FitsAt origin first.clock first.state = All-head (λ (e : Event). FitsAt origin first.clock e.state) first part is.1 in
-    let queue = queue_from origin (entries_of (first ∷ part)) (name_fits origin first.clock first.state here) sixteen (rise_by events (numbers_of events) (numbers_ascend events)) is.0 in
-    told_fit origin first.clock (entries_of (first ∷ part)) queue (entries_hold (FitsAt origin first.clock) events (numbers_of events) is.1)
+    let entries = entries_of (first ∷ part) in
+    let fit = entries_hold (FitsAt origin first.clock) events (numbers_of events) is.1 in
+    told_fit origin first.clock entries (record {
+      named = all_named_at origin first.clock entries fit;
+      checksum = sixteen;
+      in_order = rise_by events (numbers_of events) (numbers_ascend events);
+      room = is.0;
+    }) fit
 
 -- ---- parts
 
@@ -146,8 +158,10 @@ more_part origin sixteen (first ∷ part) e is fit belongs_there =
     let whole : List Event = (first ∷ part) ++ e ∷ [] in
     let parts = and_parts (first.clock.0 == e.clock.0) (is_short origin e.clock (entries_of ((first ∷ part) ++ e ∷ []))) belongs_there in
     let same : first.clock ≡ e.clock = same_clock first.clock e.clock (eqb-true first.clock.0 e.clock.0 parts.0) in
-    let room = sym (short_is origin e.clock (entries_of whole) (name_fits origin e.clock e.state fit) sixteen) ∙ parts.1 in
-    (room, All-push P (first ∷ part) e is.1 (subst (λ (clock : Clock). FitsAt origin clock e.state) (sym same) fit))
+    let each = All-push P (first ∷ part) e is.1 (subst (λ (clock : Clock). FitsAt origin clock e.state) (sym same) fit) in
+    let named = all_named_at origin first.clock (entries_of whole) (entries_hold (FitsAt origin first.clock) whole (numbers_of whole) each) in
+    let room = sym (short_named origin e.clock (entries_of whole) named sixteen) ∙ parts.1 in
+    (room, each)
 
 abbrev AreParts : Origin → Parts → Type 0
 AreParts origin parts = All (IsPart origin) parts.closed × IsPart origin parts.last

@@ -17,7 +17,7 @@ use Rattle.pfr_sync.specs.Edits.{edited, entry_of}
 use Rattle.pfr_sync.specs.Messages.{is_insert, is_update, is_delete, messages_by}
 use Rattle.pfr_sync.specs.Queues.{IsQueue, begun, has_older, with_entry}
 use Rattle.pfr_sync.specs.Sizes.{Exchanges, counts_of, exchanged, fits, one_of}
-use Rattle.pfr_sync.proofs.QueueLemmas.{Adds, adds_full, adds_room, few_entries, kinds, queued}
+use Rattle.pfr_sync.proofs.QueueLemmas.{Adds, adds_full, adds_room, few_entries, kinds, queue_one, queued}
 
 -- ---- one entry more
 
@@ -92,6 +92,12 @@ counts_one Delete state = refl
 -- the entries and their counts before
 abbrev pub Keeps : Origin → List QueuedState → Counts → Type 0
 Keeps origin entries counts = IsQueue origin entries × (counts ≡ counts_of entries)
+
+-- one entry alone
+pub keeps_one : (origin : Origin) (entries : List QueuedState) (action : Action) (state : State) (new : List QueuedState) (counts : Counts)
+    → IsQueue origin entries → new ≡ record { action = action; state = state } ∷ [] → counts ≡ one_of (Some action) → Keeps origin new counts
+keeps_one origin entries action state new counts queue is counted =
+    rw (is, counted) (queue_one origin (record { action = action; state = state }) queue.interfaces queue.checksum, counts_one action state)
 
 pub few_counted : (origin : Origin) (entries : List QueuedState) (counts : Counts) → Keeps origin entries counts → counts.insertions + (counts.updates + counts.deletions) ≤ 1000
 few_counted origin entries counts keeps = rw keeps.1 (let few = few_entries origin entries keeps.0 in let all = kinds entries in omega (arith, few, all))

@@ -5,6 +5,7 @@ use Rattle.std.proofs.Math.Seq.{drop-append-add, take-append_seam}
 use Rattle.std.proofs.lemmas.Bool.{cases_Bool, ltb-false, ltb-true}
 use Rattle.pfr_net.specs.declared.direction.Direction.{Direction}
 use Rattle.pfr_net.specs.declared.direction.Direction.TheVariants.{In, Out}
+use Rattle.pfr_net.specs.declared.interface.IfName.{IfName}
 use Rattle.pfr_net.specs.declared.rule_number.RuleNumber.{RuleNumber}
 use Rattle.pfr_track.specs.declared.peers.Peers.{Peers}
 use Rattle.pfr_track.specs.declared.peers.Peers.TheVariants as peers
@@ -15,7 +16,9 @@ use Rattle.pfr_messages.specs.declared.records.Insertion.{Insertion}
 use Rattle.pfr_messages.specs.declared.records.Update.{Update}
 use Rattle.pfr_messages.specs.Records.{direction_code, insertion_rest, insertion_spelling, parties_spelling, peer_spelling, rule_code, scale_code, update_spelling}
 use Rattle.pfr_sync.specs.Events.{coded_peer, insertion_of, maker_of, other_of, rule_of, shift_of, tcp_peer, update_of}
-use Rattle.pfr_sync.specs.Laws.{AreEndsAt, DeletionsNameTheState, InsertionsNameTheState, IsCodeAt, IsTcpEndAt, UpdatesNameTheState, field, offered, rule_number, way}
+use Rattle.pfr_sync.specs.Laws.{AreEndsAt, DeletionsNameTheState, InsertionsNameTheInterface, InsertionsNameTheState, IsCodeAt, IsTcpEndAt, UpdatesNameTheState, field, offered, origin_with, rule_number, way}
+use Rattle.pfr_sync.specs.Queues.{plain_name, plain_names}
+use Rattle.pfr_sync.proofs.NameLemmas.{fits_at, fits_sixteen, plain_at, plain_names_fit}
 
 -- ---- codes
 
@@ -86,8 +89,8 @@ at r sixteen offset size =
     ∙ past r.interface.bytes (behind_name r) sixteen offset
     )
 
-name_at : (r : Insertion) → length r.interface.bytes ≡ 16 → field 8 16 (insertion_spelling r) ≡ r.interface.bytes
-name_at r sixteen =
+name_field : (r : Insertion) → length r.interface.bytes ≡ 16 → field 8 16 (insertion_spelling r) ≡ r.interface.bytes
+name_field r sixteen =
     ap (λ (len : ℕ). take len (r.interface.bytes ++ behind_name r)) (sym sixteen)
     ∙ take-append_seam r.interface.bytes (behind_name r)
 
@@ -114,7 +117,7 @@ insertions_name_the_state origin clock state sixteen =
     let r = insertion_of origin clock state in
     record {
       number = refl;
-      interface = name_at r sixteen;
+      interface = name_field r sixteen;
       wire = record {
         outside_address = at r sixteen 0 4;
         inside_address = at r sixteen 16 4;
@@ -141,6 +144,13 @@ insertions_name_the_state origin clock state sixteen =
       direction = at r sixteen 210 1 ∙ ap (λ (c : ℕ). c ∷ []) (way_is state.direction);
       timeout = at r sixteen 215 1;
     }
+
+pub insertions_name_the_interface : InsertionsNameTheInterface
+insertions_name_the_interface names checksum creator clock state name within at =
+    let r = insertion_of (origin_with names checksum creator) clock state in
+    let is : r.interface ≡ plain_name name = plain_at names state.interface name within at in
+    let sixteen : length r.interface.bytes ≡ 16 = fits_sixteen r.interface (fits_at (plain_names names) state.interface (plain_names_fit names)) in
+    name_field r sixteen ∙ ap (λ (n : IfName). n.bytes) is
 
 -- ---- updates and deletions
 

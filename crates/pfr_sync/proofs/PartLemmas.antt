@@ -246,7 +246,7 @@ takes_later : (origin : Origin) (clock : Clock) (entries : List QueuedState) (e 
     → Tells (queued origin e.clock new) e.clock (events ++ e ∷ []) × (closed_at origin e.clock (events ++ e ∷ []) ≡ closed_at origin at events ++ closed)
 takes_later origin clock entries e new closed keeps adds events at tells later all may =
     let ends = later_events origin entries at e.clock events tells.0 all later in
-    let step = step_events origin [] e events (queue_empty origin keeps.interface keeps.checksum) ends.0 may in
+    let step = step_events origin [] e events (queue_empty origin keeps.interfaces keeps.checksum) ends.0 may in
     let short = short_alone origin entries e keeps in
     let alone : after_by_room origin [] e ≡ begun e ∷ [] = rw short refl in
     let no_more : closed_by_room origin [] e ≡ [] = rw short refl in

@@ -5,7 +5,6 @@ use Rattle.std.proofs.lemmas.Bool.{and_parts, and_from, cases_Bool, cases_order,
 use Rattle.std.proofs.Math.Nat.{mul-le-mul_right}
 use Rattle.pfr_track.specs.declared.state.State.{State}
 use Rattle.pfr_track.specs.declared.time.Clock.{Clock}
-use Rattle.pfr_messages.specs.Fields.{name}
 use Rattle.pfr_messages.specs.Messages.{Content}
 use Rattle.pfr_sync.specs.declared.event.Event.{Event}
 use Rattle.pfr_sync.specs.declared.event.EventKind.{EventKind}
@@ -17,6 +16,7 @@ use Rattle.pfr_sync.specs.declared.queue.Action.TheVariants.{Insert, Update, Del
 use Rattle.pfr_sync.specs.Messages.{is_short, is_insert, is_update, is_delete, messages_by}
 use Rattle.pfr_sync.specs.Queues.{IsQueue, Queued, begun, followed, has_older, number_of, rise, with_entry, after, closed_before}
 use Rattle.pfr_sync.specs.Sizes.{counts_of, has_room, section_size, size_of}
+use Rattle.pfr_sync.proofs.NameLemmas.{AllFit}
 use Rattle.pfr_sync.proofs.RiseLemmas.{are_above}
 use Rattle.pfr_sync.proofs.SizeLemmas.{short_is}
 
@@ -105,12 +105,12 @@ rise_with event (x ∷ xs) in_order =
 
 -- ---- queues
 
-pub queue_from : (origin : Origin) (entries : List QueuedState) → name.fits origin.interface ≡ true → length origin.checksum ≡ 16 → rise entries ≡ true → has_room entries ≡ true → IsQueue origin entries
-queue_from origin entries interface checksum in_order room = record {
-  interface = interface;
+pub queue_from : (origin : Origin) (entries : List QueuedState) → AllFit origin.interfaces → length origin.checksum ≡ 16 → rise entries ≡ true → has_room entries ≡ true → IsQueue origin entries
+queue_from origin entries interfaces checksum in_order room = record {
+  interfaces = interfaces;
   checksum = checksum;
   in_order = in_order;
-  short = λ clock. short_is origin clock entries interface checksum ∙ room;
+  short = λ clock. short_is origin clock entries interfaces checksum ∙ room;
 }
 
 one_by : (action : Action) (state : State) → has_room (record { action = action; state = state } ∷ []) ≡ true
@@ -121,11 +121,11 @@ one_by Delete state = refl
 pub one_short : (entry : QueuedState) → has_room (entry ∷ []) ≡ true
 one_short entry = one_by entry.action entry.state
 
-pub queue_empty : (origin : Origin) → name.fits origin.interface ≡ true → length origin.checksum ≡ 16 → IsQueue origin []
-queue_empty origin interface checksum = queue_from origin [] interface checksum refl refl
+pub queue_empty : (origin : Origin) → AllFit origin.interfaces → length origin.checksum ≡ 16 → IsQueue origin []
+queue_empty origin interfaces checksum = queue_from origin [] interfaces checksum refl refl
 
-pub queue_one : (origin : Origin) (entry : QueuedState) → name.fits origin.interface ≡ true → length origin.checksum ≡ 16 → IsQueue origin (entry ∷ [])
-queue_one origin entry interface checksum = queue_from origin (entry ∷ []) interface checksum refl (one_short entry)
+pub queue_one : (origin : Origin) (entry : QueuedState) → AllFit origin.interfaces → length origin.checksum ≡ 16 → IsQueue origin (entry ∷ [])
+queue_one origin entry interfaces checksum = queue_from origin (entry ∷ []) interfaces checksum refl (one_short entry)
 
 -- ---- few entries
 
@@ -149,7 +149,7 @@ section_least size n least = elim (cases_Bool (n == 0)) [
 pub few : (origin : Origin) (entries : List QueuedState) → IsQueue origin entries → length entries ≤ 121
 few origin entries keeps =
     let clock : Clock = record { 0 = 0 } in
-    let room : has_room entries ≡ true = sym (short_is origin clock entries keeps.interface keeps.checksum) ∙ keeps.short clock in
+    let room : has_room entries ≡ true = sym (short_is origin clock entries keeps.interfaces keeps.checksum) ∙ keeps.short clock in
     let size = leb-true (size_of (counts_of entries)) 1480 room in
     let all = kinds entries in
     let i = section_least 242 (length (filter is_insert entries)) (omega arith) in
@@ -175,7 +175,7 @@ after_by_room origin entries event =
     if is_short origin event.clock (with_entry event entries) then with_entry event entries else with_entry event []
 
 pub short_alone : (origin : Origin) (entries : List QueuedState) (e : Event) → IsQueue origin entries → is_short origin e.clock (begun e ∷ []) ≡ true
-short_alone origin entries e keeps = short_is origin e.clock (begun e ∷ []) keeps.interface keeps.checksum ∙ one_short (begun e)
+short_alone origin entries e keeps = short_is origin e.clock (begun e ∷ []) keeps.interfaces keeps.checksum ∙ one_short (begun e)
 
 -- room alone counts if nothing is told that is older than the event
 pub by_room : (origin : Origin) (clock : Clock) (entries : List QueuedState) (event : Event) → has_older (queued origin clock entries) event.clock ≡ false
@@ -204,10 +204,10 @@ pub adds_room : (origin : Origin) (clock : Clock) (entries : List QueuedState) (
     → new ≡ with_entry event entries
     → Adds origin clock entries event new []
 adds_room origin clock entries event new queue older room leaves =
-    let short : is_short origin event.clock (with_entry event entries) ≡ true = short_is origin event.clock (with_entry event entries) queue.interface queue.checksum ∙ room in
+    let short : is_short origin event.clock (with_entry event entries) ≡ true = short_is origin event.clock (with_entry event entries) queue.interfaces queue.checksum ∙ room in
     let is = by_room origin clock entries event older in
     record {
-      keeps = rw leaves (queue_from origin (with_entry event entries) queue.interface queue.checksum (rise_with event entries queue.in_order) room);
+      keeps = rw leaves (queue_from origin (with_entry event entries) queue.interfaces queue.checksum (rise_with event entries queue.in_order) room);
       closes = sym (is.0 ∙ rw short refl);
       leaves = leaves ∙ sym (is.1 ∙ rw short refl);
     }
@@ -220,10 +220,10 @@ pub adds_full : (origin : Origin) (clock : Clock) (entries : List QueuedState) (
     → new ≡ begun event ∷ []
     → Adds origin clock entries event new closed
 adds_full origin clock entries event new closed queue older full message made =
-    let long : is_short origin event.clock (with_entry event entries) ≡ false = short_is origin event.clock (with_entry event entries) queue.interface queue.checksum ∙ full in
+    let long : is_short origin event.clock (with_entry event entries) ≡ false = short_is origin event.clock (with_entry event entries) queue.interfaces queue.checksum ∙ full in
     let is = by_room origin clock entries event older in
     record {
-      keeps = rw made (queue_one origin (begun event) queue.interface queue.checksum);
+      keeps = rw made (queue_one origin (begun event) queue.interfaces queue.checksum);
       closes = message ∙ sym (is.0 ∙ rw long refl);
       leaves = made ∙ sym (is.1 ∙ rw long refl);
     }
@@ -235,7 +235,7 @@ pub adds_later : (origin : Origin) (clock : Clock) (entries : List QueuedState) 
     → new ≡ begun event ∷ []
     → Adds origin clock entries event new closed
 adds_later origin clock entries event new closed queue later message made = record {
-  keeps = rw made (queue_one origin (begun event) queue.interface queue.checksum);
+  keeps = rw made (queue_one origin (begun event) queue.interfaces queue.checksum);
   closes = rw later message;
   leaves = rw later made;
 }

@@ -1,6 +1,9 @@
 -- Events of states, and what a message says of them.
-use Rattle.std.specs.Prelude.{◌≡◌, ℕ, ◌-◌, ◌^◌, min, ◌==◌, Bool, true, false, nat_lt, if◌then◌else◌, List, Option, Some, None}
+use Rattle.std.specs.Prelude.{◌≡◌, ℕ, ◌-◌, ◌^◌, min, ◌==◌, Bool, true, false, nat_lt, if◌then◌else◌, List, [], slice_index_or, Option, Some, None}
 use Rattle.std.specs.List.{All}
+use Rattle.pfr_net.specs.Interfaces.{if_name}
+use Rattle.pfr_net.specs.declared.interface.IfName.{IfName}
+use Rattle.pfr_net.specs.declared.interface.InterfacePlace.{InterfacePlace}
 use Rattle.pfr_net.specs.declared.rule_number.RuleNumber.{RuleNumber}
 use Rattle.pfr_track.specs.declared.key.Key.{Key}
 use Rattle.pfr_track.specs.declared.peers.Peers.{Peers}
@@ -59,10 +62,14 @@ rule_of (Some rule) = if nat_lt rule.0 (2 ^ 32 - 1) then Some rule else None
 abbrev pub remaining : Clock → State → ℕ
 remaining clock state = min (state.deadline.0 - clock.0) (2 ^ 32 - 1)
 
+-- the name of the interface at a place; behind the last place a name without letters
+abbrev pub name_at : List IfName → InterfacePlace → IfName
+name_at names place = slice_index_or names place.0 (if_name [])
+
 abbrev pub insertion_of : Origin → Clock → State → Insertion
 insertion_of origin clock state = record {
   number = state.number;
-  interface = origin.interface;
+  interface = name_at origin.interfaces state.interface;
   wire = parties_of state.wire;
   stack = parties_of state.stack;
   maker = maker_of state.peers;

@@ -1,10 +1,11 @@
 -- The statements of the laws.
-use Rattle.std.specs.Prelude.{◌≡◌, ◌≤◌, ◌<◌, ℕ, ◌+◌, ◌-◌, ◌^◌, min, ◌==◌, ◌&&◌, Bool, true, false, not, if◌then◌else◌, List, [], ◌∷◌, ◌++◌, length, map, take, drop, fold, Option, Some, None, Ok, option_map, ⊤}
+use Rattle.std.specs.Prelude.{◌≡◌, ◌≤◌, ◌<◌, ℕ, ◌+◌, ◌-◌, ◌^◌, min, ◌==◌, ◌&&◌, Bool, true, false, not, if◌then◌else◌, List, [], ◌∷◌, ◌++◌, length, map, take, drop, slice_get, fold, Option, Some, None, Ok, option_map, ⊤}
 use Rattle.std.specs.Int.{to_be_bytes, w8, w16, w32, w64}
 use Rattle.std.specs.List.{All, IsDistinct, filter, flat_map, list_any}
 use Rattle.pfr_net.specs.declared.address.Ipv4Address.{Ipv4Address}
 use Rattle.pfr_net.specs.declared.direction.Direction.{Direction}
 use Rattle.pfr_net.specs.declared.direction.Direction.TheVariants.{In, Out}
+use Rattle.pfr_net.specs.declared.interface.IfName.{IfName}
 use Rattle.pfr_net.specs.declared.rule_number.RuleNumber.{RuleNumber}
 use Rattle.pfr_net.specs.Timeouts as timeouts
 use Rattle.pfr_headers.specs.declared.packet.Packet.{Packet}
@@ -29,9 +30,10 @@ use Rattle.pfr_track.specs.Datagrams as datagram
 use Rattle.pfr_track.specs.Tcp as tcp
 use Rattle.pfr_sync.specs.declared.event.Event.{Event}
 use Rattle.pfr_sync.specs.declared.origin.Origin.{Origin}
-use Rattle.pfr_sync.specs.Events.{MayCome, deletion_of, insertion_of, is_made, is_of, is_removed, maker_of, other_of, parties_of, rule_of, update_of}
+use Rattle.pfr_sync.specs.Events.{MayCome, deletion_of, insertion_of, is_made, is_of, is_removed, maker_of, name_at, other_of, parties_of, rule_of, update_of}
 use Rattle.pfr_sync.specs.Files.{ip_header}
 use Rattle.pfr_sync.specs.Messages.{last_of, message_of, messages_of, parts_of}
+use Rattle.pfr_sync.specs.Queues.{plain_name, plain_names}
 
 -- the messages of the parts of events that are closed
 abbrev pub closed_of : Origin → List Event → List Content
@@ -216,7 +218,7 @@ seconds_left clock state = min (state.deadline.0 - clock.0) 0xffffffff
 -- the bytes of a state that came to be, told at a clock (INS, 242 bytes): each field at its offset
 pub record IsStateRecord (origin : Origin) (clock : Clock) (state : State) (bytes : List ℕ) : Type 0 where
   pub number : field 0 8 bytes ≡ to_be_bytes w64 state.number.0
-  pub interface : field 8 16 bytes ≡ origin.interface.bytes
+  pub interface : field 8 16 bytes ≡ (name_at origin.interfaces state.interface).bytes
   pub wire : IsKeyAt 24 state.wire bytes
   pub stack : IsKeyAt 60 state.stack bytes
   pub ends : AreEndsAt 96 128 state.peers bytes
@@ -246,11 +248,23 @@ pub record IsDeletionRecord (origin : Origin) (state : State) (bytes : List ℕ)
   pub number : field 0 8 bytes ≡ to_be_bytes w64 state.number.0
   pub creator : field 8 4 bytes ≡ to_be_bytes w32 origin.creator
 
--- the records that are made of a state have these bytes; an interface's name has 16 bytes with its zeros
+-- the records that are made of a state have these bytes; the name of its interface has 16 bytes with its zeros
 abbrev pub InsertionsNameTheState : Type 0
 InsertionsNameTheState =
-    (origin : Origin) (clock : Clock) (state : State) → length origin.interface.bytes ≡ 16
+    (origin : Origin) (clock : Clock) (state : State) → length (name_at origin.interfaces state.interface).bytes ≡ 16
     → IsStateRecord origin clock state (insertion.spelling (insertion_of origin clock state))
+
+-- what all messages of a run have in common, with the names of its interfaces by their places
+abbrev pub origin_with : List IfName → (checksum : List ℕ) → (creator : ℕ) → Origin
+origin_with names checksum creator = record { interfaces = plain_names names; checksum = checksum; creator = creator }
+
+-- An insertion names the interface that made the state: where a name stands at that interface's place, which is one of the first eight,
+-- the record's name is this one, up to its first zero, with zeros behind it.
+abbrev pub InsertionsNameTheInterface : Type 0
+InsertionsNameTheInterface =
+    (names : List IfName) (checksum : List ℕ) (creator : ℕ) (clock : Clock) (state : State) (name : IfName)
+    → state.interface.0 < 8 → slice_get names state.interface.0 ≡ Some name
+    → field 8 16 (insertion.spelling (insertion_of (origin_with names checksum creator) clock state)) ≡ (plain_name name).bytes
 
 abbrev pub UpdatesNameTheState : Type 0
 UpdatesNameTheState =

@@ -1,6 +1,7 @@
 -- The queue: what the open part tells so far, one entry per state.
-use Rattle.std.specs.Prelude.{◌≡◌, ◌≤◌, ◌<◌, ℕ, ◌==◌, ◌&&◌, Bool, true, nat_lt, if◌then◌else◌, List, [], ◌∷◌, ◌++◌, length, Option, Some, None}
+use Rattle.std.specs.Prelude.{◌≡◌, ◌≤◌, ◌<◌, ℕ, ◌==◌, ◌&&◌, Bool, true, nat_lt, if◌then◌else◌, List, [], ◌∷◌, ◌++◌, length, map, take, Option, Some, None}
 use Rattle.std.specs.List.{All, cons_option, list_all}
+use lib.ListN.{replicate}
 use Rattle.pfr_net.specs.Interfaces.{if_name}
 use Rattle.pfr_net.specs.declared.interface.IfName.{IfName}
 use Rattle.pfr_track.specs.declared.time.Clock.{Clock}
@@ -85,6 +86,11 @@ before_zero (b ∷ bytes) = if b == 0 then [] else b ∷ before_zero bytes
 abbrev pub plain_name : IfName → IfName
 plain_name name = if_name (before_zero name.bytes)
 
+-- The names of a run's interfaces by their places, as messages have them: those of the first eight, and names without letters where
+-- there are fewer.
+unfoldable pub plain_names : List IfName → List IfName
+plain_names names = take 8 (map plain_name names ++ replicate 8 (if_name []))
+
 -- ---- what every queue keeps
 
 abbrev pub rise : List QueuedState → Bool
@@ -92,8 +98,8 @@ rise [] = true
 rise (entry ∷ entries) = list_all (λ other. nat_lt (number_of entry) (number_of other)) entries && rise entries
 
 pub record IsQueue (origin : Origin) (entries : List QueuedState) : Type 0 where
-  -- the name is one as messages have it
-  pub interface : name.fits origin.interface ≡ true
+  -- each name is one as messages have it
+  pub interfaces : All (λ n. name.fits n ≡ true) origin.interfaces
   pub checksum : length origin.checksum ≡ 16
   pub in_order : rise entries ≡ true
   -- the open message isn't too long, at any clock

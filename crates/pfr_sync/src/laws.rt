@@ -2,7 +2,7 @@
 ghost use Rattle.std.specs.Prelude.{◌≡◌, length, ℕ};
 ghost use Rattle.pfr_net.specs.declared.address.Ipv4Address.{Ipv4Address};
 ghost use Rattle.pfr_sync.specs.Files.{ip_header};
-ghost use Rattle.pfr_sync.specs.Laws.{AStandbyHoldsTheStatesLeft, AStandbyHoldsWhatIsLeft, AStateIsToldOfOnce, ClosedMessagesStay, DeletionsNameTheState, FileHeaderVerifies, FileMessageIsAPacket, InsertionsNameTheState, RecordsAreOfEvents, UpdatesNameTheState};
+ghost use Rattle.pfr_sync.specs.Laws.{AStandbyHoldsTheStatesLeft, AStandbyHoldsWhatIsLeft, AStateIsToldOfOnce, ClosedMessagesStay, DeletionsNameTheState, FileHeaderVerifies, FileMessageIsAPacket, InsertionsNameTheInterface, InsertionsNameTheState, RecordsAreOfEvents, UpdatesNameTheState};
 
 pub use pfr_messages::laws::{one_spelling, readable};
 
@@ -47,6 +47,12 @@ pub fn records_name_the_state()
     ensures insertions { InsertionsNameTheState }
     ensures updates { UpdatesNameTheState }
     ensures deletions { DeletionsNameTheState }
+{}
+
+/// An insertion names the interface that made the state: where a name stands at that interface's place among the first eight of a
+/// run's, the record has this name, up to its first zero.
+pub fn insertions_name_the_interface()
+    ensures { InsertionsNameTheInterface }
 {}
 
 /// Each record of each message of events is of one of the events: of its state, at its clock. A message tells of events that follow

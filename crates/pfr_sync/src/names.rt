@@ -2,10 +2,11 @@
 ghost use Rattle.std.specs.Prelude.{◌≡◌};
 ghost use Rattle.pfr_sync.specs.Queues as spec;
 
+use crate::origin::MOST_INTERFACES;
 use pfr_net::IfName;
 
 /// The bytes of a name before its first zero.
-pub fn plain_name(name: &IfName) -> IfName
+fn plain_name(name: &IfName) -> IfName
     ensures { result ≡ spec.plain_name name.now }
 {
     let mut end = 0;
@@ -13,4 +14,15 @@ pub fn plain_name(name: &IfName) -> IfName
         end += 1;
     }
     IfName::new(&name.bytes[..end])
+}
+
+/// The names of a run's interfaces by their places: those of the first eight, and names without letters where there are fewer.
+pub fn plain_names(names: &[IfName]) -> [IfName; MOST_INTERFACES]
+    ensures { result ≡ spec.plain_names names.now }
+{
+    let mut plain = [IfName::new(&[]); MOST_INTERFACES];
+    for place in 0..names.len().min(MOST_INTERFACES) {
+        plain[place] = plain_name(&names[place]);
+    }
+    plain
 }

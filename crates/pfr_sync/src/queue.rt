@@ -8,7 +8,7 @@ ghost use Rattle.pfr_sync.specs.Queues as spec;
 use crate::edit::{apply, begun, edit_of, start};
 use crate::entries::Entries;
 use crate::event::{Event, EventKind};
-use crate::names::plain_name;
+use crate::names::plain_names;
 use crate::origin::Origin;
 use crate::sizes::{Counts, exchanged, has_room, one_of};
 use crate::telling::message_of;
@@ -64,14 +64,15 @@ impl Model for Queue {
 }
 
 impl Queue {
-    /// A queue in which nothing is told yet. It takes memory only once something is.
-    pub fn new(alloc: Global, interface: &IfName, checksum: [u8; 16], creator: u32) -> Queue
-        ensures { result ≡ spec.new_queue (record { interface = spec.plain_name interface.now; checksum = checksum; creator = creator }) }
+    /// A queue in which nothing is told yet. It takes memory only once something is. Its messages name interfaces by their places in
+    /// `interfaces`, of which the first eight count.
+    pub fn new(alloc: Global, interfaces: &[IfName], checksum: [u8; 16], creator: u32) -> Queue
+        ensures { result ≡ spec.new_queue (record { interfaces = spec.plain_names interfaces.now; checksum = checksum; creator = creator }) }
     {
         Queue {
             alloc,
             origin: Origin {
-                interface: plain_name(interface),
+                interfaces: plain_names(interfaces),
                 checksum,
                 creator,
             },

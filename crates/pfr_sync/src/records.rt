@@ -1,11 +1,13 @@
 //! What records say of states.
 ghost use Rattle.std.specs.Prelude.{◌≡◌, ◌≤◌, true};
+ghost use Rattle.std.specs.List.{All};
 ghost use Rattle.pfr_messages.specs.Fields.{name};
 ghost use Rattle.pfr_messages.specs.Records as records;
 ghost use Rattle.pfr_sync.specs.Events as spec;
 
-use crate::origin::Origin;
+use crate::origin::{MOST_INTERFACES, Origin};
 use pfr_messages::{Deletion, Insertion, Parties, Peer, Update};
+use pfr_net::{IfName, InterfacePlace};
 use pfr_track::{Clock, Key, Peers, RuleNumber, Sequence, State, TcpPeer};
 
 fn coded_peer(code: u8) -> Peer
@@ -96,15 +98,34 @@ fn remaining(clock: Clock, state: State) -> u32
     seconds.min(0xffff_ffff) as u32
 }
 
+/// The name of the interface at a place; behind the last place a name without letters.
+fn name_at(names: &[IfName; MOST_INTERFACES], place: InterfacePlace) -> IfName
+    requires { All (λ n. name.fits n ≡ true) names.now }
+    ensures name { result ≡ spec.name_at names.now place }
+    ensures fits { name.fits result ≡ true }
+{
+    match names.get(usize::from(place.0)) {
+        Some(name) => *name,
+        None => IfName::new(&[]),
+    }
+}
+
+/// The firewall's number. What a call returns fits in 32 bits, which the prover doesn't know of a field behind a reference.
+fn creator_of(origin: &Origin) -> u32
+    ensures { result ≡ origin.now.creator }
+{
+    origin.creator
+}
+
 /// What an insertion says of a state at a clock.
-pub fn insertion_of(origin: Origin, clock: Clock, state: State) -> Insertion
-    requires { name.fits origin.interface ≡ true }
-    ensures record { result ≡ spec.insertion_of origin clock state }
+pub fn insertion_of(origin: &Origin, clock: Clock, state: State) -> Insertion
+    requires { All (λ n. name.fits n ≡ true) origin.now.interfaces }
+    ensures record { result ≡ spec.insertion_of origin.now clock state }
     ensures fits { records.insertion.fits result ≡ true }
 {
     Insertion {
         number: state.number,
-        interface: origin.interface,
+        interface: name_at(&origin.interfaces, state.interface),
         wire: parties_of(state.wire),
         stack: parties_of(state.stack),
         maker: maker_of(state.peers),
@@ -115,7 +136,7 @@ pub fn insertion_of(origin: Origin, clock: Clock, state: State) -> Insertion
         remaining: remaining(clock, state),
         forth: state.forth,
         back: state.back,
-        creator: origin.creator,
+        creator: creator_of(origin),
         protocol: state.wire.protocol,
         direction: state.direction,
         timeout: state.timeout,
@@ -123,27 +144,27 @@ pub fn insertion_of(origin: Origin, clock: Clock, state: State) -> Insertion
 }
 
 /// What an update says of a state at a clock.
-pub fn update_of(origin: Origin, clock: Clock, state: State) -> Update
-    ensures record { result ≡ spec.update_of origin clock state }
+pub fn update_of(origin: &Origin, clock: Clock, state: State) -> Update
+    ensures record { result ≡ spec.update_of origin.now clock state }
     ensures fits { records.update.fits result ≡ true }
 {
     Update {
         number: state.number,
         maker: maker_of(state.peers),
         other: other_of(state.peers),
-        creator: origin.creator,
+        creator: creator_of(origin),
         remaining: remaining(clock, state),
         timeout: state.timeout,
     }
 }
 
 /// What a deletion says of a state.
-pub fn deletion_of(origin: Origin, state: State) -> Deletion
-    ensures record { result ≡ spec.deletion_of origin state }
+pub fn deletion_of(origin: &Origin, state: State) -> Deletion
+    ensures record { result ≡ spec.deletion_of origin.now state }
     ensures fits { records.deletion.fits result ≡ true }
 {
     Deletion {
         number: state.number,
-        creator: origin.creator,
+        creator: creator_of(origin),
     }
 }

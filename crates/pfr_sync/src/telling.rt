@@ -1,7 +1,7 @@
 //! The message that tells entries.
 ghost use Rattle.std.specs.Prelude.{◌≡◌, true, map, IfOk};
 ghost use Rattle.std.specs.Option.{option_to_list};
-ghost use Rattle.std.specs.List.{filter, list_all};
+ghost use Rattle.std.specs.List.{All, filter, list_all};
 ghost use Rattle.pfr_messages.specs.Fields.{name};
 ghost use Rattle.pfr_messages.specs.Records as records;
 ghost use Rattle.pfr_sync.specs.Events as events;
@@ -25,7 +25,7 @@ fn insertions_of(
     entries: &Entries,
     count: usize,
 ) -> Result<Vec<Insertion>, AllocError>
-    requires { name.fits origin.now.interface ≡ true }
+    requires { All (λ n. name.fits n ≡ true) origin.now.interfaces }
     ensures records { IfOk result (λ v. v.items ≡ map (λ entry. events.insertion_of origin.now clock entry.state) (filter messages.is_insert entries.now)) }
     ensures fits { IfOk result (λ v. list_all records.insertion.fits v.items ≡ true) }
 {
@@ -33,7 +33,7 @@ fn insertions_of(
     for place in 0..entries.len() {
         let entry = entries.get(place);
         if let Action::Insert = entry.action {
-            found.push(insertion_of(*origin, clock, entry.state))?;
+            found.push(insertion_of(origin, clock, entry.state))?;
         }
     }
     Ok(found)
@@ -54,7 +54,7 @@ fn updates_of(
     for place in 0..entries.len() {
         let entry = entries.get(place);
         if let Action::Update = entry.action {
-            found.push(update_of(*origin, clock, entry.state))?;
+            found.push(update_of(origin, clock, entry.state))?;
         }
     }
     Ok(found)
@@ -74,7 +74,7 @@ fn deletions_of(
     for place in 0..entries.len() {
         let entry = entries.get(place);
         if let Action::Delete = entry.action {
-            found.push(deletion_of(*origin, entry.state))?;
+            found.push(deletion_of(origin, entry.state))?;
         }
     }
     Ok(found)

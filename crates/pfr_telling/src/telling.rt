@@ -2,7 +2,7 @@
 ghost use Rattle.std.specs.Prelude.{◌≡◌, ◌≤◌, None, Some, IfOk, IfSome, OnOk};
 ghost use Rattle.pfr_states.specs.declared.change.TableChange.TheVariants.{Removed};
 ghost use Rattle.pfr_states.specs.States.{purged, refusal, with_change};
-ghost use Rattle.pfr_sync.specs.Queues.{new_queue, plain_name};
+ghost use Rattle.pfr_sync.specs.Queues.{new_queue, plain_names};
 ghost use Rattle.pfr_telling.specs.Telling as spec;
 
 use pfr_net::IfName;
@@ -45,12 +45,13 @@ fn apply(table: &mut Table, change: &TableChange, place: Option<Place>) -> Resul
 impl Telling {
     ghost use Rattle.pfr_telling.specs.Telling.{BeginsAt, ClosesBefore, ClosesOpen, TellsChange, TellsEvent, TellsPurge};
 
-    /// Nothing is told yet. Messages name an interface, the checksum of the rules and the firewall's number.
-    pub fn new(alloc: Global, interface: &IfName, checksum: [u8; 16], creator: u32) -> Telling
-        ensures queue { result.queue ≡ new_queue (record { interface = plain_name interface.now; checksum = checksum; creator = creator }) }
+    /// Nothing is told yet. Messages name interfaces, by their places, the checksum of the rules and the firewall's number. Of the
+    /// interfaces the first eight count.
+    pub fn new(alloc: Global, interfaces: &[IfName], checksum: [u8; 16], creator: u32) -> Telling
+        ensures queue { result.queue ≡ new_queue (record { interfaces = plain_names interfaces.now; checksum = checksum; creator = creator }) }
     {
         Telling {
-            queue: Queue::new(alloc, interface, checksum, creator),
+            queue: Queue::new(alloc, interfaces, checksum, creator),
             closed: Vec::new(alloc),
         }
     }
