@@ -140,7 +140,8 @@ impl Index {
         search::find(self.slots.as_slice(), hash, &is_it)
     }
 
-    /// Goes through the places under a hash, each as often as it stands there, in no order. The step gets what the one before it answered.
+    /// Goes through the places under a hash, each at least once and no other one, in no order. The step gets what the one before
+    /// it answered.
     pub fn fold_under<B, F: Fn(B, Place) -> B>(&self, hash: Hash, start: B, step: F) -> B
         requires { F.IsAlwaysCallable step }
         ensures { FoldsUnder (λ before place after. F.post step before place after) start hash self.now.times result }

@@ -1,9 +1,10 @@
 -- States at their places, and the indexes of their keys.
-use Rattle.std.proofs.Common.{◌≡◌, ◌<◌, ◌+◌, ◌∙◌, ℕ, Bool, true, false, not, nat_lt, ◌⊎◌, List, [], ◌∷◌, Option, Some, None, sym, refl, ap, subst, inl, inr, arith}
+use Rattle.std.proofs.Common.{◌≡◌, ◌<◌, ◌+◌, ◌∙◌, ℕ, Bool, true, false, not, nat_lt, ◌⊎◌, List, [], ◌∷◌, Option, Some, None, IfSome, IfNone, sym, refl, ap, subst, inl, inr, arith}
 use Rattle.std.specs.List.{Contains, find, list_all, list_any}
 use Rattle.std.specs.Option.{option_map}
 use Rattle.std.proofs.lemmas.Bool.{and_parts, both_ways, cases_Bool, eq-eqb, eqb-true, false≢true, ltb-true, ne_eqb, not-true}
 use Rattle.pfr_index.specs.Index.{Entry, is_same}
+use Rattle.pfr_index.specs.declared.hash.Hash.{Hash}
 use Rattle.pfr_places.specs.Places.{Placed, at, have_own_places, is_at, is_number as is_of_number, of_number, rise as rise_placed, with_placed, without as without_placed, place_of, value_of}
 use Rattle.pfr_places.specs.declared.place.Place.{Place}
 use Rattle.pfr_track.specs.declared.key.Key.{Key}
@@ -11,7 +12,7 @@ use Rattle.pfr_track.specs.declared.state.State.{State}
 use Rattle.pfr_states.specs.declared.change.Side.{Side}
 use Rattle.pfr_states.specs.declared.stored.Stored.{Stored}
 use Rattle.pfr_states.specs.KeyHash.{hash_of}
-use Rattle.pfr_states.specs.Keyed.{AreNumbered, entry_of, passes, passes_at, states_of, times_on, total}
+use Rattle.pfr_states.specs.Keyed.{AreNumbered, Asks, Decides, IsPlaceOf, entry_of, passes, passes_at, states_of, times_on, total}
 use Rattle.pfr_states.specs.States.{is_same_key, key_on}
 use Rattle.pfr_states.proofs.FindLemmas.{IsOne, found, found_there, none_any}
 use Rattle.pfr_states.proofs.Membership.{here, in_cons, in_none, none_of, there}
@@ -198,7 +199,7 @@ who_passes test all place passed = by (at place all) refl passed where
   by (Some p) is passed = (p, is, (found_there (is_at place) all p is).0, passed)
 
 -- if no place under a key's hash passes a test that asks for the key, no state does
-pub none_passes : (side : Side) (key : Key) (test : State → Bool) (all : List Held) (times : Entry → ℕ) → ((e : Entry) → times e ≡ times_on side all e) → have_own_places all ≡ true → ((s : State) → test s ≡ true → is_same_key (key_on side s) key ≡ true)
+none_passes : (side : Side) (key : Key) (test : State → Bool) (all : List Held) (times : Entry → ℕ) → ((e : Entry) → times e ≡ times_on side all e) → have_own_places all ≡ true → ((s : State) → test s ≡ true → is_same_key (key_on side s) key ≡ true)
     → ((place : Place) → 0 < times (record { hash = hash_of key; place = place }) → passes_at test place all ≡ false) → list_any test (states_of all) ≡ false
 none_passes side key test all times by_key places asks missed = none_any test (states_of all) (λ s h. elim (cases_Bool (test s)) [
   | inl it_is ↦
@@ -210,6 +211,14 @@ none_passes side key test all times by_key places asks missed = none_any test (s
       absurd (both_ways (test q.0.value.state) (sym here ∙ missed q.0.place count) passed)
   | inr other ↦ other
 ])
+
+-- a place under a key's hash for which an answer is yes, or none if there is none
+pub place_found : (side : Side) (key : Key) (test : State → Bool) (all : List Held) (times : Entry → ℕ) → ((e : Entry) → times e ≡ times_on side all e) → have_own_places all ≡ true → Asks side key test → (answers : Place → Bool → Type 0) → Decides answers test all
+    → (hash : Hash) → hash ≡ hash_of key → (found : Option Place) → IfSome found (λ place. (0 < times (record { hash = hash; place = place })) × answers place true) → IfNone found ((place : Place) → 0 < times (record { hash = hash; place = place }) → answers place false)
+    → IsPlaceOf test all found
+place_found side key test all times by_key places asks answers decides hash is_hash None some none =
+    none_passes side key test all times by_key places asks (λ place count. sym (decides place false (none place (subst (λ (h : Hash). 0 < times (record { hash = h; place = place })) (sym is_hash) count))))
+place_found side key test all times by_key places asks answers decides hash is_hash (Some place) some none = sym (decides place true some.1)
 
 -- ---- one more
 

@@ -4,13 +4,17 @@ use Rattle.std.specs.List.{Contains, list_any}
 use Rattle.pfr_index.specs.Index.{Entry, once, places}
 use Rattle.pfr_places.specs.Places.{Placed, at, have_own_places, rise}
 use Rattle.pfr_places.specs.declared.place.Place.{Place}
+use Rattle.pfr_net.specs.declared.interface.Binding.{Binding}
+use Rattle.pfr_track.specs.declared.key.Key.{Key}
 use Rattle.pfr_track.specs.declared.state.State.{State}
 use Rattle.pfr_track.specs.declared.state.StateNumber.{StateNumber}
+use Rattle.pfr_track.specs.declared.time.Clock.{Clock}
 use Rattle.pfr_states.specs.declared.change.Side.{Side}
 use Rattle.pfr_states.specs.declared.change.Side.TheVariants.{Wire, Stack}
 use Rattle.pfr_states.specs.declared.stored.Stored.{Stored}
+use Rattle.pfr_states.specs.Indexed.{is_found_alive}
 use Rattle.pfr_states.specs.KeyHash.{hash_of}
-use Rattle.pfr_states.specs.States.{count_of_rule, have_own_keys, key_on}
+use Rattle.pfr_states.specs.States.{count_of_rule, have_own_keys, is_same_key, key_on}
 
 abbrev pub states_of : List (Placed Stored) → List State
 states_of all = map (λ placed. placed.value.state) all
@@ -29,10 +33,26 @@ abbrev pub IsPlaceOf : (State → Bool) → List (Placed Stored) → Option Plac
 IsPlaceOf test all None = list_any test (states_of all) ≡ false
 IsPlaceOf test all (Some place) = passes_at test place all ≡ true
 
+-- a test that only states with a key on a side pass
+abbrev pub Asks : Side → Key → (State → Bool) → Type 0
+Asks side key test = (state : State) → test state ≡ true → is_same_key (key_on side state) key ≡ true
+
+-- what is answered for a place is whether its state passes a test
+abbrev pub Decides : (Place → Bool → Type 0) → (State → Bool) → List (Placed Stored) → Type 0
+Decides answers test all = (place : Place) (answer : Bool) → answers place answer → answer ≡ passes_at test place all
+
+-- the place of a state that passes a test, whatever test asks for the key and decides the answers
+abbrev pub IsPlaceBy : Side → Key → (Place → Bool → Type 0) → List (Placed Stored) → Option Place → Type 0
+IsPlaceBy side key answers all found = (test : State → Bool) → Asks side key test → Decides answers test all → IsPlaceOf test all found
+
 -- the number of the state of one of them, if it passes a test
 abbrev pub number_if : (State → Bool) → Option (Placed Stored) → Option StateNumber
 number_if test None = None
 number_if test (Some placed) = if test placed.value.state then Some placed.value.state.number else None
+
+-- the number of the state at a place, if it is found at a clock
+abbrev pub number_alive : Side → Key → Binding → Clock → Place → List (Placed Stored) → Option StateNumber
+number_alive side key scope clock place all = number_if (is_found_alive side key scope clock) (at place all)
 
 -- ---- indexes
 

@@ -5,17 +5,16 @@ ghost use Rattle.std.specs.Option.{option_copied, option_map};
 ghost use Rattle.pfr_places.specs.Places.{at};
 ghost use Rattle.pfr_states.specs.Awaited as awaited;
 ghost use Rattle.pfr_states.specs.Indexed as index;
-ghost use Rattle.pfr_states.specs.Keyed.{AreStates};
+ghost use Rattle.pfr_states.specs.Keyed.{AreStates, states_of};
 ghost use Rattle.pfr_states.specs.States as spec;
 ghost use Rattle.pfr_deadlines.specs.Waits.{Wait};
 
 use crate::change::Side;
 use crate::due::{due_by, is_rule_due_by, left_of_rule, sooner};
 use crate::keyed::Keyed;
-use crate::rule_counts::names_rule;
+use crate::likeness::is_like;
 use crate::stored::{Found, Stored};
 use pfr_deadlines::{Deadlines, Wait};
-use pfr_index::Guess;
 use pfr_places::Place;
 use pfr_track::{Binding, Clock, Key, RuleNumber, State, StateNumber};
 use std::alloc::{AllocError, Global};
@@ -42,66 +41,6 @@ impl Model for IndexedStates {
     ghost view = { λ t. states_of t.keyed };
 
     ghost invariant = { λ t. AreAwaited t.deadlines.waits t.keyed };
-}
-
-/// Whether two rules are the same, or none.
-#[inline]
-fn is_same_rule(first: Option<RuleNumber>, second: Option<RuleNumber>) -> bool
-    ensures { result ≡ index.is_same_rule first second }
-{
-    match first {
-        Some(rule) => names_rule(rule, second),
-        None => second.is_none(),
-    }
-}
-
-/// Whether two states have the same keys.
-#[inline]
-fn have_same_keys(first: &State, second: &State) -> bool
-    ensures { result ≡ index.have_same_keys first.now second.now }
-{
-    first.wire == second.wire && first.stack == second.stack
-}
-
-/// Whether two bindings are the same.
-#[inline]
-fn is_same_binding(first: Binding, second: Binding) -> bool
-    ensures { result ≡ index.is_same_binding first second }
-{
-    match (first, second) {
-        (Binding::All, Binding::All) => true,
-        (Binding::To(place), Binding::To(other)) => place.0 == other.0,
-        _ => false,
-    }
-}
-
-/// Whether two states were made by the same filter rule and are bound to the same interfaces.
-#[inline]
-fn have_same_rules(first: &State, second: &State) -> bool
-    ensures { result ≡ index.have_same_rules first.now second.now }
-{
-    is_same_rule(first.rules.filter, second.rules.filter)
-        && is_same_binding(first.rules.binding, second.rules.binding)
-}
-
-/// Whether two states have the same number, the same keys, the same filter rule and the same binding.
-#[inline]
-fn is_like(first: &State, second: &State) -> bool
-    ensures { result ≡ index.is_like first.now second.now }
-{
-    first.number == second.number && have_same_keys(first, second) && have_same_rules(first, second)
-}
-
-/// Whether a binding has all interfaces of a scope: no other state than one with such a binding is found by the scope.
-#[inline]
-pub(crate) fn covers(binding: Binding, scope: Binding) -> bool
-    ensures { result ≡ index.covers binding scope }
-{
-    match (binding, scope) {
-        (Binding::All, _) => true,
-        (Binding::To(place), Binding::To(other)) => place.0 == other.0,
-        (Binding::To(_), Binding::All) => false,
-    }
 }
 
 /// Makes room for one more deadline.
@@ -150,27 +89,12 @@ impl IndexedStates {
         }
     }
 
-    /// Where a state that is found stands, if there is one.
-    pub(crate) fn place_at(&self, side: Side, key: &Key, scope: Binding) -> Option<Place> {
-        self.keyed.place_at(side, key, scope)
-    }
-
-    /// Where the state with a key on a side may stand.
+    /// The states with their places, which say where a state may stand.
     #[inline]
-    pub(crate) fn guess_at(&self, side: Side, key: &Key) -> Option<Guess> {
-        self.keyed.guess_at(side, key)
-    }
-
-    /// What [`IndexedStates::place_at`] answers, with a look first where it is guessed to stand.
-    #[inline]
-    pub(crate) fn place_by(
-        &self,
-        side: Side,
-        key: &Key,
-        scope: Binding,
-        guess: Option<Guess>,
-    ) -> Option<Place> {
-        self.keyed.place_by(side, key, scope, guess)
+    pub(crate) fn keyed(&self) -> &Keyed
+        ensures { states_of result.now ≡ self.now }
+    {
+        &self.keyed
     }
 
     /// A state with a key on a side that is bound to an interface of a scope, with its place; any of them if there are several.

@@ -102,7 +102,7 @@ fn number_alive(
     scope: Binding,
     clock: Clock,
 ) -> Option<StateNumber>
-    ensures { result ≡ spec.number_if (lookups.is_found_alive side key.now scope clock) (slab.at place places.now) }
+    ensures { result ≡ spec.number_alive side key.now scope clock place places.now }
 {
     match places.get(place) {
         Some(stored) => {
@@ -210,6 +210,18 @@ impl Keyed {
         self.index_on(side).guess(hash_of(key))
     }
 
+    /// A place under the hash of a key on a side of which a test says that it is the one; none if it says so of no such place.
+    #[inline(always)]
+    fn place_under<F: Fn(Place) -> bool>(&self, side: Side, key: &Key, is_it: F) -> Option<Place>
+        requires { F.IsAlwaysCallable is_it }
+        ensures place { spec.IsPlaceBy side key.now (F.post is_it) self.now result }
+        ensures states { spec.AreStates self.now }
+    {
+        // no two places are one
+        let _ = self.len();
+        self.index_on(side).find(hash_of(key), is_it)
+    }
+
     /// Where a state with a key on a side stands that is bound to an interface of a scope.
     #[inline(always)]
     pub(crate) fn place_at(&self, side: Side, key: &Key, scope: Binding) -> Option<Place>
@@ -217,17 +229,13 @@ impl Keyed {
         ensures states { spec.AreStates self.now }
     {
         let places = &self.places;
-        let index = self.index_on(side);
-        let found = index.find(
-            hash_of(key),
+        self.place_under(
+            side,
+            key,
             |place| -> bool
                 ensures { result ≡ spec.passes_at (states.is_found side key.entry.now scope) place places.entry.now }
             { is_found_at(places, place, side, key, scope) },
-        );
-        let Some(place) = found else {
-            return None;
-        };
-        Some(place)
+        )
     }
 
     /// Where a state of another number with a key on a side stands that is bound to an interface of a scope.
@@ -242,17 +250,13 @@ impl Keyed {
         ensures states { spec.AreStates self.now }
     {
         let places = &self.places;
-        let index = self.index_on(side);
-        let found = index.find(
-            hash_of(key),
+        self.place_under(
+            side,
+            key,
             |place| -> bool
                 ensures { result ≡ spec.passes_at (lookups.is_another number side key.entry.now scope) place places.entry.now }
             { is_another_at(places, place, number, side, key, scope) },
-        );
-        let Some(place) = found else {
-            return None;
-        };
-        Some(place)
+        )
     }
 
     /// The least number of the states with a key on a side that are bound to an interface of a scope and whose deadline hasn't
@@ -274,13 +278,13 @@ impl Keyed {
             hash_of(key),
             None,
             |least, place| -> Option<StateNumber>
-                ensures { result ≡ lookups.lesser least (spec.number_if (lookups.is_found_alive side key.entry.now scope clock) (slab.at place places.entry.now)) }
+                ensures { result ≡ lookups.lesser least (spec.number_alive side key.entry.now scope clock place places.entry.now) }
             { lesser(least, number_alive(places, place, side, key, scope, clock)) },
         );
         least
     }
 
-    /// The same, with a look at a place first, where it may stand.
+    /// What [`Keyed::place_at`] answers, with a look first at a place where it may stand.
     #[inline(always)]
     pub(crate) fn place_near(
         &self,

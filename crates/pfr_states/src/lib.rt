@@ -9,6 +9,7 @@ mod indexed;
 mod key_hash;
 mod keyed;
 pub mod laws;
+mod likeness;
 pub mod question;
 mod rule_counts;
 pub mod stored;

@@ -7,7 +7,8 @@ ghost use Rattle.pfr_states.specs.declared.change.TableChange.TheVariants.{Made,
 ghost use Rattle.pfr_states.specs.States as spec;
 
 use crate::change::{Side, TableChange, TableError};
-use crate::indexed::{IndexedStates, covers};
+use crate::indexed::IndexedStates;
+use crate::likeness::covers;
 use crate::stored::Found;
 use pfr_index::Guess;
 use pfr_places::Place;
@@ -101,7 +102,7 @@ impl Table {
     /// asked first, so that none waits for the memory at which the one before looks.
     #[inline]
     pub fn guess_at(&self, side: Side, key: &Key) -> Option<Guess> {
-        self.states.guess_at(side, key)
+        self.states.keyed().guess_at(side, key)
     }
 
     /// Where a state with this key on a side stands that is bound to an interface of the scope, if there is one, whether its
@@ -114,7 +115,7 @@ impl Table {
         scope: Binding,
         guess: Option<Guess>,
     ) -> Option<Place> {
-        self.states.place_by(side, key, scope, guess)
+        self.states.keyed().place_by(side, key, scope, guess)
     }
 
     /// Whether there is room for one more state once those are gone whose deadline has come.
@@ -225,8 +226,8 @@ impl Table {
         let place = match place {
             Some(place) => Some(place),
             None => {
-                self.states
-                    .place_at(Side::Wire, &state.wire, state.rules.binding)
+                let keyed = self.states.keyed();
+                keyed.place_at(Side::Wire, &state.wire, state.rules.binding)
             }
         };
         if let Some(place) = place {

@@ -13,6 +13,8 @@ mod elements;
 #[cfg(test)]
 mod evaluations;
 #[cfg(test)]
+mod index;
+#[cfg(test)]
 mod merging;
 #[cfg(test)]
 mod published;
