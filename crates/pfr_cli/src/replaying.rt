@@ -62,7 +62,7 @@ fn job_of<'a, R: Files + AllocGlobal, E: Write>(
     let job = Job::new(
         rt.alloc(),
         text.text.as_slice(),
-        asked.rules.interface,
+        &[asked.rules.interface],
         asked.inside.as_slice(),
         asked.seed,
     );

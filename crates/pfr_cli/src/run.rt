@@ -61,7 +61,7 @@ fn check<'a, R: Files + AllocGlobal, O: Write, E: Write>(
     err: &mut E,
 ) -> Result<u8, Failure<'a>> {
     let text = prepared_text(rt, rules, err)?;
-    match Summary::of(rt.alloc(), text.text.as_slice(), &rules.interface) {
+    match Summary::of(rt.alloc(), text.text.as_slice(), &[rules.interface]) {
         Ok(summary) => print_summary(rt.alloc(), summary, out),
         Err(error) => Err(Failure::from(error).in_file(&text)),
     }

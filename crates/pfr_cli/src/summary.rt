@@ -7,7 +7,7 @@ use std::alloc::{AllocError, Global};
 use std::fmt;
 use std::fmt::Write;
 
-/// How many rules a ruleset's text makes for an interface, and the text's checksum.
+/// How many rules a ruleset's text makes for the interfaces of a run, and the text's checksum.
 #[derive(Clone, Copy)]
 pub struct Summary {
     filter: u32,
@@ -16,8 +16,8 @@ pub struct Summary {
 }
 
 impl Summary {
-    pub fn of(alloc: Global, text: &[u8], interface: &Interface) -> Result<Summary, ConfError> {
-        let (filter, translation) = ruleset_of(alloc, text, interface)?.counts();
+    pub fn of(alloc: Global, text: &[u8], interfaces: &[Interface]) -> Result<Summary, ConfError> {
+        let (filter, translation) = ruleset_of(alloc, text, interfaces)?.counts();
         Ok(Summary {
             filter,
             translation,

@@ -6,9 +6,11 @@ use Rattle.std.specs.Option.{option_to_list}
 use Rattle.pfr_net.specs.declared.interface.InterfacePlace.{InterfacePlace}
 use Rattle.pfr_headers.specs.declared.packet.View.{View}
 use Rattle.pfr_track.specs.declared.time.Clock.{Clock}
-use Rattle.pfr_states.specs.States.{StateTable}
+use Rattle.pfr_states.specs.declared.change.TableChange.{TableChange}
+use Rattle.pfr_states.specs.States.{StateTable, purged}
 use Rattle.pfr_packet.specs.declared.outcome.Outcome.{Outcome}
 use Rattle.pfr_packet.specs.Job.{RunJob}
+use Rattle.pfr_packet.specs.Laws.{IsOwnChange}
 use Rattle.pfr_packet.specs.Steps.{step_of}
 use Rattle.pfr_record.specs.declared.speculation.Speculation.{Speculation}
 use Rattle.pfr_record.specs.Speculations.{Fits}
@@ -17,8 +19,10 @@ use Rattle.pfr_sync.specs.Queues.{Tells}
 use Rattle.pfr_capture.specs.declared.capture.Record.{Record}
 use Rattle.pfr_commit.specs.declared.book.Book.{Book}
 use Rattle.pfr_commit.specs.declared.emitted.Emitted.{Emitted}
+use Rattle.pfr_commit.specs.declared.results.ResultsByPlace.{ResultsByPlace}
 use Rattle.pfr_commit.specs.Emissions.{frame_of, held_changes, texts_of, with_more}
 use Rattle.pfr_commit.specs.Results.{is_of}
+use Rattle.pfr_commit.specs.ResultsByPlace.{result_at}
 use Rattle.pfr_telling.specs.Telling.{AreTold}
 use Rattle.pfr_commit.specs.World.{Frame, Texts, World, after, clock_at, joined, last_message, online, origin_of, with_outcome, world_after}
 
@@ -94,6 +98,10 @@ after_outcome packet clock outcome = λ world. with_outcome world (frame_of pack
 abbrev pub outcome_in : Book → ℕ → Clock → InterfacePlace → View → Outcome
 outcome_in book number clock place view = step_of (job_of book) number clock place view book.table
 
+-- a change of the table is one that the next packet of a book makes, with this record, where it comes to an outcome at a clock
+abbrev pub IsNextChangeOf : Book → Record → Clock → Outcome → TableChange → Type 0
+IsNextChangeOf book packet clock outcome = IsOwnChange (book.count + 1) clock (frame_of packet).place (purged clock book.table.states) outcome
+
 -- ---- speculations
 
 -- a speculation was given, it is of this packet of this job, and its record holds in the table
@@ -104,6 +112,10 @@ MayUse (Some speculation) job number clock place view table = Fits speculation j
 -- the same of a packet of a book's job, and over its states
 abbrev pub MayUseIn : Option Speculation → Book → ℕ → Clock → InterfacePlace → View → Type 0
 MayUseIn speculation book number clock place view = MayUse speculation (job_of book) number clock place view book.table
+
+-- the same of the result at a place, if there is one
+abbrev pub MayUseAt : ℕ → ResultsByPlace → Book → ℕ → Clock → InterfacePlace → View → Type 0
+MayUseAt place results book number clock interface view = MayUseIn (result_at place results) book number clock interface view
 
 -- the same of a book's next packet, with its view
 abbrev pub MayUseNext : Option Speculation → Book → Record → View → Type 0

@@ -1,6 +1,8 @@
 -- What a run has come to: the fold of its packets in the order of the capture, one after the other.
-use Rattle.std.specs.Prelude.{ℕ, ◌+◌, max, if◌then◌else◌, List, [], ◌∷◌, ◌++◌, Option, Some, None, fold}
+use Rattle.std.specs.Prelude.{ℕ, ◌+◌, max, if◌then◌else◌, List, [], ◌∷◌, ◌++◌, Option, Some, None, fold, map}
+use Rattle.pfr_net.specs.declared.interface.IfName.{IfName}
 use Rattle.pfr_net.specs.declared.interface.InterfacePlace.{InterfacePlace}
+use Rattle.pfr_ruleset.specs.declared.interface.Interface.{Interface}
 use Rattle.pfr_ruleset.specs.Rulesets.{counts}
 use Rattle.pfr_headers.specs.declared.change.Change.{Change}
 use Rattle.pfr_headers.specs.Rewriting.{rewritten}
@@ -21,7 +23,7 @@ use Rattle.pfr_sync.specs.declared.event.Event.{Event}
 use Rattle.pfr_sync.specs.declared.origin.Origin.{Origin}
 use Rattle.pfr_sync.specs.Messages.{closed_at, message_of, open_at}
 use Rattle.pfr_sync.specs.Origins.{checksum_of}
-use Rattle.pfr_sync.specs.Queues.{plain_name}
+use Rattle.pfr_sync.specs.Queues.{plain_names}
 use Rattle.pfr_telling.specs.Telling.{changed, events_of}
 use Rattle.pfr_commit.specs.declared.counters.Counters.{Counters}
 use Rattle.pfr_commit.specs.Counters.{counted, nothing_counted}
@@ -123,9 +125,12 @@ world_of job frames = world_after job (opening job) frames
 
 -- ---- what is written of it
 
--- who tells a standby: the interface, the checksum of the ruleset's text, and the number of the firewall (pf.conf(5), "set hostid")
+abbrev pub names_of : List Interface → List IfName
+names_of interfaces = map (λ interface. interface.name) interfaces
+
+-- who tells a standby: the interfaces, the checksum of the ruleset's text, and the number of the firewall (pf.conf(5), "set hostid")
 abbrev pub origin_of : RunJob → Origin
-origin_of job = record { interface = plain_name job.interface.name; checksum = checksum_of job.text; creator = job.rules.options.host_id }
+origin_of job = record { interfaces = plain_names (names_of job.interfaces); checksum = checksum_of job.text; creator = job.rules.options.host_id }
 
 -- verdict lines, passed packets, and what a standby is told
 pub record Texts : Type 0 where

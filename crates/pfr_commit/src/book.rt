@@ -4,7 +4,6 @@ ghost use Rattle.std.specs.Arc.{arc_value};
 ghost use Rattle.pfr_headers.specs.declared.packet.View.TheVariants.{Ipv4};
 ghost use Rattle.pfr_headers.specs.View.{view_of};
 ghost use Rattle.pfr_states.specs.States.{purged, refusal};
-ghost use Rattle.pfr_packet.specs.Laws.{IsOwnChange};
 ghost use Rattle.pfr_packet.specs.Outcomes.{fresh};
 ghost use Rattle.pfr_commit.specs.Emissions.{held_changes};
 ghost use Rattle.pfr_commit.specs.Endings.{counters_text, states_text};
@@ -18,11 +17,13 @@ use crate::gate::{Gate, Unwatched};
 use crate::results::{ResultsByPlace, of_one};
 use pfr_capture::Record;
 use pfr_headers::View;
+use pfr_net::IfName;
 use pfr_packet::laws::{
     every_change_is_of_the_named_state, no_change_is_refused, what_is_written_is_of_the_packet,
 };
 use pfr_packet::{Direct, Job, Outcome, step_into};
 use pfr_record::Speculation;
+use pfr_ruleset::Interface;
 use pfr_states::{Place, Table};
 use pfr_sync::checksum;
 use pfr_telling::Telling;
@@ -74,8 +75,19 @@ fn asked_for(outcome: &Outcome) -> u64 {
     outcome.visited.filter.asked().saturating_add(translation)
 }
 
+/// The names of interfaces.
+fn names_of(alloc: Global, interfaces: &[Interface]) -> Result<Vec<IfName>, AllocError>
+    ensures { IfOk result (λ names. names.items ≡ spec.names_of interfaces.now) }
+{
+    let mut names = Vec::with_capacity(alloc, interfaces.len())?;
+    for interface in interfaces {
+        names.push(interface.name)?;
+    }
+    Ok(names)
+}
+
 impl Book {
-    ghost use Rattle.pfr_commit.specs.Books.{AddsChanges, AddsLines, IsLastMessage, Keeps, LeadsOn, LeadsTo, MayUseIn, MayUseNext, StandsAt};
+    ghost use Rattle.pfr_commit.specs.Books.{AddsChanges, AddsLines, IsLastMessage, IsNextChangeOf, Keeps, LeadsOn, LeadsTo, MayUseAt, MayUseNext, StandsAt};
     ghost use Rattle.pfr_commit.specs.Books.{after_outcome, after_packet, job_of, outcome_in, untold, world_in, world_with};
     ghost use Rattle.pfr_commit.specs.ResultsByPlace.{IsOfJobAt, result_at};
 
@@ -90,9 +102,10 @@ impl Book {
         let rules = job.rules();
         let limit = rules.options.state_limit as usize;
         let counters = Counters::new(alloc, rules.counts())?;
+        let names = names_of(alloc, job.interfaces())?;
         let telling = Telling::new(
             alloc,
-            &job.interface().name,
+            names.as_slice(),
             checksum(job.text()),
             rules.options.host_id,
         );
@@ -164,7 +177,7 @@ impl Book {
         hint: Option<Place>,
     ) -> Option<&'r Outcome>
         requires { IsOfJobAt (job_of self.now) place results.now }
-        ensures some { IsSome result ↔ MayUseIn (result_at place results.now) self.now number clock interface view.now }
+        ensures some { IsSome result ↔ MayUseAt place results.now self.now number clock interface view.now }
         ensures outcome { IfSome result (λ outcome. outcome.now ≡ outcome_in self.now number clock interface view.now) }
     {
         let speculation = results.at(place)?;
@@ -233,8 +246,8 @@ impl Book {
         requires of_job { IsOfJobAt (job_of self.now) place results.now }
         ensures held { IfOk result (λ evaluated. IfSome evaluated.held (λ outcome. outcome.now ≡ outcome_in self.now number clock interface view.now)) }
         ensures here { IfOk result (λ evaluated. IfNone evaluated.held (here.new ≡ outcome_in self.now number clock interface view.now)) }
-        ensures used { IfOk result (λ evaluated. MayUseIn (result_at place results.now) self.now number clock interface view.now → evaluated.evaluated_here ≡ 0) }
-        ensures evaluated { IfOk result (λ it. (MayUseIn (result_at place results.now) self.now number clock interface view.now → ⊥) → it.evaluated_here ≡ 1) }
+        ensures used { IfOk result (λ it. MayUseAt place results.now self.now number clock interface view.now → it.evaluated_here ≡ 0) }
+        ensures evaluated { IfOk result (λ it. (MayUseAt place results.now self.now number clock interface view.now → ⊥) → it.evaluated_here ≡ 1) }
         ensures few { IfOk result (λ evaluated. evaluated.evaluated_here ≤ 1) }
     {
         let held = self.usable_outcome(number, clock, interface, view, results, place, hint);
@@ -271,7 +284,7 @@ impl Book {
         requires few { self.old.count < 2 ^ 43 }
         requires later { self.old.clock.0 ≤ clock.0 }
         requires change { IfSome outcome.now.change (λ change. refusal change self.old.table.limit (purged clock self.old.table.states) ≡ None) }
-        requires named { IfSome outcome.now.change (IsOwnChange (self.old.count + 1) clock (record { 0 = packet.now.place }) (purged clock self.old.table.states) outcome.now) }
+        requires named { IfSome outcome.now.change (IsNextChangeOf self.old packet.now clock outcome.now) }
         requires bytes { IfSome outcome.now.bytes (λ change. view_of packet.now.link packet.now.bytes.items ≡ Ipv4 change.packet) }
         ensures world { OnOk result (AddsLines self.old self.new out.old out.new (after_outcome packet.now clock outcome.now)) }
         ensures told { OnOk result (LeadsTo self.old self.new out.old out.new (after_outcome packet.now clock outcome.now)) }

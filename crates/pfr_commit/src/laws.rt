@@ -69,7 +69,8 @@ pub fn every_state_is_of_a_packet_that_passed()
     every_change_is_of_the_named_state();
 }
 
-/// What a run leaves is a table: its numbers rise, no two states share a key, and there are no more than the limit.
+/// What a run leaves is a table: its numbers rise, no two states share a key on an interface, and there are no
+/// more than the limit.
 pub fn every_run_leaves_a_table()
     ensures { (job : RunJob) (frames : List Frame) → IsTable (world_of job frames).table }
 {

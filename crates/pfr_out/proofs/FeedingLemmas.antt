@@ -25,7 +25,7 @@ use Rattle.pfr_out.specs.Feedings.{Behind, CutsOff, Ends, Fresh, Gives, Reads, R
 use Rattle.pfr_out.specs.Outputs.{Grew, KeepsMessages, Outputs, PartWritten, RoseAt, Stay, each_of, texts_alone}
 use Rattle.pfr_out.specs.Reading.{BatchFails, BatchSays, End, wants_memory}
 use Rattle.pfr_out.specs.Replay.{StopFails, Stopped}
-use Rattle.pfr_out.specs.Spelling.{Run}
+use Rattle.pfr_out.specs.Spelling.{Run, source_of}
 use Rattle.pfr_out.specs.Taking.{Add, IsPastHeader, Reaches, SinksFail}
 use Rattle.pfr_out.proofs.AheadLemmas.{Ahead, AreFull, IsHead, ahead_ended, ahead_first, ahead_gave, ahead_over, ahead_took, batch_cut, first_head, full_more, full_over, head_gave, head_took, memory_stopped, waits, waits_first, waits_more}
 use Rattle.pfr_out.proofs.RunLemmas.{reaches}
@@ -53,9 +53,9 @@ same_twice : {R S : Type 0} (old mid new : Feeding R S) → Same old mid → Sam
 same_twice old mid new first second = record { form = second.form ∙ first.form; address = second.address ∙ first.address; most = second.most ∙ first.most }
 
 -- what the sinks are told of a piece
-piece_is : (run : Run) (form : Form) (address : Ipv4Address) (piece : Texts) → run.form ≡ form → run.job.interface.address ≡ address → texts_alone run piece ≡ piece_alone form address piece
+piece_is : (run : Run) (form : Form) (address : Ipv4Address) (piece : Texts) → run.form ≡ form → source_of run.job ≡ address → texts_alone run piece ≡ piece_alone form address piece
 piece_is run form address piece form_is address_is =
-    ap (λ (f : Form). piece_alone f run.job.interface.address piece) form_is ∙ ap (λ (a : Ipv4Address). piece_alone form a piece) address_is
+    ap (λ (f : Form). piece_alone f (source_of run.job) piece) form_is ∙ ap (λ (a : Ipv4Address). piece_alone form a piece) address_is
 
 -- a batch adds as many packets as it has records
 counted : (job : RunJob) (world : World) (records : List Record) → (behind job world records).count ≡ world.count + length records
@@ -102,7 +102,7 @@ gave_nothing old new before left (Some (Err refusal.BadVersion)) wants came = ab
 gave_nothing old new before left (Some (Err (refusal.LinkType link))) wants came = absurd (cc wants)
 
 module _ {R S : Type 0} (tells : R → Bool) (unread : R → List ℕ) (failures : R → ℕ) (told : S → Bool) (written : S → List ℕ) (sink_failures : S → ℕ) (run : Run) (start : Feeding R S)
-    (form_is : run.form ≡ start.channel.now.form) (address_is : run.job.interface.address ≡ start.address) where
+    (form_is : run.form ≡ start.channel.now.form) (address_is : source_of run.job ≡ start.address) where
   abbrev At : Feeding R S → World → List (List Record) → Bool → Type 0
   At feed world waiting is_over = Progress tells unread failures told written sink_failures run start feed world waiting is_over
 

@@ -16,7 +16,7 @@ use Rattle.pfr_out.specs.declared.settings.Form.TheVariants as shape
 use Rattle.pfr_out.specs.declared.sinks.Sinks.{Sinks}
 use Rattle.pfr_out.specs.Outputs.{Extends, Grew, Outputs, header_alone, of_output, texts_alone}
 use Rattle.pfr_out.specs.Replay.{closing, online, whole}
-use Rattle.pfr_out.specs.Spelling.{Run, in_form, messages_text, spelled}
+use Rattle.pfr_out.specs.Spelling.{Run, in_form, messages_text, source_of, spelled}
 
 -- one text after another
 grew_by : (old mid new a b whole : List ℕ) → mid ≡ old ++ a → new ≡ mid ++ b → whole ≡ a ++ b → new ≡ old ++ whole
@@ -76,7 +76,7 @@ spelled_more form own source messages i message old new own_is message_is below 
     ∙ ap (λ (ms : List Content). spelled form source ms) (sym all)
 
 both_spelled : (run : Run) (messages first second : List Content) → messages ≡ first ++ second → messages_text run messages ≡ messages_text run first ++ messages_text run second
-both_spelled run messages first second is = ap (λ (ms : List Content). messages_text run ms) is ∙ spelled_append run.form run.job.interface.address first second
+both_spelled run messages first second is = ap (λ (ms : List Content). messages_text run ms) is ∙ spelled_append run.form (source_of run.job) first second
 
 -- ---- what is written of worlds
 
@@ -102,4 +102,4 @@ header_is_online told old new header run world none grew =
     (λ t. grew output.Verdicts t ∙ ap (λ (t : Texts). old.verdicts ++ t.verdicts) (sym none))
     (λ t. grew output.Packets t ∙ ap (λ (t : List ℕ). old.packets ++ t) (sym (append-nil header)) ∙ ap (λ (t : Texts). old.packets ++ (header ++ t.packets)) (sym none))
     (grew output.Counters) (grew output.States)
-    (λ t. grew output.Messages t ∙ ap (λ (t : List ℕ). old.messages ++ t) (sym (spelled_none run.form run.job.interface.address)) ∙ ap (λ (t : Texts). old.messages ++ messages_text run t.messages) (sym none))
+    (λ t. grew output.Messages t ∙ ap (λ (t : List ℕ). old.messages ++ t) (sym (spelled_none run.form (source_of run.job))) ∙ ap (λ (t : Texts). old.messages ++ messages_text run t.messages) (sym none))

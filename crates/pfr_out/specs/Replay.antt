@@ -238,11 +238,11 @@ StopsUntoldIn told written old new s = StopsUntold s (each_of told old) (each_of
 
 pub record IsJob (text seed : List ℕ) (settings : Settings) (job : RunJob) : Type 0 where
   pub text_is : job.text ≡ text
-  pub interface_is : job.interface ≡ settings.interface
+  pub interfaces_are : job.interfaces ≡ settings.interfaces.now
   pub inside_is : job.inside ≡ settings.inside.now
   pub seed_is : job.seed ≡ seed
   -- the ruleset that the text means
-  pub rules_are : ruleset_of text settings.interface ≡ Ok job.rules
+  pub rules_are : ruleset_of text settings.interfaces.now ≡ Ok job.rules
 
 -- a fact of the run's job, and that the text means a ruleset
 pub record UnderJob (text seed : List ℕ) (settings : Settings) (P : RunJob → Type 0) : Type 0 where
@@ -252,7 +252,7 @@ pub record UnderJob (text seed : List ℕ) (settings : Settings) (P : RunJob →
 
 -- the fault is the first one of the text, or want of memory, which has line 0
 pub record IsFaultOf (text : List ℕ) (settings : Settings) (fault : ConfError) : Type 0 where
-  pub is : Gives (ruleset_of text settings.interface) (Err fault)
+  pub is : Gives (ruleset_of text settings.interfaces.now) (Err fault)
   pub line : fault.kind ≡ NoMemory → fault.line ≡ 0
 
 -- how the capture of a run is taken, by the settings of the run

@@ -1,7 +1,8 @@
 -- Messages to a standby as they are written.
-use Rattle.std.specs.Prelude.{ℕ, List, [], ◌++◌, length}
-use Rattle.std.specs.List.{flat_map}
+use Rattle.std.specs.Prelude.{ℕ, List, [], ◌++◌, length, Option, Some, None}
+use Rattle.std.specs.List.{flat_map, slice_get}
 use Rattle.pfr_net.specs.declared.address.Ipv4Address.{Ipv4Address}
+use Rattle.pfr_ruleset.specs.declared.interface.Interface.{Interface}
 use Rattle.pfr_packet.specs.Job.{RunJob}
 use Rattle.pfr_messages.specs.Messages.{Content, spelling}
 use Rattle.pfr_sync.specs.Files.{ip_header}
@@ -27,6 +28,14 @@ in_form form.None source message = []
 unfoldable pub spelled : Form → Ipv4Address → List Content → List ℕ
 spelled form source messages = flat_map (in_form form source) messages
 
+abbrev pub address_or_none : Option Interface → Ipv4Address
+address_or_none None = record { 0 = 0 }
+address_or_none (Some interface) = interface.address
+
+-- a standby is told from the address of the run's first interface
+abbrev pub source_of : RunJob → Ipv4Address
+source_of job = address_or_none (slice_get job.interfaces 0)
+
 -- as a run writes them
 abbrev pub messages_text : Run → List Content → List ℕ
-messages_text run messages = spelled run.form run.job.interface.address messages
+messages_text run messages = spelled run.form (source_of run.job) messages

@@ -4,6 +4,7 @@ ghost use Rattle.pfr_out.specs.Spelling as spec;
 
 use crate::settings::Form;
 use pfr_net::Ipv4Address;
+use pfr_packet::Job;
 use pfr_sync::{Message, encode_onto, ip_header};
 use std::alloc::{AllocError, Global};
 
@@ -31,6 +32,16 @@ fn put_packet(source: Ipv4Address, message: &Message, text: &mut Vec<u8>) -> Res
     let header = ip_header(source, len as u16);
     text[start..start + IP_HEADER].copy_from_slice(&header);
     Ok(())
+}
+
+/// The address from which a standby is told: that of the first interface of a job, or else 0.0.0.0.
+pub(crate) fn source_of(job: &Job) -> Ipv4Address
+    ensures { result ≡ spec.source_of job.now }
+{
+    match job.interfaces().get(0) {
+        Some(interface) => interface.address,
+        None => Ipv4Address(0),
+    }
 }
 
 impl Channel {

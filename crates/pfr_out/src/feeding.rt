@@ -4,6 +4,7 @@ ghost use Rattle.pfr_commit.specs.Books.{StandsAt, job_of};
 ghost use Rattle.pfr_commit.specs.World.{opening};
 ghost use Rattle.pfr_commit.specs.Emissions.{texts_of};
 ghost use Rattle.pfr_out.specs.Outputs.{KeepsMessages, Stay, each_of};
+ghost use Rattle.pfr_out.specs.Spelling.{source_of};
 ghost use Rattle.pfr_out.specs.declared.report.Stop.TheVariants.{Memory};
 
 use crate::channel::Channel;
@@ -179,7 +180,7 @@ impl<'a, R: Source, S: Sink> Feeding<'a, R, S> {
     ) -> Feeding<'a, R, S>
         requires fresh { Fresh self }
         requires world { StandsAt book (opening (job_of book)) }
-        requires address { self.address ≡ (job_of book).interface.address }
+        requires address { self.address ≡ source_of (job_of book) }
         requires job { J.job ≡ Some (job_of book) }
         requires limit { (job_of book).rules.options.state_limit ≡ J.limit }
         requires changes { histories.changes ≡ J.history }

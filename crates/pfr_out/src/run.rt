@@ -6,7 +6,7 @@ ghost use Rattle.pfr_out.specs.Outputs.{KeepsMessages, each_of};
 ghost use Rattle.pfr_out.specs.Replay.{NoneFails, Replays, ReplaysRun, StopFailsIn, Stops, StopsRun, StopsUntoldIn};
 ghost use Rattle.pfr_out.specs.Taking.{IsLate, IsPastHeader, ReplaysOn, StopsOn};
 
-use crate::channel::Channel;
+use crate::channel::{Channel, source_of};
 use crate::feeding::Feeding;
 use crate::report::{Report, Stop};
 use crate::settings::{RunSettings, Settings};
@@ -59,7 +59,7 @@ fn replay_capture<H: AllocGlobal + Threads + Wait + Sync, R: Source, S: Sink, G:
         Ok(()) => {}
         Err(output) => return Err(Stop::Write(output, 0)),
     }
-    let address = book.job().interface().address;
+    let address = source_of(book.job());
     let feeding = Feeding {
         alloc: rt.alloc(),
         capture: &mut capture,
@@ -167,7 +167,7 @@ pub fn replay<H: AllocGlobal + Threads + Wait + Sync, R: Source, S: Sink, G: Gat
     ensures refused { IfErr result (λ stop. StopsUntoldIn S.told S.written sinks.old sinks.new stop) }
     ensures failure { IfErr result (λ stop. StopFailsIn R.failures S.failures source.old source.new sinks.old sinks.new stop) }
 {
-    let job = match Job::new(rt.alloc(), text, settings.interface, settings.inside, seed) {
+    let job = match Job::new(rt.alloc(), text, settings.interfaces, settings.inside, seed) {
         Ok(job) => job,
         Err(fault) => return Err(Stop::Ruleset(fault)),
     };

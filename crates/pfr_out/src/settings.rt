@@ -27,8 +27,8 @@ pub struct RunSettings {
 /// How a capture is replayed through the text of a ruleset.
 #[derive(Clone, Copy)]
 pub struct Settings<'a> {
-    /// The interface that the packets pass.
-    pub interface: Interface,
+    /// The interfaces that the packets pass, by their places.
+    pub interfaces: &'a [Interface],
     /// The networks whose packets go out.
     pub inside: &'a [Net],
     /// How many packets are taken and written at a time, 1 to 4096.

@@ -4,7 +4,7 @@ ghost use Rattle.pfr_out.specs.Outputs.{KeepsMessages, each_of};
 ghost use Rattle.pfr_out.specs.Replay.{stop_for};
 ghost use Rattle.pfr_out.specs.Taking.{ClosesIn, ConcludeFails, ConcludesIn, EndStopsIn, SinksFail};
 
-use crate::channel::Channel;
+use crate::channel::{Channel, source_of};
 use crate::report::{Report, Stop};
 use crate::sinks::Sinks;
 use pfr_capture::{CaptureError, Sink, Tail};
@@ -26,7 +26,7 @@ pub(crate) fn close<S: Sink>(
     ensures failure { IfErr result (λ stop. SinksFail stop (each_of S.failures sinks.old) (each_of S.failures sinks.new)) }
 {
     let committed = book.committed();
-    let source = book.job().interface().address;
+    let source = source_of(book.job());
     let ending = match book.finish() {
         Ok(ending) => ending,
         Err(_) => return Err(Stop::Memory(committed)),
