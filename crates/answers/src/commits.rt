@@ -4,7 +4,7 @@
 //! Each line is a word and others behind it; numbers are decimal, and bytes are in hex, `-` where there are none. An address is
 //! a number too.
 //!
-//!     interface NAME ADDRESS BITS            the interface of the run
+//!     interface NAME ADDRESS BITS            one more interface of the run, at the next place
 //!     inside ADDRESS BITS                    one more inside network
 //!     job SEED TEXT                          one more job: a byte, which is each of its seed's, and the ruleset's text. The
 //!                                            first is the book's; it and the others are numbered from 0
@@ -52,7 +52,7 @@ const MOST: u64 = 1_000_000_000;
 #[derive(Drop)]
 struct Run {
     alloc: Global,
-    interface: Interface,
+    interfaces: Vec<Interface>,
     inside: Vec<Net>,
     jobs: Vec<Option<Arc<Job>>>,
     book: Option<Book>,
@@ -91,15 +91,16 @@ fn record(alloc: Global, words: &mut Words<'_>) -> Result<Record, AllocError> {
     })
 }
 
-fn interface(words: &mut Words<'_>) -> Interface {
+fn add_interface(interfaces: &mut Vec<Interface>, words: &mut Words<'_>) -> Result<(), AllocError> {
     let name = IfName::new(words.word().as_bytes());
     let address = Ipv4Address(words.number().unwrap_or(0));
     let bits = words.number().unwrap_or(0);
-    Interface {
+    interfaces.push(Interface {
         name,
         address,
         bits,
-    }
+    })?;
+    Ok(())
 }
 
 fn add_network(inside: &mut Vec<Net>, words: &mut Words<'_>) -> Result<(), AllocError> {
@@ -231,11 +232,7 @@ impl Run {
     fn new(alloc: Global) -> Run {
         Run {
             alloc,
-            interface: Interface {
-                name: IfName::new(b"em0"),
-                address: Ipv4Address(0),
-                bits: 0,
-            },
+            interfaces: Vec::new(alloc),
             inside: Vec::new(alloc),
             jobs: Vec::new(alloc),
             book: None,
@@ -249,8 +246,9 @@ impl Run {
     fn job(&self, out: &mut String, words: &mut Words<'_>) -> Result<Option<Arc<Job>>, AllocError> {
         let seed = [words.number().unwrap_or(0); 32];
         let text = bytes(self.alloc, words)?;
+        let interfaces = self.interfaces.as_slice();
         let inside = self.inside.as_slice();
-        match Job::new(self.alloc, text.as_slice(), self.interface, inside, seed) {
+        match Job::new(self.alloc, text.as_slice(), interfaces, inside, seed) {
             Ok(job) => Ok(Some(Arc::new(self.alloc, job)?)),
             Err(fault) => put_fault(out, &fault).and(Ok(None)),
         }
@@ -393,10 +391,7 @@ impl Run {
         words: &mut Words<'_>,
     ) -> Result<(), AllocError> {
         match word {
-            "interface" => {
-                self.interface = interface(words);
-                Ok(())
-            },
+            "interface" => add_interface(&mut self.interfaces, words),
             "inside" => add_network(&mut self.inside, words),
             "job" => self.add_job(out, words),
             "packet" => add_packet(self.alloc, &mut self.packets, words),

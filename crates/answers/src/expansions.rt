@@ -1,8 +1,8 @@
-//! `answers expansions`: each record is a ruleset with the interface that it is meant for. The answer is what it means, as
+//! `answers expansions`: each record is a ruleset with the interfaces that it is meant for. The answer is what it means, as
 //! `expansions/model.py` of the folder `tests` dumps it, or its first fault; and a line `end`.
 //!
-//! A record holds a byte that is 1 where only the numbers of rules are asked for, and else 0; the interface; and the text
-//! with its length before it in four bytes.
+//! A record holds a byte that is 1 where only the numbers of rules are asked for, and else 0; a byte that counts the
+//! interfaces, and these by their places; and the text with its length before it in four bytes.
 mod options;
 mod rules;
 mod terms;
@@ -91,10 +91,10 @@ fn put_meaning(
     alloc: Global,
     out: &mut String,
     counts_alone: bool,
-    interface: &Interface,
+    interfaces: &[Interface],
     statements: &Statements<'_>,
 ) -> Result<(), AllocError> {
-    let expanded = expand(alloc, statements, interface);
+    let expanded = expand(alloc, statements, interfaces);
     let answered = put_expanded(alloc, out, counts_alone, statements, &expanded);
     drop(expanded);
     answered
@@ -105,11 +105,11 @@ fn put_found(
     alloc: Global,
     out: &mut String,
     counts_alone: bool,
-    interface: &Interface,
+    interfaces: &[Interface],
     found: &Result<Statements<'_>, ConfError>,
 ) -> Result<(), AllocError> {
     match found {
-        Ok(statements) => put_meaning(alloc, out, counts_alone, interface, statements),
+        Ok(statements) => put_meaning(alloc, out, counts_alone, interfaces, statements),
         Err(fault) => put_fault(out, fault),
     }
 }
@@ -119,11 +119,11 @@ fn put_text(
     alloc: Global,
     out: &mut String,
     counts_alone: bool,
-    interface: &Interface,
+    interfaces: &[Interface],
     text: &[u8],
 ) -> Result<(), AllocError> {
     let found = read(alloc, text);
-    let answered = put_found(alloc, out, counts_alone, interface, &found);
+    let answered = put_found(alloc, out, counts_alone, interfaces, &found);
     drop(found);
     answered
 }
@@ -134,7 +134,8 @@ pub(crate) fn put_answer(
     given: &mut Given<'_>,
 ) -> Result<(), AllocError> {
     let counts_alone = given.byte() == 1;
-    let interface = given.interface();
-    put_text(alloc, out, counts_alone, &interface, given.text())?;
+    let interfaces = given.interfaces(alloc)?;
+    let text = given.text();
+    put_text(alloc, out, counts_alone, interfaces.as_slice(), text)?;
     out.push_str("end\n")
 }

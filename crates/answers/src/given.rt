@@ -1,6 +1,7 @@
 //! What is given on standard input: records of bytes, or lines of words.
 use pfr_net::{IfName, Ipv4Address};
 use pfr_ruleset::Interface;
+use std::alloc::{AllocError, Global};
 use std::str::{FromStr, SplitWhitespace};
 
 /// Bytes that weren't read yet. Numbers have their greatest byte first, and behind the last byte all is zero.
@@ -52,7 +53,7 @@ impl<'a> Given<'a> {
 
     /// An interface: its name with its length before it in one byte, its address in four and the bits of its network in
     /// one.
-    pub(crate) fn interface(&mut self) -> Interface {
+    fn interface(&mut self) -> Interface {
         let length = usize::from(self.byte());
         let name = IfName::new(self.bytes(length));
         let address = Ipv4Address(self.number());
@@ -62,6 +63,15 @@ impl<'a> Given<'a> {
             address,
             bits,
         }
+    }
+
+    /// The interfaces of a run, by their places: one byte that counts them, and each.
+    pub(crate) fn interfaces(&mut self, alloc: Global) -> Result<Vec<Interface>, AllocError> {
+        let mut interfaces = Vec::new(alloc);
+        for _place in 0..self.byte() {
+            interfaces.push(self.interface())?;
+        }
+        Ok(interfaces)
     }
 }
 

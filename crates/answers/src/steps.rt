@@ -7,9 +7,10 @@
 //! is a `-`. A change that the table refuses has ` refused` behind it. Behind a state's line stand the place of the interface on
 //! which it was made and, behind a slash, the place of the one to which it is bound, or `-` for all.
 //!
-//! A run holds the interface, the inside networks (one byte that counts them, and of each four bytes and the bits in one), the
-//! text of the ruleset with its length before it in four bytes, a byte, which is each of the seed's, how many records there are
-//! (4), and these. A record holds the place of its interface (1), the link type (2), the seconds (4), and the captured bytes with their length before them (4).
+//! A run holds a byte that counts the interfaces, and these by their places; the inside networks (one byte that counts them, and
+//! of each four bytes and the bits in one); the text of the ruleset with its length before it in four bytes; a byte, which is
+//! each of the seed's; how many records there are (4), and these. A record holds the place of its interface (1), the link type
+//! (2), the seconds (4), and the captured bytes with their length before them (4).
 use crate::given::Given;
 use crate::printing::{put_address, put_bytes, put_fault, put_state};
 use pfr_commit::VerdictLine;
@@ -285,11 +286,11 @@ fn put_lines(
 
 /// The answer to a run, but for its end.
 fn put_run(alloc: Global, out: &mut String, given: &mut Given<'_>) -> Result<(), AllocError> {
-    let interface = given.interface();
+    let interfaces = given.interfaces(alloc)?;
     let inside = networks(alloc, given)?;
     let text = given.text();
     let seed = [given.byte(); 32];
-    let job = Job::new(alloc, text, interface, inside.as_slice(), seed);
+    let job = Job::new(alloc, text, interfaces.as_slice(), inside.as_slice(), seed);
     let answered = put_lines(alloc, out, given, &job);
     drop(job);
     answered

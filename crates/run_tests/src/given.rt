@@ -68,18 +68,18 @@ pub(crate) fn datagrams(alloc: Global, packets: &[(u16, u32)]) -> Result<Vec<Rec
     Ok(records)
 }
 
-/// The interface of all runs.
-fn interface() -> Interface {
-    Interface {
+/// The interfaces of all runs.
+fn interfaces() -> [Interface; 1] {
+    [Interface {
         name: IfName::new(b"em0"),
         address: Ipv4Address(0xc000_0201),
         bits: 24,
-    }
+    }]
 }
 
-/// The job of these rules on that interface.
+/// The job of these rules on them.
 fn job(alloc: Global, rules: &[u8]) -> Result<Job, AllocError> {
-    Job::new(alloc, rules, interface(), &INSIDE, [0; 32]).map_err(|_| AllocError)
+    Job::new(alloc, rules, &interfaces(), &INSIDE, [0; 32]).map_err(|_| AllocError)
 }
 
 /// A book that has taken no packet of the job of these rules.
@@ -114,8 +114,9 @@ pub(crate) fn replay_into<R: AllocGlobal + Threads + Wait + Sync, S: Source, O: 
     requires batch { (1 ≤ batch) × (batch ≤ 4096) }
     requires workers { workers ≤ 64 }
 {
+    let interfaces = interfaces();
     let settings = Settings {
-        interface: interface(),
+        interfaces: &interfaces,
         inside: &INSIDE,
         batch,
         workers,

@@ -12,6 +12,8 @@
 //!                               their packet, and of the feed `batch` and `take`, each numbered from 1 on
 //!     end                       the end of the script
 //!
+//! The interfaces are em0 with 192.0.2.1/24, em1 with 203.0.113.2/24 and em2 with 198.18.0.1/24.
+//!
 //! A call waits until all steps before its own are passed, but not for ever. Where it has waited in vain, the calls behind it
 //! don't wait any more. One that isn't among the steps doesn't wait at all.
 //!

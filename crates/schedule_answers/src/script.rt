@@ -41,13 +41,21 @@ struct Script {
     steps: Vec<Step>,
 }
 
-/// The interface of all runs.
-fn interface() -> Interface {
+fn interface(name: &[u8], address: u32) -> Interface {
     Interface {
-        name: IfName::new(b"em0"),
-        address: Ipv4Address(0xc000_0201),
+        name: IfName::new(name),
+        address: Ipv4Address(address),
         bits: 24,
     }
+}
+
+/// The interfaces of all runs.
+fn interfaces() -> [Interface; 3] {
+    [
+        interface(b"em0", 0xc000_0201),
+        interface(b"em1", 0xcb00_7102),
+        interface(b"em2", 0xc612_0001),
+    ]
 }
 
 /// The last ones of some records, at most `count`, in their order.
@@ -204,7 +212,7 @@ impl Script {
             workers,
             steps,
         } = self;
-        let job = Job::new(alloc, text.as_slice(), interface(), &INSIDE, [seed; 32]);
+        let job = Job::new(alloc, text.as_slice(), &interfaces(), &INSIDE, [seed; 32]);
         let batches = batches(alloc, records, counts)?;
         match job {
             Ok(job) => put_run(rt, out, job, batches, workers, steps.as_slice(), patience),

@@ -5,12 +5,16 @@ use pfr_net::Net;
 use pfr_ruleset::{Comparison, HostCriterion, HostSet, PacketMatch, PortMatch, RangeOperator};
 use std::alloc::{AllocError, Global};
 
-/// The names of the tables in the order of the text.
+/// The name by which the table of the interfaces' own addresses is printed. No table of a text may be called so.
+const OWN_TABLE: &[u8] = b"self";
+
+/// The names of the tables: that of the interfaces' own addresses, and behind it those of the text in its order.
 pub(crate) fn table_names<'a>(
     alloc: Global,
     statements: &Statements<'a>,
 ) -> Result<Vec<&'a [u8]>, AllocError> {
     let mut names = Vec::new(alloc);
+    names.push(OWN_TABLE)?;
     for statement in statements.statements.as_slice() {
         if let Statement::Table(definition) = statement {
             names.push(definition.name.text.as_slice())?;
