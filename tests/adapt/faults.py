@@ -9,6 +9,7 @@ from typing import NamedTuple
 
 from adapt.surroundings import ADDRESS, INTERFACE
 from adapt.words import LINE, LISTED, words_of
+from expansions.hosts import interface_of
 from expansions.model import expand
 
 MOST_ERRORS = 100
@@ -30,8 +31,7 @@ class Fault(NamedTuple):
 
 def fault_of(text):
     """The line and the kind of the first fault of a text in the strict language, or nothing."""
-    address, _, bits = ADDRESS.partition("/")
-    outcome = expand(text, INTERFACE, address, int(bits))
+    outcome = expand(text, [interface_of(INTERFACE, ADDRESS)])
     return outcome[1:] if isinstance(outcome, tuple) else None
 
 

@@ -23,7 +23,7 @@ from faults.command import ends_lawfully
 from steps.written_packets import spoilt_sums
 
 BATCHES = (1, 2, 256)
-RANDOM_PACKETS, TRANSLATED_PACKETS, PLACED_PACKETS = 9000, 10000, 10000
+RANDOM_PACKETS, TRANSLATED_PACKETS, PLACED_PACKETS = 9000, 10000, 12000
 # how often each kind of result on several interfaces has to come up at least
 LEAST = 20
 # random runs of which much is told

@@ -21,7 +21,7 @@ from captures.frames import datagram_of, view
 from commits import place_kinds
 from messages.run import told_of
 from messages.spelling import bare
-from steps.model import step
+from steps.model import Outcome, step
 from steps.replay import Refused, counters, job_of, step_of
 from steps.run import seed_of
 from steps.states import StateTable
@@ -74,7 +74,8 @@ class Clear(NamedTuple):
 
 
 class Found(NamedTuple):
-    """A result: the identity of its job, what it is of, and the questions with their answers."""
+    """A result: the identity of its job, what it is of, the questions with their answers, and what the packet comes
+    to."""
     job: tuple
     number: int
     clock: int
@@ -83,6 +84,7 @@ class Found(NamedTuple):
     answers: dict
     # of each look-up all states with its key, wherever they are bound
     around: dict
+    outcome: Outcome
 
     def is_of(self):
         return self[:5]
@@ -147,7 +149,7 @@ class Book:
     """The book of a run. Its records have their headers; `jobs` are pairs of a byte of the seed and a ruleset's text."""
 
     def __init__(self, run, jobs, records):
-        self.link, self.interface, self.records, self.jobs = run.link, run.interface, records, jobs
+        self.link, self.records, self.jobs = run.link, records, jobs
         self.told, self.kept, self.steps, self.emitted = [], [], [], []
         self.own = self.clock = self.tried = 0
         # of the results that were tried, as place_kinds names them
@@ -158,7 +160,7 @@ class Book:
     def job_of(self, run, byte, text):
         """The job of a text and a byte of the seed; a ruleset that is refused is told."""
         try:
-            return job_of(text.encode(), run.interface, run.inside, seed_of(byte))
+            return job_of(text.encode(), run.interfaces, run.inside, seed_of(byte))
         except Refused as why:
             self.told.append(str(why))
             return None
@@ -177,7 +179,7 @@ class Book:
         outcome = step(self.meanings[call.job], call.number, call.clock, call.place, *seen, asked)
         asked.write_down(outcome.rooms)
         self.kept.append(Found(self.jobs[call.job], call.number, call.clock, call.place, seen, asked.answers,
-                               asked.around))
+                               asked.around, outcome))
 
     def taken(self, kept):
         found = None if kept is None else self.kept[kept]
@@ -192,9 +194,9 @@ class Book:
     def fits(self, found, number):
         return found.is_of() == self.asked_of(number) and holds(found, self.table, self.clock)
 
-    def kinds_of(self, found, number):
+    def kinds_of(self, found, number, outcome):
         now = purged(self.table, self.clock)
-        return place_kinds.kinds_of(found, self.asked_of(number), failing(found, now), now)
+        return place_kinds.kinds_of(found, self.asked_of(number), failing(found, now), now, outcome)
 
     def take(self, results):
         """Commits the next packet."""
@@ -203,15 +205,15 @@ class Book:
         self.clock = max(self.clock, record.seconds)
         found = next((each for each in results if each.number == number), None)
         self.tried += found is not None
-        self.kinds.update(self.kinds_of(found, number) if found else ())
         self.own += not (found and self.fits(found, number))
         done = step_of(self.meanings[0], number, self.clock, self.link, record, self.table)
+        self.kinds.update(self.kinds_of(found, number, done.outcome) if found else ())
         self.table.apply(done.outcome.change)
         self.steps.append(done)
 
     def told_to_standby(self):
         """What a standby is told of the run so far."""
-        return told_of(self.jobs[0][1].encode(), self.interface, self.meanings[0], self.steps)
+        return told_of(self.jobs[0][1].encode(), self.meanings[0], self.steps)
 
     def emit(self, messages):
         """Of these messages the ones behind those that are emitted already."""

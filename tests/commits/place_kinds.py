@@ -1,6 +1,7 @@
 """What comes up of results on several interfaces, by kinds that are counted.
 
-- One is of another interface than its packet, and its record holds.
+- One is of another interface than its packet, and its record holds; there the packet may come to something else, by
+  rules that name interfaces or addresses.
 - One is taken although states have changed that have a key which it asks for, and are bound elsewhere.
 - One is dropped because of such states alone.
 - One is taken or dropped as it is, since of several states with a key the least is found, and not the greatest.
@@ -8,9 +9,10 @@
 
 from steps.states import ALL, meeting
 
-OF_ANOTHER, TAKEN_BESIDE, DROPPED_FOR, BY_LEAST = (
-    "of another interface", "taken beside changes elsewhere", "dropped for changes elsewhere", "by the least of several")
-COUNTED = (OF_ANOTHER, TAKEN_BESIDE, DROPPED_FOR, BY_LEAST)
+OF_ANOTHER, OTHERWISE, TAKEN_BESIDE, DROPPED_FOR, BY_LEAST = (
+    "of another interface", "otherwise on another interface", "taken beside changes elsewhere",
+    "dropped for changes elsewhere", "by the least of several")
+COUNTED = (OF_ANOTHER, OTHERWISE, TAKEN_BESIDE, DROPPED_FOR, BY_LEAST)
 
 
 def least(states):
@@ -40,12 +42,18 @@ def by_least(found, failing, table):
     return not others and bool(failing) != bool(changed)
 
 
-def kinds_of(found, wanted, failing, table):
+def judged(outcome):
+    """What becomes of a packet, and by which rules."""
+    return outcome.verdict, outcome.reason, outcome.rule, outcome.translation
+
+
+def kinds_of(found, wanted, failing, table, outcome):
     """The kinds of a result that is tried, by what it should be of, which of its questions the table at the packet's
-    clock answers otherwise, and that table."""
+    clock answers otherwise, that table, and what the packet comes to."""
     if found.is_of() != wanted:
-        is_elsewhere = found._replace(place=wanted[3]).is_of() == wanted
-        return [OF_ANOTHER] if is_elsewhere and not failing else []
+        if failing or found._replace(place=wanted[3]).is_of() != wanted:
+            return []
+        return [OF_ANOTHER] if judged(found.outcome) == judged(outcome) else [OF_ANOTHER, OTHERWISE]
     is_changed = any(table.all_at(*question[1:3]) != states for question, states in found.around.items())
     kinds = [BY_LEAST] if by_least(found, failing, table) else []
     if failing and all(is_for_others(found, question, table) for question in failing):

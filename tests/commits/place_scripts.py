@@ -7,7 +7,7 @@ from commits.model import Batch, Commit, Holds, Speculate
 from commits.scripts import Script
 from commits.translation_scripts import EVALUATED, Committed, answer
 from steps.rows import FIRST_SYN
-from steps.run import Run, seed_of
+from steps.run import THREE, Run, seed_of
 from steps.translation_rows import SEEDS
 from steps.translation_words import ASKED, OTHER, E, H, P
 
@@ -22,7 +22,7 @@ CAME = udp(P, 53, E, 50001)
 
 def run_of(name, rules, *packets, seed=0):
     """A run whose packets stand each behind a second and a place."""
-    return Run(name, rules, [(second, packet) for second, _, packet in packets], seed=seed_of(seed),
+    return Run(name, rules, [(second, packet) for second, _, packet in packets], interfaces=THREE, seed=seed_of(seed),
                places=tuple(place for _, place, _ in packets))
 
 

@@ -36,9 +36,7 @@ class Script(NamedTuple):
 
     def lines(self):
         """As the program reads it."""
-        name, address, bits = self.run.interface
-        number = int.from_bytes(bytes(map(int, address.split("."))))
-        yield f"interface {name} {number} {bits}"
+        yield from (f"interface {each.name} {each.own().address} {each.bits}" for each in self.run.interfaces)
         yield from (f"inside {network.address} {network.bits}" for network in self.run.inside)
         yield from (f"job {seed} {hex_of(text.encode())}" for seed, text in self.jobs)
         yield from (f"packet {each.place} {self.run.link} {each.seconds} {each.header.hex()} {hex_of(each.frame)}"

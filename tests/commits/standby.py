@@ -57,7 +57,7 @@ def row_faults(row, lines):
     """What is wrong with the lines that a row of messages is answered with, in batches of any size."""
     seen = heard(lines)
     numbers = [message.numbers() for message in seen.messages]
-    filed = dict(enumerate(in_file(message, row.run.interface.address) for message in seen.messages))
+    filed = dict(enumerate(in_file(message, row.run.interfaces[0].address) for message in seen.messages))
     found = [("sizes", row.sizes, seen.sizes()), ("last", list(row.last), numbers[len(numbers) - len(row.last):])]
     found += [(f"behind {count}", sizes, seen.sizes(seen.online[count]))
               for count, sizes in row.online.items() if count in seen.online]

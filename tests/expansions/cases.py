@@ -4,12 +4,14 @@ from typing import NamedTuple
 
 import rulesets.cases
 import rulesets.words
+from expansions.hosts import interface_of
 
 # for the same texts on every run
 SEED = 1961
-# the interface of the run is mostly one that the texts name
+# the interface of a run is mostly one that the texts name
 RUNS = (("em0", "192.0.2.1/24"), ("em0", "192.0.2.129/25"), ("em0", "10.0.0.1/32"), ("em1", "10.1.2.3/8"),
         ("igb1", "172.16.254.1/12"), ("lo0", "127.0.0.1/0"), ("a_name_of_15_by", "203.0.113.7/31"))
+EM0 = interface_of(*RUNS[0])
 # Places for the use of one macro, at the `@`, and values of several words that are put there beside single words.
 PLACES = """
     pass on @; pass on !@; pass on { em1, @ }; pass proto @; pass proto { tcp @ }; pass from @; pass from !@;
@@ -38,12 +40,11 @@ VALUES = """
 
 
 class Text(NamedTuple):
-    """A ruleset with the interface that it is meant for. Without an answer, which is one line or the lines of a dump,
+    """A ruleset with the interfaces that it is meant for. Without an answer, which is one line or the lines of a dump,
     the model is asked for it."""
     name: str
     text: bytes
-    interface: str = "em0"
-    network: str = "192.0.2.1/24"
+    interfaces: tuple = (EM0,)
     answer: str | list | None = None
 
 

@@ -3,7 +3,8 @@
 The program takes records on standard input, each of these parts:
 
 - a byte, 1 where only the numbers of rules are asked for, and else 0;
-- the interface's name with its length before it in one byte, its address in four, and the bits of its network in one;
+- a byte that counts the interfaces, and of each by its place the name with its length before it in one byte, its
+  address in four, and the bits of its network in one;
 - the text with its length before it in four bytes, the greatest first.
 
 It answers each with the lines of the dump that model.py tells of, the line `F filter, T translation`, or `line L: KIND`
@@ -23,9 +24,10 @@ from itertools import repeat
 import building
 import rulesets.cases
 from answering import answers_of
-from expansions import expected, model
-from expansions.cases import RUNS, SEED, Text, each_value
+from expansions import expected, interface_kinds, model
+from expansions.cases import EM0, RUNS, SEED, Text, each_value
 from expansions.hostile import hostile
+from expansions.hosts import interface_of
 from expansions.random_texts import random_texts
 from faults.command import ends_lawfully
 from rulesets.model import worded
@@ -39,7 +41,8 @@ MOST_DUMPED = 4096
 CHUNK = 500
 # longer texts of the folder aren't changed at random
 LONG_TEXT = 1200
-# what some random texts have to hold
+# what some random texts have to hold; those for several interfaces also what interface_kinds.py names, each so often
+LEAST = 10
 PROMISED = ("a label", "an empty label", "a label in an anchor", "a label in copies of an anchor",
             "a label behind one in copies of an anchor")
 # texts for which each allocation is refused, with their interfaces: what they hold covers the expansion, and the last
@@ -51,15 +54,19 @@ SHORT_OF_MEMORY = (
     ("anchors_nested_lists", "em0", "192.0.2.1/24"),
     ("anchors_labels", "em0", "192.0.2.1/24"),
     ("example_gateway", "em0", "192.0.2.1/24"),
+    ("interfaces_several", "em0", "192.0.2.1/24", "em1", "203.0.113.2/24", "em2", "198.18.0.1/15"),
     ("tables_clash_with_a_value", "em0", "192.0.2.1/24"),
 )
 
 
+def interface_bytes(interface):
+    name, address, bits = interface
+    return bytes([len(name)]) + name.encode() + bytes(map(int, address.split("."))) + bytes([bits])
+
+
 def record(text, counts_alone=False):
     """What the program is handed for a text."""
-    address, _, bits = text.network.partition("/")
-    name = text.interface.encode()
-    return (bytes([counts_alone, len(name)]) + name + bytes(map(int, (*address.split("."), bits)))
+    return (bytes([counts_alone, len(text.interfaces)]) + b"".join(map(interface_bytes, text.interfaces))
             + len(text.text).to_bytes(4, "big") + text.text)
 
 
@@ -69,8 +76,7 @@ def is_of_counts(answer):
 
 def model_answer(text, counts_alone=False):
     """What the model says to a text; of many rules, or where no more is asked, only how many they are."""
-    address, _, bits = text.network.partition("/")
-    ruleset = model.expand(text.text, text.interface, address, int(bits))
+    ruleset = model.expand(text.text, text.interfaces)
     if not isinstance(ruleset, model.Ruleset):
         return [worded(ruleset)]
     rules, translations = ruleset.counts()
@@ -108,12 +114,13 @@ def label_kinds(answer):
 
 def compared(command, texts):
     """The texts to which the program says something else, with the lines expected and those that came; and how many of
-    all texts have each kind of label."""
+    all texts are of each kind that is counted."""
     right = [answer_of(text) for text in texts]
     records = [record(text, is_of_counts(answer)) for text, answer in zip(texts, right)]
     wrong = [(text, answer, seen) for text, answer, seen in zip(texts, right, answers_of(command, records))
              if seen != answer]
-    return wrong, Counter(kind for answer in right for kind in label_kinds(answer))
+    return wrong, Counter(kind for text, answer in zip(texts, right)
+                          for kind in (*label_kinds(answer), *interface_kinds.kinds_of(text, answer)))
 
 
 def differences(command, texts):
@@ -123,7 +130,7 @@ def differences(command, texts):
 
 def texts_of(cases):
     """Texts with the answers that are written for them."""
-    return [Text(case.name, text, case.interface, case.network, answer) for case, text, answer in cases]
+    return [Text(case.name, text, case.interfaces, answer) for case, text, answer in cases]
 
 
 def with_answers():
@@ -134,15 +141,15 @@ def with_answers():
 def changed(texts):
     """Texts that come from those of the folder by random changes, and those of the reader's folder as they are."""
     read = rulesets.cases.written()
-    given = {text.name: (text.interface, text.network) for text in texts}
+    given = {text.name: text.interfaces for text in texts}
     draw = random.Random(SEED)
     for ruleset in read:
-        yield Text(ruleset.name, ruleset.text, *draw.choice(RUNS))
+        yield Text(ruleset.name, ruleset.text, (interface_of(*draw.choice(RUNS)),))
     chosen = [rulesets.cases.Ruleset(text.name, text.text) for text in texts if len(text.text) <= LONG_TEXT]
     chosen += filter(rulesets.cases.is_example, read)
     for ruleset in rulesets.cases.changed(chosen):
         name, _, _ = ruleset.name.rpartition(", change ")
-        yield Text(ruleset.name, ruleset.text, *given.get(name, ("em0", "192.0.2.1/24")))
+        yield Text(ruleset.name, ruleset.text, given.get(name, (EM0,)))
 
 
 def chunks(texts):
@@ -156,10 +163,14 @@ def shown(lines, others):
     return "\n      ".join(line[:SHOWN_BYTES] for line in found[:SHOWN_LINES] + more)
 
 
+def named(interfaces):
+    return ", ".join(f"{each.name} {each.address}/{each.bits}" for each in interfaces)
+
+
 def show(wrong):
     for text, answer, seen in wrong[:MOST_SHOWN]:
         more = "" if len(text.text) <= SHOWN_BYTES else f"\n  and {len(text.text) - SHOWN_BYTES} bytes more"
-        print(f"{text.name} on {text.interface} {text.network}: {text.text[:SHOWN_BYTES]!r}{more}")
+        print(f"{text.name} on {named(text.interfaces)}: {text.text[:SHOWN_BYTES]!r}{more}")
         print(f"  expected {shown(answer, seen)}\n  got      {shown(seen, answer)}")
 
 
@@ -181,17 +192,19 @@ def compare_model():
     return len(wrong)
 
 
-def never_seen(kinds):
-    """Prints how many random texts have each kind of label, and answers which ones none has."""
-    print("random texts: " + ", ".join(f"{kind} {kinds[kind]}" for kind in PROMISED))
+def too_seldom(kinds):
+    """Prints how many random texts are of each kind, and answers of which ones there are too few."""
+    for names in (PROMISED, interface_kinds.COUNTED):
+        print("random texts: " + ", ".join(f"{kind} {kinds[kind]}" for kind in names))
     missing = [kind for kind in PROMISED if not kinds[kind]]
+    missing += [kind for kind in interface_kinds.COUNTED if kinds[kind] < LEAST]
     if missing:
-        print(f"random texts: never seen: {', '.join(missing)}")
+        print(f"random texts: not seen, or fewer than {LEAST} times: {', '.join(missing)}")
     return missing
 
 
 def compare(command):
-    """How many texts the program answers otherwise, and how many kinds of labels no random text has."""
+    """How many texts the program answers otherwise, and of how many kinds there are too few random texts."""
     files, rows = with_answers()
     hard, made, drawn = hostile(), [*changed(files), *each_value()], list(random_texts(RANDOM_TEXTS))
     wrong, kinds = differences(command, files + rows), Counter()
@@ -207,12 +220,12 @@ def compare(command):
             kinds += seen
     show(wrong)
     print(f"{len(files) + len(rows) + len(hard) + len(made) + len(drawn)} texts: {len(wrong)} differ from the program")
-    return len(wrong) + len(never_seen(kinds))
+    return len(wrong) + len(too_seldom(kinds))
 
 
 def refuse_memory(command):
-    texts = [Text(name, (expected.TEXTS / f"{name}.conf").read_bytes(), interface, network)
-             for name, interface, network in SHORT_OF_MEMORY]
+    texts = [Text(name, (expected.TEXTS / f"{name}.conf").read_bytes(),
+                  tuple(map(interface_of, words[::2], words[1::2]))) for name, *words in SHORT_OF_MEMORY]
     return ends_lawfully("expansions", command, b"".join(map(record, texts)))
 
 

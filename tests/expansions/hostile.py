@@ -1,6 +1,7 @@
 """Hostile texts, whose answers need no model."""
 
-from expansions.cases import Text
+from expansions.cases import EM0, Text
+from expansions.hosts import Interface
 
 
 def addresses(count):
@@ -19,6 +20,30 @@ def doubled(times, item="1"):
 
 def counted(rules, translations=0):
     return f"{rules} filter, {translations} translation"
+
+
+def of_own():
+    """Tables in which `self` counts as often as there are interfaces, where all together have 65536 entries at most. Each
+    stands with what it comes to for one interface, two and three."""
+    fine, much, later = counted(0), "line 1: too many", "line 2: too many"
+    selves = "self " * 32768
+    yield "65535 and self", f"table <t> {{ {addresses(65535)}, self }}\n", (fine, much, much)
+    yield "65534 and self", f"table <t> {{ {addresses(65534)}, self }}\n", (fine, fine, much)
+    yield "65534 and a self of a macro", f'x = "self"\ntable <t> {{ {addresses(65534)}, !$x }}\n', (fine, fine, later)
+    yield "self, often", f"table <t> {{ {selves}}}\n", (fine, fine, much)
+    yield "self, once more", f"table <t> {{ {selves} self }}\n", (fine, much, much)
+    yield "self, often in a macro", f'x = "{{ {selves}}}"\ntable <t> {{ $x }}\n', (fine, fine, later)
+    yield "self, once more beside a macro", f'x = "{{ {selves}}}"\ntable <t> {{ $x self }}\n', (fine, later, later)
+    yield ("two tables and self", f"table <t> {{ {addresses(65534)} }}\ntable <u> {{ self }}\n", (fine, fine, later))
+    yield ("an undefined macro before self", f"table <t> {{ {selves} $y }}\n", ("line 1: undefined macro", much, much))
+    yield ("self as often as there may be rules", f"pass from {{ {selves}{selves}}}\n", (counted(65536),) * 3)
+
+
+def several():
+    """The same as texts."""
+    interfaces = (EM0, Interface("em1", "203.0.113.2", 24), Interface("em2", "198.18.0.1", 24))
+    return [Text(f"{name}, {count} interfaces", text.encode(), interfaces[:count], answer)
+            for name, text, answers in of_own() for count, answer in enumerate(answers, 1)]
 
 
 def hostile():
@@ -132,4 +157,4 @@ def hostile():
          "line 3: too many"),
         ("forty doublings of what is no word", doubled(40, "$") + "pass to port $m40\n", "line 2: unknown word"),
     )
-    return [Text(name, text.encode(), answer=answer) for name, text, answer in cases]
+    return [*several(), *(Text(name, text.encode(), answer=answer) for name, text, answer in cases)]

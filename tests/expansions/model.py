@@ -1,9 +1,9 @@
 """A model of the expansion of rulesets: from the bytes of a text to its flat rules, or its first fault.
 
-    python3 -m expansions.model FILE [INTERFACE ADDRESS/BITS]
+    python3 -m expansions.model FILE [INTERFACE ADDRESS/BITS ..]
 
-in the folder `tests` prints the dump of a text, or `line L: KIND` for its first fault. Without an interface it is em0
-with 192.0.2.1/24.
+in the folder `tests` prints the dump of a text for some interfaces, or `line L: KIND` for its first fault. Without any
+it is em0 with 192.0.2.1/24.
 
 The dump has one line for each option, table, rule and anchor, of words with single blanks between them. All numbers
 are decimal, addresses are a.b.c.d, and what is in square brackets here is written only where it is so.
@@ -14,8 +14,9 @@ are decimal, addresses are a.b.c.d, and what is in square brackets here is writt
     state-policy if-bound|floating
     hostid NUMBER
     skip [NAME ..]            the interfaces as they are written, each as often as it is
-    table NAME [ENTRY ..]     the tables in the order of the text. An entry is [!]a.b.c.d/bits; a table has each once,
-                              those with fewer bits first, then those with lesser addresses
+    table NAME [ENTRY ..]     the table `self`, whose entries are the addresses of all interfaces, and the others in the
+                              order of the text. An entry is [!]a.b.c.d/bits; a table has each once, those with fewer
+                              bits first, then those with lesser addresses
     nat N [no] [pass] MATCH [-> a.b.c.d [port P:P] [static-port]] line LINE
     rdr N [no] [pass] MATCH [-> a.b.c.d [port P] or [port P:*]] line LINE
     binat N [no] [pass] MATCH [-> a.b.c.d] line LINE
@@ -40,7 +41,7 @@ from pathlib import Path
 
 sys.dont_write_bytecode = True
 
-from expansions.hosts import Hosts, Run
+from expansions.hosts import Hosts, Run, interface_of
 from expansions.options import Options
 from expansions.rules import Rules
 from expansions.values import Macros
@@ -50,7 +51,7 @@ from rulesets.words import Fault
 
 
 class Ruleset:
-    """What a text means for one interface."""
+    """What a text means for the interfaces of a run."""
 
     def __init__(self, run):
         self.macros = Macros()
@@ -77,10 +78,9 @@ class Ruleset:
         return len(self.rules.filter), self.rules.translation_count
 
 
-def expand(text, interface, address, bits):
-    """The Ruleset of the bytes of a text, or ('fault', its line, its kind). The address is a.b.c.d."""
-    number = int.from_bytes(bytes(int(octet) for octet in address.split(".")), "big")
-    ruleset = Ruleset(Run(interface, number, bits))
+def expand(text, interfaces, run_of=Run):
+    """The Ruleset of the bytes of a text, or ('fault', its line, its kind)."""
+    ruleset = Ruleset(run_of(tuple(interfaces)))
     try:
         for statement in tree_of(text):
             ruleset.take(statement)
@@ -219,11 +219,10 @@ def dump(ruleset):
 
 
 def main():
-    if len(sys.argv) not in (2, 4):
+    if len(sys.argv) % 2:
         sys.exit(__doc__)
-    interface, network = sys.argv[2:] or ("em0", "192.0.2.1/24")
-    address, _, bits = network.partition("/")
-    answer = expand(Path(sys.argv[1]).read_bytes(), interface, address, int(bits))
+    words = sys.argv[2:] or ["em0", "192.0.2.1/24"]
+    answer = expand(Path(sys.argv[1]).read_bytes(), map(interface_of, words[::2], words[1::2]))
     if isinstance(answer, Ruleset):
         print("\n".join(dump(answer)))
     else:

@@ -1,8 +1,10 @@
-"""Random rulesets for the comparison of an expansion with its model."""
+"""Random rulesets for the comparison of an expansion with its model. Most are for several interfaces."""
 
 import random
 
 from expansions.cases import RUNS, SEED, Text
+from expansions.hosts import interface_of
+from rulesets.parts import LONGEST_INTERFACE
 
 INTERFACES = ("em0", "em1", "lo0", "igb1", "vlan_5", "a_name_of_15_by")
 PROTOCOLS = ("tcp", "udp", "icmp", "igmp", "gre", "esp", "ah", "0", "6", "255")
@@ -15,8 +17,11 @@ MOST_STATES = (1, 2, 10, 4294967295)
 FLAG_SETS = ("any", "S/SA", "SA/SA", "FUP/FSRPAUEW", "S/S", "A/A")
 NETWORKS = ("10.0.0.0/8", "10.1.2.3/8", "10.1.0.0/16", "10.1.2.0/24", "10.1.2.3", "10.1.2.4/31", "10.1.2.5/32",
             "0.0.0.0/0", "192.0.2.1", "192.0.2.0/24", "192.0.2.77/25", "255.255.255.255", "203.0.113.6/31")
+# interfaces beside the one that the texts name most: one has its address, and one is called as a form of it
+OTHER_RUNS = (("em7", "203.0.113.2/24"), ("wg0", "198.18.0.1/15"), ("{i}:0", "198.51.100.2/30"), ("ppp0", "{a}/32"),
+              ("em1:network", "10.200.0.1/32"))
 # never with a not where they are a table's entries, so that few tables clash
-OWN_FORMS = ("self", "{i}", "{i}:0", "{i}:network", "({i})", "({i}:0)", "({i}:network)")
+OWN_FORMS = ("self", "self", "{i}", "{i}:0", "{i}:network", "({i})", "({i}:0)", "({i}:network)")
 TIMEOUTS = ("tcp.first", "tcp.opening", "tcp.established", "tcp.closing", "tcp.finwait", "tcp.closed", "udp.first",
             "udp.single", "udp.multiple", "icmp.first", "icmp.error", "other.first", "other.single", "other.multiple",
             "interval", "frag", "src.track")
@@ -29,8 +34,8 @@ KINDS = ("interface", "skipped", "protocol", "icmp", "host", "host", "port", "mo
          "single", "name", "name", "free_word")
 # those of which a value holds one
 ONE_ALONE = ("single", "name", "free_word")
-# forms of the interface that are one address, whatever its network
-SINGLE_FORMS = ("self", "{i}", "{i}:0", "({i})", "({i}:0)")
+# forms of an interface that are one address, whatever its network
+SINGLE_FORMS = ("{i}", "{i}:0", "({i})", "({i}:0)")
 # first ports of a map; from the last of them the longest range just gets to the last port
 FIRST_PORTS = (0, 80, 8080, 40000, 64536)
 MOVED_LENGTHS = (0, 1, 99, 535, 999)
@@ -45,11 +50,27 @@ class Writer:
 
     def __init__(self, draw):
         self.draw = draw
-        self.run = draw.choice(RUNS)
+        self.interfaces = self.some_interfaces()
         self.faults = draw.choice((0, 0, 1, 1, 2))
         # what each macro and table that is defined so far was made for
         self.macros, self.tables = {}, []
         self.labels = 0
+
+    def some_interfaces(self):
+        """One interface, or two or three in any order."""
+        name, network = self.draw.choice(RUNS)
+        others = [(other.replace("{i}", name), word.replace("{a}", network.partition("/")[0]))
+                  for other, word in self.draw.sample(OTHER_RUNS, self.draw.choice((0, 1, 1, 2)))]
+        found = [(name, network), *((other, word) for other, word in others if len(other) <= LONGEST_INTERFACE)]
+        self.draw.shuffle(found)
+        return tuple(interface_of(*each) for each in found)
+
+    def own_name(self):
+        """The name of an interface of the run."""
+        return self.draw.choice(self.interfaces).name
+
+    def is_several(self):
+        return len(self.interfaces) > 1
 
     def chance(self, percent):
         return self.draw.randrange(100) < percent
@@ -71,7 +92,7 @@ class Writer:
         return getattr(self, kind)()
 
     def interface(self):
-        own = self.either(40, self.run[0], self.draw.choice(INTERFACES))
+        own = self.either(40, self.own_name(), self.draw.choice(INTERFACES))
         return self.either(20, self.draw.choice(("!", "! "))) + own
 
     def skipped(self):
@@ -97,7 +118,7 @@ class Writer:
             return self.draw.choice(("www.example.com", "em9", "em9:0", "em0:1", "em9:network", "(em9)", "EM0", "xem0"))
         if self.chance(25) and "name" in self.macros.values():
             return f"({self.use('name')}{self.either(40, self.draw.choice((':0', ':network')))})"
-        return self.draw.choice(OWN_FORMS).replace("{i}", self.run[0])
+        return self.draw.choice(OWN_FORMS).replace("{i}", self.own_name())
 
     def table_use(self):
         if not self.tables or self.fault(5):
@@ -116,7 +137,7 @@ class Writer:
         network = f"10.{self.draw.randrange(40)}.{self.draw.randrange(3)}.0/24"
         network = self.either(30, self.draw.choice(NETWORKS), network)
         if self.fault(6):
-            return "!" + network
+            return "!" + self.draw.choice((network, "self", "self", self.draw.choice(self.interfaces).address))
         return "!" * (network[-4:] == "0/24" and int(network.split(".")[1]) % 3 == 0) + network
 
     def moved_port(self):
@@ -131,18 +152,21 @@ class Writer:
         network = self.draw.choice(NETWORKS)
         return self.draw.choice((
             "any", f"!{network}", network, f"{{ {network} }}", f"{network} - 10.9.9.9", f"<{self.draw.choice(TABLES)}>",
-            f"{self.run[0]}:network", f"({self.run[0]}:network)", "www.example.com", "em9", "(em9:0)"))
+            f"{self.own_name()}:network", f"({self.own_name()}:network)", "www.example.com", "em9", "(em9:0)"))
 
     def single(self):
         """One address, as a target and the source of a binat rule."""
+        if self.is_several() and self.fault(8):
+            return "self"
         if self.fault(8):
             return self.no_single()
         if self.chance(15) and "name" in self.macros.values():
             return f"({self.use('name')}{self.either(30, ':0')})"
-        return self.draw.choice((*SINGLE_FORMS, "10.1.2.5/32", "10.1.2.3", "255.255.255.255")).replace("{i}", self.run[0])
+        own = SINGLE_FORMS if self.is_several() else ("self", *SINGLE_FORMS)
+        return self.draw.choice((*own, "10.1.2.5/32", "10.1.2.3", "255.255.255.255")).replace("{i}", self.own_name())
 
     def name(self):
-        return self.either(85, self.run[0], self.draw.choice(INTERFACES)) if self.faults else self.run[0]
+        return self.either(85, self.own_name(), self.draw.choice(INTERFACES)) if self.faults else self.own_name()
 
     def free_word(self):
         return self.draw.choice(("0", "17", "none", "urgent", "em0", "a.b"))
@@ -184,11 +208,18 @@ class Writer:
             return self.element(kind)
         return self.braced([self.element(kind) for _ in range(self.several())])
 
+    def own_item(self, kind):
+        """Now and then the word for all addresses, where macros are made for such elements. As one address it is at
+        fault if there are several."""
+        if kind == "single" and self.is_several():
+            return "self" if self.fault(25) else ""
+        return self.either(15, self.either(25, "!") + "self") if kind in ("host", "entry") else ""
+
     def value(self, kind):
         """The pieces of a macro's value for such elements."""
         if self.fault(15):
             return self.draw.choice(JUNK)
-        item = self.item(kind)
+        item = self.own_item(kind) or self.item(kind)
         way = self.draw.randrange(12)
         if way < 5 or kind in ONE_ALONE:
             return f'"{self.either(15, " ")}{item}{self.either(15, "  ")}"'
@@ -229,7 +260,12 @@ class Writer:
                 return "# no table"
         name = self.draw.choice(free)
         flags = " ".join(self.draw.sample(("persist", "const", "counters"), self.draw.randrange(3)))
-        entries = self.either(80, self.braced([self.element("entry") for _ in range(self.draw.randrange(6))]))
+        elements = [self.element("entry") for _ in range(self.draw.randrange(6))]
+        if self.fault(15):
+            # it clashes with the same address, as what `self` may stand for
+            elements.append(f"!{self.draw.choice(self.interfaces).address}")
+            self.draw.shuffle(elements)
+        entries = self.either(80, self.braced(elements))
         self.tables.append(name)
         return f"table <{name}> {flags} {entries}"
 
@@ -378,4 +414,4 @@ def random_texts(count):
     for number in range(count):
         writer = Writer(random.Random(f"{SEED} {number}"))
         text = writer.text()
-        yield Text(f"random {number}", text, *writer.run)
+        yield Text(f"random {number}", text, writer.interfaces)

@@ -1,19 +1,13 @@
-"""Short rulesets, written out by hand as in pf.conf(5), with what each of them means on em0 with 192.0.2.1/24.
+"""Short rulesets, written out by hand as in pf.conf(5), with what each of them means on em0 with 192.0.2.1/24. Those
+for several interfaces stand in interface_rows.py.
 
-An answer is the line of the first fault, or the lines of the dump but those of options that nothing sets.
+An answer is the line of the first fault, or the lines of the dump but those of options that nothing sets, and of the
+table `self` of one interface.
 """
 
-from typing import NamedTuple
-
-
-class Row(NamedTuple):
-    text: str
-    answer: str | list
-    interface: str = "em0"
-
-
-STATE = " flags 2 18 default state floating"
-ALL = "from any to any"
+from expansions import interface_rows
+from expansions.cases import EM0
+from expansions.row import ALL, STATE, Row, sources_of
 
 
 def protocols_of(line, *protocols):
@@ -24,11 +18,6 @@ def protocols_of(line, *protocols):
 def ports_of(line, *ports):
     """The rules of `block to port` on a line, one a port."""
     return [f"filter {number} drop {ALL} port {port} line {line}" for number, port in enumerate(ports)]
-
-
-def sources_of(line, *sources):
-    """The rules of `block from` on a line, one a source."""
-    return [f"filter {number} drop from {source} to any line {line}" for number, source in enumerate(sources)]
 
 
 PROTOCOLS = (
@@ -123,10 +112,11 @@ FORMS = (("em0", "192.0.2.1/32"), ("em0:0", "192.0.2.1/32"), ("(em0)", "192.0.2.
          ("em0:network", "192.0.2.0/24"), ("10.1.2.3/8", "10.0.0.0/8"), ("10.1.2.3/0", "0.0.0.0/0"),
          ("10.1.2.3/32", "10.1.2.3/32"), ("! 010.0.0.1", "!10.0.0.1/32"), ("10.0.0.1", "10.0.0.1/32"))
 NO_FORMS = ("em1", "em", "em00", "em1:network", "em0:1", "em0:0:0")
+LONG_NAME = (EM0._replace(name="interface-fifte"),)
 LONG_NAMES = (
-    Row("block from interface-fifte", sources_of(1, "192.0.2.1/32"), "interface-fifte"),
-    Row("block from interface-fifte:0", sources_of(1, "192.0.2.1/32"), "interface-fifte"),
-    Row("block from interface-fiftee", "line 1: left out: host name", "interface-fifte"),
+    Row("block from interface-fifte", sources_of(1, "192.0.2.1/32"), LONG_NAME),
+    Row("block from interface-fifte:0", sources_of(1, "192.0.2.1/32"), LONG_NAME),
+    Row("block from interface-fiftee", "line 1: left out: host name", LONG_NAME),
 )
 TABLES = (
     Row('table <a>\ntable <b>\nx = "{ !<b> any }"\nblock from { <a> $x !10.0.0.1 - 10.0.0.9 }',
@@ -376,3 +366,4 @@ def rows():
         yield target_row("", target, answer, 1)
     for value, kind in SOURCES:
         yield Row(f'x = "{value}"\nbinat from $x to any -> 10.0.0.9', f"line 2: {kind}")
+    yield from interface_rows.rows()

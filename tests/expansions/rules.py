@@ -203,22 +203,22 @@ class Rules:
     def translation_meaning(self, rule):
         source_hosts = None
         if rule.kind == "binat" and not rule.is_no_rule:
-            source_hosts = self.single_source(rule.criteria.source.hosts[0])
+            source_hosts = self.single_source(rule)
         meaning = self.criteria_meaning(rule, source_hosts)
         if rule.target:
             try:
-                meaning.target = self.hosts.single(rule.target.host, read_single_target)
+                meaning.target = self.hosts.single(rule.target.host, read_single_target, rule.line)
             except Fault as fault:
                 meaning.faults.append(fault)
             if rule.target.ports and rule.target.ports[1] == "*" and not self.fits(rule.target.ports[0], meaning):
                 meaning.faults.append(Fault(rule.target.ports_line, BAD_NUMBER))
         return meaning
 
-    def single_source(self, written):
+    def single_source(self, rule):
         """The one address that the source of a binat rule is, as a list of one."""
         elements = self.elements([], None, itself)
         try:
-            elements.items.append(self.hosts.single(written, read_single_source))
+            elements.items.append(self.hosts.single(rule.criteria.source.hosts[0], read_single_source, rule.line))
         except Fault as fault:
             elements.faults.append(fault)
         return elements

@@ -9,13 +9,13 @@ Which messages close at a packet is told by their model.
 from functools import lru_cache
 from typing import NamedTuple
 
+from expansions.hosts import Interface
 from expansions.model import dotted
 from faults.rulesets import TARGETS
 from faults.trial import Unlawful
 from messages import run
 from messages.spelling import bare
 from rulesets.tree import Network
-from steps.replay import Interface
 from steps.run import Run, seed_of
 
 # in the order of the summary
@@ -101,12 +101,13 @@ def octets_of(word):
 def run_of(lines):
     """The run of a script, by its first job."""
     lines = [line.split(" ") for line in lines]
-    [(name, address, bits)] = [words[1:] for words in lines if words[0] == "interface"]
+    interfaces = tuple(Interface(words[1], dotted(int(words[2])), int(words[3])) for words in lines
+                       if words[0] == "interface")
     inside = tuple(Network(int(words[1]), int(words[2])) for words in lines if words[0] == "inside")
     seed, text = next(words[1:] for words in lines if words[0] == "job")
     packets = [words[1:] for words in lines if words[0] == "packet"]
     return Run("", octets_of(text).decode(), [(int(words[2]), octets_of(words[4])) for words in packets],
-               int(packets[0][1]), Interface(name, dotted(int(address)), int(bits)), inside, seed_of(int(seed)),
+               int(packets[0][1]), interfaces, inside, seed_of(int(seed)),
                tuple(int(words[0]) for words in packets))
 
 

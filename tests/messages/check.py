@@ -23,7 +23,8 @@ sys.dont_write_bytecode = True
 
 from answering import SHOWN
 from captures.packets import checksum
-from messages import answers, cut, happenings, queue, random_events, random_messages, random_runs, rows, texts
+from messages import (answers, cut, happenings, interfaces, queue, random_events, random_messages, random_runs, rows,
+                      texts)
 from messages.cut import Origin
 from messages.events import REMOVED, packet_of
 from messages.message import DIRECTIONS, INS, IP_HEADER, size
@@ -127,7 +128,7 @@ def list_faults(draw, origin, packets, closed, left):
 def check_lists():
     draw, faults, counts, events = random.Random(SEED), [], Counter(), 0
     for place, each in enumerate(random_events.lists()):
-        origin = Origin(draw.choice((b"em0", b"a2345678901234.")), draw.randbytes(16), draw.choice((1, 2**32 - 1)))
+        origin = Origin((draw.choice((b"em0", b"a2345678901234.")),), draw.randbytes(16), draw.choice((1, 2**32 - 1)))
         packets = list(map(packet_of, each.happenings))
         closed = queue.by_packet(origin, packets)
         events += sum(len(packet.events) for packet in packets)
@@ -165,7 +166,7 @@ def check_runs():
 def row_faults(row):
     done = told(row.run)
     messages, closed = done.whole(), done.closed()
-    address = row.run.interface.address
+    address = row.run.interfaces[0].address
     filed = [in_file(message, address) for message in messages]
     found = [("by the cut", row.sizes, [message.size() for message in messages]),
              ("by the queue", messages, list(chain.from_iterable(closed))),
@@ -204,6 +205,18 @@ def check_day():
         seen = size(open_message.counts()) if open_message.entries else None
         faults += [] if seen == wanted else [f"{seen} bytes and not {wanted} at clock {packet.clock}"]
     return shown(f"{len(rows.DAY)} sizes of an open message", faults)
+
+
+def check_interfaces():
+    """The interfaces by which the states of a run on several of them are named."""
+    faults = []
+    for run, sizes, names in interfaces.rows():
+        messages = told(run).whole()
+        found = [message.size() for message in messages], [
+            (insert.number, insert.interface) for message in messages for insert in message.inserts]
+        faults += [] if found == (sizes, names) else [f"{run.name}: {found} and not {sizes, names}"]
+        faults += [fault for message in messages for fault in read_again(message, run.interfaces[0].address)]
+    return shown(f"{len(list(interfaces.rows()))} runs on several interfaces", faults)
 
 
 def check_answers():
@@ -293,7 +306,8 @@ def check_texts():
     return shown(f"{total.total()} texts", faults + seldom(total, {"all": TEXT_KINDS}))
 
 
-CHECKS = (check_rows, check_day, check_answers, check_values, check_lists, check_runs, check_messages, check_texts)
+CHECKS = (check_rows, check_day, check_interfaces, check_answers, check_values, check_lists, check_runs, check_messages,
+          check_texts)
 
 
 def printed(check):

@@ -81,7 +81,8 @@ def event_bytes(event):
 def list_bytes(origin, packets):
     """The events of packets as the program reads them."""
     events = cut.events_of(packets)
-    return (bytes([len(origin.interface)]) + origin.interface + origin.checksum + origin.creator.to_bytes(4)
+    [name] = origin.interfaces
+    return (bytes([len(name)]) + name + origin.checksum + origin.creator.to_bytes(4)
             + len(events).to_bytes(4) + b"".join(map(event_bytes, events)))
 
 
@@ -89,7 +90,7 @@ def random_lists():
     draw = random.Random(check.SEED)
     for each in random_events.lists():
         name = draw.choice((b"", b"em0", b"a2345678901234."))
-        origin = Origin(name, draw.randbytes(16), draw.choice((0, 1, 2**32 - 1)))
+        origin = Origin((name,), draw.randbytes(16), draw.choice((0, 1, 2**32 - 1)))
         yield origin, list(map(packet_of, each.happenings))
 
 

@@ -16,10 +16,15 @@ from messages.message import DEL_C, DIRECTIONS, INS, KINDS, MOST, UPD_C, Delete,
 
 
 class Origin(NamedTuple):
-    """What all messages of a run say: the interface's name, the MD5 of the ruleset's text, and the host id."""
-    interface: bytes
+    """What all messages of a run say: the names of the interfaces by their places, the MD5 of the ruleset's text, and
+    the host id."""
+    interfaces: tuple
     checksum: bytes
     creator: int
+
+    def name_at(self, place):
+        """The name of the interface of a place, empty behind the last one."""
+        return self.interfaces[place] if place < len(self.interfaces) else b""
 
 
 # Parts
@@ -73,8 +78,8 @@ def record_of(origin, kind, state, clock):
     remaining = max(0, state.deadline - clock)
     if kind == UPD_C:
         return Update(state.number, state.maker, state.other, origin.creator, remaining, state.timeout)
-    return Insert(state.number, origin.interface, state.wire, state.stack, state.maker, state.other, state.rule,
-                  state.translation, clock - state.made, remaining, state.counts[::2], state.counts[1::2],
+    return Insert(state.number, origin.name_at(state.interface), state.wire, state.stack, state.maker, state.other,
+                  state.rule, state.translation, clock - state.made, remaining, state.counts[::2], state.counts[1::2],
                   origin.creator, state.protocol, DIRECTIONS[state.direction], state.timeout)
 
 

@@ -38,6 +38,8 @@ class State(NamedTuple):
     counts: tuple
     # its code
     timeout: int
+    # the place of the interface on which it was made
+    interface: int = 0
 
 
 class Event(NamedTuple):
@@ -94,7 +96,7 @@ def state_of(ruleset, entry):
     is_told = rule is None or not ruleset.rules.filter[rule].no_sync
     return State(entry.number, is_told, entry.wire.protocol, state.direction, entry.wire[1:], entry.stack[1:],
                  state.maker, state.other, rule, entry.translation, state.made, state.deadline, state.counts,
-                 timeout_of(state))
+                 timeout_of(state), entry.interface)
 
 
 class Followed:

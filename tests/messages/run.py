@@ -44,11 +44,12 @@ class Told(NamedTuple):
         return by_cut
 
 
-def told_of(text, interface, job, steps):
+def told_of(text, job, steps):
     """Steps of a run of a job, whose ruleset's text has these bytes."""
     followed = Followed(job.ruleset)
     happenings = list(map(followed.happening, steps))
-    origin = Origin(interface.name.encode(), hashlib.md5(text).digest(), job.ruleset.options.values["hostid"])
+    names = tuple(interface.name.encode() for interface in job.ruleset.hosts.run.interfaces)
+    origin = Origin(names, hashlib.md5(text).digest(), job.ruleset.options.values["hostid"])
     packets, left = list(map(packet_of, happenings)), list(followed.states.values())
     return Told(origin, job.seconds(), steps, happenings, packets, left)
 
@@ -56,7 +57,7 @@ def told_of(text, interface, job, steps):
 def told(run):
     """A Run whose ruleset has no fault."""
     text = run.rules.encode()
-    job = job_of(text, run.interface, run.inside, run.seed)
+    job = job_of(text, run.interfaces, run.inside, run.seed)
     records = [Record(b"", *each) for each in run.placed()]
     table = StateTable(job.ruleset.options.values["states"])
-    return told_of(text, run.interface, job, list(steps_of(job, run.link, records, table)))
+    return told_of(text, job, list(steps_of(job, run.link, records, table)))

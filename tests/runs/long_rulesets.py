@@ -27,7 +27,8 @@ from runs.model import OUTPUTS, network_of
 from steps.filter_texts import HOSTS, MACROS, PORTS, TABLES, some_rule, some_statements, some_table
 from steps.model import Job
 from steps.picks import ZERO_SEED
-from steps.replay import Interface, Record, dashed, ruleset_of, step_of
+from steps.replay import Record, dashed, ruleset_of, step_of
+from steps.run import INTERFACE
 from steps.states import StateTable
 
 # how many rules the modelled cases have: about as many as there have to be for an index, and many
@@ -98,7 +99,7 @@ def without_states(text):
 
 def outcomes_of(text, distinct):
     """What each of some packets comes to by the model, none of which makes a state."""
-    job = Job(ruleset_of(text, Interface("em0", "192.0.2.1", 24)), tuple(map(network_of, INSIDE.split(","))), ZERO_SEED)
+    job = Job(ruleset_of(text, (INTERFACE,)), tuple(map(network_of, INSIDE.split(","))), ZERO_SEED)
     capture = capture_of(distinct)
     header = read_header(capture)
     records, _ = records_of(capture, header.order)

@@ -10,10 +10,11 @@ from itertools import accumulate
 from typing import NamedTuple
 
 from captures.model import Refused
+from expansions.hosts import interface_of
 from messages.run import Told, told_of
 from messages.spelling import bare, in_file
 from rulesets.tree import Network
-from steps.replay import Interface, Replay, job_of, replay_of, ruleset_of
+from steps.replay import Replay, job_of, replay_of, ruleset_of
 
 # what each run writes, in the order in which the files are opened; messages are written if that is requested
 REQUIRED = ("verdicts", "packets", "counters", "states")
@@ -69,14 +70,10 @@ def network_of(word):
     return Network(int.from_bytes(octets), int(bits) if bits else 32)
 
 
-def interface_of(name, word):
-    address, _, bits = word.partition("/")
-    return Interface(name, address, int(bits))
-
-
 def job_of_case(case):
     networks = tuple(map(network_of, case.inside.split(",")))
-    return job_of(case.rules, interface_of(case.interface, case.address), networks, bytes.fromhex(case.seed))
+    interfaces = (interface_of(case.interface, case.address),)
+    return job_of(case.rules, interfaces, networks, bytes.fromhex(case.seed))
 
 
 class Done(NamedTuple):
@@ -91,7 +88,7 @@ def done_of(case):
     """What a Case comes to whose ruleset has no fault."""
     job = job_of_case(case)
     replay = replay_of(job, case.capture)
-    told = told_of(case.rules, interface_of(case.interface, case.address), job, replay.steps)
+    told = told_of(case.rules, job, replay.steps)
     return Done(replay, told, told.out(replay.tail in ("clean", "cut")))
 
 
@@ -151,7 +148,7 @@ def online(case, count, form=FILE):
 def check(text, interface, address):
     """What the command `check` leaves for the bytes of a text: how many flat rules it makes, and its checksum."""
     try:
-        ruleset = ruleset_of(text, interface_of(interface, address))
+        ruleset = ruleset_of(text, (interface_of(interface, address),))
     except Refused as why:
         return refused(f"rules {why}")
     rules, translations = ruleset.counts()

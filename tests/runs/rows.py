@@ -23,7 +23,7 @@ SYN_MESSAGE = bytes.fromhex(
 def case_of(run):
     """A run of the steps as a case of the program."""
     inside = ",".join(f"{dotted(network.address)}/{network.bits}" for network in run.inside) or NOBODY
-    name, address, bits = run.interface
+    [(name, address, bits)] = run.interfaces
     return Case(run.name, run.rules.encode(), inside, run.capture(), name, f"{address}/{bits}", run.seed.hex())
 
 

@@ -12,7 +12,7 @@ import steps.place_runs
 import steps.random_runs
 import steps.translation_runs
 from captures.packets import ACK, LINKTYPE_RAW, RST, SYN, tcp, udp
-from steps.run import INSIDE, INTERFACE, Run, seed_of
+from steps.run import INSIDE, THREE, Run, seed_of
 from steps.translation_rows import TWO_PORTS
 from steps.translation_words import H, P
 
@@ -41,7 +41,7 @@ class Row(NamedTuple):
             turn, which = divmod(place, len(self.packets))
             second, packet = self.packets[which]
             records.append((second + turn * self.period, packet))
-        return Run(self.name, self.rules, records, places=tuple(islice(cycle(self.places), count)))
+        return Run(self.name, self.rules, records, interfaces=THREE, places=tuple(islice(cycle(self.places), count)))
 
 
 ROWS = (
@@ -71,20 +71,22 @@ ROWS = (
 
 def is_fit(run, count):
     """Whether a run has `count` packets, and is one that the program takes."""
-    return (len(run.records), run.link, run.interface, run.inside) == (count, LINKTYPE_RAW, INTERFACE, INSIDE)
+    return (len(run.records), run.link, run.interfaces, run.inside) == (count, LINKTYPE_RAW, THREE, INSIDE)
 
 
 def some_run(draw, number, count):
     match number % 3:
         case 0:
-            return steps.random_runs.some_run(draw, number, count, (count, count))
+            return steps.random_runs.some_run(draw, number, count, (count, count), THREE)
         case 1:
-            return steps.translation_runs.some_run(draw, number, count, seed_of(draw.randrange(256)), (count, count))
+            seed = seed_of(draw.randrange(256))
+            return steps.translation_runs.some_run(draw, number, count, seed, (count, count), THREE)
     return steps.place_runs.some_run(draw, number, count, (count, count))
 
 
 def random_runs(count):
-    """Random runs of `count` packets, without end: in turn without translation, with it, and on several interfaces."""
+    """Random runs of `count` packets, without end: in turn without translation, with it, and such whose rules name
+    interfaces and bind states."""
     draw, number = random.Random(SEED), 0
     while True:
         run = some_run(draw, number, count)

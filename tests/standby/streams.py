@@ -45,7 +45,7 @@ def spelled(texts, form):
 def of_events(draw, _):
     """The messages of a random list of events."""
     packets = list(map(packet_of, random_events.some_list(draw).happenings))
-    return cut.whole(Origin(b"em0", draw.randbytes(16), 1), packets)
+    return cut.whole(Origin((b"em0",), draw.randbytes(16), 1), packets)
 
 
 def of_run(_, number):

@@ -18,7 +18,8 @@ import building
 from answering import SHOWN, answers_of, differing, place_of_difference, show_lines
 from captures.model import Refused
 from faults.command import ends_lawfully
-from steps import place_cases, place_kinds, place_runs, random_runs, translation_kinds, translation_runs
+from steps import (interface_cases, place_cases, place_kinds, place_runs, random_runs, translation_kinds,
+                   translation_runs)
 from steps.cases import cases
 from steps.followed import followed
 from steps.lines import binding_words, state_line, step_line
@@ -46,12 +47,17 @@ def address_bytes(address):
     return bytes(map(int, address.split(".")))
 
 
+def interface_bytes(interface):
+    name, address, bits = interface
+    return bytes([len(name)]) + name.encode() + address_bytes(address) + bytes([bits])
+
+
 def run_bytes(run):
-    name, address, bits = run.interface
     networks = b"".join(network.address.to_bytes(4) + bytes([network.bits]) for network in run.inside)
     records = b"".join(bytes([place]) + run.link.to_bytes(2) + second.to_bytes(4) + with_length(frame)
                        for second, frame, place in run.placed())
-    return (bytes([len(name)]) + name.encode() + address_bytes(address) + bytes([bits, len(run.inside)]) + networks
+    return (bytes([len(run.interfaces)]) + b"".join(map(interface_bytes, run.interfaces))
+            + bytes([len(run.inside)]) + networks
             # the first byte of the seed, which is each of it
             + with_length(run.rules.encode()) + run.seed[:1] + len(run.records).to_bytes(4) + records)
 
@@ -59,7 +65,7 @@ def run_bytes(run):
 # Runs as the model tells them
 
 def replay_of(run):
-    return replay(run.rules.encode(), run.interface, run.inside, run.capture(), run.seed, run.places)
+    return replay(run.rules.encode(), run.interfaces, run.inside, run.capture(), run.seed, run.places)
 
 
 def lines_of(done):
@@ -143,7 +149,7 @@ def compare_written(title, command, written):
 
 def compare_ends():
     """How many captures the model ends otherwise than is written out; the program reads none."""
-    found = [(name, replay(b"block in", INTERFACE, INSIDE, capture), texts, tail)
+    found = [(name, replay(b"block in", (INTERFACE,), INSIDE, capture), texts, tail)
              for name, capture, texts, tail in ends()]
     wrong = [name for name, done, texts, tail in found if (done.texts, done.tail) != (texts, tail)]
     print(f"ends of captures: {len(wrong)} of {len(found)} differ from the model", *wrong, sep="\n  ")
@@ -199,7 +205,8 @@ def translated(packets):
 
 def written_out():
     """The runs that are written out, by titles."""
-    return {"whole runs": list(rows()), "cases": list(cases()), "cases of several interfaces": list(place_cases.cases())}
+    return {"whole runs": list(rows()), "cases": list(cases()),
+            "cases of several interfaces": [*place_cases.cases(), *interface_cases.cases()]}
 
 
 def compare_model():

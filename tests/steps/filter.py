@@ -52,8 +52,9 @@ def host_holds(host, tables, address):
     return what_holds(host.what, tables, address) != host.negated
 
 
-def interface_holds(asked, interface):
-    return asked is None or (asked.name == interface) != asked.negated
+def interface_holds(asked, name):
+    """Asked is the name of the interface on which the packet is."""
+    return asked is None or (asked.name == name) != asked.negated
 
 
 def ports_hold(match, packet):
@@ -86,18 +87,19 @@ def flags_hold(rule, packet):
     return packet.flags is None or packet.flags & mask == flags
 
 
-def match_holds(ruleset, match, packet):
+def match_holds(ruleset, match, packet, place):
+    """The place is that of the packet's interface."""
     tables = ruleset.hosts.tables
-    return (interface_holds(match.interface, ruleset.hosts.run.interface)
+    return (interface_holds(match.interface, ruleset.hosts.run.name_at(place))
             and match.protocol in (None, packet.protocol)
             and host_holds(match.source, tables, packet.source)
             and host_holds(match.destination, tables, packet.destination)
             and ports_hold(match, packet) and icmp_holds(match.icmp, packet))
 
 
-def holds(ruleset, written, packet, direction):
+def holds(ruleset, written, packet, place, direction):
     """Whether all that a rule or an anchor writes by itself holds of a packet."""
-    if written.direction not in (None, direction) or not match_holds(ruleset, written.match, packet):
+    if written.direction not in (None, direction) or not match_holds(ruleset, written.match, packet, place):
         return False
     return not isinstance(written, FlatRule) or flags_hold(written, packet)
 
@@ -139,19 +141,20 @@ def stops(rules, hit):
     return quick_rules + quick_anchors
 
 
-def filtered(ruleset, packet, direction, has_room):
-    """What the filter says of a packet. `has_room` answers of a rule's place and a limit whether fewer states have the rule.
+def filtered(ruleset, packet, place, direction, has_room):
+    """What the filter says of a packet on the interface of a place. `has_room` answers of a rule's place and a limit
+    whether fewer states have the rule.
 
     The last rule that hits up to the first stop decides: one that holds, has room if it is asked for it, and whose anchors
     hold. Visited are those up to the stop whose anchors all hold, whether they hold themselves or not.
     """
     rules = ruleset.rules
-    held = [holds(ruleset, anchor, packet, direction) for anchor in rules.anchors]
-    inside = [place for place, rule in enumerate(rules.filter) if all(held[anchor] for anchor in rule.anchors)]
-    holding = [place for place in inside if holds(ruleset, rules.filter[place], packet, direction)]
+    held = [holds(ruleset, anchor, packet, place, direction) for anchor in rules.anchors]
+    inside = [number for number, rule in enumerate(rules.filter) if all(held[anchor] for anchor in rule.anchors)]
+    holding = [number for number in inside if holds(ruleset, rules.filter[number], packet, place, direction)]
     rooms = rooms_of(rules, holding, packet, has_room)
-    hit = [place for place in holding if place not in rooms or rooms[place].is_left]
+    hit = [number for number in holding if number not in rooms or rooms[number].is_left]
     last = min(stops(rules, hit), default=len(rules.filter) - 1)
-    return Filtered(max((place for place in hit if place <= last), default=None),
-                    tuple(place for place in inside if place <= last),
+    return Filtered(max((number for number in hit if number <= last), default=None),
+                    tuple(number for number in inside if number <= last),
                     tuple(room for room in rooms.values() if room.place <= last))

@@ -20,7 +20,7 @@ class Followed(NamedTuple):
 
 def followed(run):
     """A run whose ruleset has no fault."""
-    job = job_of(run.rules.encode(), run.interface, run.inside, run.seed)
+    job = job_of(run.rules.encode(), run.interfaces, run.inside, run.seed)
     table = StateTable(job.ruleset.options.values["states"])
     kinds, place_kinds = Kinds(job, run.link, table), PlaceKinds(job, run.link, table)
     records = [Record(b"", *each) for each in run.placed()]

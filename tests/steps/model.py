@@ -1,7 +1,8 @@
 """What one packet comes to in a model of the run with states and translation.
 
-A packet comes on an interface, which has a place, and is looked up for that place. It goes through these steps, in
-this order, until one of them says what becomes of it:
+A packet comes on an interface, which has a place, and is looked up for that place. Rules that name an interface are
+asked for the name of that one, which is empty at a place behind the last interface. A packet goes through these steps,
+in this order, until one of them says what becomes of it:
 
 1. One that is no IPv4 packet is skipped (`not-ip`).
 2. One of an interface that `set skip on` names passes (`skip-on`).
@@ -49,8 +50,8 @@ class Job(NamedTuple):
     inside: list
     seed: bytes
 
-    def is_skipped(self):
-        return self.ruleset.hosts.run.interface in self.ruleset.options.skipped
+    def is_skipped(self, place):
+        return self.ruleset.hosts.run.name_at(place) in self.ruleset.options.skipped
 
     def seconds(self):
         """The timeouts in the order of their codes."""
@@ -118,7 +119,7 @@ class Arrival(NamedTuple):
 
     def filtered(self, table):
         """By the filter alone."""
-        found = filtered(self.job.ruleset, self.packet, self.direction, table.has_rule_room)
+        found = filtered(self.job.ruleset, self.packet, self.place, self.direction, table.has_rule_room)
         rule = None if found.place is None else self.job.ruleset.rules.filter[found.place]
         verdict, reason = ("pass", "default") if rule is None else (VERDICTS[rule.action], "rule")
         outcome = Outcome(self.direction, verdict, reason, found.place, visited=found.visited, rooms=found.rooms)
@@ -142,7 +143,7 @@ class Arrival(NamedTuple):
 
     def opened(self, key, table):
         """As the first packet of its connection."""
-        found = translation.find(self.job.ruleset, self.packet, self.direction)
+        found = translation.find(self.job.ruleset, self.packet, self.place, self.direction)
         passage = translation.passage(found, key, self.direction, self.job.seed, self.number, table)
         if passage is None:
             outcome = Outcome(self.direction, "block", "nat-exhausted")
@@ -189,7 +190,7 @@ def step(job, number, clock, place, seen, datagram, table):
     states whose deadline is at most the clock are gone from the table."""
     if seen == "skip":
         return Outcome("-", "skip", "not-ip")
-    if job.is_skipped():
+    if job.is_skipped(place):
         return Outcome("-", "pass", "skip-on")
     if seen == "short":
         return Outcome("-", "block", "short")

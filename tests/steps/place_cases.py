@@ -1,29 +1,32 @@
 """Cases of a gateway with several interfaces, with the outcomes written out: which states a packet finds on its own
 interface, which ones are made beside others, and what counts over all interfaces.
 
-Each packet stands with the place of its interface. The bindings say of each state on which interface it was made, and
-to which one it is bound.
+Each packet stands with the place of its interface: em0, em1, em2, or none that the run has. The bindings say of each
+state on which interface it was made, and to which one it is bound. Which rules hold on an interface stands in
+interface_cases.py.
 """
 
 from captures.packets import ACK, RST, SYN, UNREACHABLE, echo, icmp_error, tcp, udp
 from steps.rows import FIRST_SYN, KEYS, OPENING, data, h_to_p, p_to_h
-from steps.run import INSIDE, Expected, Run, seed_of
-from steps.translation_words import (ANSWER, ANSWERED, ASKED, H2, INSIDE_END, ONE_END, ONE_PORT, OTHER, SERVER, WIRE, B,
-                                     E, H, P, by_state, made, stopped, told, untranslated)
+from steps.run import INSIDE, THREE, Expected, Run, seed_of
+from steps.translation_words import (ANSWER, ANSWERED, ASKED, H2, INSIDE_END, NAT, ONE_END, OTHER, SERVER, WIRE, B, E,
+                                     H, P, by_state, made, stopped, told, untranslated)
 
 BOUND, RULES = "set state-policy if-bound\n", "block in\npass out"
+# a rule that leaves no choice, on each interface
+ONE_PORT = f"{NAT.replace(' on em0', '')} port 50001"
 REPLY = udp(P, 53, H, 1000)
 UDP_KEYS = "198.51.100.7:53,10.0.0.5:1000 198.51.100.7:53,10.0.0.5:1000"
 BLOCKED = "in block rule r=0 s=-; 0,1; -"
 
 
-def case(name, rules, *judged, bindings, seed=0, **expected):
+def case(name, rules, *judged, bindings, seed=0, interfaces=THREE, inside=INSIDE, **expected):
     """A run whose packets each stand behind a place, with their words and, where they are written otherwise, with that
     frame; and maybe with a second before the place."""
     timed = [each if isinstance(each[1], int) else (0, *each) for each in judged]
     frames = {number: each[4] for number, each in enumerate(timed, 1) if len(each) == 5}
-    run = Run(name, rules, [(second, packet) for second, _, packet, *_ in timed], inside=INSIDE, seed=seed_of(seed),
-              places=tuple(each[1] for each in timed))
+    run = Run(name, rules, [(second, packet) for second, _, packet, *_ in timed], interfaces=interfaces, inside=inside,
+              seed=seed_of(seed), places=tuple(each[1] for each in timed))
     return Expected(run, [each[3] for each in timed], written=frames, bindings=bindings, **expected)
 
 

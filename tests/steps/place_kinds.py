@@ -1,19 +1,31 @@
 """What comes up in runs with several interfaces, by kinds that are counted: which states are found on another interface
 than the one that made them and which ones aren't, those that are made beside others of their keys, those that aren't
-because of others, how they are bound, and what is taken by states that are bound elsewhere.
+because of others, how they are bound, and what is taken by states that are bound elsewhere. Also what rules and
+skipping would come to on the next interface, and where the address of another interface than the packet's decides.
 """
 
 from collections import Counter
 
+from contextlib import contextmanager
+
 from captures.frames import Packet, datagram_of, view
+from expansions.hosts import OWN, FlatHost
 from steps import translation
+from steps.filter import filtered
 from steps.states import ALL, meets
 from tracking.connections import connection, told_connection
 
 FLOATING, IF_BOUND = "floating", "if-bound"
 ON_BOTH, ON_ONE = "of both keys", "of one key"
+# what the filter has decided by itself
+FILTERED = ("rule", "default", "ip-option", "state-insert", "state-limit")
 # what is counted, by titles
 COUNTED = {
+    "rules on several interfaces": (
+        "skipped here, not elsewhere", "skipped elsewhere, not here", "filtered otherwise elsewhere",
+        "filtered otherwise behind the last interface", "translated here, not elsewhere",
+        "translated elsewhere, not here", "translated otherwise elsewhere", "translated behind the last interface",
+        "`self` holds by another's address", "`! self` fails by another's address"),
     "look-ups on several interfaces": (
         *(f"{way} a state of another interface" for way in ("found", "told of")),
         *(f"not {way} a state bound elsewhere" for way in ("found", "told of")),
@@ -39,12 +51,23 @@ class Own:
         return self.table.at(direction, key, self.place if scope is ALL else scope)
 
 
+@contextmanager
+def own_addresses_of(hosts, place):
+    """The table of own addresses while `self` were the address of one interface alone, or none."""
+    whole = hosts.tables[OWN]
+    hosts.tables[OWN] = [entry for each in hosts.run.interfaces[place:place + 1] for entry in whole
+                         if entry.network == each.own()]
+    yield
+    hosts.tables[OWN] = whole
+
+
 class PlaceKinds:
     """The kinds of the packets of a run, which are asked for before the table takes over what they change."""
 
     def __init__(self, job, link, table):
         self.job, self.link, self.table = job, link, table
         self.policy = job.ruleset.options.values["state-policy"]
+        self.count = len(job.ruleset.hosts.run.interfaces)
         # the states that were made, by their numbers
         self.made = {}
 
@@ -52,9 +75,14 @@ class PlaceKinds:
         """The kinds of a packet."""
         yield from self.of_gone(step)
         seen, datagram = view(self.link, step.record.frame), datagram_of(self.link, step.record.frame)
-        if not isinstance(seen, Packet) or step.outcome.reason == "skip-on":
+        if not isinstance(seen, Packet):
+            return
+        yield from self.of_skipped(step.record.place)
+        if step.outcome.reason == "skip-on":
             return
         direction, place = step.outcome.direction, step.record.place
+        if step.outcome.translation is None and step.outcome.reason in FILTERED:
+            yield from self.of_filter(seen, direction, place)
         told, key = told_connection(seen, datagram, direction), connection(seen, datagram, direction)
         if told or key:
             yield from self.of_look_up(told or key, direction, place, "told of" if told else "found")
@@ -71,6 +99,48 @@ class PlaceKinds:
             if others:
                 yield f"gone beside others: {'the least' if number < min(others) else 'another'}"
 
+    # Rules
+
+    def elsewhere(self, place):
+        """The next interface."""
+        return (place + 1) % self.count if place < self.count else 0
+
+    def of_skipped(self, place):
+        here, elsewhere = self.job.is_skipped(place), self.job.is_skipped(self.elsewhere(place))
+        if here != elsewhere:
+            yield "skipped here, not elsewhere" if here else "skipped elsewhere, not here"
+
+    def filtered(self, seen, direction, place):
+        """The rule of the filter that decides on the interface of a place."""
+        return filtered(self.job.ruleset, seen, place, direction, self.table.has_rule_room).place
+
+    def asks(self, rule, negated):
+        """Whether the deciding rule asks for own addresses, or for all others."""
+        if rule is None:
+            return False
+        match = self.job.ruleset.rules.filter[rule].match
+        return FlatHost(OWN, negated) in (match.source, match.destination)
+
+    def of_filter(self, seen, direction, place):
+        decides = self.filtered(seen, direction, place)
+        if decides != self.filtered(seen, direction, self.elsewhere(place)):
+            yield f"filtered otherwise {'elsewhere' if place < self.count else 'behind the last interface'}"
+        with own_addresses_of(self.job.ruleset.hosts, place):
+            other = self.filtered(seen, direction, place)
+        if decides != other:
+            yield from ["`self` holds by another's address"] if self.asks(decides, False) else []
+            yield from ["`! self` fails by another's address"] if self.asks(other, True) else []
+
+    def of_translation(self, found, seen, direction, place):
+        """What a packet finds here beside what it would find on the next interface."""
+        other = translation.find(self.job.ruleset, seen, self.elsewhere(place), direction)
+        if found.rule and place >= self.count:
+            yield "translated behind the last interface"
+        if (found.rule is None) != (other.rule is None):
+            yield "translated here, not elsewhere" if found.rule else "translated elsewhere, not here"
+        elif found.rule != other.rule:
+            yield "translated otherwise elsewhere"
+
     # Look-ups
 
     def of_look_up(self, key, direction, place, way):
@@ -86,9 +156,10 @@ class PlaceKinds:
 
     def of_first(self, step, seen, key):
         direction, place = step.outcome.direction, step.record.place
-        found = translation.find(self.job.ruleset, seen, direction)
+        found = translation.find(self.job.ruleset, seen, place, direction)
         passage, own = (translation.passage(found, key, direction, self.job.seed, step.number, table)
                         for table in (self.table, Own(self.table, place)))
+        yield from self.of_translation(found, seen, direction, place)
         if passage != own:
             yield "a port" if passage else "all ports"
         yield from self.of_rooms(step.outcome, place)

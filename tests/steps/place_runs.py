@@ -1,32 +1,39 @@
 """Random runs on several interfaces. Most packets of a connection come on the interface of its state, and some on
-others. Most runs have translation."""
+others; some are sent to the addresses of other interfaces, and a few come at a place behind the last interface. Most
+runs have translation."""
 
 import random
 
 from captures.packets import udp
 from steps.place_texts import some_port_text, some_text, some_translated_text, some_way_text
 from steps.random_runs import LINKS, Packets, with_packets
-from steps.run import Run, seed_of
+from steps.run import EIGHT, THREE, Run, seed_of
 from steps.translation_runs import SEED_BYTES, TranslatedPackets
 
 SEED = 20261129
 # packets of a run
 COUNTS = (60, 160)
-INTERFACES = 3
+# of how many interfaces runs are, but for those of flows
+FEW = (THREE, THREE[:2])
 
 
 class PlacedPackets(Packets):
-    INTERFACES = INTERFACES
+    # how often one from outside is sent to an own address
+    TO_OWN = 0.3
+
+    def host(self, is_inside):
+        if not is_inside and self.draw.random() < self.TO_OWN:
+            return self.draw.choice(self.interfaces).address
+        return super().host(is_inside)
 
 
 class PlacedTranslatedPackets(TranslatedPackets):
-    INTERFACES, SHARES = INTERFACES, (12, 24, 8, 1)
+    SHARES, OWN_HOSTS = (12, 24, 8, 1), (*TranslatedPackets.OWN_HOSTS * 2, "203.0.113.2", "203.0.113.9", "198.18.0.1")
 
 
-class FlowPackets(PlacedPackets):
+class FlowPackets(Packets):
     """Packets of two flows of UDP: some that make bound states, and others that are mostly on other interfaces, where
     they would make a state for all."""
-    INTERFACES = 6
     # seconds until the next, and how often it comes about when a state goes
     WAITS, AT_DEADLINES = (0,) * 12 + (1, 1, 3), 0.1
 
@@ -56,14 +63,15 @@ class PortFlowPackets(FlowPackets):
     other = FlowPackets.outward
 
 
-KINDS = ((some_text, PlacedPackets), (some_text, PlacedPackets), (some_way_text, FlowPackets),
-         (some_port_text, PortFlowPackets)) + ((some_translated_text, PlacedTranslatedPackets),) * 8
+OF_FLOWS = ((some_way_text, FlowPackets), (some_port_text, PortFlowPackets))
+KINDS = (*OF_FLOWS, *((some_text, PlacedPackets),) * 3, *((some_translated_text, PlacedTranslatedPackets),) * 8)
 
 
 def some_run(draw, number, most, counts=COUNTS):
     """A run of `most` packets at most, or of none if the ruleset has a fault."""
-    count, link, (make_text, packets) = min(draw.randint(*counts), most), draw.choice(LINKS), draw.choice(KINDS)
-    run = Run(f"random run on {packets.INTERFACES} interfaces {number}", make_text(draw), [], link,
+    count, link, kind = min(draw.randint(*counts), most), draw.choice(LINKS), draw.choice(KINDS)
+    interfaces, (make_text, packets) = EIGHT[:6] if kind in OF_FLOWS else draw.choice(FEW), kind
+    run = Run(f"random run on {len(interfaces)} interfaces {number}", make_text(draw), [], link, interfaces,
               seed=seed_of(draw.choice(SEED_BYTES)))
     return with_packets(draw, run, packets, count)
 

@@ -1,5 +1,6 @@
 """Random rulesets for runs on several interfaces: those of other runs, whose states are bound by their rules and by the
-policy then, some in which connections often want a key that another one has, and some for few flows."""
+policy then and whose rules name interfaces, some in which connections often want a key that another one has, and some
+for few flows."""
 
 import re
 
@@ -25,6 +26,22 @@ TRANSLATIONS = ("rdr to em0 port { 80, 8080 } -> 10.0.0.5 port 80", "rdr to em0 
 NATS = ("nat from any to any -> em0 port 50001:50002", "nat from any to any -> em0 port 50001:50004",
         "nat pass from any to any -> em0 port 50001:50003")
 SECONDS = (5, 10, 20, 60)
+# what stands in a rule before the interfaces that it names, and in what follows the addresses of the first interface
+BEFORE_PLACES = re.compile(r'(?:(?:pass|block(?: drop| return)?)(?: in| out)?(?: log)?(?: quick)?'
+                           r'|anchor(?: "inner")?(?: in| out)?(?: quick)?|(?:no )?(?:nat|rdr|binat)(?: pass)?(?: log)?)'
+                           r'(?= |$)')
+OWN_HOST = re.compile(r"(from|to) (!?) ?(?:em0|self|192\.0\.2\.1)(?= |$)(?! -)")
+OWN_TARGET = re.compile(r"-> (?:em0|self|\(em0\))(?= |$)")
+# the third interface isn't one of each run
+RULE_PLACES = ("on em0", "on em0", "on em1", "on em1", "on ! em0", "on !em1", "on { em0, em1 }", "on em2", "on ! em2")
+OWN_HOSTS = ("self", "self", "self", "em0", "em1", "em1:network", "(em1)", "em0:network")
+OWN_TARGETS = ("em0", "em0", "em1", "(em1)", "192.0.2.9")
+SKIPPED = ("em0", "em1", "em1", "{ em2, em9 }", "em3")
+# rules by addresses of interfaces, with which rulesets end
+OWN_RULES = ("pass in to self", "pass in to ! self no state", "block in from any to em1", "pass out from self",
+             "block return in to !self", "pass in to { em1 self }", "pass on em1 from any to self",
+             "block out on em1 from ! self to any", "pass in to <own> keep state (max 3)", "block out to <own>")
+OWN_TABLE = "table <own> { self, 203.0.113.0/24, !203.0.113.9, !192.0.2.9 }"
 # rulesets for few flows, with which states that are bound to several interfaces stand in the way of one for all, and of
 # a port
 WAY_RULES = ("pass out keep state (if-bound)\npass in keep state (floating)",
@@ -74,16 +91,36 @@ def some_port_text(draw):
     return "\n".join([*some_udp_timeouts(draw), draw.choice(PORT_RULES)])
 
 
+def placed_line(draw, line):
+    """A line of a ruleset; many rules name interfaces, and have addresses of others than the first."""
+    before = BEFORE_PLACES.match(line)
+    if before and " on " not in line and draw.random() < 0.3:
+        line = f"{before[0]} {draw.choice(RULE_PLACES)}{line[before.end():]}"
+    if draw.random() < 0.6:
+        line = OWN_HOST.sub(lambda found: f"{found[1]} {found[2]}{draw.choice(OWN_HOSTS)}", line)
+    return OWN_TARGET.sub(lambda _: f"-> {draw.choice(OWN_TARGETS)}", line)
+
+
+def placed_text(draw, text):
+    """The text of a ruleset whose rules name interfaces."""
+    lines = [placed_line(draw, line) for line in text.split("\n")]
+    if draw.random() < 0.15:
+        lines.insert(0, f"set skip on {draw.choice(SKIPPED)}")
+    behind = draw.sample(OWN_RULES, draw.choice((0, 1, 1, 2)))
+    return "\n".join([*lines, OWN_TABLE, *behind])
+
+
 def some_policy(draw):
     return f"set state-policy {draw.choice(POLICIES)}\n" if draw.random() < 0.9 else ""
 
 
 def some_text(draw):
     """The text of a ruleset without translation."""
-    return some_policy(draw) + bound_text(draw, texts.some_text(draw))
+    text = bound_text(draw, texts.some_text(draw))
+    return some_policy(draw) + (placed_text(draw, text) if draw.random() < 0.8 else text)
 
 
 def some_translated_text(draw):
     """The text of a ruleset with translation."""
     text = colliding_text(draw) if draw.random() < 0.5 else bound_text(draw, translation_texts.some_text(draw))
-    return some_policy(draw) + text
+    return some_policy(draw) + (placed_text(draw, text) if draw.random() < 0.5 else text)

@@ -11,10 +11,11 @@ from captures.frames import ICMP, TCP, UDP
 from captures.model import Refused
 from captures.packets import (ACK, ETHER_ARP, ETHER_IPV4, ETHER_IPV6, FIN, IGMP, LINKTYPE_ETHERNET, LINKTYPE_LOOPBACK,
                               LINKTYPE_RAW, RST, SYN, echo, ethernet, ipv4, loopback, summed_message, tcp, udp)
+from expansions.hosts import Interface
 from expansions.model import dotted
 from rulesets.tree import Network
 from steps.filter_texts import INSIDE_HOSTS, OUTSIDE_HOSTS, PORTS
-from steps.replay import Interface, Record, job_of, steps_of
+from steps.replay import Record, job_of, steps_of
 from steps.run import INSIDE, INTERFACE, Run
 from steps.states import StateTable
 from steps.texts import some_text
@@ -102,8 +103,8 @@ def ends_of(key):
 
 class Packets:
     """The packets of a run: each is drawn by the table as it is then."""
-    # how many interfaces they come on, and how often one of a state's connection on another than made it
-    INTERFACES, ELSEWHERE = 1, 0.3
+    # how often one of a state's connection comes on another interface than made it, and one behind the last interface
+    ELSEWHERE, BEHIND = 0.3, 0.04
     # how often a packet belongs to a connection, begins one, tells of one, or is another message of ICMP
     SHARES = (12, 4, 4, 1)
     # seconds until the next, and how often it comes about when a state goes
@@ -111,10 +112,11 @@ class Packets:
     # how often an error doesn't quote just the header and 8 bytes of a packet; half as often it quotes others
     QUOTED_BADLY = 0.3
 
-    def __init__(self, draw, link, table):
+    def __init__(self, draw, link, table, interfaces):
         self.draw = draw
         self.link = link
         self.table = table
+        self.interfaces = interfaces
         self.clock = draw.choice((0, 0, 1000, 1000, 1000, LAST_SECOND - 100))
         self.earlier = []
         # of the packet that is drawn
@@ -124,12 +126,15 @@ class Packets:
 
     def go_anywhere(self):
         """The packet comes on any interface."""
-        if self.INTERFACES > 1:
-            self.place = self.draw.randrange(self.INTERFACES)
+        count = len(self.interfaces)
+        if count > 1:
+            self.place = self.draw.randrange(count)
+            if self.draw.random() < self.BEHIND:
+                self.place = self.draw.choice((count, 255))
 
     def go_near(self, entry):
         """It comes mostly on the interface on which a state was made."""
-        if self.INTERFACES > 1 and self.draw.random() > self.ELSEWHERE:
+        if len(self.interfaces) > 1 and self.draw.random() > self.ELSEWHERE:
             self.place = entry.interface
 
     # Datagrams
@@ -258,25 +263,27 @@ class Packets:
 
 
 def with_packets(draw, run, packets, count):
-    """A run with `count` packets, which `packets` draws; or with none if its ruleset has a fault."""
+    """A run with `count` packets, which `packets` draws; or with none if its ruleset has a fault. They have places if
+    it has several interfaces."""
     try:
-        job = job_of(run.rules.encode(), run.interface, run.inside, run.seed)
+        job = job_of(run.rules.encode(), run.interfaces, run.inside, run.seed)
     except Refused:
         return run
     table = StateTable(job.ruleset.options.values["states"])
-    steps = steps_of(job, run.link, packets(draw, run.link, table).records(count), table)
+    steps = steps_of(job, run.link, packets(draw, run.link, table, run.interfaces).records(count), table)
     records = [step.record for step in steps]
     return run._replace(records=[(each.seconds, each.frame) for each in records],
-                        places=tuple(each.place for each in records) if packets.INTERFACES > 1 else ())
+                        places=tuple(each.place for each in records) if len(run.interfaces) > 1 else ())
 
 
-def some_run(draw, number, most, counts=COUNTS):
-    """A run of `most` packets at most, or of none if the ruleset has a fault."""
+def some_run(draw, number, most, counts=COUNTS, interfaces=()):
+    """A run of `most` packets at most, or of none if the ruleset has a fault; on one interface, or on these."""
     rules, link = some_text(draw), draw.choice(LINKS)
     count = min(draw.randint(*counts), most)
     interface = INTERFACE if draw.random() < 0.9 else draw.choice(OTHER_INTERFACES)
     inside = INSIDE if draw.random() < 0.8 else draw.choice(OTHER_INSIDES)
-    return with_packets(draw, Run(f"random run {number}", rules, [], link, interface, inside), Packets, count)
+    run = Run(f"random run {number}", rules, [], link, interfaces or (interface,), inside)
+    return with_packets(draw, run, Packets, count)
 
 
 def runs(packets):

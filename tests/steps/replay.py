@@ -1,4 +1,4 @@
-"""A model of the serial run with states and translation: a ruleset's text, an interface, inside networks, a seed and a
+"""A model of the serial run with states and translation: a ruleset's text, interfaces, inside networks, a seed and a
 capture to what each packet comes to and to the texts that the run leaves. Its messages stand in messages.run.
 
 It is written from the description of the formats alone. What one packet comes to is in model.py; here is what goes
@@ -37,12 +37,6 @@ COUNTED = ("rule", "nat-pass", "state", "state-error")
 PASSED = ("pass", "skip")
 # bytes of a ruleset's text
 MOST_TEXT = 1048576
-
-
-class Interface(NamedTuple):
-    name: str
-    address: str
-    bits: int
 
 
 class Record(NamedTuple):
@@ -97,25 +91,25 @@ def dashed(number):
 
 
 @lru_cache
-def meaning(text, interface):
-    """The Ruleset of a text for an interface, or its first fault in words."""
+def meaning(text, interfaces):
+    """The Ruleset of a text for some interfaces, or its first fault in words."""
     if len(text) > MOST_TEXT:
         return f"line 1: {TOO_MANY}"
-    answer = expand(text, *interface)
+    answer = expand(text, interfaces)
     return answer if isinstance(answer, Ruleset) else worded(answer)
 
 
-def ruleset_of(text, interface):
+def ruleset_of(text, interfaces):
     """The Ruleset of a text; a fault refuses it."""
-    answer = meaning(text, interface)
+    answer = meaning(text, interfaces)
     if not isinstance(answer, Ruleset):
         raise Refused(answer)
     return answer
 
 
-def job_of(text, interface, inside, seed=ZERO_SEED):
+def job_of(text, interfaces, inside, seed=ZERO_SEED):
     """The job of a run; a fault of the ruleset refuses it."""
-    return Job(ruleset_of(text, interface), inside, seed)
+    return Job(ruleset_of(text, interfaces), inside, seed)
 
 
 def step_of(job, number, clock, link, record, table):
@@ -187,7 +181,7 @@ def replay_of(job, capture, places=()):
     return Replay(steps, texts, tail, table.by_number())
 
 
-def replay(text, interface, inside, capture, seed=ZERO_SEED, places=()):
-    """The whole run: the ruleset's text as bytes, an Interface, the inside networks, the capture as bytes, the seed, and
-    the places of the records."""
-    return replay_of(job_of(text, interface, inside, seed), capture, places)
+def replay(text, interfaces, inside, capture, seed=ZERO_SEED, places=()):
+    """The whole run: the ruleset's text as bytes, the interfaces, the inside networks, the capture as bytes, the seed,
+    and the places of the records."""
+    return replay_of(job_of(text, interfaces, inside, seed), capture, places)

@@ -3,11 +3,14 @@
 from typing import NamedTuple
 
 from captures.packets import LINKTYPE_RAW, capture_header, record
+from expansions.hosts import Interface
 from rulesets.tree import Network
 from steps.picks import ZERO_SEED
-from steps.replay import Interface
 
+# the one of most runs, and those of a run on several
 INTERFACE = Interface("em0", "192.0.2.1", 24)
+THREE = (INTERFACE, Interface("em1", "203.0.113.2", 24), Interface("em2", "198.18.0.1", 24))
+EIGHT = (*THREE, *(Interface(f"em{place}", f"198.19.{place}.1", 24) for place in range(3, 8)))
 INSIDE = (Network(0x0A000000, 8),)
 
 
@@ -18,12 +21,13 @@ def seed_of(byte):
 
 class Run(NamedTuple):
     """A ruleset, and records: the second and the captured bytes of each. The places are those of the interfaces on which
-    they were captured, and 0 for each if there are none. Only pfreplay takes a seed whose bytes differ."""
+    they were captured, and 0 for each if there are none. Only pfreplay takes a seed whose bytes differ, and takes just
+    one interface."""
     name: str
     rules: str
     records: list
     link: int = LINKTYPE_RAW
-    interface: Interface = INTERFACE
+    interfaces: tuple = (INTERFACE,)
     inside: tuple = INSIDE
     seed: bytes = ZERO_SEED
     places: tuple = ()

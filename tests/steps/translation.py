@@ -60,18 +60,18 @@ def turned(rule):
                           destination=FlatHost(rule.target, False), destination_port=match.source_port)
 
 
-def rule_holds(ruleset, kind, rule, packet, direction):
+def rule_holds(ruleset, kind, rule, packet, place, direction):
     is_turned = kind == "binat" and direction == "in" and not rule.is_no_rule
-    return match_holds(ruleset, turned(rule) if is_turned else rule.match, packet)
+    return match_holds(ruleset, turned(rule) if is_turned else rule.match, packet, place)
 
 
-def find(ruleset, packet, direction):
-    """What the rules of translation say of a packet."""
+def find(ruleset, packet, place, direction):
+    """What the rules of translation say of a packet on the interface of a place."""
     visited = ()
     for kind in KINDS_ASKED[direction]:
         rules = ruleset.rules.translation[kind]
-        deciding = next((place for place, rule in enumerate(rules)
-                         if rule_holds(ruleset, kind, rule, packet, direction)), None)
+        deciding = next((number for number, rule in enumerate(rules)
+                         if rule_holds(ruleset, kind, rule, packet, place, direction)), None)
         last = len(rules) - 1 if deciding is None else deciding
         visited += tuple(rule.number for rule in rules[:last + 1])
         if deciding is not None and not rules[deciding].is_no_rule:

@@ -117,8 +117,9 @@ class Kinds:
 
     def of_first(self, step, seen, key):
         outcome = step.outcome
-        found = translation.find(self.job.ruleset, seen, outcome.direction)
-        yield from self.of_ended(found, seen, outcome.direction)
+        place = step.record.place
+        found = translation.find(self.job.ruleset, seen, place, outcome.direction)
+        yield from self.of_ended(found, seen, place, outcome.direction)
         if found.rule is None:
             return
         yield f"translated: {outcome.verdict} {outcome.reason}"
@@ -130,11 +131,11 @@ class Kinds:
         if outcome.change:
             yield from self.of_made(outcome.change[1], passage)
 
-    def of_ended(self, found, seen, direction):
+    def of_ended(self, found, seen, place, direction):
         """Rules that say no."""
         visited = [self.rules[number] for number in found.visited]
         ended = [kind for kind, rule in visited
-                 if rule.is_no_rule and translation.rule_holds(self.job.ruleset, kind, rule, seen, direction)]
+                 if rule.is_no_rule and translation.rule_holds(self.job.ruleset, kind, rule, seen, place, direction)]
         yield from (f"no {kind} that holds" for kind in ended)
         if ended and found.rule:
             yield "a translation behind a kind that is ended"

@@ -8,7 +8,7 @@ from captures.frames import ICMP, TCP, UDP
 from captures.packets import ipv4, summed_message
 from rulesets.tree import Network
 from steps.random_runs import LINKS, Packets, datagram_of, ends_of, with_packets
-from steps.run import INSIDE, Run, seed_of
+from steps.run import INSIDE, INTERFACE, Run, seed_of
 from steps.translation_texts import (INSIDE_HOSTS, INSIDE_PORTS, OUTSIDE_HOSTS, OWN_HOSTS, OWN_PORTS, SERVER_PORTS,
                                      some_text)
 
@@ -36,8 +36,11 @@ class TranslatedPackets(Packets):
     WAITS, AT_DEADLINES = (0,) * 24 + (1, 1, 3, 10), 0.03
     QUOTED_BADLY = 0.06
 
-    def __init__(self, draw, link, table):
-        super().__init__(draw, link, table)
+    # to which packets are sent from outside
+    OWN_HOSTS = OWN_HOSTS
+
+    def __init__(self, draw, link, table, interfaces):
+        super().__init__(draw, link, table, interfaces)
         # of most connections, so that they stand in each other's way
         self.protocol = draw.choice((UDP, UDP, TCP, TCP, ICMP, ICMP, ICMP))
 
@@ -56,7 +59,7 @@ class TranslatedPackets(Packets):
         protocol = self.protocol if draw.random() < 0.6 else draw.choice(PROTOCOLS)
         outside = draw.choice(OUTSIDE_HOSTS), draw.choice(SERVER_PORTS)
         if draw.random() < 0.45:
-            source, destination = outside, (draw.choice(OWN_HOSTS), draw.choice(OWN_PORTS))
+            source, destination = outside, (draw.choice(self.OWN_HOSTS), draw.choice(OWN_PORTS))
         else:
             source, destination = (draw.choice(INSIDE_HOSTS), draw.choice(INSIDE_PORTS)), outside
         if protocol == ICMP:
@@ -86,17 +89,17 @@ class TranslatedPackets(Packets):
         embedded = self.between(key.protocol, *((inside, outside) if direction == "in" else (outside, inside)))
         quoted = embedded if draw.random() < 0.2 else self.beginning(embedded)
         # the error's own end is mostly that of the embedded packet
-        own = inside[0] if draw.random() < 0.6 else draw.choice(OWN_HOSTS if direction == "in" else ROUTERS_INSIDE)
+        own = inside[0] if draw.random() < 0.6 else draw.choice(self.OWN_HOSTS if direction == "in" else ROUTERS_INSIDE)
         ends = (draw.choice(ROUTERS_OUTSIDE), own) if direction == "in" else (own, outside[0])
         return ipv4(*ends, ICMP, summed_message(draw.choice(ERROR_TYPES), draw.choice((0, 1, 3)), bytes(4) + quoted))
 
 
-def some_run(draw, number, most, seed, counts=COUNTS):
+def some_run(draw, number, most, seed, counts=COUNTS, interfaces=(INTERFACE,)):
     """A run of `most` packets at most, under a seed."""
     rules, link = some_text(draw), draw.choice(LINKS)
     count = min(draw.randint(*counts), most)
     inside = INSIDE if draw.random() < 0.9 else draw.choice(OTHER_INSIDES)
-    run = Run(f"random run with translation {number}", rules, [], link, inside=inside, seed=seed)
+    run = Run(f"random run with translation {number}", rules, [], link, interfaces, inside, seed)
     return with_packets(draw, run, TranslatedPackets, count)
 
 
