@@ -3,11 +3,11 @@ use Rattle.std.proofs.Common.{◌≡◌, ◌∙◌, ℕ, ◌+◌, ◌<◌, true,
 use Rattle.std.proofs.lemmas.Bool.{cases_Bool, cases_eq, cases_lt}
 use Rattle.std.proofs.lemmas.Option.{slice_get_within}
 use Rattle.pfr_capture.specs.declared.capture.Record.{Record}
-use Rattle.pfr_capture.specs.Reading.{FieldsOf, bytes_of}
+use Rattle.pfr_capture.specs.Reading.{bytes_of}
 use Rattle.pfr_capture.specs.Records.{RecordBytes}
 use Rattle.pfr_merge.specs.declared.time.Time.{Time}
 use Rattle.pfr_merge.specs.Arrivals.{is_before, time_of}
-use Rattle.pfr_merge.specs.MergeReading.{Waiting, time_in}
+use Rattle.pfr_merge.specs.MergeReading.{IsOfCapture, Waiting, time_in}
 use Rattle.pfr_merge.specs.MergeStepping.{HaveNone, IsLeast, NoneWaits, TakesNext}
 use Rattle.pfr_merge.proofs.OrderLemmas.{none_before, not_after, not_itself}
 use Rattle.pfr_merge.proofs.SetLemmas.{map_at}
@@ -55,7 +55,7 @@ least_waits ws n place time w least at =
     let stands = least.stands in
     cc
 
-pub takes_next : (ws new : List Waiting) (place : ℕ) (time : Time) (w : Waiting) (r : Record) → IsLeast (map time_in ws) (length ws) place time → slice_get ws place ≡ Some w → Some (bytes_of r) ≡ w.head → FieldsOf w.reading.form r → new ≡ set ws place (record w { head = None }) → TakesNext ws new place r
+pub takes_next : (ws new : List Waiting) (place : ℕ) (time : Time) (w : Waiting) (r : Record) → IsLeast (map time_in ws) (length ws) place time → slice_get ws place ≡ Some w → Some (bytes_of r) ≡ w.head → IsOfCapture place w.reading.form r → new ≡ set ws place (record w { head = None }) → TakesNext ws new place r
 takes_next ws new place time w r least at head fields rest =
     let waits = least_waits ws (length ws) place time w least at in
     let is : option_map (time_of w.reading.form) w.head ≡ Some (time_of w.reading.form (bytes_of r)) = ap (option_map (time_of w.reading.form)) (sym head) in

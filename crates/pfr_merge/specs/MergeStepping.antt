@@ -1,10 +1,10 @@
 -- Which of the records that wait is the next one of a merge.
 use Rattle.std.specs.Prelude.{◌≡◌, ℕ, ◌<◌, true, false, List, Option, Some, None, MatchOption, slice_get, slice_set}
 use Rattle.pfr_capture.specs.declared.capture.Record.{Record}
-use Rattle.pfr_capture.specs.Reading.{FieldsOf, bytes_of}
+use Rattle.pfr_capture.specs.Reading.{bytes_of}
 use Rattle.pfr_merge.specs.declared.time.Time.{Time}
 use Rattle.pfr_merge.specs.Arrivals.{is_before, time_of}
-use Rattle.pfr_merge.specs.MergeReading.{Waiting, time_in}
+use Rattle.pfr_merge.specs.MergeReading.{IsOfCapture, Waiting, time_in}
 
 -- of the first n captures the one at a place has the earliest record that waits, and it is the first of those that have one as early
 pub record IsLeast (times : List (Option Time)) (n place : ℕ) (time : Time) : Type 0 where
@@ -25,7 +25,7 @@ pub record TakesNext (old new : List Waiting) (place : ℕ) (r : Record) : Type 
   pub from : Waiting
   pub stands : slice_get old place ≡ Some from
   pub head : from.head ≡ Some (bytes_of r)
-  pub fields : FieldsOf from.reading.form r
+  pub fields : IsOfCapture place from.reading.form r
   pub rest : new ≡ slice_set old place (record from { head = None })
   pub first : (k : ℕ) (w : Waiting) (time : Time)
       → k < place

@@ -1,7 +1,9 @@
 //! The merge of several captures.
 ghost use Rattle.std.specs.Prelude.{◌≡◌, ◌<◌, ◌+◌, ℕ, List, Option, Some, None, Ok, Err, length, map, slice_get, IfErr, IfNone, IfOk, IfSome, OnOk};
 ghost use Rattle.pfr_capture.specs.declared.capture.CaptureError.{CaptureError};
-ghost use Rattle.pfr_merge.specs.MergeReading.{AllRefilled, AllTold, Answer, AreOver, AreSettled, FailsAt, HasForm, IsOverWith, LacksRecordAt, MergeReads, NoneRefused, StopsAt, form_in, header_in, merged_tail, none_waits, time_in};
+ghost use Rattle.pfr_merge.specs.MergeReading.{AllRefilled, AllTold, Answer, AreOver, AreSettled, FailsAt, HasForm, IsOfCapture, IsOverWith, LacksRecordAt, MergeReads, NoneRefused, StopsAt, form_in, header_in, merged_tail, none_waits, time_in};
+ghost use Rattle.pfr_capture.specs.declared.capture.Form.{Form};
+ghost use Rattle.pfr_capture.specs.Reading.{FieldsOf, bytes_of};
 ghost use Rattle.pfr_merge.specs.MergeStepping.{HaveNone, LeastSo, TakesNext};
 ghost use Rattle.pfr_merge.specs.declared.time.Time.{Time};
 
@@ -42,8 +44,8 @@ impl Merge {
         Ok(Merge { inputs })
     }
 
-    /// The next record, with the place of its capture, or None after the last one. A refusal comes with the place of
-    /// the capture that is refused.
+    /// The next record, with the place of its capture, which the record names too, or None after the last one. A refusal
+    /// comes with the place of the capture that is refused.
     ///
     /// Captures of which no record waits are read first, in their order, each from the source at its place. An answer
     /// of None and a refusal are for good: each further call gives the same, and reads nothing.
@@ -174,6 +176,17 @@ fn least(inputs: &[Input]) -> Option<(usize, Time)>
     best
 }
 
+/// The same record of the capture at a place.
+fn placed(place: usize, packet: Record) -> Record
+    ensures bytes { bytes_of result ≡ bytes_of packet }
+    ensures fields { (form : Form) → FieldsOf form packet → IsOfCapture place form result }
+{
+    Record {
+        place: place.min(255) as u8,
+        ..packet
+    }
+}
+
 /// Takes the earliest record that waits.
 fn take_next(inputs: &mut [Input]) -> Option<(usize, Record)>
     ensures none { IfNone result (HaveNone inputs.old × (inputs.new ≡ inputs.old)) }
@@ -184,6 +197,6 @@ fn take_next(inputs: &mut [Input]) -> Option<(usize, Record)>
     };
     match inputs[found.0].take() {
         None => None,
-        Some(record) => Some((found.0, record)),
+        Some(record) => Some((found.0, placed(found.0, record))),
     }
 }
