@@ -68,7 +68,8 @@ def peers_kind(state):
 
 def state_bytes(state):
     counts = [state.counts[place].to_bytes(8) for place in (0, 1, 2, 3)]
-    return (state.number.to_bytes(8) + bytes([state.protocol, state.direction == "out"]) + key_bytes(state.wire)
+    return (state.number.to_bytes(8) + bytes([state.protocol, state.direction == "out", state.interface])
+            + key_bytes(state.wire)
             + key_bytes(state.stack) + rule_bytes(state.rule) + rule_bytes(state.translation)
             + bytes([peers_kind(state)]) + peer_bytes(state.maker) + peer_bytes(state.other) + state.made.to_bytes(4)
             + state.deadline.to_bytes(8) + bytes([state.timeout]) + b"".join(counts))
@@ -81,16 +82,16 @@ def event_bytes(event):
 def list_bytes(origin, packets):
     """The events of packets as the program reads them."""
     events = cut.events_of(packets)
-    [name] = origin.interfaces
-    return (bytes([len(name)]) + name + origin.checksum + origin.creator.to_bytes(4)
+    names = b"".join(bytes([len(name)]) + name for name in origin.interfaces)
+    return (bytes([len(origin.interfaces)]) + names + origin.checksum + origin.creator.to_bytes(4)
             + len(events).to_bytes(4) + b"".join(map(event_bytes, events)))
 
 
 def random_lists():
     draw = random.Random(check.SEED)
     for each in random_events.lists():
-        name = draw.choice((b"", b"em0", b"a2345678901234."))
-        origin = Origin((name,), draw.randbytes(16), draw.choice((0, 1, 2**32 - 1)))
+        names = tuple(draw.choice((b"", b"em0", b"em1", b"a2345678901234.")) for _ in range(draw.choice((1, 1, 2, 3, 8))))
+        origin = Origin(names, draw.randbytes(16), draw.choice((0, 1, 2**32 - 1)))
         yield origin, list(map(packet_of, each.happenings))
 
 

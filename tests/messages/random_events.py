@@ -43,6 +43,8 @@ SHAPES = (
     Shape((2, 2, 1, 12), (0, 0, 1, 1, 2, 10, 100), (0, 1, 5, 60), (10, 40), 2),
 )
 SHARES_NOT_TOLD = (0, 0, 0.1, 0.5)
+# of interfaces, of which a list has one to eight
+PLACES = (0, 0, 0, 1, 1, 2, 3, 7, 8, 255)
 
 
 class Writer:
@@ -85,7 +87,7 @@ class Writer:
         number = self.number(self.draw.getrandbits(64) if self.has_any_numbers else place)
         state = State(number, draw.random() >= self.not_told, draw.choice((1, 6, 17, 47)), draw.choice(("in", "out")),
                       self.key(), self.key(), nobody, nobody, draw.choice((None, 0, 1, 65535)),
-                      draw.choice((None, None, 0, 65535)), self.clock, 0, (), 0)
+                      draw.choice((None, None, 0, 65535)), self.clock, 0, (), 0, draw.choice(PLACES))
         return MADE, self.moved(state, (1, draw.randint(20, 65535), 0, 0))
 
     def change(self, place):

@@ -1,14 +1,14 @@
 //! `message_answers events`: each record is a list of events, and the answer is a line for each message that a queue makes of
 //! them, and a line `end`. Before an event of a later clock the queue is closed, and at the end too.
 //!
-//! A list holds the interface's name with its length before it in one byte, the checksum (16 bytes), the creator (4), how many
-//! events follow (4), and these. An event holds a byte that is 0 where the state is made, 1 where it is touched and 2 where it is
-//! removed; the clock (4); and the state: its number (8), its protocol (1), a byte that is 0 where its maker came in and else 1,
-//! its keys on the wire and on the stack (12 each: the outside party's address and port, then the inside one's), the filter rule
-//! and the translation rule (5 each: 1 and the number, or zeros), a byte for its peers that is 0 for TCP's, 1 for UDP's, 2 for none
-//! and 3 for others', its peers (12 each: code, what stands behind the bytes sent and those that may be sent, window, and the
-//! shift, 255 for none), when it was made (4), its deadline (8), the timeout's code (1), and packets and bytes its maker's way and
-//! the other way (8 each).
+//! A list holds a byte that counts the interfaces, and the name of each by its place, with its length before it in one byte; the
+//! checksum (16 bytes), the creator (4), how many events follow (4), and these. An event holds a byte that is 0 where the state is
+//! made, 1 where it is touched and 2 where it is removed; the clock (4); and the state: its number (8), its protocol (1), a byte
+//! that is 0 where its maker came in and else 1, the place of the interface on which it was made (1), its keys on the wire and on
+//! the stack (12 each: the outside party's address and port, then the inside one's), the filter rule and the translation rule (5
+//! each: 1 and the number, or zeros), a byte for its peers that is 0 for TCP's, 1 for UDP's, 2 for none and 3 for others', its
+//! peers (12 each: code, what stands behind the bytes sent and those that may be sent, window, and the shift, 255 for none), when
+//! it was made (4), its deadline (8), the timeout's code (1), and packets and bytes its maker's way and the other way (8 each).
 use crate::given::Given;
 use crate::printing::put_content;
 use pfr_net::{Direction, Endpoint, IfName, Ipv4Address, Port, Protocol, RuleNumber, Timeout};
@@ -136,6 +136,7 @@ fn state(given: &mut Given<'_>) -> State {
     } else {
         Direction::Out
     };
+    let interface = InterfacePlace(given.byte());
     let wire = key(given, protocol);
     let stack = key(given, protocol);
     let rules = rules(given);
@@ -148,7 +149,7 @@ fn state(given: &mut Given<'_>) -> State {
     State {
         number,
         direction,
-        interface: InterfacePlace(0),
+        interface,
         wire,
         stack,
         rules,
@@ -172,6 +173,16 @@ fn event(given: &mut Given<'_>) -> Event {
     Event { kind, state, clock }
 }
 
+/// The names of the interfaces, by their places.
+fn names(alloc: Global, given: &mut Given<'_>) -> Result<Vec<IfName>, AllocError> {
+    let mut names = Vec::new(alloc);
+    for _ in 0..given.byte() {
+        let length = usize::from(given.byte());
+        names.push(IfName::new(given.bytes(length)))?;
+    }
+    Ok(names)
+}
+
 /// Puts the line of a message, if there is one.
 fn put_message(out: &mut String, message: Option<Message>) -> Result<(), AllocError> {
     match message {
@@ -186,11 +197,10 @@ pub(crate) fn put_answer(
     out: &mut String,
     given: &mut Given<'_>,
 ) -> Result<(), AllocError> {
-    let length = usize::from(given.byte());
-    let name = IfName::new(given.bytes(length));
+    let names = names(alloc, given)?;
     let checksum = given.array();
     let creator = given.number();
-    let mut queue = Queue::new(alloc, &[name], checksum, creator);
+    let mut queue = Queue::new(alloc, names.as_slice(), checksum, creator);
     let mut clock = Clock(0);
     for _ in 0..given.number() {
         let next = event(given);
