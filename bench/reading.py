@@ -1,7 +1,7 @@
 #!/usr/bin/env python3
 """Measures how long rulesets take to be read, and how much memory, as they grow.
 
-    rulesets.py [PROGRAM WORDS..]
+    reading.py [PROGRAM WORDS..]
 
 Takes the program of the crate answers by its word `rulesets` unless it is given another. It prints for each kind of text,
 at lengths that double, the nanoseconds and the bytes of memory that a byte of text takes. Both should stay as they are.
