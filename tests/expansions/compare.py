@@ -204,7 +204,7 @@ def too_seldom(kinds):
 
 
 def compare(command):
-    """How many texts the program answers otherwise, and of how many kinds there are too few random texts."""
+    """How many texts have another answer of the program, plus the number of kinds with too few random texts."""
     files, rows = with_answers()
     hard, made, drawn = hostile(), [*changed(files), *each_value()], list(random_texts(RANDOM_TEXTS))
     wrong, kinds = differences(command, files + rows), Counter()

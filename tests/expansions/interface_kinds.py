@@ -1,6 +1,6 @@
 """What comes up in random texts for several interfaces, by kinds that are counted.
 
-What rests on `self` is told by the text's meaning if `self` stood for the address of the first interface alone.
+What depends on `self` is told by the text's meaning if `self` stood for the address of the first interface alone.
 """
 
 from expansions import model
@@ -44,7 +44,7 @@ def words_of(answer, is_of_tables):
 
 
 def of_self(text, answer):
-    """The kinds of a text that rest on `self`."""
+    """The kinds of a text that depend on `self`."""
     other = lines_of(text, OfFirst)
     if answer[0].endswith(": clash") and other != answer:
         yield CLASHES

@@ -1,4 +1,4 @@
-"""Short rulesets for several interfaces, or for one that is called otherwise, with what each of them means: forms of
+"""Short rulesets for several interfaces, or for one of another name, with what each of them means: forms of
 each, and `self`, which is the addresses of all of them."""
 
 from expansions.cases import EM0

@@ -2,18 +2,16 @@
 others; some are sent to the addresses of other interfaces, and a few come at a place behind the last interface. Most
 runs have translation."""
 
-import random
-
 from captures.packets import udp
 from steps.place_texts import some_port_text, some_text, some_translated_text, some_way_text
-from steps.random_runs import LINKS, Packets, with_packets
+from steps.random_runs import LINKS, Packets, drawn, with_packets
 from steps.run import EIGHT, THREE, Run, seed_of
 from steps.translation_runs import SEED_BYTES, TranslatedPackets
 
 SEED = 20261129
 # packets of a run
 COUNTS = (60, 160)
-# of how many interfaces runs are, but for those of flows
+# the interfaces of a run, unless it is of flows
 FEW = (THREE, THREE[:2])
 
 
@@ -78,11 +76,4 @@ def some_run(draw, number, most, counts=COUNTS):
 
 def runs(packets):
     """Runs with `packets` packets in all, the same every time."""
-    draw = random.Random(SEED)
-    left, number = packets, 0
-    while left:
-        run = some_run(draw, number, left)
-        if run.records:
-            yield run
-        left -= len(run.records)
-        number += 1
+    return (run for run in drawn(some_run, SEED, packets) if run.records)

@@ -286,12 +286,18 @@ def some_run(draw, number, most, counts=COUNTS, interfaces=()):
     return with_packets(draw, run, Packets, count)
 
 
-def runs(packets):
-    """Runs with `packets` packets in all, the same every time."""
-    draw = random.Random(SEED)
+def drawn(some_run, seed, packets):
+    """Runs with `packets` packets in all, the same every time for a seed. `some_run` draws each by its number, with no
+    more packets than are left."""
+    draw = random.Random(seed)
     left, number = packets, 0
     while left:
         run = some_run(draw, number, left)
         yield run
         left -= len(run.records)
         number += 1
+
+
+def runs(packets):
+    """Runs with `packets` packets in all, the same every time."""
+    return drawn(some_run, SEED, packets)

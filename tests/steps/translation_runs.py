@@ -1,13 +1,11 @@
 """Random runs with translation: connections from the inside and to own addresses, their packets both ways, and errors
 about packets as they are written."""
 
-import random
-
 import tracking.random_cases
 from captures.frames import ICMP, TCP, UDP
 from captures.packets import ipv4, summed_message
 from rulesets.tree import Network
-from steps.random_runs import LINKS, Packets, datagram_of, ends_of, with_packets
+from steps.random_runs import LINKS, Packets, datagram_of, drawn, ends_of, with_packets
 from steps.run import INSIDE, INTERFACE, Run, seed_of
 from steps.translation_texts import (INSIDE_HOSTS, INSIDE_PORTS, OUTSIDE_HOSTS, OWN_HOSTS, OWN_PORTS, SERVER_PORTS,
                                      some_text)
@@ -103,12 +101,11 @@ def some_run(draw, number, most, seed, counts=COUNTS, interfaces=(INTERFACE,)):
     return with_packets(draw, run, TranslatedPackets, count)
 
 
+def seeded_run(draw, number, most):
+    """A run whose seed is drawn first."""
+    return some_run(draw, number, most, seed_of(draw.choice(SEED_BYTES)))
+
+
 def runs(packets):
     """Runs with `packets` packets in all, the same every time."""
-    draw = random.Random(SEED)
-    left, number = packets, 0
-    while left:
-        run = some_run(draw, number, left, seed_of(draw.choice(SEED_BYTES)))
-        yield run
-        left -= len(run.records)
-        number += 1
+    return drawn(seeded_run, SEED, packets)

@@ -7,8 +7,8 @@ use Rattle.pfr_capture.specs.declared.capture.Form.{Form}
 use Rattle.pfr_capture.specs.declared.capture.Record.{Record}
 use Rattle.pfr_capture.specs.declared.capture.Tail.{Tail}
 use Rattle.pfr_capture.specs.declared.capture.Tail.TheVariants.{Clean, Cut}
-use Rattle.pfr_capture.specs.Reading.{HasGiven, LacksRecord, NextFails, Reading, bytes_of, tail_of}
-use Rattle.pfr_capture.specs.Records.{EndsAs, RecordBytes, fraction_of, seconds_of}
+use Rattle.pfr_capture.specs.Reading.{FieldsOf, HasGiven, LacksRecord, NextFails, Reading, bytes_of, tail_of}
+use Rattle.pfr_capture.specs.Records.{EndsAs, RecordBytes}
 use Rattle.pfr_merge.specs.declared.time.Time.{Time}
 use Rattle.pfr_merge.specs.Arrivals.{Arrived, Event, arrived, came, event_of, refused, time_of}
 use Rattle.pfr_merge.specs.Merging.{merged}
@@ -179,13 +179,11 @@ form_in w = w.reading.form
 abbrev pub header_in : Waiting → List ℕ
 header_in w = w.reading.header
 
--- A record of the capture at a place has that place, which is less than 256 in every run, and what its header says under the capture's
--- form.
+-- A record of the capture at a place has that place, which is less than 256 in every run, and else the fields that the capture's reader
+-- gives it.
 pub record IsOfCapture (place : ℕ) (form : Form) (r : Record) : Type 0 where
   pub place_is : place < 256 → r.place ≡ place
-  pub link : r.link ≡ form.link
-  pub seconds : r.seconds ≡ seconds_of form.order r.header
-  pub fraction : r.fraction ≡ fraction_of form.order r.header
+  pub fields : FieldsOf form (record r { place = 0 })
 
 -- the record that an answer gives, as one of the capture at its place
 pub record IsRecordOf (ws : List Waiting) (found : ℕ × Record) (form : Form) : Type 0 where
