@@ -153,9 +153,10 @@ impl Job {
     pub(crate) fn is_skipped(&self, place: InterfacePlace) -> bool
         ensures { result ≡ spec.is_skipped self.now place }
     {
-        let name = self.name_in(place);
         let skipped = self.rules.options.skipped.as_slice();
-        skipped.iter().any(|other| is_named(other, &name))
+        skipped
+            .iter()
+            .any(|name| is_named(name, &self.name_in(place)))
     }
 
     /// The timeouts of the ruleset.
