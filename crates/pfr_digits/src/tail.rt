@@ -6,9 +6,9 @@ use crate::digits::write_digits;
 use std::marker::Model;
 
 /// The greatest length of a text.
-const ROOM: usize = 128;
+const ROOM: usize = 160;
 
-/// The end of a text of at most 128 bytes.
+/// The end of a text of at most 160 bytes.
 #[derive(Drop)]
 pub struct Tail {
     /// The text stands at the end.
@@ -23,7 +23,7 @@ impl Model for Tail {
 
     ghost view = { λ t. drop t.start t.bytes };
 
-    ghost invariant = { λ t. t.start ≤ 128 };
+    ghost invariant = { λ t. t.start ≤ 160 };
 }
 
 impl Tail {
@@ -49,7 +49,7 @@ impl Tail {
     /// Puts a word before the text so far.
     #[inline(always)]
     pub fn put_word(&mut self, word: &[u8])
-        requires room { length word.now + length self.old ≤ 128 }
+        requires room { length word.now + length self.old ≤ 160 }
         ensures text { self.new ≡ word.now ++ self.old }
         ensures long { length self.new ≡ length word.now + length self.old }
     {
@@ -62,7 +62,7 @@ impl Tail {
     /// Puts the decimal digits of a number before the text so far.
     #[inline]
     pub fn put_number(&mut self, number: u64)
-        requires room { 20 + length self.old ≤ 128 }
+        requires room { 20 + length self.old ≤ 160 }
         ensures text { self.new ≡ decimal number ++ self.old }
         ensures long { length self.new ≤ 20 + length self.old }
         // as each number of 32, of 16 and of 8 bits

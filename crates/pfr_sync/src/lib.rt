@@ -28,6 +28,7 @@ mod telling;
 pub use digest::checksum;
 pub use event::{Event, EventKind};
 pub use file::ip_header;
+pub use names::letters;
 pub use origin::{MOST_INTERFACES, Origin};
 pub use pfr_messages::{Message, SyncError, decode, encode, encode_onto};
 pub use pfr_standby::{Kept, Standby};

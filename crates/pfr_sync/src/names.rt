@@ -1,19 +1,27 @@
 //! Names of interfaces as messages have them.
-ghost use Rattle.std.specs.Prelude.{◌≡◌};
+ghost use Rattle.std.specs.Prelude.{◌≡◌, ◌≤◌, length};
 ghost use Rattle.pfr_sync.specs.Queues as spec;
 
 use crate::origin::MOST_INTERFACES;
 use pfr_net::IfName;
 
-/// The bytes of a name before its first zero.
-fn plain_name(name: &IfName) -> IfName
-    ensures { result ≡ spec.plain_name name.now }
+/// The letters of a name: its bytes before the first zero, at most sixteen.
+pub fn letters(name: &IfName) -> &[u8]
+    ensures letters { result.now ≡ spec.before_zero name.now.bytes }
+    ensures long { length result.now ≤ 16 }
 {
     let mut end = 0;
     while end < name.bytes.len() && name.bytes[end] != 0 {
         end += 1;
     }
-    IfName::new(&name.bytes[..end])
+    &name.bytes[..end]
+}
+
+/// A name with nothing but zeros behind its letters.
+fn plain_name(name: &IfName) -> IfName
+    ensures { result ≡ spec.plain_name name.now }
+{
+    IfName::new(letters(name))
 }
 
 /// The names of a run's interfaces by their places: those of the first eight, and names without letters where there are fewer.

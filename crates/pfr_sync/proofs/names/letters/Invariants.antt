@@ -1,6 +1,6 @@
 use Rattle.std.proofs.Common.{◌≡◌, ◌≤◌, ◌-◌, ◌++◌, take, drop, length}
 use Rattle.pfr_sync.specs.Queues.{before_zero}
-use Rattle.pfr_sync.proofs.names.plain_name.Given as goal
+use Rattle.pfr_sync.proofs.names.letters.Given as goal
 
 abbrev pub invariant-loop-end : goal.invariant-loop-end
 invariant-loop-end l = record {
