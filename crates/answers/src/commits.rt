@@ -21,18 +21,19 @@
 //!     clear                                  what was emitted is forgotten
 //!     end                                    the end of the run
 //!
-//! A batch, and a packet that is committed alone, are answered with the verdict lines, `packets BYTES`, `messages BYTES`, and
-//! `own N, committed N`; where memory is refused `refused` stands before these. Messages are as a peer gets them. `speculate`
-//! answers nothing, or `lost` where memory is refused. The end is answered with `message BYTES`, the counters and the states, or
-//! with `refused`, and then with `end`. Where the ruleset of a job is refused that is answered, and no book takes packets where
-//! it is the first.
+//! A batch, and a packet that is committed alone, are answered with the verdict lines, the packets that it added,
+//! `messages BYTES`, and `own N, committed N`; where memory is refused `refused` stands before these. The packets are a line
+//! `packets PLACE BYTES` for each place that has some, by place, even if the run has one interface, and `packets -` if there
+//! are none. Messages are as a peer gets them. `speculate` answers nothing, or `lost` where memory is refused. The end is
+//! answered with `message BYTES`, the counters and the states, or with `refused`, and then with `end`. Where the ruleset of a
+//! job is refused that is answered, and no book takes packets where it is the first.
 mod packets;
 
 use crate::commits::packets::Packets;
 use crate::given::{Given, Words};
 use crate::printing::{put_bytes, put_fault};
 use pfr_capture::Record;
-use pfr_commit::{Book, Emitted, Ending};
+use pfr_commit::{Book, Emitted, Ending, PacketTexts};
 use pfr_net::{IfName, Ipv4Address, Net};
 use pfr_packet::Job;
 use pfr_record::{Speculation, speculate};
@@ -127,27 +128,39 @@ fn taken(kept: &mut [Option<Speculation>], number: usize) -> Option<Speculation>
     }
 }
 
-/// How much was emitted: bytes of verdicts and of packets, and messages.
-#[derive(Clone, Copy)]
-struct Place {
+/// How much was emitted: bytes of verdicts, bytes of packets by their places, and messages.
+#[derive(Drop)]
+struct Lengths {
     verdicts: usize,
-    packets: usize,
+    packets: Vec<usize>,
     messages: usize,
 }
 
-impl Place {
-    const START: Place = Place {
-        verdicts: 0,
-        packets: 0,
-        messages: 0,
-    };
-
-    fn behind(emitted: &Emitted) -> Place {
-        Place {
-            verdicts: emitted.verdicts.len(),
-            packets: emitted.packets.len(),
-            messages: emitted.messages.len(),
+impl Lengths {
+    /// Nothing was emitted.
+    fn none(alloc: Global) -> Lengths {
+        Lengths {
+            verdicts: 0,
+            packets: Vec::new(alloc),
+            messages: 0,
         }
+    }
+
+    fn of(alloc: Global, emitted: &Emitted) -> Result<Lengths, AllocError> {
+        let mut packets = Vec::new(alloc);
+        for text in emitted.packets.as_slice() {
+            packets.push(text.len())?;
+        }
+        Ok(Lengths {
+            verdicts: emitted.verdicts.len(),
+            packets,
+            messages: emitted.messages.len(),
+        })
+    }
+
+    /// The bytes of packets at a place.
+    fn packets_at(&self, place: usize) -> usize {
+        self.packets.get(place).copied().unwrap_or(0)
     }
 }
 
@@ -180,18 +193,53 @@ fn put_messages(
     put_line(alloc, out, word, bytes.as_slice())
 }
 
-/// Prints what was emitted behind a place, and how far a book has come.
+/// Puts the line of the packets at a place, if there are some, and answers whether there are.
+fn put_place(
+    alloc: Global,
+    out: &mut String,
+    place: usize,
+    packets: &[u8],
+) -> Result<bool, AllocError> {
+    if packets.is_empty() {
+        return Ok(false);
+    }
+    let digits = hex::encode(alloc, packets)?;
+    writeln!(out, "packets {place} {digits}")?;
+    Ok(true)
+}
+
+/// Puts the lines of the packets behind these lengths.
+fn put_packets(
+    alloc: Global,
+    out: &mut String,
+    packets: &PacketTexts,
+    lengths: &Lengths,
+) -> Result<(), AllocError> {
+    let mut is_any = false;
+    for (place, text) in packets.as_slice().iter().enumerate() {
+        let added = behind(text.as_slice(), lengths.packets_at(place));
+        if put_place(alloc, out, place, added)? {
+            is_any = true;
+        }
+    }
+    if is_any {
+        Ok(())
+    } else {
+        out.push_str("packets -\n")
+    }
+}
+
+/// Prints what was emitted behind these lengths, and how far a book has come.
 fn put_emitted(
     alloc: Global,
     out: &mut String,
     emitted: &Emitted,
-    place: Place,
+    lengths: &Lengths,
     book: &Book,
 ) -> Result<(), AllocError> {
-    put_bytes(out, behind(emitted.verdicts.as_slice(), place.verdicts))?;
-    let packets = behind(emitted.packets.as_slice(), place.packets);
-    put_line(alloc, out, "packets", packets)?;
-    let messages = behind(emitted.messages.as_slice(), place.messages);
+    put_bytes(out, behind(emitted.verdicts.as_slice(), lengths.verdicts))?;
+    put_packets(alloc, out, &emitted.packets, lengths)?;
+    let messages = behind(emitted.messages.as_slice(), lengths.messages);
     put_messages(alloc, out, "messages", messages)?;
     writeln!(out, "own {}, committed {}", book.own(), book.committed())
 }
@@ -203,11 +251,12 @@ fn put_committed(
     emitted: &Result<Emitted, AllocError>,
     book: &Book,
 ) -> Result<(), AllocError> {
+    let lengths = Lengths::none(alloc);
     match emitted {
-        Ok(emitted) => put_emitted(alloc, out, emitted, Place::START, book),
+        Ok(emitted) => put_emitted(alloc, out, emitted, &lengths, book),
         Err(_) => {
             out.push_str("refused\n")?;
-            put_emitted(alloc, out, &Emitted::new(alloc), Place::START, book)
+            put_emitted(alloc, out, &Emitted::new(alloc), &lengths, book)
         }
     }
 }
@@ -339,12 +388,12 @@ impl Run {
         if book.committed() > MOST || packets.len() as u64 > MOST {
             return Ok(());
         }
-        let place = Place::behind(&self.emitted);
+        let lengths = Lengths::of(self.alloc, &self.emitted)?;
         let committed = book.commit_batch(packets, results, &mut self.emitted);
         if committed.is_err() {
             out.push_str("refused\n")?;
         }
-        put_emitted(self.alloc, out, &self.emitted, place, book)
+        put_emitted(self.alloc, out, &self.emitted, &lengths, book)
     }
 
     /// Commits the next packet with a speculation, if there is a book and a packet.

@@ -17,7 +17,8 @@ pub(crate) fn put_bytes(out: &mut String, bytes: &[u8]) -> Result<(), AllocError
 /// The line of a state.
 pub(crate) fn put_state(alloc: Global, out: &mut String, state: &State) -> Result<(), AllocError> {
     let mut line = Vec::new(alloc);
-    StateLine { state }.put(&mut line)?;
+    let interfaces = &[];
+    StateLine { interfaces, state }.put(&mut line)?;
     put_bytes(out, line.as_slice())
 }
 

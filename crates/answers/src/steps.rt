@@ -6,6 +6,7 @@
 //! NUMBER`); what is written into its bytes (`source` or `destination`, and an address and port). In place of nothing there
 //! is a `-`. A change that the table refuses has ` refused` behind it. Behind a state's line stand the place of the interface on
 //! which it was made and, behind a slash, the place of the one to which it is bound, or `-` for all.
+//! No line ends in the name of an interface.
 //!
 //! A run holds a byte that counts the interfaces, and these by their places; the inside networks (one byte that counts them, and
 //! of each four bytes and the bits in one); the text of the ruleset with its length before it in four bytes; a byte, which is
@@ -209,8 +210,10 @@ fn replay_packet(
 ) -> Result<(), AllocError> {
     let outcome = evaluate(alloc, table, job, number, clock, record)?;
     let line = VerdictLine {
+        interfaces: &[],
         number,
         clock,
+        place: record.place,
         outcome: &outcome,
     };
     let answered = put_taken(alloc, out, table, line);

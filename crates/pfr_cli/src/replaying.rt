@@ -6,9 +6,10 @@ use crate::peer::{Connection, connected};
 use crate::same_file::repeated_output;
 use pfr_capture::{ReaderSource, Tail, WriterSink};
 use pfr_command::{Messages, OutputNames, RunWords};
-use pfr_out::{Form, Gate, Report, RunSettings, Sinks, replay_job};
+use pfr_out::{Form, Gate, PacketSinks, Report, RunSettings, Sinks, replay_job};
 use pfr_packet::Job;
 use pfr_prepare::prepared_text;
+use std::alloc::{AllocError, AllocGlobal};
 use std::io::Write;
 use std::net::Net;
 use std::rt::Files;
@@ -82,17 +83,27 @@ fn form_of(messages: &Messages<'_>) -> Form {
 }
 
 /// Creates the files of the outputs, in this order, and behind them the connection to a peer.
-fn sinks<'a, R: Files + Net>(
+fn sinks<'a, R: Files + Net + AllocGlobal>(
     rt: &R,
     names: &OutputNames<'a>,
 ) -> Result<Sinks<OutputSink<R>>, Failure<'a>> {
     Ok(Sinks {
         verdicts: file_sink(rt, names.verdicts)?,
-        packets: file_sink(rt, names.packets)?,
+        packets: packet_sinks(rt, names.packets)?,
         counters: file_sink(rt, names.counters)?,
         states: file_sink(rt, names.states)?,
         messages: messages_sink(rt, &names.messages)?,
     })
+}
+
+/// Creates the file of the packets, which are those of one capture.
+fn packet_sinks<'a, R: Files + Net + AllocGlobal>(
+    rt: &R,
+    name: &'a str,
+) -> Result<PacketSinks<OutputSink<R>>, Failure<'a>> {
+    let mut sinks = Vec::with_capacity(rt.alloc(), 1)?;
+    sinks.push(file_sink(rt, name)?).map_err(AllocError::from)?;
+    Ok(PacketSinks::new(sinks))
 }
 
 /// Creates the file of an output.

@@ -1,16 +1,21 @@
 -- What packets leave in the lines and the counters.
-use Rattle.std.proofs.Common.{◌≡◌, ◌≤◌, ◌<◌, ◌+◌, ◌-◌, ◌^◌, ◌++◌, ◌∷◌, ◌&&◌, ◌==◌, ◌⊎◌, inl, inr, ℕ, suc, max, List, [], length, map, fold, get_or, replicate, Option, Some, None, cond, refl, sym, ap, ◌∙◌, arith}
+use Rattle.std.proofs.Common.{◌≡◌, ◌≤◌, ◌<◌, ◌+◌, ◌-◌, ◌^◌, ◌++◌, ◌∷◌, ◌&&◌, ◌==◌, ◌⊎◌, inl, inr, ℕ, nat_lt, false, suc, max, List, [], length, map, fold, get_or, replicate, Option, Some, None, cond, refl, sym, ap, ◌∙◌, arith}
 use Rattle.std.specs.List.{All, Any, count_by, flat_map, range_with_len, sum_by}
-use Rattle.std.proofs.lemmas.Bool.{cases_Bool, cases_lt, eqb-true, eq-eqb, false≢true}
+use Rattle.std.proofs.lemmas.Bool.{cases_Bool, cases_lt, eqb-true, eq-eqb, false≢true, le-ltb}
 use Rattle.std.proofs.lemmas.List.{append_assoc, append-nil, get_or-replicate, get_or-set_other, get_or-set_same, length-replicate, length-set}
-use Rattle.std.proofs.lemmas.List.Elements.{All-cons, All-head}
+use Rattle.std.proofs.lemmas.List.Elements.{All-cons, All-head, All-tail}
 use Rattle.std.proofs.lemmas.List.Sums.{sum_by-cons}
+use Rattle.std.proofs.Math.Path.{fun_ext}
+use Rattle.pfr_net.specs.declared.interface.Binding.{Binding}
+use Rattle.pfr_net.specs.declared.interface.Binding.TheVariants.{To}
 use Rattle.pfr_net.specs.declared.rule_number.RuleNumber.{RuleNumber}
+use Rattle.pfr_ruleset.specs.declared.interface.Interface.{Interface}
 use Rattle.pfr_ruleset.specs.Rulesets.{counts}
 use Rattle.pfr_headers.specs.declared.packet.View.{View}
 use Rattle.pfr_headers.specs.declared.packet.View.TheVariants.{Ipv4, Skip, Short}
 use Rattle.pfr_headers.specs.View.{view_of}
 use Rattle.pfr_rules.specs.Counts.{added, raised}
+use Rattle.pfr_track.specs.declared.state.State.{State}
 use Rattle.pfr_states.specs.States.{names_rule}
 use Rattle.pfr_packet.specs.declared.outcome.Outcome.{Outcome}
 use Rattle.pfr_packet.specs.declared.verdict.Reason.{Reason}
@@ -21,10 +26,12 @@ use Rattle.pfr_packet.specs.Job.{RunJob}
 use Rattle.pfr_commit.specs.declared.counters.Counters.{Counters}
 use Rattle.pfr_commit.specs.declared.counters.Totals.{Totals}
 use Rattle.pfr_commit.specs.Counters.{added_to, counted, counts_for_rules, length_of, no_totals, with_named, with_verdict}
-use Rattle.pfr_commit.specs.Lines.{verdict_line}
-use Rattle.pfr_commit.specs.Runs.{RuleKind, Taken, bytes_for, capped, comes_to, counters_of, counts_for, is_same_verdict, named_by, next_taken, number_of, reason_counts, taken_after, taken_in, total_length_of, total_of, visited_of, visits_to}
+use Rattle.pfr_commit.specs.Endings.{states_text}
+use Rattle.pfr_commit.specs.Laws.{IsOfOneCapture}
+use Rattle.pfr_commit.specs.Lines.{ends_part, keys_part, mark, state_line, traffic_before, verdict_before, verdict_line}
+use Rattle.pfr_commit.specs.Runs.{RuleKind, Taken, bytes_for, capped, comes_to, counters_of, counts_for, is_same_verdict, line_of, named_by, next_taken, number_of, plain_line, plain_record, plain_state, reason_counts, record_at, taken_after, taken_in, total_length_of, total_of, visited_of, visits_to}
 use Rattle.pfr_commit.specs.Runs.RuleKind.{filter_rule, translation_rule}
-use Rattle.pfr_commit.specs.World.{Frame, World, after, opening, packet_text, with_outcome, world_after, world_of}
+use Rattle.pfr_commit.specs.World.{Frame, World, after, only_at, opening, with_outcome, world_after, world_of}
 use Rattle.pfr_commit.proofs.WorldLemmas.{world_count}
 
 -- ---- lines and records
@@ -43,22 +50,65 @@ numbers_after job world (frame ∷ frames) =
     ap (λ (ns : List ℕ). (world.count + 1) ∷ ns) (numbers_after job (after job world frame) frames ∙ ap (λ (n : ℕ). range_with_len (n + 1) (length frames)) (count_next job world frame))
 
 pub verdicts_after : (job : RunJob) (world : World) (frames : List Frame)
-    → (world_after job world frames).verdicts ≡ world.verdicts ++ flat_map (λ (p : Taken). verdict_line p.number p.clock p.outcome) (taken_after job world frames)
+    → (world_after job world frames).verdicts ≡ world.verdicts ++ flat_map (line_of job) (taken_after job world frames)
 unfolding world_after after with_outcome
 verdicts_after job world [] = sym (append-nil world.verdicts)
 verdicts_after job world (frame ∷ frames) =
     let p = next_taken job world frame in
     verdicts_after job (after job world frame) frames
-    ∙ append_assoc world.verdicts (verdict_line p.number p.clock p.outcome) (flat_map (λ (p : Taken). verdict_line p.number p.clock p.outcome) (taken_after job (after job world frame) frames))
+    ∙ append_assoc world.verdicts (line_of job p) (flat_map (line_of job) (taken_after job (after job world frame) frames))
 
-pub packets_after : (job : RunJob) (world : World) (frames : List Frame)
-    → (world_after job world frames).packets ≡ world.packets ++ flat_map (λ (p : Taken). packet_text p.frame p.outcome) (taken_after job world frames)
+pub packets_after : (place : ℕ) (job : RunJob) (world : World) (frames : List Frame)
+    → (world_after job world frames).packets place ≡ world.packets place ++ flat_map (record_at place) (taken_after job world frames)
 unfolding world_after after with_outcome
-packets_after job world [] = sym (append-nil world.packets)
-packets_after job world (frame ∷ frames) =
+packets_after place job world [] = sym (append-nil (world.packets place))
+packets_after place job world (frame ∷ frames) =
     let p = next_taken job world frame in
-    packets_after job (after job world frame) frames
-    ∙ append_assoc world.packets (packet_text p.frame p.outcome) (flat_map (λ (p : Taken). packet_text p.frame p.outcome) (taken_after job (after job world frame) frames))
+    packets_after place job (after job world frame) frames
+    ∙ append_assoc (world.packets place) (record_at place p) (flat_map (record_at place) (taken_after job (after job world frame) frames))
+
+-- ---- with one capture
+
+plain_mark : (interfaces : List Interface) (binding : Binding) → length interfaces ≤ 1 → mark interfaces binding ≡ []
+plain_mark interfaces binding few = (let one : nat_lt 1 (length interfaces) ≡ false = le-ltb 1 (length interfaces) few in rw one refl)
+
+plain_is : (job : RunJob) (p : Taken) → length job.rules.interfaces ≤ 1 → line_of job p ≡ plain_line p
+unfolding verdict_line
+plain_is job p few = ap (λ (mark : List ℕ). verdict_before p.number p.clock p.outcome (mark ++ 10 ∷ [])) (plain_mark job.rules.interfaces (To p.frame.place) few)
+
+plain_state_is : (interfaces : List Interface) (state : State) → length interfaces ≤ 1 → state_line interfaces state ≡ plain_state state
+unfolding state_line
+plain_state_is interfaces state few =
+    ap (λ (mark : List ℕ). keys_part state ++ (ends_part state ++ traffic_before state (mark ++ 10 ∷ []))) (plain_mark interfaces state.rules.binding few)
+
+-- what is the same of each is the same of all
+each_text : {X : Type 0} (f g : X → List ℕ) (xs : List X) → ((x : X) → f x ≡ g x) → flat_map f xs ≡ flat_map g xs
+each_text f g [] same = refl
+each_text f g (x ∷ xs) same = rw (same x, each_text f g xs same) refl
+
+pub plain_lines : (job : RunJob) (frames : List Frame) → IsOfOneCapture job frames → (world_of job frames).verdicts ≡ flat_map plain_line (taken_in job frames)
+unfolding world_of opening
+plain_lines job frames one = verdicts_after job (opening job) frames ∙ each_text (line_of job) plain_line (taken_in job frames) (λ p. plain_is job p one.interface)
+
+pub plain_states : (job : RunJob) (frames : List Frame) (states : List State) → IsOfOneCapture job frames → states_text job.rules.interfaces states ≡ flat_map plain_state states
+unfolding states_text
+plain_states job frames states one = each_text (state_line job.rules.interfaces) plain_state states (λ state. plain_state_is job.rules.interfaces state one.interface)
+
+-- the packets of one interface go to its output
+records_at : (place : ℕ) (packets : List Taken) → All (λ frame. frame.place.0 ≡ 0) (map (λ (p : Taken). p.frame) packets) → flat_map (record_at place) packets ≡ only_at 0 (flat_map plain_record packets) place
+records_at place [] at = elim (cases_Bool (place == 0)) [ inl here ↦ rw here refl | inr other ↦ rw other refl ]
+records_at place (p ∷ packets) at =
+    let first : p.frame.place.0 ≡ 0 = All-head (λ (f : Frame). f.place.0 ≡ 0) p.frame (map (λ (p : Taken). p.frame) packets) at in
+    let rest = records_at place packets (All-tail (λ (f : Frame). f.place.0 ≡ 0) p.frame (map (λ (p : Taken). p.frame) packets) at) in
+    ap (λ (t : List ℕ). record_at place p ++ t) rest
+    ∙ ap (λ (at_place : ℕ). only_at at_place (plain_record p) place ++ only_at 0 (flat_map plain_record packets) place) first
+    ∙ elim (cases_Bool (place == 0)) [ inl here ↦ rw here refl | inr other ↦ rw other refl ]
+
+pub plain_records : (job : RunJob) (frames : List Frame) → IsOfOneCapture job frames → (world_of job frames).packets ≡ only_at 0 (flat_map plain_record (taken_in job frames))
+unfolding world_of opening
+plain_records job frames one = fun_ext (λ (place : ℕ).
+    packets_after place job (opening job) frames
+    ∙ records_at place (taken_in job frames) (rw (frames_after job (opening job) frames) one.packets))
 
 -- ---- the clock
 

@@ -5,6 +5,7 @@ use Rattle.std.proofs.lemmas.Bool.{and_parts, le-ltb, ltb-true}
 use Rattle.std.proofs.lemmas.Grind.{flat_map-append}
 use Rattle.std.proofs.lemmas.List.{append_assoc, append-nil, length-append, length_push}
 use Rattle.std.proofs.lemmas.List.Folds.{list_all-append}
+use Rattle.pfr_ruleset.specs.declared.interface.Interface.{Interface}
 use Rattle.pfr_track.specs.declared.state.State.{State}
 use Rattle.pfr_states.specs.States.{after, are_above, first, rise}
 use Rattle.pfr_commit.specs.declared.counters.RuleCounters.{RuleCounters}
@@ -31,16 +32,16 @@ lines_more kind counters n =
 -- ---- states by number
 
 -- the first `count` of these states are written, and the next one follows them
-pub record IsWritten (states : List State) (count : ℕ) (next : Option State) (text : List ℕ) : Type 0 where
+pub record IsWritten (interfaces : List Interface) (states : List State) (count : ℕ) (next : Option State) (text : List ℕ) : Type 0 where
   pub written : List State
   pub rest : List State
   pub all : states ≡ written ++ rest
   pub counted : length written ≡ count
   pub next_is : next ≡ first rest
-  pub text_is : text ≡ flat_map state_line written
+  pub text_is : text ≡ flat_map (state_line interfaces) written
 
-pub none_written : (states : List State) → IsWritten states 0 (first states) []
-none_written states = record { written = []; rest = states; all = refl; counted = refl; next_is = refl; text_is = refl }
+pub none_written : (interfaces : List Interface) (states : List State) → IsWritten interfaces states 0 (first states) []
+none_written interfaces states = record { written = []; rest = states; all = refl; counted = refl; next_is = refl; text_is = refl }
 
 -- what holds of each of a list holds of one that is in it
 each_does : (p : State → Bool) (xs : List State) (x : State) (ys : List State) → list_all p (xs ++ x ∷ ys) ≡ true → p x ≡ true
@@ -60,10 +61,10 @@ after_next (x ∷ xs) state rest in_order =
     let parts = and_parts _ _ in_order in
     rw (not_below state.number.0 x.number.0 (each_does (λ other. nat_lt x.number.0 other.number.0) xs state rest parts.0)) (after_next xs state rest parts.1)
 
-written_more : (states written rest : List State) (count : ℕ) (state : State) (text : List ℕ) → rise states ≡ true → states ≡ written ++ rest → length written ≡ count → Some state ≡ first rest → text ≡ flat_map state_line written
-    → IsWritten states (count + 1) (after state.number states) (text ++ state_line state)
-written_more states written [] count state text in_order all counted next_is text_is = absurd (cc next_is)
-written_more states written (x ∷ xs) count state text in_order all counted next_is text_is =
+written_more : (interfaces : List Interface) (states written rest : List State) (count : ℕ) (state : State) (text : List ℕ) → rise states ≡ true → states ≡ written ++ rest → length written ≡ count → Some state ≡ first rest → text ≡ flat_map (state_line interfaces) written
+    → IsWritten interfaces states (count + 1) (after state.number states) (text ++ state_line interfaces state)
+written_more interfaces states written [] count state text in_order all counted next_is text_is = absurd (cc next_is)
+written_more interfaces states written (x ∷ xs) count state text in_order all counted next_is text_is =
     let same : state ≡ x = cc next_is in
     record {
       written = written ++ state ∷ [];
@@ -71,25 +72,25 @@ written_more states written (x ∷ xs) count state text in_order all counted nex
       all = all ∙ (rw (← same) (sym (append_assoc written (state ∷ []) xs)));
       counted = length_push written state ∙ ap (λ (n : ℕ). n + 1) counted;
       next_is = rw all (rw (← same) (after_next written state xs (rw (all, ← same) at in_order)));
-      text_is = rw text_is (sym (flat_map-append state_line written (state ∷ []) ∙ ap (λ (t : List ℕ). flat_map state_line written ++ t) (append-nil (state_line state))));
+      text_is = rw text_is (sym (flat_map-append (state_line interfaces) written (state ∷ []) ∙ ap (λ (t : List ℕ). flat_map (state_line interfaces) written ++ t) (append-nil (state_line interfaces state))));
     }
 
-pub next_written : (states : List State) (count : ℕ) (next : Option State) (state : State) (text : List ℕ) → rise states ≡ true → IsWritten states count next text → next ≡ Some state
-    → IsWritten states (count + 1) (after state.number states) (text ++ state_line state)
-next_written states count next state text in_order w is =
-    written_more states w.written w.rest count state text in_order w.all w.counted (sym is ∙ w.next_is) w.text_is
+pub next_written : (interfaces : List Interface) (states : List State) (count : ℕ) (next : Option State) (state : State) (text : List ℕ) → rise states ≡ true → IsWritten interfaces states count next text → next ≡ Some state
+    → IsWritten interfaces states (count + 1) (after state.number states) (text ++ state_line interfaces state)
+next_written interfaces states count next state text in_order w is =
+    written_more interfaces states w.written w.rest count state text in_order w.all w.counted (sym is ∙ w.next_is) w.text_is
 
 -- as long as fewer are written than there are, there is a next one
-pub one_is_next : (states : List State) (count : ℕ) (text : List ℕ) → count < length states → IsWritten states count None text → ⊥
-one_is_next states count text less w = no_rest states w.written w.rest count less w.all w.counted w.next_is
+pub one_is_next : (interfaces : List Interface) (states : List State) (count : ℕ) (text : List ℕ) → count < length states → IsWritten interfaces states count None text → ⊥
+one_is_next interfaces states count text less w = no_rest states w.written w.rest count less w.all w.counted w.next_is
   where
     no_rest : (states written rest : List State) (count : ℕ) → count < length states → states ≡ written ++ rest → length written ≡ count → None ≡ first rest → ⊥
     no_rest states written [] count less all counted none = (let long : length states ≡ length written = ap (λ (xs : List State). length xs) (all ∙ append-nil written) in omega arith)
     no_rest states written (x ∷ xs) count less all counted none = cc none
 
 -- once as many are written as there are, all are
-pub all_written : (states : List State) (next : Option State) (text : List ℕ) → IsWritten states (length states) next text → text ≡ flat_map state_line states
-all_written states next text w = w.text_is ∙ ap (λ (xs : List State). flat_map state_line xs) (no_more states w.written w.rest w.all w.counted)
+pub all_written : (interfaces : List Interface) (states : List State) (next : Option State) (text : List ℕ) → IsWritten interfaces states (length states) next text → text ≡ flat_map (state_line interfaces) states
+all_written interfaces states next text w = w.text_is ∙ ap (λ (xs : List State). flat_map (state_line interfaces) xs) (no_more states w.written w.rest w.all w.counted)
   where
     no_more : (states written rest : List State) → states ≡ written ++ rest → length written ≡ length states → written ≡ states
     no_more states written [] all counted = sym (all ∙ append-nil written)

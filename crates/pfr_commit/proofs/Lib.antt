@@ -8,6 +8,7 @@ pub mod HoldingLemmas
 pub mod LimitLemmas
 pub mod MachineLemmas
 pub mod OnlineLemmas
+pub mod PlaceLemmas
 pub mod ResultLemmas
 pub mod StandLemmas
 pub mod StandbyLemmas

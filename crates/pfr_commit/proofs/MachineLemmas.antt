@@ -17,7 +17,7 @@ use Rattle.pfr_packet.specs.Steps.{asked_of, step_of}
 use Rattle.pfr_record.proofs.SoundLemmas.{sound, sound_outcome}
 use Rattle.pfr_commit.specs.Machine.{Commits, Emits, Event, EveryRun, Guess, IsEvaluation, IsSoundGuess, Loses, Machine, Moves, RunsTo, Takes, start}
 use Rattle.pfr_commit.specs.Machine.Event.{answer, claim, commit, enter, lose, open_batch, publish, repeat, stranger}
-use Rattle.pfr_commit.specs.World.{Frame, Texts, World, after, joined, online, opening, with_outcome, world_after, world_of}
+use Rattle.pfr_commit.specs.World.{Frame, Texts, World, after, each_joined, joined, online, opening, with_outcome, world_after, world_of}
 use Rattle.pfr_commit.proofs.StandLemmas.{texts_are}
 use Rattle.pfr_commit.proofs.WorldLemmas.{after_is, world_append, world_none, world_one}
 
@@ -59,12 +59,12 @@ next_world job packets count frame is below =
     ∙ world_one job (world_after job (opening job) (take count packets)) frame)
 
 -- what was emitted with it
-emitted_next : (job : RunJob) (world : World) (frame : Frame) (clock : Clock) (outcome : Outcome) (emitted added : Texts) → emitted ≡ online job world → Emits job world frame clock outcome added → joined emitted added ≡ online job (with_outcome world frame clock outcome)
+emitted_next : (job : RunJob) (world : World) (frame : Frame) (clock : Clock) (outcome : Outcome) (emitted added : Texts) → emitted ≡ online job world → Emits job world frame clock outcome added → joined emitted added ≡ online job (with_outcome job world frame clock outcome)
 unfolding with_outcome
 emitted_next job world frame clock outcome emitted added is emits =
-    texts_are (joined emitted added) (online job (with_outcome world frame clock outcome))
+    texts_are (joined emitted added) (online job (with_outcome job world frame clock outcome))
     (ap (λ (t : Texts). t.verdicts ++ added.verdicts) is ∙ ap (λ (t : List ℕ). world.verdicts ++ t) emits.verdicts_are)
-    (ap (λ (t : Texts). t.packets ++ added.packets) is ∙ ap (λ (t : List ℕ). world.packets ++ t) emits.packets_are)
+    (ap (λ (t : Texts). each_joined t.packets added.packets) is ∙ ap (each_joined world.packets) emits.packets_are)
     (ap (λ (t : Texts). t.messages ++ added.messages) is ∙ sym emits.messages_are)
 
 kept_start : (job : RunJob) (packets : List Frame) → Keeps job packets (start job)
@@ -90,7 +90,7 @@ before_loss guess old new loses other at = rw loses.old_is (elim (Contains-appen
 kept_commit : (job : RunJob) (packets : List Frame) (old new : Machine) (given : Option Guess) → Keeps job packets old → Commits job packets old given new → Keeps job packets new
 kept_commit job packets old new given keeps c =
     let outcome_is = taken job old.way given (old.world.count + 1) c.clock c.frame.place (view_of c.frame.link c.frame.bytes) old.world.table c.outcome keeps.sound c.takes in
-    let next : with_outcome old.world c.frame c.clock c.outcome ≡ after job old.world c.frame = after_is job old.world c.frame c.clock (view_of c.frame.link c.frame.bytes) c.outcome (ap (λ (t : Clock). t.0) c.clock_is) refl outcome_is in
+    let next : with_outcome job old.world c.frame c.clock c.outcome ≡ after job old.world c.frame = after_is job old.world c.frame c.clock (view_of c.frame.link c.frame.bytes) c.outcome (ap (λ (t : Clock). t.0) c.clock_is) refl outcome_is in
     let is_open = c.is_open in
     let within = keeps.within in
     let below : old.committed < length packets = omega (arith, is_open, within) in

@@ -22,9 +22,9 @@ use Rattle.pfr_sync.proofs.LawLemmas.{closed_messages_stay}
 use Rattle.pfr_sync.proofs.PartLemmas.{parts_push}
 use Rattle.pfr_telling.specs.Telling.{events_of, events_of_change, events_of_purge, events_of_removal, told}
 use Rattle.pfr_telling.proofs.ToldLemmas.{each_of, what_is_told}
-use Rattle.pfr_commit.specs.Lines.{verdict_line}
-use Rattle.pfr_commit.specs.Runs.{next_taken}
-use Rattle.pfr_commit.specs.World.{Frame, Texts, World, after, joined, no_texts, online, opening, origin_of, packet_text, with_outcome, world_after, world_of}
+use Rattle.pfr_commit.specs.Runs.{line_of, next_taken}
+use Rattle.pfr_commit.specs.World.{Frame, Texts, World, after, joined, no_texts, online, only_at, opening, origin_of, packet_text, with_outcome, world_after, world_of}
+use Rattle.pfr_commit.proofs.PlaceLemmas.{each_assoc}
 use Rattle.pfr_commit.proofs.StandLemmas.{nothing_behind, texts_are}
 use Rattle.pfr_commit.proofs.WorldLemmas.{world_append}
 
@@ -189,11 +189,11 @@ online_next job world frame early =
     let p = next_taken job world frame in
     let later : world.clock.0 ≤ p.clock.0 = omega arith in
     let goes = grows_at (origin_of job) world.clock p.clock world.events (events_of p.clock p.outcome.change world.table.states) later early (packet_told_at p.clock p.outcome.change world.table.states) in
-    let added : Texts = record { verdicts = verdict_line p.number p.clock p.outcome; packets = packet_text frame p.outcome; messages = goes.0 } in
+    let added : Texts = record { verdicts = line_of job p; packets = only_at frame.place.0 (packet_text frame p.outcome); messages = goes.0 } in
     (added, texts_are (online job (after job world frame)) (joined (online job world) added) refl refl goes.1)
 
 joined_assoc : (a b c : Texts) → joined (joined a b) c ≡ joined a (joined b c)
-joined_assoc a b c = texts_are (joined (joined a b) c) (joined a (joined b c)) (append_assoc a.verdicts b.verdicts c.verdicts) (append_assoc a.packets b.packets c.packets) (append_assoc a.messages b.messages c.messages)
+joined_assoc a b c = texts_are (joined (joined a b) c) (joined a (joined b c)) (append_assoc a.verdicts b.verdicts c.verdicts) (each_assoc a.packets b.packets c.packets) (append_assoc a.messages b.messages c.messages)
 
 online_from : (job : RunJob) (world : World) (frames : List Frame) → IsEarly world → (added : Texts) × (online job (world_after job world frames) ≡ joined (online job world) added)
 unfolding world_after

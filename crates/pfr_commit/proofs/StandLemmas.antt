@@ -26,9 +26,10 @@ use Rattle.pfr_telling.proofs.ToldLemmas.{told_by_then, told_of_change}
 use Rattle.pfr_commit.specs.declared.book.Book.{Book}
 use Rattle.pfr_commit.specs.declared.emitted.Emitted.{Emitted}
 use Rattle.pfr_commit.specs.Books.{LeadsTo, LeavesTexts, StandsAt, bare, job_of, untold, world_in, world_with}
-use Rattle.pfr_commit.specs.Emissions.{texts_of}
-use Rattle.pfr_commit.specs.World.{Frame, Texts, World, after, joined, no_texts, online, origin_of, with_outcome, world_after}
+use Rattle.pfr_commit.specs.Emissions.{packets_of, texts_of}
+use Rattle.pfr_commit.specs.World.{ByPlace, Frame, Texts, World, after, each_joined, joined, no_texts, online, origin_of, with_outcome, world_after}
 use Rattle.pfr_commit.proofs.BookLemmas.{same_job}
+use Rattle.pfr_commit.proofs.PlaceLemmas.{each_assoc, each_nowhere}
 use Rattle.pfr_commit.proofs.WorldLemmas.{after_is, nothing_taken, part_taken, world_next, world_none}
 
 -- what an evaluation changes, as it is told
@@ -80,21 +81,25 @@ around book world = record (world_in book) { verdicts = world.verdicts; packets 
 around_is : (book : Book) (world : World) → world_in book ≡ bare world → around book world ≡ world
 around_is book world left = ap (λ (w : World). record w { verdicts = world.verdicts; packets = world.packets; changes = world.changes; events = world.events }) left
 
-abbrev texts_by : List ℕ → List ℕ → List Content → Texts
+abbrev texts_by : List ℕ → ByPlace → List Content → Texts
 texts_by verdicts packets messages = record { verdicts = verdicts; packets = packets; messages = messages }
 
 pub texts_are : (a b : Texts) → a.verdicts ≡ b.verdicts → a.packets ≡ b.packets → a.messages ≡ b.messages → a ≡ b
 texts_are a b verdicts packets messages =
-    ap (λ (t : List ℕ). texts_by t a.packets a.messages) verdicts ∙ ap (λ (t : List ℕ). texts_by b.verdicts t a.messages) packets ∙ ap (λ (t : List Content). texts_by b.verdicts b.packets t) messages
+    ap (λ (t : List ℕ). texts_by t a.packets a.messages) verdicts ∙ ap (λ (t : ByPlace). texts_by b.verdicts t a.messages) packets ∙ ap (λ (t : List Content). texts_by b.verdicts b.packets t) messages
 
 -- nothing appended to texts
 pub nothing_behind : (texts more : Texts) → more ≡ no_texts → texts ≡ joined texts more
 nothing_behind texts more none =
-    texts_are texts (joined texts no_texts) (sym (append-nil texts.verdicts)) (sym (append-nil texts.packets)) (sym (append-nil texts.messages)) ∙ ap (λ (t : Texts). joined texts t) (sym none)
+    texts_are texts (joined texts no_texts) (sym (append-nil texts.verdicts)) (each_nowhere texts.packets) (sym (append-nil texts.messages)) ∙ ap (λ (t : Texts). joined texts t) (sym none)
 
 -- one text more appended to others
 behind_both : {X : Type 0} (all before out out' more : List X) → all ≡ before ++ out → out' ≡ out ++ more → all ++ more ≡ before ++ out'
 behind_both all before out out' more all_is out_is = rw (all_is, out_is) (append_assoc before out more)
+
+-- the same of texts by place
+behind_each : (all before out out' more : ByPlace) → all ≡ each_joined before out → out' ≡ each_joined out more → each_joined all more ≡ each_joined before out'
+behind_each all before out out' more all_is out_is = rw (all_is, out_is) (each_assoc before out more)
 
 -- the messages that were closed after others
 messages_behind : (origin told_origin job_origin : Origin) (clock later : Clock) (events more : List Event) (before out out' closed : List Content) → told_origin ≡ origin → origin ≡ job_origin
@@ -110,14 +115,14 @@ same_origin old new is = rw is refl
 pub outcome_leads : (old new : Book) (out out' : Emitted) (frame : Frame) (clock : Clock) (outcome : Outcome) (begun purged_telling told : Telling) (left : StateTable)
     → old.clock.0 ≤ clock.0 → left ≡ purged_at clock old.table → IfSome outcome.change (λ change. IsOwnChange (old.count + 1) clock frame.place (purged clock old.table.states) outcome change)
     → TellsPacket old.telling begun purged_telling told old.clock clock old.table.states left.states outcome.change → new.job ≡ old.job → new.telling.queue ≡ told.queue
-    → out'.messages.items ≡ out.messages.items ++ told.closed.items → world_with new out' ≡ untold (with_outcome (world_with old out) frame clock outcome)
-    → LeadsTo old new out out' (λ world. with_outcome world frame clock outcome)
+    → out'.messages.items ≡ out.messages.items ++ told.closed.items → world_with new out' ≡ untold (with_outcome (job_of old) (world_with old out) frame clock outcome)
+    → LeadsTo old new out out' (λ world. with_outcome (job_of old) world frame clock outcome)
 unfolding with_outcome purged_at
 outcome_leads old new out out' frame clock outcome begun purged_telling told left is_later left_is own tells job_is queue_is messages_are world_is world before stands on =
-    subst (λ (w : World). StandsAt old w → online (job_of old) w ≡ joined before (texts_of out) → StandsAt new (with_outcome w frame clock outcome) × (online (job_of old) (with_outcome w frame clock outcome) ≡ joined before (texts_of out')))
+    subst (λ (w : World). StandsAt old w → online (job_of old) w ≡ joined before (texts_of out) → StandsAt new (with_outcome (job_of old) w frame clock outcome) × (online (job_of old) (with_outcome (job_of old) w frame clock outcome) ≡ joined before (texts_of out')))
     (around_is old world stands.left) go stands on
   where
-    go : StandsAt old (around old world) → online (job_of old) (around old world) ≡ joined before (texts_of out) → StandsAt new (with_outcome (around old world) frame clock outcome) × (online (job_of old) (with_outcome (around old world) frame clock outcome) ≡ joined before (texts_of out'))
+    go : StandsAt old (around old world) → online (job_of old) (around old world) ≡ joined before (texts_of out) → StandsAt new (with_outcome (job_of old) (around old world) frame clock outcome) × (online (job_of old) (with_outcome (job_of old) (around old world) frame clock outcome) ≡ joined before (texts_of out'))
     go at is =
         let states_are : left.states ≡ purged clock old.table.states = ap (λ (t : StateTable). t.states) left_is in
         let next = subst (λ (ss : List State). IfSome outcome.change (λ change. IsNextChange old.count ss change)) (sym states_are) (option_change_is_next old.count clock frame.place (purged clock old.table.states) outcome outcome.change own) in
@@ -129,9 +134,9 @@ outcome_leads old new out out' frame clock outcome begun purged_telling told lef
             tells = rw queue_is both.0.tells;
             told = subst (λ (ss : List State). AreTold (old.count + 1) clock (changed outcome.change (record { states = ss; limit = old.table.limit })).states all) states_are both.1;
           },
-          texts_are (online (job_of old) (with_outcome (around old world) frame clock outcome)) (joined before (texts_of out'))
+          texts_are (online (job_of old) (with_outcome (job_of old) (around old world) frame clock outcome)) (joined before (texts_of out'))
               (behind_both world.verdicts before.verdicts out.verdicts.items out'.verdicts.items _ (ap (λ (t : Texts). t.verdicts) is) (ap (λ (w : World). w.verdicts) world_is))
-              (behind_both world.packets before.packets out.packets.items out'.packets.items _ (ap (λ (t : Texts). t.packets) is) (ap (λ (w : World). w.packets) world_is))
+              (behind_each world.packets before.packets (packets_of out.packets) (packets_of out'.packets) _ (ap (λ (t : Texts). t.packets) is) (ap (λ (w : World). w.packets) world_is))
               (messages_behind old.telling.queue.origin told.queue.origin (origin_of (job_of old)) old.clock clock world.events all before.messages out.messages.items out'.messages.items told.closed.items
               tells.origin_is at.origin_is both.0.closed (ap (λ (t : Texts). t.messages) is) messages_are),
         )
@@ -149,7 +154,7 @@ restand book other world left telling job at = record {
 pub taken_leads : (old begun done new : Book) (out out' : Emitted) (frame : Frame) (clock : Clock) (view : View) (outcome : Outcome)
     → world_in begun ≡ world_in old → begun.telling ≡ old.telling → begun.job ≡ old.job → world_in new ≡ world_in done → new.telling ≡ done.telling → new.job ≡ done.job
     → clock.0 ≡ max old.clock.0 frame.seconds → view ≡ view_of frame.link frame.bytes → outcome ≡ step_of (job_of old) (old.count + 1) clock frame.place view old.table
-    → LeadsTo begun done out out' (λ world. with_outcome world frame clock outcome)
+    → LeadsTo begun done out out' (λ world. with_outcome (job_of begun) world frame clock outcome)
     → LeadsTo old new out out' (λ world. after (job_of old) world frame)
 taken_leads old begun done new out out' frame clock view outcome left telling job left' telling' job' clock_is view_is outcome_is leads world before stands on =
     let count : old.count ≡ world.count = ap (λ (w : World). w.count) stands.left in
@@ -157,12 +162,13 @@ taken_leads old begun done new out out' frame clock view outcome left telling jo
     let table : old.table ≡ world.table = ap (λ (w : World). w.table) stands.left in
     let job_is : job_of begun ≡ job_of old = same_job begun old job in
     let led = leads world before (restand old begun world left telling job stands) (subst (λ (j : RunJob). online j world ≡ joined before (texts_of out)) (sym job_is) on) in
-    let next = after_is (job_of old) world frame clock view outcome
+    let now : with_outcome (job_of begun) world frame clock outcome ≡ with_outcome (job_of old) world frame clock outcome = ap (λ (j : RunJob). with_outcome j world frame clock outcome) job_is in
+    let next = now ∙ after_is (job_of old) world frame clock view outcome
     (clock_is ∙ ap (λ (c : Clock). max c.0 frame.seconds) clock_was) view_is
     (outcome_is ∙ ap (λ (n : ℕ). step_of (job_of old) (n + 1) clock frame.place view old.table) count ∙ ap (λ (t : StateTable). step_of (job_of old) (world.count + 1) clock frame.place view t) table) in
     subst (λ (w : World). StandsAt new w × (online (job_of old) w ≡ joined before (texts_of out'))) next (
-      restand done new (with_outcome world frame clock outcome) left' telling' job' led.0,
-      subst (λ (j : RunJob). online j (with_outcome world frame clock outcome) ≡ joined before (texts_of out')) job_is led.1,
+      restand done new (with_outcome (job_of begun) world frame clock outcome) left' telling' job' led.0,
+      subst (λ (j : RunJob). online j (with_outcome (job_of begun) world frame clock outcome) ≡ joined before (texts_of out')) job_is led.1,
     )
 
 -- ---- a batch

@@ -6,7 +6,7 @@ use Rattle.std.proofs.lemmas.List.Sums.{sum_by-cons}
 use Rattle.pfr_ruleset.specs.Translations.{HaveOwnNumbers}
 use Rattle.pfr_headers.specs.View.{view_of}
 use Rattle.pfr_packet.specs.Job.{RunJob}
-use Rattle.pfr_packet.specs.Laws.{AtMostOnce, VisitsRulesOnce}
+use Rattle.pfr_packet.specs.Laws.{VisitsRulesOnce}
 use Rattle.pfr_commit.specs.Runs.{RuleKind, Taken, capped, counters_of, filter_rule, is_visited, next_taken, number_of, taken_after, taken_in, translation_rule, visited_of, visits_to}
 use Rattle.pfr_commit.specs.World.{Frame, World, after, opening, world_of}
 use Rattle.pfr_commit.proofs.CountLemmas.{evaluations_of_run}

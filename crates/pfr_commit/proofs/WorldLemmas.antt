@@ -17,21 +17,22 @@ use Rattle.pfr_commit.specs.Lines.{verdict_line}
 use Rattle.pfr_telling.specs.Telling.{changed, events_of}
 use Rattle.pfr_commit.specs.Books.{bare, untold}
 use Rattle.pfr_commit.specs.Runs.{next_taken}
-use Rattle.pfr_commit.specs.World.{Frame, World, after, changes_of, clock_at, packet_text, with_outcome, world_after}
+use Rattle.pfr_commit.specs.World.{ByPlace, Frame, World, after, changes_of, clock_at, each_joined, only_at, packet_text, with_outcome, with_packet, world_after}
+use Rattle.pfr_commit.proofs.PlaceLemmas.{each_assoc}
 
 -- an outcome taken over, from what its parts came to
-pub outcome_taken : (world : World) (frame : Frame) (clock : Clock) (view : View) (outcome : Outcome) (purged table : StateTable) (counters : Counters) (verdicts packets : List ℕ)
+pub outcome_taken : (job : RunJob) (world : World) (frame : Frame) (clock : Clock) (view : View) (outcome : Outcome) (purged table : StateTable) (counters : Counters) (verdicts : List ℕ) (packets : ByPlace)
     → view ≡ view_of frame.link frame.bytes → purged ≡ purged_at clock world.table → table ≡ changed outcome.change purged → counters ≡ counted view outcome world.counters
-    → verdicts ≡ world.verdicts ++ verdict_line (world.count + 1) clock outcome → packets ≡ world.packets ++ packet_text frame outcome
-    → record { count = world.count + 1; clock = clock; table = table; counters = counters; verdicts = verdicts; packets = packets; changes = []; events = [] } ≡ untold (with_outcome world frame clock outcome)
+    → verdicts ≡ world.verdicts ++ verdict_line job.rules.interfaces (world.count + 1) clock frame.place outcome → packets ≡ with_packet frame outcome world.packets
+    → record { count = world.count + 1; clock = clock; table = table; counters = counters; verdicts = verdicts; packets = packets; changes = []; events = [] } ≡ untold (with_outcome job world frame clock outcome)
 unfolding with_outcome
-outcome_taken world frame clock view outcome purged table counters verdicts packets view_is purged_is table_is counters_is verdicts_is packets_is =
+outcome_taken job world frame clock view outcome purged table counters verdicts packets view_is purged_is table_is counters_is verdicts_is packets_is =
     rw (table_is, purged_is, counters_is, verdicts_is, packets_is, view_is) refl
 
 -- the next packet, from its outcome
 pub after_is : (job : RunJob) (world : World) (frame : Frame) (clock : Clock) (view : View) (outcome : Outcome)
     → clock.0 ≡ max world.clock.0 frame.seconds → view ≡ view_of frame.link frame.bytes → outcome ≡ step_of job (world.count + 1) clock frame.place view world.table
-    → with_outcome world frame clock outcome ≡ after job world frame
+    → with_outcome job world frame clock outcome ≡ after job world frame
 unfolding after
 after_is job world frame clock view outcome clock_is view_is outcome_is =
     let now : clock ≡ clock_at world.clock frame = ap (λ (n : ℕ). record { 0 = n }) clock_is in
@@ -39,13 +40,13 @@ after_is job world frame clock view outcome clock_is view_is outcome_is =
 
 -- a world, with what was written and told before it
 abbrev pub behind : World → World → World
-behind before world = record world { verdicts = before.verdicts ++ world.verdicts; packets = before.packets ++ world.packets; changes = before.changes ++ world.changes; events = before.events ++ world.events }
+behind before world = record world { verdicts = before.verdicts ++ world.verdicts; packets = each_joined before.packets world.packets; changes = before.changes ++ world.changes; events = before.events ++ world.events }
 
 after_behind : (job : RunJob) (before world : World) (frame : Frame) → after job (behind before world) frame ≡ behind before (after job world frame)
 unfolding after with_outcome
 after_behind job before world frame =
     let p = next_taken job world frame in
-    rw (append_assoc before.verdicts world.verdicts (verdict_line p.number p.clock p.outcome), append_assoc before.packets world.packets (packet_text frame p.outcome), append_assoc before.changes world.changes (changes_of p.clock p.outcome.change world.table.states), append_assoc before.events world.events (events_of p.clock p.outcome.change world.table.states)) refl
+    rw (append_assoc before.verdicts world.verdicts (verdict_line job.rules.interfaces p.number p.clock frame.place p.outcome), each_assoc before.packets world.packets (only_at frame.place.0 (packet_text frame p.outcome)), append_assoc before.changes world.changes (changes_of p.clock p.outcome.change world.table.states), append_assoc before.events world.events (events_of p.clock p.outcome.change world.table.states)) refl
 
 -- what packets add doesn't depend on what was written and told before
 pub world_behind : (job : RunJob) (before : World) (frames : List Frame) (world : World) → world_after job (behind before world) frames ≡ behind before (world_after job world frames)

@@ -20,22 +20,22 @@ use Rattle.pfr_capture.specs.declared.capture.Record.{Record}
 use Rattle.pfr_commit.specs.declared.book.Book.{Book}
 use Rattle.pfr_commit.specs.declared.emitted.Emitted.{Emitted}
 use Rattle.pfr_commit.specs.declared.results.ResultsByPlace.{ResultsByPlace}
-use Rattle.pfr_commit.specs.Emissions.{frame_of, held_changes, texts_of, with_more}
+use Rattle.pfr_commit.specs.Emissions.{frame_of, held_changes, packets_of, texts_of, with_more}
 use Rattle.pfr_commit.specs.Results.{is_of}
 use Rattle.pfr_commit.specs.ResultsByPlace.{result_at}
 use Rattle.pfr_telling.specs.Telling.{AreTold}
-use Rattle.pfr_commit.specs.World.{Frame, Texts, World, after, clock_at, joined, last_message, online, origin_of, with_outcome, world_after}
+use Rattle.pfr_commit.specs.World.{ByPlace, Frame, Texts, World, after, clock_at, joined, last_message, nowhere, online, origin_of, with_outcome, world_after}
 
 abbrev pub job_of : Book → RunJob
 job_of book = arc_value book.job
 
 -- what a book holds of a world: nothing of what was written or told, or done to the table
 abbrev pub world_in : Book → World
-world_in book = record { count = book.count; clock = book.clock; table = book.table; counters = book.counters; verdicts = []; packets = []; changes = []; events = [] }
+world_in book = record { count = book.count; clock = book.clock; table = book.table; counters = book.counters; verdicts = []; packets = nowhere; changes = []; events = [] }
 
 -- the same, with the lines and packets that were emitted
 abbrev pub world_with : Book → Emitted → World
-world_with book out = record (world_in book) { verdicts = out.verdicts.items; packets = out.packets.items }
+world_with book out = record (world_in book) { verdicts = out.verdicts.items; packets = packets_of out.packets }
 
 -- a world, and nothing of what was told, or done to the table
 abbrev pub untold : World → World
@@ -43,7 +43,7 @@ untold world = record world { changes = []; events = [] }
 
 -- a world, and nothing of what was written or told, or done to the table
 abbrev pub bare : World → World
-bare world = record world { verdicts = []; packets = []; changes = []; events = [] }
+bare world = record world { verdicts = []; packets = nowhere; changes = []; events = [] }
 
 -- ---- the worlds of a book
 
@@ -91,8 +91,8 @@ abbrev pub after_packet : Book → Record → World → World
 after_packet book packet = λ world. after (job_of book) world (frame_of packet)
 
 -- the same, if the packet comes to an outcome at a clock
-abbrev pub after_outcome : Record → Clock → Outcome → World → World
-after_outcome packet clock outcome = λ world. with_outcome world (frame_of packet) clock outcome
+abbrev pub after_outcome : Book → Record → Clock → Outcome → World → World
+after_outcome book packet clock outcome = λ world. with_outcome (job_of book) world (frame_of packet) clock outcome
 
 -- what a packet comes to over a book's states
 abbrev pub outcome_in : Book → ℕ → Clock → InterfacePlace → View → Outcome
@@ -150,11 +150,11 @@ abbrev pub world_up_to : RunJob → World → ℕ → List Frame → World
 world_up_to job world count frames = world_after job world (take (count - world.count) frames)
 
 -- the lines and packets of a world, and those that were emitted
-abbrev pub written : World → List ℕ × List ℕ
+abbrev pub written : World → List ℕ × ByPlace
 written world = (world.verdicts, world.packets)
 
-abbrev pub lines_of : Emitted → List ℕ × List ℕ
-lines_of out = (out.verdicts.items, out.packets.items)
+abbrev pub lines_of : Emitted → List ℕ × ByPlace
+lines_of out = (out.verdicts.items, packets_of out.packets)
 
 -- what was emitted is what is written of the first packets, up to a count
 abbrev pub LeavesTexts : (old : Book) → (count : ℕ) → (out out' : Emitted) → List Frame → Type 0

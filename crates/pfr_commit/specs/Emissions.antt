@@ -1,5 +1,5 @@
 -- What was emitted, and what of a record comes into it.
-use Rattle.std.specs.Prelude.{ℕ, Bool, true, false, List, [], ◌∷◌, ◌++◌, Option, None, Some}
+use Rattle.std.specs.Prelude.{ℕ, ◌==◌, Bool, true, false, if◌then◌else◌, List, [], ◌∷◌, ◌++◌, map, take, get_or, Option, None, Some}
 use Rattle.std.specs.Option.{option_map}
 use Rattle.pfr_headers.specs.declared.change.Change as headers
 use Rattle.pfr_capture.specs.declared.capture.Record.{Record}
@@ -10,19 +10,31 @@ use Rattle.pfr_commit.specs.declared.changes.Changes.{Changes}
 use Rattle.pfr_commit.specs.declared.changes.Changes.TheVariants.{Kept, Known}
 use Rattle.pfr_states.specs.declared.change.TableChange.{TableChange}
 use Rattle.pfr_commit.specs.declared.emitted.Emitted.{Emitted}
+use Rattle.pfr_commit.specs.declared.packet_texts.PacketTexts.{PacketTexts}
 use Rattle.pfr_commit.specs.declared.verdict_line.VerdictLine.{VerdictLine}
 use Rattle.pfr_commit.specs.Lines.{verdict_line}
-use Rattle.pfr_commit.specs.World.{Frame, Texts, apply_by, with_bytes}
+use Rattle.pfr_commit.specs.World.{ByPlace, Frame, Texts, apply_by, with_bytes}
 
 abbrev pub frame_of : Record → Frame
 frame_of r = record { place = record { 0 = r.place }; link = r.link; seconds = r.seconds; header = r.header; bytes = r.bytes.items }
 
+-- texts by place, of which there are none behind the last one of a list
+abbrev pub by_place : List (List ℕ) → ByPlace
+by_place texts = λ place. get_or texts place []
+
+abbrev pub packets_of : PacketTexts → ByPlace
+packets_of packets = by_place (map (λ text. text.items) packets.texts.items)
+
+-- the first `count` bytes of the text at a place, and the others whole
+abbrev pub cut_at : ℕ → ℕ → ByPlace → ByPlace
+cut_at place count texts = λ other. if other == place then take count (texts other) else texts other
+
 abbrev pub texts_of : Emitted → Texts
-texts_of emitted = record { verdicts = emitted.verdicts.items; packets = emitted.packets.items; messages = emitted.messages.items }
+texts_of emitted = record { verdicts = emitted.verdicts.items; packets = packets_of emitted.packets; messages = emitted.messages.items }
 
 -- the line of a packet's verdict
 abbrev pub line_text : VerdictLine → List ℕ
-line_text line = verdict_line line.number line.clock line.outcome.now
+line_text line = verdict_line line.interfaces.now line.number line.clock line.place line.outcome.now
 
 -- a record, with what is written into its packet
 abbrev pub record_text : Record → Option headers.Change → List ℕ

@@ -2,6 +2,7 @@
 use Rattle.std.specs.Prelude.{ℕ, List, ◌∷◌, ◌++◌, [], codes, get_or, length}
 use Rattle.std.specs.Fmt.{decimal}
 use Rattle.std.specs.List.{flat_map, range_with_len}
+use Rattle.pfr_ruleset.specs.declared.interface.Interface.{Interface}
 use Rattle.pfr_track.specs.declared.state.State.{State}
 use Rattle.pfr_commit.specs.declared.counter_line.RuleLine.{RuleLine}
 use Rattle.pfr_commit.specs.declared.counters.Counters.{Counters}
@@ -38,5 +39,5 @@ counters_text records counters =
     (rule_lines (codes "filter") counters.filter ++ rule_lines (codes "translation") counters.translation) ++ total_line records counters.totals
 
 -- a line for each state, by number
-unfoldable pub states_text : List State → List ℕ
-states_text states = flat_map state_line states
+unfoldable pub states_text : List Interface → List State → List ℕ
+states_text interfaces states = flat_map (state_line interfaces) states

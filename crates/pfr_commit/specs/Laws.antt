@@ -1,6 +1,6 @@
 -- What the laws of a run say.
 use Rattle.std.specs.Prelude.{◌≡◌, ◌++◌, List, ◌∷◌, ◌<◌, ◌≤◌, ◌+◌, ◌^◌, length, ℕ, get_or, Some}
-use Rattle.std.specs.List.{flat_map, Any, count_by, sum_by, Contains, slice_get}
+use Rattle.std.specs.List.{All, flat_map, Any, count_by, sum_by, Contains, slice_get}
 use Rattle.pfr_net.specs.declared.rule_number.RuleNumber.{RuleNumber}
 use Rattle.pfr_ruleset.specs.declared.flat.FlatRule.{FlatRule}
 use Rattle.pfr_rules.specs.Filter.{most_of}
@@ -13,9 +13,9 @@ use Rattle.pfr_commit.specs.declared.counters.Totals.{Totals}
 use Rattle.pfr_sync.specs.Laws.{has, held_after}
 use Rattle.pfr_sync.specs.Messages.{messages_of}
 use Rattle.pfr_telling.specs.Standby.{is_told_of}
-use Rattle.pfr_commit.specs.World.{Frame, Texts, World, joined, last_message, online, origin_of, packet_text, world_after, world_of}
-use Rattle.pfr_commit.specs.Lines.{verdict_line}
-use Rattle.pfr_commit.specs.Runs.{taken_in, capped, comes_to, total_of, counts_for, bytes_for, counters_of, is_visited, number_of, visits_to, IsMadeAmong, RuleKind}
+use Rattle.pfr_commit.specs.World.{Frame, Texts, World, joined, last_message, online, only_at, origin_of, world_after, world_of}
+use Rattle.pfr_commit.specs.Endings.{states_text}
+use Rattle.pfr_commit.specs.Runs.{line_of, plain_line, plain_record, plain_state, record_at, taken_in, capped, comes_to, total_of, counts_for, bytes_for, counters_of, is_visited, number_of, visits_to, IsMadeAmong, RuleKind}
 
 -- packets that are taken in two parts leave what they leave together
 abbrev pub TwoPartsAreTheWhole : Type 0
@@ -39,13 +39,27 @@ TheLastMessageIsTheRest =
 abbrev pub EachHasItsLine : Type 0
 EachHasItsLine =
     (job : RunJob) (frames : List Frame)
-    → (world_of job frames).verdicts ≡ flat_map (λ p. verdict_line p.number p.clock p.outcome) (taken_in job frames)
+    → (world_of job frames).verdicts ≡ flat_map (line_of job) (taken_in job frames)
 
--- the packets are the records of those that aren't blocked, in that order
+-- the packets of an interface are the records of those of its packets that aren't blocked, in that order
 abbrev pub EachHasItsRecord : Type 0
 EachHasItsRecord =
+    (job : RunJob) (frames : List Frame) (place : ℕ)
+    → (world_of job frames).packets place ≡ flat_map (record_at place) (taken_in job frames)
+
+-- a run of one capture: it has one interface, on which all packets are
+pub record IsOfOneCapture (job : RunJob) (frames : List Frame) : Type 0 where
+  pub interface : length job.rules.interfaces ≤ 1
+  pub packets : All (λ frame. frame.place.0 ≡ 0) frames
+
+-- With one capture no line names an interface, and all records that are written go to one output.
+abbrev pub OneCaptureHasNoMarks : Type 0
+OneCaptureHasNoMarks =
     (job : RunJob) (frames : List Frame)
-    → (world_of job frames).packets ≡ flat_map (λ p. packet_text p.frame p.outcome) (taken_in job frames)
+    → IsOfOneCapture job frames
+    → ((world_of job frames).verdicts ≡ flat_map plain_line (taken_in job frames))
+    × ((world_of job frames).packets ≡ only_at 0 (flat_map plain_record (taken_in job frames)))
+    × ((states : List State) → states_text job.rules.interfaces states ≡ flat_map plain_state states)
 
 -- the clock is the second of one of the records
 abbrev pub ClockIsOfARecord : Type 0

@@ -1,6 +1,11 @@
 -- The lines of the outputs.
-use Rattle.std.specs.Prelude.{ℕ, List, [], ◌∷◌, ◌++◌, Some, codes}
+use Rattle.std.specs.Prelude.{ℕ, nat_lt, if◌then◌else◌, List, [], ◌∷◌, ◌++◌, length, Some, codes}
 use Rattle.std.specs.Fmt.{decimal}
+use Rattle.pfr_net.specs.declared.interface.Binding.{Binding}
+use Rattle.pfr_net.specs.declared.interface.Binding.TheVariants.{All, To}
+use Rattle.pfr_net.specs.declared.interface.InterfacePlace.{InterfacePlace}
+use Rattle.pfr_ruleset.specs.declared.interface.Interface.{Interface}
+use Rattle.pfr_ruleset.specs.Interfaces.{name_at}
 use Rattle.pfr_track.specs.declared.datagram.DatagramPeer.{DatagramPeer}
 use Rattle.pfr_track.specs.declared.peers.Peers.{Peers}
 use Rattle.pfr_track.specs.declared.peers.Peers.TheVariants as peers
@@ -11,7 +16,17 @@ use Rattle.pfr_track.specs.Datagrams as datagram
 use Rattle.pfr_track.specs.Tcp as tcp
 use Rattle.pfr_packet.specs.declared.outcome.Outcome.{Outcome}
 use Rattle.pfr_packet.specs.Verdicts.{reason_text, verdict_text}
+use Rattle.pfr_sync.specs.Queues.{before_zero}
 use Rattle.pfr_texts.specs.Texts.{direction_text, key_text, peer_text, rule_text, state_text, traffic_text}
+
+-- the name of the interface to which a binding is; `-` if it is to all
+abbrev pub binding_text : List Interface → Binding → List ℕ
+binding_text interfaces All = codes "-"
+binding_text interfaces (To place) = before_zero (name_at interfaces place).bytes
+
+-- " i=NAME" if the run has several interfaces
+abbrev pub mark : List Interface → Binding → List ℕ
+mark interfaces binding = if nat_lt 1 (length interfaces) then codes " i=" ++ binding_text interfaces binding else []
 
 -- " r=R t=T s=S", and the rest of a line
 abbrev pub named_before : Outcome → List ℕ → List ℕ
@@ -23,10 +38,15 @@ abbrev pub words_before : Outcome → List ℕ → List ℕ
 words_before outcome rest =
     codes " " ++ (direction_text outcome.direction ++ (codes " " ++ (verdict_text outcome.verdict ++ (codes " " ++ (reason_text outcome.reason ++ rest)))))
 
--- N CLOCK DIR VERDICT REASON r=R t=T s=S
-unfoldable pub verdict_line : ℕ → Clock → Outcome → List ℕ
-verdict_line number clock outcome =
-    decimal number ++ (codes " " ++ (decimal clock.0 ++ words_before outcome (named_before outcome (10 ∷ []))))
+-- "N CLOCK DIR VERDICT REASON r=R t=T s=S", and the rest of a line
+abbrev pub verdict_before : ℕ → Clock → Outcome → List ℕ → List ℕ
+verdict_before number clock outcome rest =
+    decimal number ++ (codes " " ++ (decimal clock.0 ++ words_before outcome (named_before outcome rest)))
+
+-- N CLOCK DIR VERDICT REASON r=R t=T s=S, and the packet's interface if the run has several
+unfoldable pub verdict_line : List Interface → ℕ → Clock → InterfacePlace → Outcome → List ℕ
+verdict_line interfaces number clock place outcome =
+    verdict_before number clock outcome (mark interfaces (To place) ++ 10 ∷ [])
 
 -- ---- states
 
@@ -55,12 +75,13 @@ abbrev pub ends_part : State → List ℕ
 ends_part state =
     codes " r=" ++ (rule_text state.rules.filter ++ (codes " t=" ++ (rule_text state.rules.translation ++ (codes " " ++ ends_text state.peers))))
 
--- " MADE DEADLINE P0 B0 P1 B1", and a newline
-abbrev pub traffic_part : State → List ℕ
-traffic_part state =
+-- " MADE DEADLINE P0 B0 P1 B1", and the rest of a line
+abbrev pub traffic_before : State → List ℕ → List ℕ
+traffic_before state rest =
     codes " " ++ (decimal state.made.0 ++ (codes " " ++ (decimal state.deadline.0 ++ (codes " " ++ (traffic_text state.forth
-    ++ (codes " " ++ (traffic_text state.back ++ 10 ∷ [])))))))
+    ++ (codes " " ++ (traffic_text state.back ++ rest)))))))
 
--- N PROTO DIR WIRE STACK r=R t=T PEER PEER MADE DEADLINE P0 B0 P1 B1
-unfoldable pub state_line : State → List ℕ
-state_line state = keys_part state ++ (ends_part state ++ traffic_part state)
+-- N PROTO DIR WIRE STACK r=R t=T PEER PEER MADE DEADLINE P0 B0 P1 B1, and the state's interface if the run has several
+unfoldable pub state_line : List Interface → State → List ℕ
+state_line interfaces state =
+    keys_part state ++ (ends_part state ++ traffic_before state (mark interfaces state.rules.binding ++ 10 ∷ []))

@@ -14,7 +14,7 @@ use Rattle.pfr_packet.specs.Steps.{asked_of, step_of}
 use Rattle.pfr_record.specs.Record.{Agrees, Entries, IsKept, IsSound}
 use Rattle.pfr_sync.specs.Messages.{closed_at}
 use Rattle.pfr_commit.specs.Lines.{verdict_line}
-use Rattle.pfr_commit.specs.World.{Frame, Texts, World, clock_at, joined, no_texts, online, opening, origin_of, packet_text, with_outcome, world_of}
+use Rattle.pfr_commit.specs.World.{Frame, Texts, World, clock_at, joined, no_texts, online, only_at, opening, origin_of, packet_text, with_outcome, world_of}
 
 -- ---- speculations
 
@@ -142,9 +142,9 @@ Takes job way (Some guess) number clock place view table outcome =
 -- what a packet that comes to an outcome at a clock adds to what is written of a world: its line, its record if it isn't blocked, and
 -- the messages that no longer may go on
 pub record Emits (job : RunJob) (world : World) (frame : Frame) (clock : Clock) (outcome : Outcome) (added : Texts) : Type 0 where
-  pub verdicts_are : added.verdicts ≡ verdict_line (world.count + 1) clock outcome
-  pub packets_are : added.packets ≡ packet_text frame outcome
-  pub messages_are : closed_at (origin_of job) clock (with_outcome world frame clock outcome).events ≡ closed_at (origin_of job) world.clock world.events ++ added.messages
+  pub verdicts_are : added.verdicts ≡ verdict_line job.rules.interfaces (world.count + 1) clock frame.place outcome
+  pub packets_are : added.packets ≡ only_at frame.place.0 (packet_text frame outcome)
+  pub messages_are : closed_at (origin_of job) clock (with_outcome job world frame clock outcome).events ≡ closed_at (origin_of job) world.clock world.events ++ added.messages
 
 -- the next packet of an open batch is committed
 pub record Commits (job : RunJob) (packets : List Frame) (old : Machine) (given : Option Guess) (new : Machine) : Type 0 where
@@ -159,8 +159,8 @@ pub record Commits (job : RunJob) (packets : List Frame) (old : Machine) (given 
   pub emits : Emits job old.world frame clock outcome added
   pub new_is : new ≡ record old {
     committed = old.committed + 1;
-    tables = old.tables ++ (with_outcome old.world frame clock outcome).table ∷ [];
-    world = with_outcome old.world frame clock outcome;
+    tables = old.tables ++ (with_outcome job old.world frame clock outcome).table ∷ [];
+    world = with_outcome job old.world frame clock outcome;
     emitted = joined old.emitted added;
   }
 

@@ -1,5 +1,5 @@
 -- The packets of a run one by one, and what each of them came to.
-use Rattle.std.specs.Prelude.{◌≡◌, ℕ, ◌+◌, ◌-◌, ◌^◌, ◌==◌, ◌&&◌, ◌||◌, min, Bool, true, false, if◌then◌else◌, List, [], ◌∷◌, Option, Some, codes}
+use Rattle.std.specs.Prelude.{◌≡◌, ℕ, ◌+◌, ◌-◌, ◌^◌, ◌==◌, ◌&&◌, ◌||◌, min, Bool, true, false, if◌then◌else◌, List, [], ◌∷◌, ◌++◌, Option, Some, codes}
 use Rattle.std.specs.List.{Contains, count_by, list_any}
 use Rattle.std.specs.Str.{bytes_eq}
 use Rattle.pfr_net.specs.declared.rule_number.RuleNumber.{RuleNumber}
@@ -20,7 +20,8 @@ use Rattle.pfr_packet.specs.Verdicts.{reason_text}
 use Rattle.pfr_commit.specs.declared.counters.Counters.{Counters}
 use Rattle.pfr_commit.specs.declared.counters.RuleCounters.{RuleCounters}
 use Rattle.pfr_commit.specs.declared.counters.Totals.{Totals}
-use Rattle.pfr_commit.specs.World.{Frame, World, after, clock_at, opening}
+use Rattle.pfr_commit.specs.Lines.{ends_part, keys_part, traffic_before, verdict_before, verdict_line}
+use Rattle.pfr_commit.specs.World.{Frame, World, after, clock_at, only_at, opening, packet_text}
 
 -- a packet that was taken
 pub record Taken : Type 0 where
@@ -46,6 +47,26 @@ taken_after job world (frame ∷ frames) = next_taken job world frame ∷ taken_
 -- those of a run
 abbrev pub taken_in : RunJob → List Frame → List Taken
 taken_in job frames = taken_after job (opening job) frames
+
+-- ---- what is written of them
+
+-- its line
+abbrev pub line_of : RunJob → Taken → List ℕ
+line_of job packet = verdict_line job.rules.interfaces packet.number packet.clock packet.frame.place packet.outcome
+
+-- its record in the output at a place: that of its interface has it, unless the packet is blocked
+abbrev pub record_at : ℕ → Taken → List ℕ
+record_at place packet = only_at packet.frame.place.0 (packet_text packet.frame packet.outcome) place
+
+-- the same, and the line of a state, where nothing names an interface
+abbrev pub plain_line : Taken → List ℕ
+plain_line packet = verdict_before packet.number packet.clock packet.outcome (10 ∷ [])
+
+abbrev pub plain_record : Taken → List ℕ
+plain_record packet = packet_text packet.frame packet.outcome
+
+abbrev pub plain_state : State → List ℕ
+plain_state state = keys_part state ++ (ends_part state ++ traffic_before state (10 ∷ []))
 
 -- ---- what they leave
 

@@ -1,5 +1,5 @@
 -- What a run has come to: the fold of its packets in the order of the capture, one after the other.
-use Rattle.std.specs.Prelude.{ℕ, ◌+◌, max, if◌then◌else◌, List, [], ◌∷◌, ◌++◌, Option, Some, None, fold, map}
+use Rattle.std.specs.Prelude.{ℕ, ◌+◌, ◌==◌, max, if◌then◌else◌, List, [], ◌∷◌, ◌++◌, Option, Some, None, fold, map}
 use Rattle.pfr_net.specs.declared.interface.IfName.{IfName}
 use Rattle.pfr_net.specs.declared.interface.InterfacePlace.{InterfacePlace}
 use Rattle.pfr_ruleset.specs.declared.interface.Interface.{Interface}
@@ -38,6 +38,22 @@ pub record Frame : Type 0 where
   pub header : List ℕ
   pub bytes : List ℕ
 
+-- texts by the places of interfaces
+abbrev pub ByPlace : Type 0
+ByPlace = ℕ → List ℕ
+
+-- no text at any place
+abbrev pub nowhere : ByPlace
+nowhere = λ place. []
+
+-- a text at one place
+abbrev pub only_at : ℕ → List ℕ → ByPlace
+only_at place text = λ other. if other == place then text else []
+
+-- texts, each with another one behind it
+abbrev pub each_joined : ByPlace → ByPlace → ByPlace
+each_joined texts more = λ place. texts place ++ more place
+
 pub record World : Type 0 where
   -- the number of packets
   pub count : ℕ
@@ -46,9 +62,9 @@ pub record World : Type 0 where
   -- the states that they left
   pub table : StateTable
   pub counters : Counters
-  -- the verdict lines, and the passed packets, which the output has after the capture's header
+  -- the verdict lines, and the passed packets of each interface, which its output has after the header of its capture
   pub verdicts : List ℕ
-  pub packets : List ℕ
+  pub packets : ByPlace
   -- what they did to the table
   pub changes : List tables.Change
   -- what became of states, as far as a standby is told of it
@@ -68,6 +84,10 @@ with_bytes link (Some change) bytes = rewritten link change bytes
 unfoldable pub packet_text : Frame → Outcome → List ℕ
 packet_text frame outcome = if is_written outcome.verdict then frame.header ++ with_bytes frame.link outcome.bytes frame.bytes else []
 
+-- the packets of each interface, with that of this packet behind those of its own
+abbrev pub with_packet : Frame → Outcome → ByPlace → ByPlace
+with_packet frame outcome texts = each_joined texts (only_at frame.place.0 (packet_text frame outcome))
+
 -- a purge, if a state goes by it
 abbrev pub purge_by : Clock → Option State → List tables.Change
 purge_by clock None = []
@@ -83,14 +103,14 @@ abbrev pub changes_of : Clock → Option TableChange → List State → List tab
 changes_of clock change states = purge_by clock (due clock states) ++ apply_by change
 
 -- the next packet came to an outcome at a clock
-unfoldable pub with_outcome : World → Frame → Clock → Outcome → World
-with_outcome world frame clock outcome = record {
+unfoldable pub with_outcome : RunJob → World → Frame → Clock → Outcome → World
+with_outcome job world frame clock outcome = record {
   count = world.count + 1;
   clock = clock;
   table = changed outcome.change (purged_at clock world.table);
   counters = counted (view_of frame.link frame.bytes) outcome world.counters;
-  verdicts = world.verdicts ++ verdict_line (world.count + 1) clock outcome;
-  packets = world.packets ++ packet_text frame outcome;
+  verdicts = world.verdicts ++ verdict_line job.rules.interfaces (world.count + 1) clock frame.place outcome;
+  packets = with_packet frame outcome world.packets;
   changes = world.changes ++ changes_of clock outcome.change world.table.states;
   events = world.events ++ events_of clock outcome.change world.table.states;
 }
@@ -98,7 +118,7 @@ with_outcome world frame clock outcome = record {
 -- a world, and then one packet
 unfoldable pub after : RunJob → World → Frame → World
 after job world frame =
-    with_outcome world frame (clock_at world.clock frame)
+    with_outcome job world frame (clock_at world.clock frame)
     (step_of job (world.count + 1) (clock_at world.clock frame) frame.place (view_of frame.link frame.bytes) world.table)
 
 -- ---- a run
@@ -111,7 +131,7 @@ opening job = record {
   table = empty job.rules.options.state_limit;
   counters = nothing_counted (counts job.rules).0 (counts job.rules).1;
   verdicts = [];
-  packets = [];
+  packets = nowhere;
   changes = [];
   events = [];
 }
@@ -132,10 +152,10 @@ names_of interfaces = map (λ interface. interface.name) interfaces
 abbrev pub origin_of : RunJob → Origin
 origin_of job = record { interfaces = plain_names (names_of job.interfaces); checksum = checksum_of job.text; creator = job.rules.options.host_id }
 
--- verdict lines, passed packets, and what a standby is told
+-- verdict lines, the passed packets of each interface, and what a standby is told
 pub record Texts : Type 0 where
   pub verdicts : List ℕ
-  pub packets : List ℕ
+  pub packets : ByPlace
   pub messages : List Content
 
 -- what is written by then: of the events all messages but that of a part that may go on at the clock
@@ -149,12 +169,12 @@ last_message job world = message_of (origin_of job) (open_at (origin_of job) wor
 -- ---- texts
 
 abbrev pub no_texts : Texts
-no_texts = record { verdicts = []; packets = []; messages = [] }
+no_texts = record { verdicts = []; packets = nowhere; messages = [] }
 
 -- texts appended to others
 abbrev pub joined : Texts → Texts → Texts
 joined texts more = record {
   verdicts = texts.verdicts ++ more.verdicts;
-  packets = texts.packets ++ more.packets;
+  packets = each_joined texts.packets more.packets;
   messages = texts.messages ++ more.messages;
 }

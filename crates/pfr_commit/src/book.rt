@@ -15,6 +15,7 @@ use crate::emitted::Emitted;
 use crate::ending::Ending;
 use crate::gate::{Gate, Unwatched};
 use crate::results::{ResultsByPlace, of_one};
+use crate::verdict_line::VerdictLine;
 use pfr_capture::Record;
 use pfr_headers::View;
 use pfr_net::IfName;
@@ -286,9 +287,9 @@ impl Book {
         requires change { IfSome outcome.now.change (λ change. refusal change self.old.table.limit (purged clock self.old.table.states) ≡ None) }
         requires named { IfSome outcome.now.change (IsNextChangeOf self.old packet.now clock outcome.now) }
         requires bytes { IfSome outcome.now.bytes (λ change. view_of packet.now.link packet.now.bytes.items ≡ Ipv4 change.packet) }
-        ensures world { OnOk result (AddsLines self.old self.new out.old out.new (after_outcome packet.now clock outcome.now)) }
-        ensures told { OnOk result (LeadsTo self.old self.new out.old out.new (after_outcome packet.now clock outcome.now)) }
-        ensures changes { OnOk result (AddsChanges self.old out.old out.new (after_outcome packet.now clock outcome.now)) }
+        ensures world { OnOk result (AddsLines self.old self.new out.old out.new (after_outcome self.old packet.now clock outcome.now)) }
+        ensures told { OnOk result (LeadsTo self.old self.new out.old out.new (after_outcome self.old packet.now clock outcome.now)) }
+        ensures changes { OnOk result (AddsChanges self.old out.old out.new (after_outcome self.old packet.now clock outcome.now)) }
         ensures counted { OnOk result (self.new.count ≡ self.old.count + 1) }
         ensures kept { OnErr result (Keeps self.old self.new out.old out.new) }
         ensures others { (self.new.job ≡ self.old.job) × (self.new.own ≡ self.old.own) × (self.new.is_over ≡ self.old.is_over) }
@@ -299,8 +300,14 @@ impl Book {
         self.telling.purge(&mut self.table, clock)?;
         self.telling
             .change(&mut self.table, clock, &outcome.change, place)?;
-        let closed = &mut self.telling.closed;
-        out.put(number, clock, packet, outcome, purge, closed)?;
+        let line = VerdictLine {
+            interfaces: self.job.rules().interfaces.as_slice(),
+            number,
+            clock,
+            place: InterfacePlace(packet.place),
+            outcome,
+        };
+        out.put(&line, packet, purge, &mut self.telling.closed)?;
         self.counters.count(view, outcome);
         self.asked = self.asked.saturating_add(asked_for(outcome));
         self.count = number;
@@ -412,17 +419,25 @@ impl Book {
     fn end(&mut self) -> Result<Ending, AllocError>
         ensures message { IfOk result (λ ending. IsLastMessage self.old ending.message) }
         ensures counters { IfOk result (λ ending. ending.counters.items ≡ counters_text self.old.count self.old.counters) }
-        ensures states { IfOk result (λ ending. ending.states.items ≡ states_text self.old.table.states) }
+        ensures states { IfOk result (λ ending. ending.states.items ≡ states_text (job_of self.old).rules.interfaces self.old.table.states) }
     {
         let message = self.telling.close(self.clock)?;
-        Ending::new(self.alloc, message, self.count, &self.counters, &self.table)
+        let interfaces = self.job.rules().interfaces.as_slice();
+        Ending::new(
+            self.alloc,
+            interfaces,
+            message,
+            self.count,
+            &self.counters,
+            &self.table,
+        )
     }
 
     /// The last message, the counters and the states at the end of a run. There are none after memory was refused.
     pub fn finish(mut self) -> Result<Ending, AllocError>
         ensures message { IfOk result (λ ending. IsLastMessage self ending.message) }
         ensures counters { IfOk result (λ ending. ending.counters.items ≡ counters_text self.count self.counters) }
-        ensures states { IfOk result (λ ending. ending.states.items ≡ states_text self.table.states) }
+        ensures states { IfOk result (λ ending. ending.states.items ≡ states_text (job_of self).rules.interfaces self.table.states) }
         ensures ok { OnOk result (self.is_over ≡ false) }
     {
         if self.is_over {

@@ -1,18 +1,16 @@
 //! What packets add to the outputs of a run.
-ghost use Rattle.std.specs.Prelude.{◌≡◌, ◌≤◌, ◌+◌, [], ◌++◌, length, take, drop, IfSome, OnSome, OnOk, OnErr, None};
+ghost use Rattle.std.specs.Prelude.{◌≡◌, [], ◌++◌, length, take, IfSome, OnSome, OnOk, OnErr, None};
 ghost use Rattle.std.specs.Option.{option_map, option_map_or};
 ghost use Rattle.pfr_headers.specs.declared.packet.View.TheVariants.{Ipv4};
 ghost use Rattle.pfr_headers.specs.View.{view_of};
 ghost use Rattle.pfr_states.specs.States.{due};
-ghost use Rattle.pfr_commit.specs.Emissions.{changes_by, frame_of, held_changes, items_of, line_text, purges_at, record_text, texts_of, with_more};
-ghost use Rattle.pfr_commit.specs.Lines.{verdict_line};
+ghost use Rattle.pfr_commit.specs.Emissions.{changes_by, frame_of, held_changes, items_of, line_text, packets_of, purges_at, texts_of, with_more};
 ghost use Rattle.pfr_commit.specs.World as spec;
 
 use crate::changes::Changes;
+use crate::packet_texts::{PacketTexts, room_for};
 use crate::verdict_line::VerdictLine;
 use pfr_capture::Record;
-use pfr_headers::{Change, rewrite};
-use pfr_packet::Outcome;
 use pfr_states::{Table, TableChange};
 use pfr_sync::Message;
 use pfr_track::Clock;
@@ -23,58 +21,11 @@ use std::alloc::{AllocError, Global};
 #[derive(Drop)]
 pub struct Emitted {
     pub verdicts: Vec<u8>,
-    pub packets: Vec<u8>,
+    /// By the places of the interfaces on which the packets are.
+    pub packets: PacketTexts,
     pub messages: Vec<Message>,
     /// What they did to the table, if that is requested.
     pub changes: Option<Changes>,
-}
-
-/// The length of a record's header, in bytes.
-const HEADER: usize = 16;
-
-/// Writes into the packet of the record that begins at a place.
-fn write_into(packets: &mut Vec<u8>, start: usize, link: u16, change: &Option<Change>)
-    requires room { start + 16 ≤ length packets.old.items }
-    requires change { IfSome change.now (λ change. view_of link (drop (start + 16) packets.old.items) ≡ Ipv4 change.packet) }
-    ensures { packets.new.items ≡ take (start + 16) packets.old.items ++ spec.with_bytes link change.now (drop (start + 16) packets.old.items) }
-{
-    if let Some(change) = change {
-        rewrite(&mut packets[start + HEADER..], link, change);
-    }
-}
-
-/// Appends a record, with what is written into its packet. If memory is refused nothing changes.
-fn put_record(
-    packets: &mut Vec<u8>,
-    packet: &Record,
-    change: &Option<Change>,
-) -> Result<(), AllocError>
-    requires { IfSome change.now (λ change. view_of packet.now.link packet.now.bytes.items ≡ Ipv4 change.packet) }
-    ensures done { OnOk result (packets.new.items ≡ packets.old.items ++ record_text packet.now change.now) }
-    ensures kept { OnErr result (packets.new.items ≡ packets.old.items) }
-{
-    let start = packets.len();
-    packets.extend_from_slice(&packet.header)?;
-    if let Err(refused) = packets.extend_from_slice(packet.bytes.as_slice()) {
-        packets.truncate(start);
-        return Err(refused);
-    }
-    write_into(packets, start, packet.link, change);
-    Ok(())
-}
-
-/// Appends the record of a packet, unless the packet is blocked. If memory is refused nothing changes.
-#[tactic(auto, unfolding(crate::specs::World::packet_text))]
-fn put_packet(packets: &mut Vec<u8>, packet: &Record, outcome: &Outcome) -> Result<(), AllocError>
-    requires { IfSome outcome.now.bytes (λ change. view_of packet.now.link packet.now.bytes.items ≡ Ipv4 change.packet) }
-    ensures done { OnOk result (packets.new.items ≡ packets.old.items ++ spec.packet_text (frame_of packet.now) outcome.now) }
-    ensures kept { OnErr result (packets.new.items ≡ packets.old.items) }
-{
-    if outcome.verdict.is_written() {
-        put_record(packets, packet, &outcome.bytes)
-    } else {
-        Ok(())
-    }
 }
 
 /// Appends what a packet did to the table, if that is requested: a purge, and the packet's change. If memory is refused nothing
@@ -112,16 +63,6 @@ fn cut_changes(changes: &mut Option<Changes>, count: usize)
     }
 }
 
-/// No bytes, with room for some. If that is refused, room is made as they come.
-pub(crate) fn room_for(alloc: Global, bytes: usize) -> Vec<u8>
-    ensures { result.items ≡ [] }
-{
-    match Vec::with_capacity(alloc, bytes) {
-        Ok(list) => list,
-        Err(_) => Vec::new(alloc),
-    }
-}
-
 impl Emitted {
     /// Nothing yet. What is done to the table isn't requested.
     pub fn new(alloc: Global) -> Emitted
@@ -130,21 +71,21 @@ impl Emitted {
     {
         Emitted {
             verdicts: Vec::new(alloc),
-            packets: Vec::new(alloc),
+            packets: PacketTexts::new(alloc),
             messages: Vec::new(alloc),
             changes: None,
         }
     }
 
-    /// Nothing yet, with room for `verdicts` bytes of verdict lines and `packets` bytes of records. If that is refused, room is made as
-    /// they come. What is done to the table isn't requested.
-    pub fn with_room(alloc: Global, verdicts: usize, packets: usize) -> Emitted
+    /// Nothing yet, with room for `verdicts` bytes of verdict lines, and at each place for so many bytes of records as `packets` says. If
+    /// that is refused, room is made as they come. What is done to the table isn't requested.
+    pub fn with_room(alloc: Global, verdicts: usize, packets: &[usize]) -> Emitted
         ensures texts { texts_of result ≡ spec.no_texts }
         ensures changes { result.changes ≡ None }
     {
         Emitted {
             verdicts: room_for(alloc, verdicts),
-            packets: room_for(alloc, packets),
+            packets: PacketTexts::with_room(alloc, packets),
             messages: Vec::new(alloc),
             changes: None,
         }
@@ -199,28 +140,22 @@ impl Emitted {
     /// nothing changes.
     fn put_written(
         &mut self,
-        number: u64,
-        clock: Clock,
+        line: &VerdictLine<'_>,
         packet: &Record,
-        outcome: &Outcome,
         messages: &mut Vec<Message>,
     ) -> Result<(), AllocError>
-        requires { IfSome outcome.now.bytes (λ change. view_of packet.now.link packet.now.bytes.items ≡ Ipv4 change.packet) }
-        ensures verdicts { OnOk result (self.new.verdicts.items ≡ self.old.verdicts.items ++ verdict_line number clock outcome.now) }
-        ensures packets { OnOk result (self.new.packets.items ≡ self.old.packets.items ++ spec.packet_text (frame_of packet.now) outcome.now) }
+        requires { IfSome line.now.outcome.now.bytes (λ change. view_of packet.now.link packet.now.bytes.items ≡ Ipv4 change.packet) }
+        ensures verdicts { OnOk result (self.new.verdicts.items ≡ self.old.verdicts.items ++ line_text line.now) }
+        ensures packets { OnOk result (packets_of self.new.packets ≡ spec.with_packet (frame_of packet.now) line.now.outcome.now (packets_of self.old.packets)) }
         ensures messages { OnOk result (self.new.messages.items ≡ self.old.messages.items ++ messages.old.items) }
         ensures kept { OnErr result (texts_of self.new ≡ texts_of self.old) }
         ensures changes { self.new.changes ≡ self.old.changes }
     {
-        let line = VerdictLine {
-            number,
-            clock,
-            outcome,
-        };
-        let start = self.packets.len();
-        put_packet(&mut self.packets, packet, outcome)?;
-        if let Err(refused) = self.put_texts(&line, messages) {
-            self.packets.truncate(start);
+        let place = usize::from(packet.place);
+        let start = self.packets.len_at(place);
+        self.packets.put(packet, line.outcome)?;
+        if let Err(refused) = self.put_texts(line, messages) {
+            self.packets.truncate_at(place, start);
             return Err(refused);
         }
         Ok(())
@@ -230,23 +165,21 @@ impl Emitted {
     /// what it did to the table, a purge and its own change. If memory is refused nothing changes.
     pub(crate) fn put(
         &mut self,
-        number: u64,
-        clock: Clock,
+        line: &VerdictLine<'_>,
         packet: &Record,
-        outcome: &Outcome,
         purge: Option<Clock>,
         messages: &mut Vec<Message>,
     ) -> Result<(), AllocError>
-        requires { IfSome outcome.now.bytes (λ change. view_of packet.now.link packet.now.bytes.items ≡ Ipv4 change.packet) }
-        ensures verdicts { OnOk result (self.new.verdicts.items ≡ self.old.verdicts.items ++ verdict_line number clock outcome.now) }
-        ensures packets { OnOk result (self.new.packets.items ≡ self.old.packets.items ++ spec.packet_text (frame_of packet.now) outcome.now) }
+        requires { IfSome line.now.outcome.now.bytes (λ change. view_of packet.now.link packet.now.bytes.items ≡ Ipv4 change.packet) }
+        ensures verdicts { OnOk result (self.new.verdicts.items ≡ self.old.verdicts.items ++ line_text line.now) }
+        ensures packets { OnOk result (packets_of self.new.packets ≡ spec.with_packet (frame_of packet.now) line.now.outcome.now (packets_of self.old.packets)) }
         ensures messages { OnOk result (self.new.messages.items ≡ self.old.messages.items ++ messages.old.items) }
-        ensures changes { OnOk result (held_changes self.new ≡ with_more (held_changes self.old) (changes_by purge outcome.now.change)) }
+        ensures changes { OnOk result (held_changes self.new ≡ with_more (held_changes self.old) (changes_by purge line.now.outcome.now.change)) }
         ensures kept { OnErr result ((texts_of self.new ≡ texts_of self.old) × (held_changes self.new ≡ held_changes self.old)) }
     {
         let start = count_of(&self.changes);
-        put_changes(&mut self.changes, purge, &outcome.change)?;
-        if let Err(refused) = self.put_written(number, clock, packet, outcome, messages) {
+        put_changes(&mut self.changes, purge, &line.outcome.change)?;
+        if let Err(refused) = self.put_written(line, packet, messages) {
             cut_changes(&mut self.changes, start);
             return Err(refused);
         }

@@ -3,8 +3,9 @@ ghost use Rattle.std.specs.Prelude.{◌≡◌, IfOk};
 ghost use Rattle.pfr_commit.specs.Endings as spec;
 
 use crate::counters::Counters;
-use crate::emitted::room_for;
+use crate::packet_texts::room_for;
 use crate::state_line::StateLine;
+use pfr_ruleset::Interface;
 use pfr_states::Table;
 use pfr_sync::Message;
 use std::alloc::{AllocError, Global};
@@ -35,14 +36,21 @@ fn counters_text(alloc: Global, records: u64, counters: &Counters) -> Result<Vec
 
 /// The text of a table's states.
 #[tactic(auto, unfolding(crate::specs::Endings::states_text), using(crate::proofs::EndingLemmas::none_written, crate::proofs::EndingLemmas::next_written, crate::proofs::EndingLemmas::one_is_next, crate::proofs::EndingLemmas::all_written))]
-fn states_text(alloc: Global, table: &Table) -> Result<Vec<u8>, AllocError>
-    ensures { IfOk result (λ text. text.items ≡ spec.states_text table.now.states) }
+fn states_text(
+    alloc: Global,
+    interfaces: &[Interface],
+    table: &Table,
+) -> Result<Vec<u8>, AllocError>
+    ensures { IfOk result (λ text. text.items ≡ spec.states_text interfaces.now table.now.states) }
 {
     let mut text = room_for(alloc, table.len().saturating_mul(USUAL_LINE));
     let mut next = table.first();
     for _turn in 0..table.len() {
         if let Some(state) = next {
-            let line = StateLine { state: &state };
+            let line = StateLine {
+                interfaces,
+                state: &state,
+            };
             line.put(&mut text)?;
             next = table.after(state.number);
         }
@@ -51,9 +59,10 @@ fn states_text(alloc: Global, table: &Table) -> Result<Vec<u8>, AllocError>
 }
 
 impl Ending {
-    /// The last message, and the texts after `records` packets, which left these counters and states.
+    /// The last message, and the texts after `records` packets of a run on these interfaces, which left these counters and states.
     pub(crate) fn new(
         alloc: Global,
+        interfaces: &[Interface],
         message: Option<Message>,
         records: u64,
         counters: &Counters,
@@ -61,12 +70,12 @@ impl Ending {
     ) -> Result<Ending, AllocError>
         ensures message { IfOk result (λ ending. ending.message ≡ message) }
         ensures counters { IfOk result (λ ending. ending.counters.items ≡ spec.counters_text records counters.now) }
-        ensures states { IfOk result (λ ending. ending.states.items ≡ spec.states_text table.now.states) }
+        ensures states { IfOk result (λ ending. ending.states.items ≡ spec.states_text interfaces.now table.now.states) }
     {
         Ok(Ending {
             message,
             counters: counters_text(alloc, records, counters)?,
-            states: states_text(alloc, table)?,
+            states: states_text(alloc, interfaces, table)?,
         })
     }
 }

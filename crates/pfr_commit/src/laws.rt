@@ -4,7 +4,7 @@ ghost use Rattle.std.specs.List.{All, range_with_len};
 ghost use Rattle.pfr_states.specs.States.{IsTable};
 ghost use Rattle.pfr_packet.specs.Job.{RunJob};
 ghost use Rattle.pfr_commit.specs.Holding.{AStandbyHoldsEachState};
-ghost use Rattle.pfr_commit.specs.Laws.{AStandbyHoldsTheStates, BytesOfARule, ChangesMakeTheTable, ClockIsOfARecord, EachHasItsLine, EachHasItsRecord, EvaluationsArePackets, EvaluationsOfARule, PacketsOfARule, RulesKeepToTheirMax, StatesAreOfPackets, TotalsAreTheCount, TheLastMessageIsTheRest, TotalsCountVerdicts, TwoPartsAreTheWhole, WhatIsWrittenStays};
+ghost use Rattle.pfr_commit.specs.Laws.{AStandbyHoldsTheStates, BytesOfARule, ChangesMakeTheTable, ClockIsOfARecord, EachHasItsLine, EachHasItsRecord, EvaluationsArePackets, EvaluationsOfARule, OneCaptureHasNoMarks, PacketsOfARule, RulesKeepToTheirMax, StatesAreOfPackets, TotalsAreTheCount, TheLastMessageIsTheRest, TotalsCountVerdicts, TwoPartsAreTheWhole, WhatIsWrittenStays};
 ghost use Rattle.pfr_commit.specs.Machine.{EveryRun};
 ghost use Rattle.pfr_commit.specs.Runs.{taken_in};
 ghost use Rattle.pfr_commit.specs.World.{Frame, world_of};
@@ -27,13 +27,18 @@ pub fn what_is_written_stays()
     ensures last { TheLastMessageIsTheRest }
 {}
 
-/// Each packet has one line, in the order of the capture, and the lines are numbered from 1. The packets hold the records of
-/// those that aren't blocked, in that order too.
+/// Each packet has one line, in the order of the capture, and the lines are numbered from 1. The packets of an interface
+/// hold the records of those of its packets that aren't blocked, in that order too.
 pub fn every_packet_has_its_line()
     ensures frames { (job : RunJob) (frames : List Frame) → map (λ p. p.frame) (taken_in job frames) ≡ frames }
     ensures numbers { (job : RunJob) (frames : List Frame) → map (λ p. p.number) (taken_in job frames) ≡ range_with_len 1 (length frames) }
     ensures verdicts { EachHasItsLine }
     ensures packets { EachHasItsRecord }
+{}
+
+/// With one capture nothing tells that there could be several: no line names an interface, and all records go to one output.
+pub fn one_capture_has_no_marks()
+    ensures { OneCaptureHasNoMarks }
 {}
 
 /// The clock is the greatest second of the records.

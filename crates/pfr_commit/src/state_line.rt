@@ -1,15 +1,20 @@
 //! The lines of the states.
-ghost use Rattle.std.specs.Prelude.{◌≡◌, ◌+◌, ◌≤◌, ◌++◌, length, OnOk};
+ghost use Rattle.std.specs.Prelude.{◌≡◌, ◌+◌, ◌≤◌, [], ◌∷◌, ◌++◌, length, OnOk};
 ghost use Rattle.pfr_commit.specs.Lines as spec;
 
+use crate::mark::put_mark;
 use pfr_digits::Tail;
+use pfr_ruleset::Interface;
 use pfr_texts::{put_byte, put_direction, put_key, put_peer, put_rule, put_traffic};
 use pfr_track::{DatagramPeer, Peers, State, TcpPeer};
 use std::alloc::AllocError;
 
-/// One line of the states: `N PROTO DIR WIRE STACK r=R t=T PEER PEER MADE DEADLINE P0 B0 P1 B1` and a newline.
+/// One line of the states: `N PROTO DIR WIRE STACK r=R t=T PEER PEER MADE DEADLINE P0 B0 P1 B1`, ` i=NAME` or ` i=-` if the run has
+/// several interfaces, and a newline.
 #[derive(Clone, Copy)]
 pub struct StateLine<'a> {
+    /// The interfaces of the run, by their places.
+    pub interfaces: &'a [Interface],
     pub state: &'a State,
 }
 
@@ -93,12 +98,13 @@ fn ends_of(state: &State) -> Tail
     line
 }
 
-/// How it ends: ` MADE DEADLINE P0 B0 P1 B1` and a newline.
-fn traffic_of(state: &State) -> Tail
-    ensures { result ≡ spec.traffic_part state.now }
+/// How it ends: ` MADE DEADLINE P0 B0 P1 B1`, the interface if the run has several, and a newline.
+fn traffic_of(interfaces: &[Interface], state: &State) -> Tail
+    ensures { result ≡ spec.traffic_before state.now (spec.mark interfaces.now state.now.rules.binding ++ 10 ∷ []) }
 {
     let mut line = Tail::new();
     line.put_word(b"\n");
+    put_mark(&mut line, interfaces, state.rules.binding);
     put_traffic(&mut line, state.back);
     line.put_word(b" ");
     put_traffic(&mut line, state.forth);
@@ -115,10 +121,10 @@ impl StateLine<'_> {
     /// parts before may have been appended.
     #[tactic(auto, unfolding(crate::specs::Lines::state_line))]
     pub fn put(&self, text: &mut Vec<u8>) -> Result<(), AllocError>
-        ensures { OnOk result (text.new.items ≡ text.old.items ++ spec.state_line self.now.state.now) }
+        ensures { OnOk result (text.new.items ≡ text.old.items ++ spec.state_line self.now.interfaces.now self.now.state.now) }
     {
         text.extend_from_slice(keys_of(self.state).as_slice())?;
         text.extend_from_slice(ends_of(self.state).as_slice())?;
-        text.extend_from_slice(traffic_of(self.state).as_slice())
+        text.extend_from_slice(traffic_of(self.interfaces, self.state).as_slice())
     }
 }

@@ -1,20 +1,28 @@
 //! The lines of the verdicts.
 ghost use Rattle.std.specs.Prelude.{◌≡◌, ◌+◌, ◌≤◌, ◌++◌, length, OnOk, OnErr};
 ghost use Rattle.pfr_packet.specs.Verdicts.{reason_text, verdict_text};
+ghost use Rattle.pfr_commit.specs.Emissions.{line_text};
 ghost use Rattle.pfr_commit.specs.Lines as spec;
 
+use crate::mark::put_mark;
 use pfr_digits::Tail;
+use pfr_net::{Binding, InterfacePlace};
 use pfr_packet::{Outcome, Reason, Verdict};
+use pfr_ruleset::Interface;
 use pfr_texts::{put_direction, put_rule, put_state};
 use pfr_track::Clock;
 use std::alloc::AllocError;
 
-/// One line of the verdicts: `N CLOCK DIR VERDICT REASON r=R t=T s=S` and a newline.
+/// One line of the verdicts: `N CLOCK DIR VERDICT REASON r=R t=T s=S`, ` i=NAME` if the run has several interfaces, and a newline.
 #[derive(Clone, Copy)]
 pub struct VerdictLine<'a> {
+    /// The interfaces of the run, by their places.
+    pub interfaces: &'a [Interface],
     /// The packet's number in its run, from 1.
     pub number: u64,
     pub clock: Clock,
+    /// The place of the packet's interface.
+    pub place: InterfacePlace,
     pub outcome: &'a Outcome,
 }
 
@@ -89,11 +97,12 @@ impl VerdictLine<'_> {
     /// Nothing is formatted: the line is written from its end.
     #[tactic(auto, unfolding(crate::specs::Lines::verdict_line))]
     pub fn put(&self, text: &mut Vec<u8>) -> Result<(), AllocError>
-        ensures done { OnOk result (text.new.items ≡ text.old.items ++ spec.verdict_line self.now.number self.now.clock self.now.outcome.now) }
+        ensures done { OnOk result (text.new.items ≡ text.old.items ++ line_text self.now) }
         ensures kept { OnErr result (text.new.items ≡ text.old.items) }
     {
         let mut line = Tail::new();
         line.put_word(b"\n");
+        put_mark(&mut line, self.interfaces, Binding::To(self.place));
         put_named(&mut line, self.outcome);
         put_words(&mut line, self.outcome);
         line.put_number(u64::from(self.clock.0));

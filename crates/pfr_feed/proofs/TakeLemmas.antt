@@ -11,6 +11,7 @@ use Rattle.pfr_commit.specs.declared.emitted.Emitted.{Emitted}
 use Rattle.pfr_commit.specs.Books.{LeadsTo, StandsAt, bare, frames_of, job_of, world_in}
 use Rattle.pfr_commit.specs.Emissions.{frame_of, texts_of, with_more}
 use Rattle.pfr_commit.specs.World.{Frame, World, joined, no_texts, online, opening, world_after}
+use Rattle.pfr_commit.proofs.PlaceLemmas.{each_nowhere}
 use Rattle.pfr_commit.proofs.StandLemmas.{nothing_behind}
 use Rattle.pfr_commit.proofs.WorldLemmas as worlds
 use Rattle.pfr_feed.specs.Batches.{records_of}
@@ -32,7 +33,7 @@ frames_are [] = refl
 frames_are (packet ∷ packets) = ap (λ (fs : List Frame). frame_of packet.0 ∷ fs) (frames_are packets)
 
 whole : (world : World) → world ≡ worlds.behind world (bare world)
-whole world = rw (append-nil world.verdicts, append-nil world.packets, append-nil world.changes, append-nil world.events) refl
+whole world = rw (append-nil world.verdicts, sym (each_nowhere world.packets), append-nil world.changes, append-nil world.events) refl
 
 -- what packets do to the table stands behind what was done before, and doesn't depend on that
 changes_more : (book : Book) (frames : List Frame) (world : World) → StandsAt book world → (world_after (job_of book) world frames).changes ≡ world.changes ++ (world_after (job_of book) (world_in book) frames).changes

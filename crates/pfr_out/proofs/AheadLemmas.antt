@@ -16,7 +16,7 @@ use Rattle.pfr_commit.specs.World.{World, opening, world_after}
 use Rattle.pfr_out.specs.declared.report.Output.{Output}
 use Rattle.pfr_out.specs.declared.report.Stop.TheVariants as stop
 use Rattle.pfr_out.specs.declared.sinks.Sinks.{Sinks}
-use Rattle.pfr_out.specs.Outputs.{Grew, Outputs, PartWritten, header_alone, texts_alone}
+use Rattle.pfr_out.specs.Outputs.{Grew, Outputs, PartWritten, headers_alone, texts_alone}
 use Rattle.pfr_out.specs.Reading.{BatchSays, End, EndsBehind, records_of, wants_memory}
 use Rattle.pfr_out.specs.Replay.{Holds, HoldsAll, HoldsAllRead, IsBoundary, OfEvery, Stopped, run_of}
 use Rattle.pfr_out.specs.Spelling.{Run}
@@ -124,7 +124,7 @@ pub record Ahead (run : Run) (capture : Reading) (text left : List ℕ) (told : 
   pub knows : Knows known capture text later left (taken ++ all_of waiting) end
 
 -- nothing was given yet, and the header was written
-pub ahead_first : (run : Run) (capture : Reading) (read left : List ℕ) (told : Sinks Bool) (old new : Outputs) → HasGiven capture read [] → Grew told old new (header_alone capture.header)
+pub ahead_first : (run : Run) (capture : Reading) (read left : List ℕ) (told : Sinks Bool) (old new : Outputs) → HasGiven capture read [] → Grew told old new (headers_alone (capture.header ∷ []))
     → Ahead run capture (read ++ left) left told old new (opening run.job) [] None
 ahead_first run capture read left told old new given grew = record {
   taken = [];

@@ -1,5 +1,5 @@
 -- Whatever a stop leaves in the outputs is a beginning of what the replay of the capture writes.
-use Rattle.std.proofs.Common.{◌≡◌, ℕ, zero, suc, Bool, IsTrue, ◌≤◌, List, [], ◌∷◌, ◌++◌, length, take, drop, None, Result, Ok, Err, ◌⊎◌, inl, inr, refl, sym, ◌∙◌, ap, subst, arith}
+use Rattle.std.proofs.Common.{◌≡◌, ℕ, zero, suc, Bool, IsTrue, false, ◌≤◌, ◌+◌, List, [], ◌∷◌, ◌++◌, length, take, drop, None, Result, Ok, Err, ◌⊎◌, inl, inr, refl, sym, ◌∙◌, ap, subst, arith}
 use Rattle.std.specs.List.{flat_map}
 use Rattle.std.proofs.lemmas.Bool.{cases_lt}
 use Rattle.std.proofs.lemmas.List.{append_assoc, append_cancel_right, append-nil, length-take-le, take-append-drop, take_at}
@@ -20,7 +20,7 @@ use Rattle.pfr_out.specs.declared.report.Output.TheVariants as output
 use Rattle.pfr_out.specs.declared.report.Stop.{Stop}
 use Rattle.pfr_out.specs.declared.report.Stop.TheVariants as stop
 use Rattle.pfr_out.specs.declared.sinks.Sinks.{Sinks}
-use Rattle.pfr_out.specs.Outputs.{Extends, Grew, Outputs, PartWritten, Untouched, header_alone, of_output, texts_alone, turn}
+use Rattle.pfr_out.specs.Outputs.{Extends, Grew, OutputTexts, Outputs, PartWritten, Untouched, headers_alone, of_output, output_text, texts_alone, turn}
 use Rattle.pfr_out.specs.Replay.{Begins, Holds, HoldsAll, HoldsAllRead, HoldsPartOfBatch, HoldsPartOfEnding, HoldsPartOfHeader, OfEvery, Refused, Stopped, closing, committed_of, online, replay_of, run_of, whole}
 use Rattle.pfr_out.specs.Spelling.{Run}
 use Rattle.pfr_out.proofs.ReadingLemmas.{capture_opens}
@@ -60,66 +60,66 @@ begins_behind old mid new a b both was is g = (
 
 -- ---- outputs
 
-all_whole : (told : Sinks Bool) (old new a : Outputs) → Grew told old new a → Begins told old new a
-all_whole told old new a g o t = whole_begins (of_output o old) (of_output o new) (of_output o a) (g o t)
+all_whole : (told : Sinks Bool) (old new : Outputs) (a : OutputTexts) → Grew told old new a → Begins told old new a
+all_whole told old new a g o t = whole_begins (of_output [] o old) (of_output [] o new) (output_text o a) (g o t)
 
-all_nothing : (told : Sinks Bool) (old new a : Outputs) → Untouched told old new → Begins told old new a
-all_nothing told old new a same o t = nothing_begins (of_output o old) (of_output o new) (of_output o a) (same o t)
+all_nothing : (told : Sinks Bool) (old new : Outputs) (a : OutputTexts) → Untouched told old new → Begins told old new a
+all_nothing told old new a same o t = nothing_begins (of_output [] o old) (of_output [] o new) (output_text o a) (same o t)
 
-all_longer : (told : Sinks Bool) (old new a more b : Outputs) → Extends a b more → Begins told old new a → Begins told old new b
-all_longer told old new a more b longer g o t = begins_longer (of_output o old) (of_output o new) (of_output o a) (of_output o more) (of_output o b) (longer o) (g o t)
+all_longer : (told : Sinks Bool) (old new : Outputs) (a more b : OutputTexts) → Extends a b more → Begins told old new a → Begins told old new b
+all_longer told old new a more b longer g o t = begins_longer (of_output [] o old) (of_output [] o new) (output_text o a) (output_text o more) (output_text o b) (longer o) (g o t)
 
-all_behind : (told : Sinks Bool) (old mid new a b both : Outputs) → Grew told old mid a → Extends a both b → Begins told mid new b → Begins told old new both
+all_behind : (told : Sinks Bool) (old mid new : Outputs) (a b both : OutputTexts) → Grew told old mid a → Extends a both b → Begins told mid new b → Begins told old new both
 all_behind told old mid new a b both was is g o t =
-    begins_behind (of_output o old) (of_output o mid) (of_output o new) (of_output o a) (of_output o b) (of_output o both) (was o t) (is o) (g o t)
+    begins_behind (of_output [] o old) (of_output [] o mid) (of_output [] o new) (output_text o a) (output_text o b) (output_text o both) (was o t) (is o) (g o t)
 
 -- no two outputs have one turn
 abbrev output_at : ℕ → Output
 output_at zero = output.Messages
-output_at (suc zero) = output.Verdicts
-output_at (suc (suc zero)) = output.Packets
-output_at (suc (suc (suc zero))) = output.Counters
-output_at _ = output.States
+output_at (suc zero) = output.Counters
+output_at (suc (suc zero)) = output.States
+output_at (suc (suc (suc zero))) = output.Verdicts
+output_at (suc (suc (suc (suc place)))) = output.Packets place
 
 turn_at : (o : Output) → output_at (turn o) ≡ o
-turn_at = each_output (λ o. output_at (turn o) ≡ o) refl refl refl refl refl
+turn_at = each_output (λ o. output_at (turn o) ≡ o) refl (λ place. let is : 4 + place ≡ suc (suc (suc (suc place))) = omega arith in ap output_at is) refl refl refl
 
 same_output : (o other : Output) → turn o ≡ turn other → o ≡ other
 same_output o other same = sym (turn_at o) ∙ ap output_at same ∙ turn_at other
 
 -- a piece of which one output took a part
-part_begins_all : (told : Sinks Bool) (old new a : Outputs) (written : Output) → PartWritten told old new a written → Begins told old new a
+part_begins_all : (told : Sinks Bool) (old new : Outputs) (a : OutputTexts) (written : Output) → PartWritten told old new a written → Begins told old new a
 part_begins_all told old new a written p o t = elim (cases_lt (turn o) (turn written)) [
-  | inl before ↦ whole_begins (of_output o old) (of_output o new) (of_output o a) (p.before o t before)
+  | inl before ↦ whole_begins (of_output [] o old) (of_output [] o new) (output_text o a) (p.before o t before)
   | inr not_before ↦ elim (cases_lt (turn written) (turn o)) [
-    | inl behind ↦ nothing_begins (of_output o old) (of_output o new) (of_output o a) (p.behind o t behind)
+    | inl behind ↦ nothing_begins (of_output [] o old) (of_output [] o new) (output_text o a) (p.behind o t behind)
     | inr not_behind ↦
         (let same : turn o ≡ turn written = omega (arith, not_before, not_behind) in
-        subst (λ (x : Output). IsTrue (of_output x told) → GrewByBeginning (of_output x old) (of_output x new) (of_output x a)) (sym (same_output o written same))
-        (λ u. part_begins (of_output written old) (of_output written new) (of_output written a) (p.part u)) t)
+        subst (λ (x : Output). IsTrue (of_output false x told) → GrewByBeginning (of_output [] x old) (of_output [] x new) (output_text x a)) (sym (same_output o written same))
+        (λ u. part_begins (of_output [] written old) (of_output [] written new) (output_text written a) (p.part u)) t)
   ]
 ]
 
 -- ---- what a replay writes
 
 -- what packets write begins what the replay writes, however the capture ends
-online_begins : (told : Sinks Bool) (old new : Outputs) (header : List ℕ) (run : Run) (world : World) (end : Result Tail CaptureError) → Begins told old new (online header run world) → Begins told old new (replay_of header run world end)
-online_begins told old new header run world (Ok tail) b = all_longer told old new (online header run world) (closing run world) (whole header run world) (whole_is header run world) b
-online_begins told old new header run world (Err e) b = b
+online_begins : (told : Sinks Bool) (old new : Outputs) (headers : List (List ℕ)) (run : Run) (world : World) (end : Result Tail CaptureError) → Begins told old new (online headers run world) → Begins told old new (replay_of headers run world end)
+online_begins told old new headers run world (Ok tail) b = all_longer told old new (online headers run world) (closing run world) (whole headers run world) (whole_is headers run world) b
+online_begins told old new headers run world (Err e) b = b
 
-header_begins : (header : List ℕ) (run : Run) (world : World) → Extends (header_alone header) (online header run world) (texts_alone run (written run.job world))
-header_begins header run world = each_output _ refl refl refl refl refl
+headers_begin : (headers : List (List ℕ)) (run : Run) (world : World) → Extends (headers_alone headers) (online headers run world) (texts_alone run (written run.job world))
+headers_begin headers run world = each_output _ refl (λ place. refl) refl refl refl
 
 front_and_rest : (given records : List RecordBytes) → IsFront given records → records ≡ given ++ drop (length given) records
 front_and_rest given records f = sym (ap (λ (t : List RecordBytes). t ++ drop (length given) records) f.front ∙ take-append-drop (length given) records)
 
 -- and so does what the first of them write
-fewer_begin : (run : Run) (told : Sinks Bool) (old new : Outputs) (header : List ℕ) (form : Form) (given records : List RecordBytes) → IsFront given records → Begins told old new (online header run (run_of run.job form given)) → Begins told old new (online header run (run_of run.job form records))
-fewer_begin run told old new header form given records front b =
+fewer_begin : (run : Run) (told : Sinks Bool) (old new : Outputs) (headers : List (List ℕ)) (form : Form) (given records : List RecordBytes) → IsFront given records → Begins told old new (online headers run (run_of run.job form given)) → Begins told old new (online headers run (run_of run.job form records))
+fewer_begin run told old new headers form given records front b =
     let grows = run_grows run.job form given (drop (length given) records) in
     let is = ap (λ (rs : List RecordBytes). written run.job (run_of run.job form rs)) (front_and_rest given records front) ∙ grows.1 in
-    all_longer told old new (online header run (run_of run.job form given)) (texts_alone run grows.0) (online header run (run_of run.job form records))
-    (online_behind header run (run_of run.job form given) (run_of run.job form records) grows.0 is) b
+    all_longer told old new (online headers run (run_of run.job form given)) (texts_alone run grows.0) (online headers run (run_of run.job form records))
+    (online_behind headers run (run_of run.job form given) (run_of run.job form records) grows.0 is) b
 
 taken_front : (count : ℕ) (records : List RecordBytes) → count ≤ length records → IsFront (take count records) records
 taken_front count records within =
@@ -154,47 +154,47 @@ of_source text left P form records end o c =
     rw o.is (o.every left form records end is)
 
 all_begins : (run : Run) (text : List ℕ) (told : Sinks Bool) (old new : Outputs) (end : Result Tail CaptureError) (committed : ℕ) (form : Form) (records : List RecordBytes) (end' : Result Tail CaptureError) → HoldsAll run text told old new end committed → IsCapture text form records end'
-    → Begins told old new (replay_of (take 24 text) run (run_of run.job form records) end')
+    → Begins told old new (replay_of (take 24 text ∷ []) run (run_of run.job form records) end')
 all_begins run text told old new end committed form records end' h c =
     let one = one_capture text h.form form h.records records end end' h.capture c in
-    online_begins told old new (take 24 text) run (run_of run.job form records) end' (rw (← one.0, ← one.1) (all_whole told old new (online (take 24 text) run (run_of run.job h.form h.records)) h.grew))
+    online_begins told old new (take 24 text ∷ []) run (run_of run.job form records) end' (rw (← one.0, ← one.1) (all_whole told old new (online (take 24 text ∷ []) run (run_of run.job h.form h.records)) h.grew))
 
 read_begins : (run : Run) (text left : List ℕ) (told : Sinks Bool) (old new : Outputs) (committed : ℕ) (form : Form) (records : List RecordBytes) (end : Result Tail CaptureError) → HoldsAllRead run text left told old new committed → IsCapture text form records end
-    → Begins told old new (replay_of (take 24 text) run (run_of run.job form records) end)
+    → Begins told old new (replay_of (take 24 text ∷ []) run (run_of run.job form records) end)
 read_begins run text left told old new committed form records end h c =
     let first = capture_first h.read left h.form form h.records records (Ok h.tail) end h.capture (rw (← h.is) c) in
-    online_begins told old new (take 24 text) run (run_of run.job form records) end
-    (rw first.0 (fewer_begin run told old new (take 24 text) h.form h.records records first.1 (all_whole told old new (online (take 24 text) run (run_of run.job h.form h.records)) h.grew)))
+    online_begins told old new (take 24 text ∷ []) run (run_of run.job form records) end
+    (rw first.0 (fewer_begin run told old new (take 24 text ∷ []) h.form h.records records first.1 (all_whole told old new (online (take 24 text ∷ []) run (run_of run.job h.form h.records)) h.grew)))
 
 holds_begins : (run : Run) (batch : ℕ) (told : Sinks Bool) (old new : Outputs) (committed : ℕ) (header : List ℕ) (form : Form) (records : List RecordBytes) (end : Result Tail CaptureError) → Holds run batch told old new committed header form records
-    → Begins told old new (replay_of header run (run_of run.job form records) end)
+    → Begins told old new (replay_of (header ∷ []) run (run_of run.job form records) end)
 holds_begins run batch told old new committed header form records end h =
-    online_begins told old new header run (run_of run.job form records) end
-    (fewer_begin run told old new header form (take committed records) records (taken_front committed records h.within) (all_whole told old new (online header run (run_of run.job form (take committed records))) h.grew))
+    online_begins told old new (header ∷ []) run (run_of run.job form records) end
+    (fewer_begin run told old new (header ∷ []) form (take committed records) records (taken_front committed records h.within) (all_whole told old new (online (header ∷ []) run (run_of run.job form (take committed records))) h.grew))
 
 part_of_header_begins : (run : Run) (told : Sinks Bool) (old new : Outputs) (at : Output) (committed : ℕ) (header : List ℕ) (form : Form) (records : List RecordBytes) (end : Result Tail CaptureError) → HoldsPartOfHeader told old new at committed header
-    → Begins told old new (replay_of header run (run_of run.job form records) end)
+    → Begins told old new (replay_of (header ∷ []) run (run_of run.job form records) end)
 part_of_header_begins run told old new at committed header form records end h =
-    online_begins told old new header run (run_of run.job form records) end
-    (all_longer told old new (header_alone header) (texts_alone run (written run.job (run_of run.job form records))) (online header run (run_of run.job form records)) (header_begins header run (run_of run.job form records)) (part_begins_all told old new (header_alone header) at h.part))
+    online_begins told old new (header ∷ []) run (run_of run.job form records) end
+    (all_longer told old new (headers_alone (header ∷ [])) (texts_alone run (written run.job (run_of run.job form records))) (online (header ∷ []) run (run_of run.job form records)) (headers_begin (header ∷ []) run (run_of run.job form records)) (part_begins_all told old new (headers_alone (header ∷ [])) at h.part))
 
 part_of_batch_begins : (run : Run) (batch : ℕ) (told : Sinks Bool) (old new : Outputs) (at : Output) (committed : ℕ) (header : List ℕ) (form : Form) (records : List RecordBytes) (end : Result Tail CaptureError) → HoldsPartOfBatch run batch told old new at committed header form records
-    → Begins told old new (replay_of header run (run_of run.job form records) end)
+    → Begins told old new (replay_of (header ∷ []) run (run_of run.job form records) end)
 part_of_batch_begins run batch told old new at committed header form records end h =
-    online_begins told old new header run (run_of run.job form records) end
-    (fewer_begin run told old new header form (take h.next records) records (taken_front h.next records h.within)
-    (all_behind told old h.mid new (online header run (run_of run.job form (take committed records))) (texts_alone run h.piece) (online header run (run_of run.job form (take h.next records))) h.before h.piece_is (part_begins_all told h.mid new (texts_alone run h.piece) at h.part)))
+    online_begins told old new (header ∷ []) run (run_of run.job form records) end
+    (fewer_begin run told old new (header ∷ []) form (take h.next records) records (taken_front h.next records h.within)
+    (all_behind told old h.mid new (online (header ∷ []) run (run_of run.job form (take committed records))) (texts_alone run h.piece) (online (header ∷ []) run (run_of run.job form (take h.next records))) h.before h.piece_is (part_begins_all told h.mid new (texts_alone run h.piece) at h.part)))
 
 part_of_ending_begins : (run : Run) (text : List ℕ) (told : Sinks Bool) (old new : Outputs) (at : Output) (committed : ℕ) (form : Form) (records : List RecordBytes) (end : Result Tail CaptureError) → HoldsPartOfEnding run text told old new at committed → IsCapture text form records end
-    → Begins told old new (replay_of (take 24 text) run (run_of run.job form records) end)
+    → Begins told old new (replay_of (take 24 text ∷ []) run (run_of run.job form records) end)
 part_of_ending_begins run text told old new at committed form records end h c =
     let one = one_capture text h.form form h.records records (Ok h.tail) end h.capture c in
     rw (← one.0, ← one.1, ← one.2)
-    (all_behind told old h.mid new (online (take 24 text) run (run_of run.job h.form h.records)) (closing run (run_of run.job h.form h.records)) (whole (take 24 text) run (run_of run.job h.form h.records)) h.before (whole_is (take 24 text) run (run_of run.job h.form h.records))
+    (all_behind told old h.mid new (online (take 24 text ∷ []) run (run_of run.job h.form h.records)) (closing run (run_of run.job h.form h.records)) (whole (take 24 text ∷ []) run (run_of run.job h.form h.records)) h.before (whole_is (take 24 text ∷ []) run (run_of run.job h.form h.records))
     (part_begins_all told h.mid new (closing run (run_of run.job h.form h.records)) at h.part))
 
 refused_begins : (run : Run) (text : List ℕ) (told : Sinks Bool) (old new : Outputs) (e : CaptureError) (committed : ℕ) (form : Form) (records : List RecordBytes) (end : Result Tail CaptureError) → Refused run text told old new e committed → IsCapture text form records end
-    → Begins told old new (replay_of (take 24 text) run (run_of run.job form records) end)
+    → Begins told old new (replay_of (take 24 text ∷ []) run (run_of run.job form records) end)
 refused_begins run text told old new refusal.Read committed form records end r c = absurd r
 refused_begins run text told old new refusal.Memory committed form records end r c = absurd r
 refused_begins run text told old new (refusal.RecordTooLong asked) committed form records end r c = all_begins run text told old new (Err (refusal.RecordTooLong asked)) committed form records end r c
@@ -204,7 +204,7 @@ refused_begins run text told old new refusal.BadVersion committed form records e
 refused_begins run text told old new (refusal.LinkType link) committed form records end r c = all_nothing told old new _ r.2
 
 pub stop_begins : (run : Run) (batch : ℕ) (text left : List ℕ) (told : Sinks Bool) (old new : Outputs) (s : Stop) (form : Form) (records : List RecordBytes) (end : Result Tail CaptureError) → Stopped run batch text left told old new s → IsCapture text form records end
-    → Begins told old new (replay_of (take 24 text) run (run_of run.job form records) end)
+    → Begins told old new (replay_of (take 24 text ∷ []) run (run_of run.job form records) end)
 stop_begins run batch text left told old new (stop.Ruleset fault) form records end s c = absurd s
 stop_begins run batch text left told old new (stop.Capture e committed) form records end s c = refused_begins run text told old new e committed form records end s c
 stop_begins run batch text left told old new (stop.Read committed) form records end (inl unopened) c = all_nothing told old new _ unopened.same
@@ -217,22 +217,22 @@ stop_begins run batch text left told old new (stop.Memory committed) form record
 stop_begins run batch text left told old new (stop.Write at committed) form records end (inl holds) c =
     by_part (of_source text left (λ header form records. HoldsPartOfHeader told old new at committed header ⊎ HoldsPartOfBatch run batch told old new at committed header form records) form records end holds c)
   where
-    by_part : HoldsPartOfHeader told old new at committed (take 24 text) ⊎ HoldsPartOfBatch run batch told old new at committed (take 24 text) form records → Begins told old new (replay_of (take 24 text) run (run_of run.job form records) end)
+    by_part : HoldsPartOfHeader told old new at committed (take 24 text) ⊎ HoldsPartOfBatch run batch told old new at committed (take 24 text) form records → Begins told old new (replay_of (take 24 text ∷ []) run (run_of run.job form records) end)
     by_part (inl h) = part_of_header_begins run told old new at committed (take 24 text) form records end h
     by_part (inr h) = part_of_batch_begins run batch told old new at committed (take 24 text) form records end h
 stop_begins run batch text left told old new (stop.Write at committed) form records end (inr holds) c = part_of_ending_begins run text told old new at committed form records end holds c
 
 -- if reading failed, the outputs begin the replay of every capture that begins with what was read
 pub read_stop_begins : (run : Run) (batch : ℕ) (text left : List ℕ) (told : Sinks Bool) (old new : Outputs) (committed : ℕ) (read more : List ℕ) (form : Form) (records : List RecordBytes) (end : Result Tail CaptureError) → Stopped run batch text left told old new (stop.Read committed)
-    → text ≡ read ++ left → IsCapture (read ++ more) form records end → Begins told old new (replay_of (take 24 (read ++ more)) run (run_of run.job form records) end)
+    → text ≡ read ++ left → IsCapture (read ++ more) form records end → Begins told old new (replay_of (take 24 (read ++ more) ∷ []) run (run_of run.job form records) end)
 read_stop_begins run batch text left told old new committed read more form records end (inl unopened) is c = all_nothing told old new _ unopened.same
 read_stop_begins run batch text left told old new committed read more form records end (inr h) is c =
     let same : h.read ≡ read = append_cancel_right h.read read left (sym h.is ∙ is) in
     let whole_read : IsCapture read h.form h.records (Ok h.tail) = rw same at h.capture in
     let first = capture_first read more h.form form h.records records (Ok h.tail) end whole_read c in
     let grew = rw (is, same_header read left h.form h.records (Ok h.tail) whole_read) at h.grew in
-    online_begins told old new (take 24 (read ++ more)) run (run_of run.job form records) end
-    (rw (first.0, same_header read more h.form h.records (Ok h.tail) whole_read) (fewer_begin run told old new (take 24 read) h.form h.records records first.1 (all_whole told old new (online (take 24 read) run (run_of run.job h.form h.records)) grew)))
+    online_begins told old new (take 24 (read ++ more) ∷ []) run (run_of run.job form records) end
+    (rw (first.0, same_header read more h.form h.records (Ok h.tail) whole_read) (fewer_begin run told old new (take 24 read ∷ []) h.form h.records records first.1 (all_whole told old new (online (take 24 read ∷ []) run (run_of run.job h.form h.records)) grew)))
 
 -- ---- a refused header
 

@@ -22,7 +22,7 @@ use Rattle.pfr_out.specs.declared.report.Stop.TheVariants as stop
 use Rattle.pfr_out.specs.declared.settings.Form.{Form}
 use Rattle.pfr_out.specs.declared.sinks.Sinks.{Sinks}
 use Rattle.pfr_out.specs.Feedings.{Behind, CutsOff, Ends, Fresh, Gives, Reads, Rests, Same, Takes, Writes, piece_alone, stop_by, stop_of, transitions_of}
-use Rattle.pfr_out.specs.Outputs.{Grew, KeepsMessages, Outputs, PartWritten, RoseAt, Stay, each_of, texts_alone}
+use Rattle.pfr_out.specs.Outputs.{Grew, KeepsMessages, OutputTexts, Outputs, PartWritten, RoseAt, Stay, each_of, texts_alone}
 use Rattle.pfr_out.specs.Reading.{BatchFails, BatchSays, End, wants_memory}
 use Rattle.pfr_out.specs.Replay.{StopFails, Stopped}
 use Rattle.pfr_out.specs.Spelling.{Run, source_of}
@@ -194,13 +194,13 @@ module _ {R S : Type 0} (tells : R → Bool) (unread : R → List ℕ) (failures
 
   -- what a batch adds, of outputs that took its piece
   hold : (feed : Feeding R S) (world : World) (waiting : List (List Record)) (is_over : Bool) (records : List Record) (piece : Texts) → At feed world waiting is_over → IsPiece run.job world records piece
-      → (P : (told : Sinks Bool) → (piece : Outputs) → Type 0) → P (each_of told feed.sinks.now) (piece_alone feed.channel.now.form feed.address piece)
+      → (P : (told : Sinks Bool) → (piece : OutputTexts) → Type 0) → P (each_of told feed.sinks.now) (piece_alone feed.channel.now.form feed.address piece)
       → Add run.job world (map frame_of records) (λ added. P (each_of told start.sinks.now) (texts_alone run added))
   hold feed world waiting is_over records piece p is P grew = record {
     added = piece;
     is = is;
     hold = subst (λ (tl : Sinks Bool). P tl (texts_alone run piece)) p.sinks_told
-        (subst (λ (added : Outputs). P (each_of told feed.sinks.now) added)
+        (subst (λ (added : OutputTexts). P (each_of told feed.sinks.now) added)
         (sym (piece_is run feed.channel.now.form feed.address piece (form_is ∙ sym p.same.form) (address_is ∙ sym p.same.address))) grew);
   }
 

@@ -1,5 +1,5 @@
 -- How far a run has come, and how it stops.
-use Rattle.std.proofs.Common.{◌≡◌, ℕ, ◌+◌, ◌≤◌, Bool, IsTrue, true, false, List, [], ◌++◌, length, map, take, Option, Some, None, Result, Ok, Err, IfErr, IfOk, OnOk, inl, inr, refl, sym, ◌∙◌, ap, subst, arith}
+use Rattle.std.proofs.Common.{◌≡◌, ℕ, ◌+◌, ◌≤◌, Bool, IsTrue, true, false, List, [], ◌∷◌, ◌++◌, length, map, take, Option, Some, None, Result, Ok, Err, IfErr, IfOk, OnOk, inl, inr, refl, sym, ◌∙◌, ap, subst, arith}
 use Rattle.std.specs.List.{All}
 use Rattle.std.proofs.lemmas.List.{append_assoc, append-nil, length-append, length-map, map-append, take-take, take_at}
 use Rattle.pfr_packet.specs.Job.{RunJob}
@@ -26,13 +26,13 @@ use Rattle.pfr_out.specs.declared.report.Stop.TheVariants as stop
 use Rattle.pfr_out.specs.declared.settings.Form.{Form as MessageForm}
 use Rattle.pfr_out.specs.declared.settings.Settings.{Settings}
 use Rattle.pfr_out.specs.declared.sinks.Sinks.{Sinks}
-use Rattle.pfr_out.specs.Outputs.{Extends, Grew, Outputs, PartWritten, header_alone, texts_alone}
+use Rattle.pfr_out.specs.Outputs.{Extends, Grew, Outputs, PartWritten, headers_alone, texts_alone}
 use Rattle.pfr_out.specs.Reading.{BatchFails, BatchSays, End, EndsBehind, records_of, wants_memory}
 use Rattle.pfr_out.specs.Replay.{Failing, Holds, HoldsAllRead, HoldsAll, IsBoundary, IsJob, OfEvery, Replayed, StopFails, StopOf, Stopped, StopsUntold, closing, frame_in, online, run_of, run_settings, run_with, stop_for, whole}
 use Rattle.pfr_out.specs.Spelling.{Run}
 use Rattle.pfr_out.specs.Taking.{Add, ConcludeFails, Concludes, EndStops, IsLate, IsPastHeader, Reaches, SinksFail, Standing, TakenAll, run_in}
 use Rattle.pfr_out.proofs.ReadingLemmas.{header_is, of_every, same_frames}
-use Rattle.pfr_out.proofs.WritingLemmas.{grew_twice, header_is_online, online_behind, whole_is}
+use Rattle.pfr_out.proofs.WritingLemmas.{grew_twice, headers_are_online, online_behind, whole_is}
 
 -- ---- worlds
 
@@ -75,17 +75,17 @@ pub record SoFar (run : Run) (capture : Reading) (text left : List ℕ) (told : 
   pub read : List ℕ
   pub text_is : text ≡ read ++ left
   pub given : HasGiven capture read (records ++ ahead)
-  pub grew : Grew told old new (online capture.header run (run_of run.job capture.form records))
+  pub grew : Grew told old new (online (capture.header ∷ []) run (run_of run.job capture.form records))
   pub world_is : world ≡ run_of run.job capture.form records
 
 -- nothing was given yet, and the header was written
-pub at_start : (run : Run) (capture : Reading) (read left : List ℕ) (told : Sinks Bool) (old new : Outputs) → HasGiven capture read [] → Grew told old new (header_alone capture.header)
+pub at_start : (run : Run) (capture : Reading) (read left : List ℕ) (told : Sinks Bool) (old new : Outputs) → HasGiven capture read [] → Grew told old new (headers_alone (capture.header ∷ []))
     → SoFar run capture (read ++ left) left told old new (opening run.job) [] []
 at_start run capture read left told old new given grew = record {
   read = read;
   text_is = refl;
   given = given;
-  grew = header_is_online told old new capture.header run (run_of run.job capture.form []) (ap (λ (w : World). written run.job w) (run_none run.job capture.form) ∙ opening_written run.job) grew;
+  grew = headers_are_online told old new (capture.header ∷ []) run (run_of run.job capture.form []) (ap (λ (w : World). written run.job w) (run_none run.job capture.form) ∙ opening_written run.job) grew;
   world_is = sym (run_none run.job capture.form);
 }
 
@@ -114,11 +114,11 @@ taken_run job form records packets all =
     run_append job form records (records_of packets) ∙ ap (λ fs. world_after job (run_of job form records) fs) (sym (same_frames form packets all))
 
 -- what it writes
-piece_is : (run : Run) (header : List ℕ) (form : Form) (records : List RecordBytes) (packets : List Record) (added : Texts) → All (FieldsOf form) packets
+piece_is : (run : Run) (headers : List (List ℕ)) (form : Form) (records : List RecordBytes) (packets : List Record) (added : Texts) → All (FieldsOf form) packets
     → written run.job (world_after run.job (run_of run.job form records) (map frame_of packets)) ≡ joined (written run.job (run_of run.job form records)) added
-    → Extends (online header run (run_of run.job form records)) (online header run (run_of run.job form (records ++ records_of packets))) (texts_alone run added)
-piece_is run header form records packets added all is =
-    online_behind header run (run_of run.job form records) (run_of run.job form (records ++ records_of packets)) added
+    → Extends (online headers run (run_of run.job form records)) (online headers run (run_of run.job form (records ++ records_of packets))) (texts_alone run added)
+piece_is run headers form records packets added all is =
+    online_behind headers run (run_of run.job form records) (run_of run.job form (records ++ records_of packets)) added
     (ap (λ (w : World). written run.job w) (taken_run run.job form records packets all) ∙ is)
 
 -- the batch was taken and written
@@ -131,8 +131,8 @@ batch_taken run capture text left told old mid new world records ahead packets s
       read = s.read;
       text_is = s.text_is;
       given = rw (append_assoc records (records_of packets) ahead) s.given;
-      grew = grew_twice told old mid new (online capture.header run (run_of run.job capture.form records)) (texts_alone run add.added)
-          (online capture.header run (run_of run.job capture.form (records ++ records_of packets))) s.grew add.hold (piece_is run capture.header capture.form records packets add.added fields add.is);
+      grew = grew_twice told old mid new (online (capture.header ∷ []) run (run_of run.job capture.form records)) (texts_alone run add.added)
+          (online (capture.header ∷ []) run (run_of run.job capture.form (records ++ records_of packets))) s.grew add.hold (piece_is run (capture.header ∷ []) capture.form records packets add.added fields add.is);
       world_is = ap (λ (w : World). world_after run.job w (map frame_of packets)) s.world_is ∙ sym (taken_run run.job capture.form records packets fields);
     }
 
@@ -183,7 +183,7 @@ holds_part_of_batch run batch capture text left left' told old mid new world rec
       before = rw (front_is records all committed (front_of_part records (records_of packets) all front) counted) s.grew;
       piece = add.added;
       piece_is = rw (front_is records all committed (front_of_part records (records_of packets) all front) counted, front_is (records ++ records_of packets) all (length (records ++ records_of packets)) front refl)
-          (piece_is run capture.header capture.form records packets add.added fields add.is);
+          (piece_is run (capture.header ∷ []) capture.form records packets add.added fields add.is);
       part = add.hold;
     })))
 
@@ -265,8 +265,8 @@ replayed run text told old mid new book form tail report run_is t grew committed
       records = all.records;
       capture = rw ends all.capture;
       counted = all.counted ∙ sym committed;
-      grew = grew_twice told old mid new (online (take 24 text) run world) (closing run world) (whole (take 24 text) run world) all.grew
-          (subst (λ (r : Run). Grew told mid new (closing r world)) run_is (grew world t.stands)) (whole_is (take 24 text) run world);
+      grew = grew_twice told old mid new (online (take 24 text ∷ []) run world) (closing run world) (whole (take 24 text ∷ []) run world) all.grew
+          (subst (λ (r : Run). Grew told mid new (closing r world)) run_is (grew world t.stands)) (whole_is (take 24 text ∷ []) run world);
     }
 
 end_stopped : (run : Run) (batch : ℕ) (text left : List ℕ) (told : Sinks Bool) (old mid new : Outputs) (book : Book) (form : MessageForm) (tail : Tail) (s : Stop) → run_in book form ≡ run → TakenAll run text told old mid book tail → EndStops book form told mid new s
@@ -305,7 +305,7 @@ refused_opening run batch text left told old refusal.BadVersion before after ref
 refused_opening run batch text left told old (refusal.LinkType link) before after refuses early fails = (refuses, refl, λ o t. refl)
 
 -- the header was not written whole
-pub header_stopped : (run : Run) (batch : ℕ) (capture : Reading) (read left : List ℕ) (told : Sinks Bool) (old new : Outputs) (output : Output) → HasGiven capture read [] → PartWritten told old new (header_alone capture.header) output
+pub header_stopped : (run : Run) (batch : ℕ) (capture : Reading) (read left : List ℕ) (told : Sinks Bool) (old new : Outputs) (output : Output) → HasGiven capture read [] → PartWritten told old new (headers_alone (capture.header ∷ [])) output
     → Stopped run batch (read ++ left) left told old new (stop.Write output 0)
 header_stopped run batch capture read left told old new output h part =
     inl (of_every capture (read ++ left) left read left [] _ refl (record { came = []; gave = refl }) h (λ all front. inl (record { none = refl; part = part })))

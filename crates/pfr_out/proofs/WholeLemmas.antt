@@ -1,5 +1,5 @@
 -- The whole of a run: how far it came, and what it closed or why it stopped.
-use Rattle.std.proofs.Common.{◌≡◌, ◌∙◌, ℕ, Bool, IsTrue, List, [], ◌++◌, Option, Some, None, IfSome, Result, Err, IfErr, IfOk, refl, sym, subst}
+use Rattle.std.proofs.Common.{◌≡◌, ◌∙◌, ℕ, Bool, IsTrue, List, [], ◌∷◌, ◌++◌, Option, Some, None, IfSome, Result, Err, IfErr, IfOk, refl, sym, subst}
 use Rattle.std.specs.Option.{option_map}
 use Rattle.std.proofs.lemmas.Result.{IfErr-weaker, IfOk-weaker}
 use Rattle.pfr_capture.specs.Reading.{HasGiven}
@@ -10,7 +10,7 @@ use Rattle.pfr_out.specs.declared.report.Report.{Report}
 use Rattle.pfr_out.specs.declared.report.Stop.{Stop}
 use Rattle.pfr_out.specs.declared.sinks.Sinks.{Sinks}
 use Rattle.pfr_out.specs.Feedings.{Behind, Breaks, Concluded, Finishes, RunEnds, RunStops, stop_by, stop_of}
-use Rattle.pfr_out.specs.Outputs.{Grew, GrewBy, Outputs, each_of, header_alone}
+use Rattle.pfr_out.specs.Outputs.{Grew, GrewBy, Outputs, each_of, headers_alone}
 use Rattle.pfr_out.specs.Reading.{End}
 use Rattle.pfr_out.specs.Replay.{Replayed, Stopped, closing}
 use Rattle.pfr_out.specs.Spelling.{Run}
@@ -20,12 +20,12 @@ use Rattle.pfr_out.proofs.RunLemmas.{conclude_is_past, concluded, concluded_stop
 module _ {R S : Type 0} (tells : R → Bool) (unread : R → List ℕ) (failures : R → ℕ) (told : S → Bool) (written : S → List ℕ) (sink_failures : S → ℕ) (run : Run) (start : Feeding R S) where
   abbrev ReplaysFrom : Sinks S → Report → Type 0
   ReplaysFrom sinks' report = IsTrue (tells start.source.now) → (read : List ℕ) (before : Outputs) → HasGiven start.capture.now read []
-      → Grew (each_of told start.sinks.now) before (each_of written start.sinks.now) (header_alone start.capture.now.header)
+      → Grew (each_of told start.sinks.now) before (each_of written start.sinks.now) (headers_alone (start.capture.now.header ∷ []))
       → Replayed run (read ++ unread start.source.now) (each_of told start.sinks.now) before (each_of written sinks') report
 
   abbrev StopsFrom : R → Sinks S → Stop → Type 0
   StopsFrom source' sinks' s = IsTrue (tells start.source.now) → (read : List ℕ) (before : Outputs) → HasGiven start.capture.now read []
-      → Grew (each_of told start.sinks.now) before (each_of written start.sinks.now) (header_alone start.capture.now.header)
+      → Grew (each_of told start.sinks.now) before (each_of written start.sinks.now) (headers_alone (start.capture.now.header ∷ []))
       → Stopped run start.most (read ++ unread start.source.now) (unread source') (each_of told start.sinks.now) before (each_of written sinks') s
 
   finished_ok : (book : Book) (ran : Feeding R S) (sinks' : Sinks S) (result : Result Report Stop) (last : Book) (end : End) → run ≡ run_in book start.channel.now.form → ran.channel.now.form ≡ start.channel.now.form
@@ -132,12 +132,12 @@ module _ {R S : Type 0} (tells : R → Bool) (unread : R → List ℕ) (failures
       → Breaks ran sinks' result
       → Finishes told written sink_failures ran last sinks' result
       → ran.channel.now.form ≡ start.channel.now.form → each_of told ran.sinks.now ≡ each_of told start.sinks.now → run ≡ run_in book start.channel.now.form
-      → each_of told start.sinks.now ≡ each_of told sinks → GrewBy told written sinks start.sinks.now (header_alone start.capture.now.header)
+      → each_of told start.sinks.now ≡ each_of told sinks → GrewBy told written sinks start.sinks.now (headers_alone (start.capture.now.header ∷ []))
       → IfOk result (ReplaysHence sinks sinks')
   replays_on book ran last sinks sinks' result ends_it stopped concludes_it form_same told_same run_is told_is header =
       IfOk-weaker result (ReplaysFrom sinks') (ReplaysHence sinks sinks') (λ (report : Report) p t read h.
       subst (λ (tl : Sinks Bool). Replayed run (read ++ unread start.source.now) tl (each_of written sinks) (each_of written sinks') report) told_is
-      (p t read (each_of written sinks) h (subst (λ (tl : Sinks Bool). Grew tl (each_of written sinks) (each_of written start.sinks.now) (header_alone start.capture.now.header)) (sym told_is) header)))
+      (p t read (each_of written sinks) h (subst (λ (tl : Sinks Bool). Grew tl (each_of written sinks) (each_of written start.sinks.now) (headers_alone (start.capture.now.header ∷ []))) (sym told_is) header)))
       (finishes_ok book ran last sinks' result run_is form_same told_same ends_it stopped concludes_it)
 
   pub stops_on : (book : Book) (ran : Feeding R S) (last : Option Book) (source' : R) (sinks sinks' : Sinks S) (result : Result Report Stop)
@@ -147,11 +147,11 @@ module _ {R S : Type 0} (tells : R → Bool) (unread : R → List ℕ) (failures
       → Finishes told written sink_failures ran last sinks' result
       → source' ≡ ran.source.now
       → ran.channel.now.form ≡ start.channel.now.form → each_of told ran.sinks.now ≡ each_of told start.sinks.now → run ≡ run_in book start.channel.now.form
-      → each_of told start.sinks.now ≡ each_of told sinks → GrewBy told written sinks start.sinks.now (header_alone start.capture.now.header)
+      → each_of told start.sinks.now ≡ each_of told sinks → GrewBy told written sinks start.sinks.now (headers_alone (start.capture.now.header ∷ []))
       → IfErr result (StopsHence source' sinks sinks')
   stops_on book ran last source' sinks sinks' result ends_it stops_it stopped concludes_it source_is form_same told_same run_is told_is header =
       IfErr-weaker result (StopsFrom ran.source.now sinks') (StopsHence source' sinks sinks') (λ (s : Stop) p t read h.
       rw source_is
       (subst (λ (tl : Sinks Bool). Stopped run start.most (read ++ unread start.source.now) (unread ran.source.now) tl (each_of written sinks) (each_of written sinks') s) told_is
-      (p t read (each_of written sinks) h (subst (λ (tl : Sinks Bool). Grew tl (each_of written sinks) (each_of written start.sinks.now) (header_alone start.capture.now.header)) (sym told_is) header))))
+      (p t read (each_of written sinks) h (subst (λ (tl : Sinks Bool). Grew tl (each_of written sinks) (each_of written start.sinks.now) (headers_alone (start.capture.now.header ∷ []))) (sym told_is) header))))
       (finishes_stopped book ran last sinks' result run_is form_same told_same ends_it stops_it stopped concludes_it)

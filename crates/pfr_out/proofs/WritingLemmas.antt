@@ -1,11 +1,13 @@
 -- Outputs that grow by pieces.
-use Rattle.std.proofs.Common.{◌≡◌, ◌<◌, ◌+◌, ℕ, suc, Bool, List, [], ◌∷◌, ◌++◌, length, take, get_or, refl, sym, ◌∙◌, ap, subst, arith}
+use Rattle.std.proofs.Common.{◌≡◌, ◌<◌, ◌+◌, ℕ, suc, Bool, ◌&&◌, List, [], ◌∷◌, ◌++◌, length, map, take, get_or, refl, sym, ◌∙◌, ap, subst, arith}
+use Rattle.std.specs.List.{list_all}
 use Rattle.std.proofs.Math.Seq.{take-suc}
 use Rattle.std.proofs.lemmas.Grind.{flat_map-append}
 use Rattle.std.proofs.lemmas.List.{append_assoc, append-nil}
 use Rattle.pfr_net.specs.declared.address.Ipv4Address.{Ipv4Address}
 use Rattle.pfr_messages.specs.Messages.{Content}
 use Rattle.pfr_sync.specs.Messages.{closed_at, messages_of}
+use Rattle.pfr_commit.specs.Emissions.{by_place}
 use Rattle.pfr_commit.specs.World.{Texts, World, joined, last_message, no_texts, origin_of}
 use Rattle.pfr_commit.specs.World.{online as written}
 use Rattle.pfr_commit.proofs.OnlineLemmas.{all_messages}
@@ -14,8 +16,8 @@ use Rattle.pfr_out.specs.declared.report.Output.TheVariants as output
 use Rattle.pfr_out.specs.declared.settings.Form.{Form}
 use Rattle.pfr_out.specs.declared.settings.Form.TheVariants as shape
 use Rattle.pfr_out.specs.declared.sinks.Sinks.{Sinks}
-use Rattle.pfr_out.specs.Outputs.{Extends, Grew, Outputs, header_alone, of_output, texts_alone}
-use Rattle.pfr_out.specs.Replay.{closing, online, whole}
+use Rattle.pfr_out.specs.Outputs.{Extends, Grew, OutputTexts, Outputs, all_told, each_of, headers_alone, of_output, output_text, texts_alone}
+use Rattle.pfr_out.specs.Replay.{behind_headers, closing, online, whole}
 use Rattle.pfr_out.specs.Spelling.{Run, in_form, messages_text, source_of, spelled}
 
 -- one text after another
@@ -23,9 +25,9 @@ grew_by : (old mid new a b whole : List ℕ) → mid ≡ old ++ a → new ≡ mi
 grew_by old mid new a b whole first second is = second ∙ (rw (first, is) (append_assoc old a b))
 
 -- a fact of each output
-pub each_output : (P : Output → Type 0) → P output.Verdicts → P output.Packets → P output.Counters → P output.States → P output.Messages → (o : Output) → P o
+pub each_output : (P : Output → Type 0) → P output.Verdicts → ((place : ℕ) → P (output.Packets place)) → P output.Counters → P output.States → P output.Messages → (o : Output) → P o
 each_output P verdicts packets counters states messages output.Verdicts = verdicts
-each_output P verdicts packets counters states messages output.Packets = packets
+each_output P verdicts packets counters states messages (output.Packets place) = packets place
 each_output P verdicts packets counters states messages output.Counters = counters
 each_output P verdicts packets counters states messages output.States = states
 each_output P verdicts packets counters states messages output.Messages = messages
@@ -35,9 +37,9 @@ pub grew_by_nothing : (old : List ℕ) → old ≡ old ++ []
 grew_by_nothing old = sym (append-nil old)
 
 -- two pieces are one
-pub grew_twice : (told : Sinks Bool) (old mid new a b both : Outputs) → Grew told old mid a → Grew told mid new b → Extends a both b → Grew told old new both
+pub grew_twice : (told : Sinks Bool) (old mid new : Outputs) (a b both : OutputTexts) → Grew told old mid a → Grew told mid new b → Extends a both b → Grew told old new both
 grew_twice told old mid new a b both first second is o t =
-    grew_by (of_output o old) (of_output o mid) (of_output o new) (of_output o a) (of_output o b) (of_output o both) (first o t) (second o t) (is o)
+    grew_by (of_output [] o old) (of_output [] o mid) (of_output [] o new) (output_text o a) (output_text o b) (output_text o both) (first o t) (second o t) (is o)
 
 -- ---- messages
 
@@ -81,25 +83,41 @@ both_spelled run messages first second is = ap (λ (ms : List Content). messages
 -- ---- what is written of worlds
 
 -- a world of which more is written than of another one
-pub online_behind : (header : List ℕ) (run : Run) (world later : World) (added : Texts) → written run.job later ≡ joined (written run.job world) added → Extends (online header run world) (online header run later) (texts_alone run added)
-online_behind header run world later added is =
+pub online_behind : (headers : List (List ℕ)) (run : Run) (world later : World) (added : Texts) → written run.job later ≡ joined (written run.job world) added → Extends (online headers run world) (online headers run later) (texts_alone run added)
+online_behind headers run world later added is =
     each_output _
     (ap (λ (t : Texts). t.verdicts) is)
-    (ap (λ (t : Texts). header ++ t.packets) is ∙ sym (append_assoc header world.packets added.packets))
+    (λ place. ap (λ (t : Texts). by_place headers place ++ t.packets place) is ∙ sym (append_assoc (by_place headers place) (world.packets place) (added.packets place)))
     refl refl
     (both_spelled run (written run.job later).messages (written run.job world).messages added.messages (ap (λ (t : Texts). t.messages) is))
 
 -- the end of a run after its packets
-pub whole_is : (header : List ℕ) (run : Run) (world : World) → Extends (online header run world) (whole header run world) (closing run world)
-whole_is header run world =
-    each_output _ (sym (append-nil world.verdicts)) (sym (append-nil (header ++ world.packets))) refl refl
+pub whole_is : (headers : List (List ℕ)) (run : Run) (world : World) → Extends (online headers run world) (whole headers run world) (closing run world)
+whole_is headers run world =
+    each_output _ (sym (append-nil world.verdicts)) (λ place. sym (append-nil (behind_headers headers world.packets place))) refl refl
     (both_spelled run (messages_of (origin_of run.job) world.events) (closed_at (origin_of run.job) world.clock world.events) (last_message run.job world) (all_messages (origin_of run.job) world.clock world.events))
 
--- the header alone is what no packets write
-pub header_is_online : (told : Sinks Bool) (old new : Outputs) (header : List ℕ) (run : Run) (world : World) → written run.job world ≡ no_texts → Grew told old new (header_alone header) → Grew told old new (online header run world)
-header_is_online told old new header run world none grew =
+-- the headers alone are what no packets write
+pub headers_are_online : (told : Sinks Bool) (old new : Outputs) (headers : List (List ℕ)) (run : Run) (world : World) → written run.job world ≡ no_texts → Grew told old new (headers_alone headers) → Grew told old new (online headers run world)
+headers_are_online told old new headers run world none grew =
     each_output _
     (λ t. grew output.Verdicts t ∙ ap (λ (t : Texts). old.verdicts ++ t.verdicts) (sym none))
-    (λ t. grew output.Packets t ∙ ap (λ (t : List ℕ). old.packets ++ t) (sym (append-nil header)) ∙ ap (λ (t : Texts). old.packets ++ (header ++ t.packets)) (sym none))
+    (λ place t.
+    grew (output.Packets place) t
+    ∙ ap (λ (t : List ℕ). of_output [] (output.Packets place) old ++ t) (sym (append-nil (by_place headers place)))
+    ∙ ap (λ (t : Texts). of_output [] (output.Packets place) old ++ behind_headers headers t.packets place) (sym none))
     (grew output.Counters) (grew output.States)
     (λ t. grew output.Messages t ∙ ap (λ (t : List ℕ). old.messages ++ t) (sym (spelled_none run.form (source_of run.job))) ∙ ap (λ (t : Texts). old.messages ++ messages_text run t.messages) (sym none))
+
+-- ---- sinks that tell their bytes
+
+told_list : {S : Type 0} (told : S → Bool) (sinks : List S) → list_all told sinks ≡ list_all (λ (it : Bool). it) (map told sinks)
+told_list told [] = refl
+told_list told (sink ∷ sinks) = ap (λ (rest : Bool). told sink && rest) (told_list told sinks)
+
+-- sinks tell as others do that tell one by one as they do
+pub all_told_alike : {S : Type 0} (told : S → Bool) (old new : Sinks S) → each_of told new ≡ each_of told old → all_told told new ≡ all_told told old
+all_told_alike {S = S} told old new is =
+    let by_each : (sinks : Sinks S) → all_told told sinks ≡ all_told (λ (it : Bool). it) (each_of told sinks) =
+    λ sinks. ap (λ (packets : Bool). (((told sinks.verdicts && packets) && told sinks.counters) && told sinks.states) && told sinks.messages) (told_list told sinks.packets) in
+    by_each new ∙ ap (λ (each : Sinks Bool). all_told (λ (it : Bool). it) each) is ∙ sym (by_each old)

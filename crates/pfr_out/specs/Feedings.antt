@@ -1,5 +1,5 @@
 -- How the batches of a capture are given, and what they add is taken.
-use Rattle.std.specs.Prelude.{◌≡◌, ◌⊎◌, ◌≤◌, ◌+◌, ◌++◌, min, ℕ, Bool, IsTrue, false, List, [], length, Option, Some, None, Result, Ok, Err, IfErr, IfOk, IfSome, OnOk}
+use Rattle.std.specs.Prelude.{◌≡◌, ◌⊎◌, ◌≤◌, ◌+◌, ◌++◌, min, ℕ, Bool, IsTrue, false, List, [], ◌∷◌, length, Option, Some, None, Result, Ok, Err, IfErr, IfOk, IfSome, OnOk}
 use Rattle.std.specs.List.{All}
 use Rattle.std.specs.Option.{option_map}
 use Rattle.pfr_net.specs.declared.address.Ipv4Address.{Ipv4Address}
@@ -16,14 +16,14 @@ use Rattle.pfr_out.specs.declared.report.Stop.{Stop}
 use Rattle.pfr_out.specs.declared.report.Stop.TheVariants as stop
 use Rattle.pfr_out.specs.declared.settings.Form.{Form}
 use Rattle.pfr_out.specs.declared.sinks.Sinks.{Sinks}
-use Rattle.pfr_out.specs.Outputs.{Grew, GrewBy, KeepsMessages, Outputs, Stay, TookPart, batch_alone, each_of, header_alone}
+use Rattle.pfr_out.specs.Outputs.{Grew, GrewBy, KeepsMessages, OutputTexts, Outputs, Stay, TookPart, batch_alone, each_of, headers_alone}
 use Rattle.pfr_out.specs.Reading.{BatchFails, End, SaysIn, wants_memory}
 use Rattle.pfr_out.specs.Replay.{StopFails, Stopped}
 use Rattle.pfr_out.specs.Spelling.{spelled}
 use Rattle.pfr_out.specs.Taking.{ClosesIn, ConcludeFails, ConcludesIn, IsPastHeader, Reaches, SinksFail, run_in}
 
 -- a piece, as it is written
-abbrev pub piece_alone : Form → Ipv4Address → Texts → Outputs
+abbrev pub piece_alone : Form → Ipv4Address → Texts → OutputTexts
 piece_alone form address piece = batch_alone piece.verdicts piece.packets (spelled form address piece.messages)
 
 -- the stop by which a piece was cut, after `committed` packets
@@ -103,7 +103,7 @@ pub record Takes {R S : Type 0} (tells : S → Bool) (written : S → List ℕ) 
   pub cut : new.cut ≡ old.cut
 
 -- why a piece wasn't taken whole, after `committed` packets: memory was refused for its messages, or a sink failed
-abbrev pub CutsOff : {S : Type 0} → (tells : S → Bool) → (written : S → List ℕ) → (committed : ℕ) → (old new : Sinks S) → Outputs → Stop → Type 0
+abbrev pub CutsOff : {S : Type 0} → (tells : S → Bool) → (written : S → List ℕ) → (committed : ℕ) → (old new : Sinks S) → OutputTexts → Stop → Type 0
 CutsOff tells written committed old new piece (stop.Memory count) = (count ≡ committed) × (new ≡ old)
 CutsOff tells written committed old new piece (stop.Write output count) = (count ≡ committed) × TookPart tells written old new piece output
 CutsOff tells written committed old new piece _ = ⊥
@@ -154,7 +154,7 @@ abbrev pub Behind : {R S : Type 0} → (tells : R → Bool) → (unread : R → 
     → ((text left : List ℕ) → (told : Sinks Bool) → (before behind : Outputs) → Type 0) → Type 0
 Behind tells unread told written old new P =
     IsTrue (tells old.source.now) → (read : List ℕ) (before : Outputs) → HasGiven old.capture.now read []
-    → Grew (each_of told old.sinks.now) before (each_of written old.sinks.now) (header_alone old.capture.now.header)
+    → Grew (each_of told old.sinks.now) before (each_of written old.sinks.now) (headers_alone (old.capture.now.header ∷ []))
     → P (read ++ unread old.source.now) (unread new.source.now) (each_of told old.sinks.now) before (each_of written new.sinks.now)
 
 -- the run went to the end of the reading, and the book has taken all packets

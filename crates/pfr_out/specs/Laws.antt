@@ -1,5 +1,5 @@
 -- What the laws of a run say.
-use Rattle.std.specs.Prelude.{ℕ, Bool, List, Result, take, ◌≡◌, ◌++◌, Err}
+use Rattle.std.specs.Prelude.{ℕ, Bool, List, [], Result, take, ◌≡◌, ◌∷◌, ◌++◌, Err}
 use Rattle.pfr_capture.specs.declared.capture.CaptureError.{CaptureError}
 use Rattle.pfr_capture.specs.declared.capture.Form.{Form}
 use Rattle.pfr_capture.specs.declared.capture.Tail.{Tail}
@@ -19,7 +19,7 @@ EveryStopLeavesABeginning =
     → (old new : Outputs) (stop : Stop) (form : Form) (records : List RecordBytes) (ending : Result Tail CaptureError)
     → Stopped run batch text left told old new stop
     → IsCapture text form records ending
-    → Begins told old new (replay_of (take 24 text) run (run_of run.job form records) ending)
+    → Begins told old new (replay_of (take 24 text ∷ []) run (run_of run.job form records) ending)
 
 -- if a read failed, it is a beginning of what the replay of each capture writes that begins with the bytes read
 abbrev pub AFailedReadLeavesABeginning : Type 0
@@ -29,7 +29,7 @@ AFailedReadLeavesABeginning =
     → Stopped run batch text left told old new (Read committed)
     → text ≡ read ++ left
     → IsCapture (read ++ more) form records ending
-    → Begins told old new (replay_of (take 24 (read ++ more)) run (run_of run.job form records) ending)
+    → Begins told old new (replay_of (take 24 (read ++ more) ∷ []) run (run_of run.job form records) ending)
 
 -- if the header of the source is refused, nothing is written and no packet is committed
 abbrev pub ARefusedHeaderLeavesNothing : Type 0

@@ -1,5 +1,5 @@
 -- The replay of a capture through a ruleset, by one thread, a batch of packets at a time.
-use Rattle.std.specs.Prelude.{◌≡◌, ◌⊎◌, ◌≤◌, ◌<◌, ◌+◌, ◌*◌, ℕ, Bool, IsTrue, List, ◌++◌, length, map, take, Result, Ok, Err, ⊤}
+use Rattle.std.specs.Prelude.{◌≡◌, ◌⊎◌, ◌≤◌, ◌<◌, ◌+◌, ◌*◌, ℕ, Bool, IsTrue, false, List, [], ◌∷◌, ◌++◌, length, map, take, Result, Ok, Err, ⊤}
 use Rattle.pfr_terms.specs.declared.error.ConfError.{ConfError}
 use Rattle.pfr_terms.specs.declared.error.ConfErrorKind.TheVariants.{Memory as NoMemory}
 use Rattle.pfr_terms.specs.Input.{Gives}
@@ -12,9 +12,10 @@ use Rattle.pfr_capture.specs.declared.capture.Tail.{Tail}
 use Rattle.pfr_capture.specs.Device.{GrewByBeginning, Rose}
 use Rattle.pfr_capture.specs.Header.{opening_of}
 use Rattle.pfr_capture.specs.Records.{IsCapture, RecordBytes, seconds_of}
+use Rattle.pfr_commit.specs.Emissions.{by_place}
 use Rattle.pfr_commit.specs.Endings.{counters_text, states_text}
 use Rattle.pfr_sync.specs.Messages.{messages_of}
-use Rattle.pfr_commit.specs.World.{Frame, Texts, World, last_message, origin_of, world_of}
+use Rattle.pfr_commit.specs.World.{ByPlace, Frame, Texts, World, each_joined, last_message, origin_of, world_of}
 use Rattle.pfr_commit.specs.World.{online as written}
 use Rattle.pfr_out.specs.declared.report.Output.{Output}
 use Rattle.pfr_out.specs.declared.report.Report.{Report}
@@ -23,7 +24,7 @@ use Rattle.pfr_out.specs.declared.report.Stop.TheVariants as stop
 use Rattle.pfr_out.specs.declared.settings.RunSettings.{RunSettings}
 use Rattle.pfr_out.specs.declared.settings.Settings.{Settings}
 use Rattle.pfr_out.specs.declared.sinks.Sinks.{Sinks}
-use Rattle.pfr_out.specs.Outputs.{Extends, Grew, Outputs, PartWritten, RoseAt, Stay, Untouched, batch_alone, each_of, ending_alone, header_alone, of_output, texts_alone}
+use Rattle.pfr_out.specs.Outputs.{Extends, Grew, OutputTexts, Outputs, PartWritten, RoseAt, Stay, Untouched, batch_alone, each_of, ending_alone, headers_alone, of_output, output_text, texts_alone}
 use Rattle.pfr_out.specs.Spelling.{Run, messages_text}
 
 -- ---- what a replay writes
@@ -36,32 +37,36 @@ frame_in form r = record { place = record { 0 = 0 }; link = form.link; seconds =
 unfoldable pub run_of : RunJob → Form → List RecordBytes → World
 run_of job form records = world_of job (map (frame_in form) records)
 
--- the outputs after these records of a capture with this header; a message that may still grow isn't written
-abbrev pub online : List ℕ → Run → World → Outputs
-online header run world = batch_alone world.verdicts (header ++ world.packets) (messages_text run (written run.job world).messages)
+-- the packets of captures after their headers
+abbrev pub behind_headers : List (List ℕ) → ByPlace → ByPlace
+behind_headers headers packets = each_joined (by_place headers) packets
+
+-- the outputs after these records of captures with these headers; a message that may still grow isn't written
+abbrev pub online : List (List ℕ) → Run → World → OutputTexts
+online headers run world = batch_alone world.verdicts (behind_headers headers world.packets) (messages_text run (written run.job world).messages)
 
 -- what a run writes at the end of its capture: the message that was open, counters and states
-abbrev pub closing : Run → World → Outputs
-closing run world = ending_alone (counters_text world.count world.counters) (states_text world.table.states) (messages_text run (last_message run.job world))
+abbrev pub closing : Run → World → OutputTexts
+closing run world = ending_alone (counters_text world.count world.counters) (states_text run.job.rules.interfaces world.table.states) (messages_text run (last_message run.job world))
 
--- the outputs after all records of a capture and its end, with all messages of what became of states
-abbrev pub whole : List ℕ → Run → World → Outputs
-whole header run world = record {
+-- the outputs after all records of captures and their end, with all messages of what became of states
+abbrev pub whole : List (List ℕ) → Run → World → OutputTexts
+whole headers run world = record {
   verdicts = world.verdicts;
-  packets = header ++ world.packets;
+  packets = behind_headers headers world.packets;
   counters = counters_text world.count world.counters;
-  states = states_text world.table.states;
+  states = states_text run.job.rules.interfaces world.table.states;
   messages = messages_text run (messages_of (origin_of run.job) world.events);
 }
 
--- what the replay of a capture with this header writes, by how it ends
-abbrev pub replay_of : List ℕ → Run → World → Result Tail CaptureError → Outputs
-replay_of header run world (Ok tail) = whole header run world
-replay_of header run world (Err refusal) = online header run world
+-- what the replay of captures with these headers writes, by how it ends
+abbrev pub replay_of : List (List ℕ) → Run → World → Result Tail CaptureError → OutputTexts
+replay_of headers run world (Ok tail) = whole headers run world
+replay_of headers run world (Err refusal) = online headers run world
 
 -- each output that tells its bytes grew by a beginning of what it would grow by
-abbrev pub Begins : (told : Sinks Bool) → (old new all : Outputs) → Type 0
-Begins told old new all = (o : Output) → IsTrue (of_output o told) → GrewByBeginning (of_output o old) (of_output o new) (of_output o all)
+abbrev pub Begins : (told : Sinks Bool) → (old new : Outputs) → OutputTexts → Type 0
+Begins told old new all = (o : Output) → IsTrue (of_output false o told) → GrewByBeginning (of_output [] o old) (of_output [] o new) (output_text o all)
 
 -- ---- a run to the end
 
@@ -72,7 +77,7 @@ pub record Replayed (run : Run) (text : List ℕ) (told : Sinks Bool) (old new :
   pub records : List RecordBytes
   pub capture : IsCapture text form records (Ok report.tail)
   pub counted : length records ≡ report.committed
-  pub grew : Grew told old new (whole (take 24 text) run (run_of run.job form records))
+  pub grew : Grew told old new (whole (take 24 text ∷ []) run (run_of run.job form records))
 
 -- ---- stops
 
@@ -93,12 +98,12 @@ IsBoundary batch count = (batches : ℕ) × (count ≡ batches * batch)
 pub record Holds (run : Run) (batch : ℕ) (told : Sinks Bool) (old new : Outputs) (committed : ℕ) (header : List ℕ) (form : Form) (records : List RecordBytes) : Type 0 where
   pub within : committed ≤ length records
   pub boundary : IsBoundary batch committed
-  pub grew : Grew told old new (online header run (run_of run.job form (take committed records)))
+  pub grew : Grew told old new (online (header ∷ []) run (run_of run.job form (take committed records)))
 
 -- the header was written in part, and nothing else was
 pub record HoldsPartOfHeader (told : Sinks Bool) (old new : Outputs) (output : Output) (committed : ℕ) (header : List ℕ) : Type 0 where
   pub none : committed ≡ 0
-  pub part : PartWritten told old new (header_alone header) output
+  pub part : PartWritten told old new (headers_alone (header ∷ [])) output
 
 -- The outputs hold what the first `committed` records write, a number of whole batches, and a part of what the next ones write, at
 -- most a batch of them: one output took a part that lacks at least its last byte, and those after it took nothing.
@@ -108,9 +113,9 @@ pub record HoldsPartOfBatch (run : Run) (batch : ℕ) (told : Sinks Bool) (old n
   pub within : next ≤ length records
   pub boundary : IsBoundary batch committed
   pub mid : Outputs
-  pub before : Grew told old mid (online header run (run_of run.job form (take committed records)))
+  pub before : Grew told old mid (online (header ∷ []) run (run_of run.job form (take committed records)))
   pub piece : Texts
-  pub piece_is : Extends (online header run (run_of run.job form (take committed records))) (online header run (run_of run.job form (take next records))) (texts_alone run piece)
+  pub piece_is : Extends (online (header ∷ []) run (run_of run.job form (take committed records))) (online (header ∷ []) run (run_of run.job form (take next records))) (texts_alone run piece)
   pub part : PartWritten told mid new (texts_alone run piece) output
 
 -- nothing was written, since the capture's header had not come whole
@@ -133,7 +138,7 @@ pub record HoldsAllRead (run : Run) (text left : List ℕ) (told : Sinks Bool) (
   pub tail : Tail
   pub capture : IsCapture read form records (Ok tail)
   pub counted : length records ≡ committed
-  pub grew : Grew told old new (online (take 24 text) run (run_of run.job form records))
+  pub grew : Grew told old new (online (take 24 text ∷ []) run (run_of run.job form records))
 
 -- the source is a capture of just the records committed with this ending, and the outputs hold just what these write
 pub record HoldsAll (run : Run) (text : List ℕ) (told : Sinks Bool) (old new : Outputs) (ending : Result Tail CaptureError) (committed : ℕ) : Type 0 where
@@ -141,7 +146,7 @@ pub record HoldsAll (run : Run) (text : List ℕ) (told : Sinks Bool) (old new :
   pub records : List RecordBytes
   pub capture : IsCapture text form records ending
   pub counted : length records ≡ committed
-  pub grew : Grew told old new (online (take 24 text) run (run_of run.job form records))
+  pub grew : Grew told old new (online (take 24 text ∷ []) run (run_of run.job form records))
 
 -- the source is a capture that was read to its end, and what a run writes there was written in part
 pub record HoldsPartOfEnding (run : Run) (text : List ℕ) (told : Sinks Bool) (old new : Outputs) (output : Output) (committed : ℕ) : Type 0 where
@@ -151,7 +156,7 @@ pub record HoldsPartOfEnding (run : Run) (text : List ℕ) (told : Sinks Bool) (
   pub capture : IsCapture text form records (Ok tail)
   pub counted : length records ≡ committed
   pub mid : Outputs
-  pub before : Grew told old mid (online (take 24 text) run (run_of run.job form records))
+  pub before : Grew told old mid (online (take 24 text ∷ []) run (run_of run.job form records))
   pub part : PartWritten told mid new (closing run (run_of run.job form records)) output
 
 -- what a refusal of the capture says of the source's bytes and of the outputs

@@ -12,6 +12,7 @@
 mod channel;
 mod feeding;
 pub mod laws;
+pub mod packet_sinks;
 mod reading;
 pub mod report;
 mod run;
@@ -19,6 +20,7 @@ pub mod settings;
 pub mod sinks;
 mod taking;
 
+pub use packet_sinks::PacketSinks;
 pub use pfr_conf::{ConfError, ConfErrorKind};
 pub use pfr_stream::{Framing, StandbyStop, standby};
 pub use pfr_work::Gate;

@@ -17,8 +17,9 @@ pub struct Report {
 pub enum Output {
     #[error("verdicts")]
     Verdicts,
+    /// The packets of the capture at a place.
     #[error("packets")]
-    Packets,
+    Packets(usize),
     #[error("counters")]
     Counters,
     #[error("states")]

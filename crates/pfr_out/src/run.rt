@@ -55,7 +55,7 @@ fn replay_capture<H: AllocGlobal + Threads + Wait + Sync, R: Source, S: Sink, G:
     ensures no_failure { OnOk result (NoneFails R.failures S.failures source.old source.new sinks.old sinks.new) }
     ensures failure { IfErr result (λ stop. StopFailsIn R.failures S.failures source.old source.new sinks.old sinks.new stop) }
 {
-    match sinks.write_header(&capture.header()) {
+    match sinks.write_headers(&[capture.header()]) {
         Ok(()) => {}
         Err(output) => return Err(Stop::Write(output, 0)),
     }

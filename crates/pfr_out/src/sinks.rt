@@ -2,6 +2,7 @@
 ghost use Rattle.std.specs.Prelude.{◌≡◌, ◌++◌, [], IsTrue, IfErr, OnErr, OnOk};
 ghost use Rattle.pfr_capture.specs.Device.{GrewByPart, Rose};
 
+use crate::packet_sinks::PacketSinks;
 use crate::report::Output;
 use pfr_capture::{Fault, Sink, write_all};
 use pfr_commit::{Emitted, Ending};
@@ -11,8 +12,8 @@ use pfr_commit::{Emitted, Ending};
 pub struct Sinks<S> {
     /// A line for each packet.
     pub verdicts: S,
-    /// The capture's header, and the packets that aren't blocked.
-    pub packets: S,
+    /// The headers of the captures, and the packets that aren't blocked, an output for each capture.
+    pub packets: PacketSinks<S>,
     /// A line for each rule, and the totals.
     pub counters: S,
     /// A line for each state that is left.
@@ -37,29 +38,32 @@ fn write_messages<S: Sink>(sink: &mut S, messages: &[u8]) -> Result<(), Fault>
 }
 
 impl<S: Sink> Sinks<S> {
-    ghost use Rattle.pfr_out.specs.Outputs.{GrewBy, RoseAt, TookPart, all_told, each_of, emitted_alone, header_alone, last_alone};
+    ghost use Rattle.pfr_out.specs.Outputs.{GrewBy, RoseAt, TookPart, all_told, each_of, emitted_alone, headers_alone, last_alone};
 
     /// Whether all sinks tell their bytes.
     pub(crate) fn tell(&self) -> bool
         ensures { result ≡ all_told S.told self.now }
     {
         self.verdicts.tells()
-            && self.packets.tells()
+            && self.packets.tell()
             && self.counters.tells()
             && self.states.tells()
             && self.messages.tells()
     }
 
-    /// Writes the header of a capture.
-    pub(crate) fn write_header(&mut self, header: &[u8]) -> Result<(), Output>
+    /// Writes the headers of captures, each to the output of its packets.
+    pub(crate) fn write_headers(&mut self, headers: &[[u8; 24]]) -> Result<(), Output>
         ensures told { each_of S.told self.new ≡ each_of S.told self.old }
         ensures messages { self.new.messages ≡ self.old.messages }
-        ensures ok { OnOk result (GrewBy S.told S.written self.old self.new (header_alone header.now)) }
-        ensures fails { IfErr result (λ output. TookPart S.told S.written self.old self.new (header_alone header.now) output) }
+        ensures ok { OnOk result (GrewBy S.told S.written self.old self.new (headers_alone headers.now)) }
+        ensures fails { IfErr result (λ output. TookPart S.told S.written self.old self.new (headers_alone headers.now) output) }
         ensures no_failure { OnOk result (each_of S.failures self.new ≡ each_of S.failures self.old) }
         ensures failure { IfErr result (λ output. RoseAt output (each_of S.failures self.old) (each_of S.failures self.new)) }
     {
-        write_all(&mut self.packets, header).map_err(|_| Output::Packets)
+        match self.packets.write_headers(headers) {
+            Ok(()) => Ok(()),
+            Err(place) => Err(Output::Packets(place)),
+        }
     }
 
     /// Writes what packets add: the messages that they close, their verdict lines, and then the packets that aren't blocked.
@@ -73,7 +77,10 @@ impl<S: Sink> Sinks<S> {
     {
         write_messages(&mut self.messages, messages).map_err(|_| Output::Messages)?;
         write_all(&mut self.verdicts, batch.verdicts.as_slice()).map_err(|_| Output::Verdicts)?;
-        write_all(&mut self.packets, batch.packets.as_slice()).map_err(|_| Output::Packets)
+        match self.packets.write_texts(batch.packets.as_slice()) {
+            Ok(()) => Ok(()),
+            Err(place) => Err(Output::Packets(place)),
+        }
     }
 
     /// Writes what stands at the end of a run: the last message, the counters, and then the states.

@@ -13,7 +13,7 @@ use Rattle.pfr_sync.specs.Messages.{closed_at}
 use Rattle.pfr_commit.specs.Lines.{verdict_line}
 use Rattle.pfr_commit.specs.Machine.{Commits, Machine}
 use Rattle.pfr_commit.specs.Machine.Event.{commit}
-use Rattle.pfr_commit.specs.World.{Frame, Texts, World, after, clock_at, joined, online, opening, origin_of, packet_text, with_outcome, world_of}
+use Rattle.pfr_commit.specs.World.{Frame, Texts, World, after, clock_at, joined, online, only_at, opening, origin_of, packet_text, with_outcome, world_of}
 use Rattle.pfr_commit.proofs.OnlineLemmas.{online_grows}
 use Rattle.pfr_commit.proofs.StandLemmas.{texts_are}
 use Rattle.pfr_commit.proofs.WorldLemmas.{world_append, world_one}
@@ -63,7 +63,11 @@ abbrev added_by : RunJob → World → Frame → List Content → Texts
 added_by job world frame messages =
     let clock = clock_at world.clock frame in
     let outcome = step_of job (world.count + 1) clock frame.place (view_of frame.link frame.bytes) world.table in
-    record { verdicts = verdict_line (world.count + 1) clock outcome; packets = packet_text frame outcome; messages = messages }
+    record {
+      verdicts = verdict_line job.rules.interfaces (world.count + 1) clock frame.place outcome;
+      packets = only_at frame.place.0 (packet_text frame outcome);
+      messages = messages;
+    }
 
 -- that is what a packet adds
 abbrev Adds : RunJob → World → Frame → List Content → Type 0

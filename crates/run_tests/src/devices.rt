@@ -1,7 +1,7 @@
 //! Runs over devices in memory that fail, at each place in turn.
 ghost use Rattle.std.specs.Prelude.{◌≤◌};
 
-use crate::given::{capture, replay_into, sinks};
+use crate::given::{capture, only_sink, packets_of, replay_into, sinks};
 use crate::turns::{Freely, Turns};
 use pfr_capture::{Mem, Tail};
 use pfr_out::{Form, Output, Report, Sinks, Stop};
@@ -54,14 +54,14 @@ struct Left {
 
 /// Whether two outputs are one.
 fn is_same(first: Output, second: Output) -> bool {
-    matches!(
-        (first, second),
+    match (first, second) {
+        (Output::Packets(first), Output::Packets(second)) => first == second,
         (Output::Verdicts, Output::Verdicts)
-            | (Output::Packets, Output::Packets)
-            | (Output::Counters, Output::Counters)
-            | (Output::States, Output::States)
-            | (Output::Messages, Output::Messages)
-    )
+        | (Output::Counters, Output::Counters)
+        | (Output::States, Output::States)
+        | (Output::Messages, Output::Messages) => true,
+        _ => false,
+    }
 }
 
 /// How a run ended in which this output was to fail.
@@ -79,9 +79,8 @@ pub(crate) fn end_of(end: Result<Report, Stop>, output: Output) -> End {
     }
 }
 
-/// How many bytes a device has, if they are a beginning of these.
-fn length_in(whole: &[u8], device: &Mem) -> usize {
-    let bytes = device.bytes();
+/// How many bytes were written, if they are a beginning of these.
+fn length_in(whole: &[u8], bytes: &[u8]) -> usize {
     if whole.starts_with(bytes) {
         bytes.len()
     } else {
@@ -90,17 +89,17 @@ fn length_in(whole: &[u8], device: &Mem) -> usize {
 }
 
 /// Outputs in memory, one of which fails.
-fn failing(alloc: Global, faults: Faults) -> Sinks<Mem> {
-    let mut outputs = sinks(alloc, Mem::new(Vec::new(alloc)));
+fn failing(alloc: Global, faults: Faults) -> Result<Sinks<Mem>, AllocError> {
+    let mut outputs = sinks(alloc, Mem::new(Vec::new(alloc)))?;
     let device = Mem::new(Vec::new(alloc)).failing_after(faults.writes);
     match faults.output {
         Output::Verdicts => outputs.verdicts = device,
-        Output::Packets => outputs.packets = device,
+        Output::Packets(_) => outputs.packets = only_sink(alloc, device)?,
         Output::Counters => outputs.counters = device,
         Output::States => outputs.states = device,
         Output::Messages => outputs.messages = device,
     }
-    outputs
+    Ok(outputs)
 }
 
 /// Replays a capture of five datagrams through `pass out`, with `workers` workers. Its source gives 28 bytes at most at a time.
@@ -117,7 +116,7 @@ fn run<R: AllocGlobal + Threads + Wait + Clock + Sync>(
     let mut source = capture(alloc, 5, 0)?
         .at_most(28)
         .failing_after(faults.reads);
-    let mut outputs = failing(alloc, faults);
+    let mut outputs = failing(alloc, faults)?;
     let end = replay_into(
         rt,
         &mut source,
@@ -130,10 +129,10 @@ fn run<R: AllocGlobal + Threads + Wait + Clock + Sync>(
     );
     let left = Left {
         end: end_of(end, faults.output),
-        verdicts: length_in(LINES, &outputs.verdicts),
-        packets: length_in(source.bytes(), &outputs.packets),
+        verdicts: length_in(LINES, outputs.verdicts.bytes()),
+        packets: length_in(source.bytes(), packets_of(&outputs)),
         messages: outputs.messages.bytes().len(),
-        counters: length_in(COUNTERS, &outputs.counters),
+        counters: length_in(COUNTERS, outputs.counters.bytes()),
         has_states: !outputs.states.bytes().is_empty(),
     };
     drop(source);
@@ -197,8 +196,8 @@ fn expected(faults: Faults, batch: u64) -> Left {
     let written = faults.writes.saturating_mul(batch);
     match faults.output {
         Output::Verdicts if written < read => stopped(End::Write(written), written, written),
-        Output::Packets if faults.writes == 0 => empty(End::Write(0)),
-        Output::Packets if written.saturating_sub(batch) < read => {
+        Output::Packets(_) if faults.writes == 0 => empty(End::Write(0)),
+        Output::Packets(_) if written.saturating_sub(batch) < read => {
             let committed = written.saturating_sub(batch);
             stopped(End::Write(committed), written.min(read), committed)
         }
@@ -253,7 +252,7 @@ fn see_all_writes<R: Abort + AllocGlobal + Threads + Wait + Clock + Sync>(
 #[test]
 fn an_output_fails_at_each_place(rt: HostRuntime) -> Result<(), Fail> {
     for workers in 0..3 {
-        see_all_writes(&rt, Output::Packets, READS, workers)?;
+        see_all_writes(&rt, Output::Packets(0), READS, workers)?;
         see_all_writes(&rt, Output::Messages, READS, workers)?;
         see_all_writes(&rt, Output::Counters, READS, workers)?;
         see_all_writes(&rt, Output::States, READS, workers)?;
@@ -282,7 +281,7 @@ fn read_part<R: AllocGlobal + Threads + Wait + Clock + Sync>(
 {
     let alloc = rt.alloc();
     let mut source = capture(alloc, 4500, 0)?.failing_after(reads);
-    let mut outputs = sinks(alloc, Mem::new(Vec::new(alloc)));
+    let mut outputs = sinks(alloc, Mem::new(Vec::new(alloc)))?;
     let end = replay_into(
         rt,
         &mut source,

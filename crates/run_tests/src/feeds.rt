@@ -30,7 +30,9 @@ impl Outputs {
     /// Puts a piece after the others.
     fn put(&mut self, piece: &Emitted) -> Result<(), AllocError> {
         self.lines.extend_from_slice(piece.verdicts.as_slice())?;
-        self.packets.extend_from_slice(piece.packets.as_slice())?;
+        for text in piece.packets.as_slice() {
+            self.packets.extend_from_slice(text.as_slice())?;
+        }
         self.messages = self.messages.saturating_add(piece.messages.len());
         Ok(())
     }

@@ -6,7 +6,7 @@ ghost use Rattle.pfr_commit.specs.World.{opening};
 use pfr_capture::{Mem, Record, Sink, Source};
 use pfr_commit::Book;
 use pfr_net::{IfName, Ipv4Address, Net};
-use pfr_out::{Form, Gate, Report, Settings, Sinks, Stop, replay};
+use pfr_out::{Form, Gate, PacketSinks, Report, Settings, Sinks, Stop, replay};
 use pfr_packet::Job;
 use pfr_ruleset::Interface;
 use std::alloc::{AllocError, AllocGlobal, Global};
@@ -89,15 +89,30 @@ pub(crate) fn book(alloc: Global, rules: &[u8]) -> Result<Book, AllocError>
     Book::new(alloc, Arc::new(alloc, job(alloc, rules)?)?)
 }
 
+/// The sink of the packets of a run of one capture.
+pub(crate) fn only_sink<S: Drop>(alloc: Global, sink: S) -> Result<PacketSinks<S>, AllocError> {
+    let mut sinks = Vec::new(alloc);
+    sinks.push(sink)?;
+    Ok(PacketSinks::new(sinks))
+}
+
+/// What the packets' sink of such a run has taken.
+pub(crate) fn packets_of(outputs: &Sinks<Mem>) -> &[u8] {
+    match outputs.packets.as_slice() {
+        [only] => only.bytes(),
+        _ => &[],
+    }
+}
+
 /// Outputs in memory, with this device for the verdicts.
-pub(crate) fn sinks(alloc: Global, verdicts: Mem) -> Sinks<Mem> {
-    Sinks {
+pub(crate) fn sinks(alloc: Global, verdicts: Mem) -> Result<Sinks<Mem>, AllocError> {
+    Ok(Sinks {
         verdicts,
-        packets: Mem::new(Vec::new(alloc)),
+        packets: only_sink(alloc, Mem::new(Vec::new(alloc)))?,
         counters: Mem::new(Vec::new(alloc)),
         states: Mem::new(Vec::new(alloc)),
         messages: Mem::new(Vec::new(alloc)),
-    }
+    })
 }
 
 /// Replays a capture by these rules, `batch` packets at a time and with `workers` workers.

@@ -1,5 +1,5 @@
 //! A run that tells a standby over TCP on this machine, each in a thread of its own.
-use crate::given::{HEADER, replay_into};
+use crate::given::{HEADER, only_sink, replay_into};
 use crate::turns::{Freely, Turns};
 use pfr_capture::{Mem, ReaderSource, WriterSink};
 use pfr_out::{Form, Framing, Sinks, standby};
@@ -91,6 +91,7 @@ fn told(alloc: Global, listener: TcpListener) -> Option<(u64, Mem)> {
 #[test]
 fn a_standby_hears_a_run(rt: HostRuntime) -> Result<(), Fail> {
     let alloc = rt.alloc();
+    let packets = only_sink(alloc, nowhere())?;
     let listener = TcpListener::bind(&rt, ("127.0.0.1", 0))
         .ok()
         .expect(&rt, "a port");
@@ -103,7 +104,7 @@ fn a_standby_hears_a_run(rt: HostRuntime) -> Result<(), Fail> {
         .expect(&rt, "a connection");
     let mut outputs = Sinks {
         verdicts: nowhere(),
-        packets: nowhere(),
+        packets,
         counters: nowhere(),
         states: nowhere(),
         messages: WriterSink::new(Output(Some(stream))),

@@ -49,7 +49,7 @@ fn reads_ahead(rt: HostRuntime) -> Result<(), Fail> {
         capture: capture(alloc, 10, 0)?,
         reads: 0,
     };
-    let mut outputs = sinks(alloc, Mem::new(Vec::new(alloc)).failing_after(0));
+    let mut outputs = sinks(alloc, Mem::new(Vec::new(alloc)).failing_after(0))?;
     let end = replay_into(
         &rt,
         &mut source,
@@ -83,7 +83,7 @@ fn makes_all_reads<R: AllocGlobal + Threads + Wait + Clock + Sync>(
 {
     let alloc = rt.alloc();
     let verdicts = Mem::new(Vec::new(alloc)).failing_after(writes);
-    let mut outputs = sinks(alloc, verdicts);
+    let mut outputs = sinks(alloc, verdicts)?;
     let end = replay_into(
         rt,
         &mut source,

@@ -1,7 +1,7 @@
 //! Runs over devices in memory, one of which fails.
 ghost use Rattle.std.specs.Prelude.{◌≤◌};
 
-use crate::given::{capture, replay_into, sinks};
+use crate::given::{capture, packets_of, replay_into, sinks};
 use pfr_capture::{Mem, Tail};
 use pfr_out::{Form, Gate, Output, Report, Sinks, Stop};
 use std::alloc::{AllocError, AllocGlobal};
@@ -34,7 +34,7 @@ impl Left {
         Left {
             end,
             has_two_lines: outputs.verdicts.bytes() == TWO_LINES,
-            packets: outputs.packets.bytes().len(),
+            packets: packets_of(outputs).len(),
             counters: outputs.counters.bytes().len(),
             messages: outputs.messages.bytes().len(),
             counts_all: outputs.counters.bytes() == COUNTERS,
@@ -68,7 +68,7 @@ fn run<R: AllocGlobal + Threads + Wait + Sync>(
     let alloc = rt.alloc();
     let mut source = capture(alloc, 5, 0)?.at_most(28).failing_after(reads);
     let verdicts = Mem::new(Vec::new(alloc)).failing_after(writes);
-    let mut outputs = sinks(alloc, verdicts);
+    let mut outputs = sinks(alloc, verdicts)?;
     let end = replay_into(
         rt,
         &mut source,

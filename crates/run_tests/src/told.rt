@@ -36,7 +36,7 @@ fn told_by<R: AllocGlobal + Threads + Wait + Clock + Sync>(
 {
     let alloc = rt.alloc();
     let mut source = capture(alloc, packets, packets)?;
-    let mut outputs = sinks(alloc, Mem::new(Vec::new(alloc)));
+    let mut outputs = sinks(alloc, Mem::new(Vec::new(alloc)))?;
     let turns = Turns::by(rt, Freely);
     let end = replay_into(
         rt,
@@ -194,7 +194,7 @@ fn most_at_once<R: AllocGlobal + Threads + Wait + Clock + Sync>(
 {
     let alloc = rt.alloc();
     let mut source = capture(alloc, 3072, 3072)?;
-    let mut outputs = sinks(alloc, Mem::new(Vec::new(alloc)));
+    let mut outputs = sinks(alloc, Mem::new(Vec::new(alloc)))?;
     let gate = AtOnce {
         rt,
         first: 1025,

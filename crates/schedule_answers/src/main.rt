@@ -17,7 +17,8 @@
 //! A call waits until all steps before its own are passed, but not for ever. Where it has waited in vain, the calls behind it
 //! don't wait any more. One that isn't among the steps doesn't wait at all.
 //!
-//! The answer has, for each piece that the feed took, its verdict lines, `packets BYTES` and `messages BYTES`. Then come
+//! The answer has, for each piece that the feed took, its verdict lines, its packets and `messages BYTES`. The packets are a line
+//! `packets PLACE BYTES` for each place that has some, by place, and `packets -` if there are none. Then come
 //!
 //!     own COUNT                 how many packets the committer evaluated
 //!     again COUNT NUMBER ..     how often the gate was told that a packet is evaluated again, and of which ones

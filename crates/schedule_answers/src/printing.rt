@@ -1,5 +1,5 @@
 //! What is printed.
-use pfr_commit::{Emitted, Ending};
+use pfr_commit::{Emitted, Ending, PacketTexts};
 use pfr_sync::{Message, encode_onto};
 use std::alloc::{AllocError, Global};
 
@@ -36,6 +36,36 @@ fn put_messages(
     put_line(alloc, out, word, bytes.as_slice())
 }
 
+/// Puts the line of the packets at a place, if there are some, and answers whether there are.
+fn put_place(
+    alloc: Global,
+    out: &mut String,
+    place: usize,
+    packets: &[u8],
+) -> Result<bool, AllocError> {
+    if packets.is_empty() {
+        return Ok(false);
+    }
+    let digits = hex::encode(alloc, packets)?;
+    writeln!(out, "packets {place} {digits}")?;
+    Ok(true)
+}
+
+/// Puts the lines of packets, by place.
+fn put_packets(alloc: Global, out: &mut String, packets: &PacketTexts) -> Result<(), AllocError> {
+    let mut is_any = false;
+    for (place, text) in packets.as_slice().iter().enumerate() {
+        if put_place(alloc, out, place, text.as_slice())? {
+            is_any = true;
+        }
+    }
+    if is_any {
+        Ok(())
+    } else {
+        out.push_str("packets -\n")
+    }
+}
+
 /// What a batch added.
 pub(crate) fn put_piece(
     alloc: Global,
@@ -43,7 +73,7 @@ pub(crate) fn put_piece(
     piece: &Emitted,
 ) -> Result<(), AllocError> {
     put_bytes(out, piece.verdicts.as_slice())?;
-    put_line(alloc, out, "packets", piece.packets.as_slice())?;
+    put_packets(alloc, out, &piece.packets)?;
     put_messages(alloc, out, "messages", piece.messages.as_slice())
 }
 

@@ -15,4 +15,4 @@ returns-clause-verdicts c = λ job frames. verdicts_after job (opening job) fram
 
 pub returns-clause-packets : goal.returns-clause-packets
 unfolding world_of opening
-returns-clause-packets c = λ job frames. packets_after job (opening job) frames
+returns-clause-packets c = λ job frames place. packets_after place job (opening job) frames

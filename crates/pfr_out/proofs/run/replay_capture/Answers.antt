@@ -14,7 +14,7 @@ returns-clause-ok g c =
     let sinks_are : c.sinks-1.given.0 ≡ c.finish.new.self.sinks.now = search rules in
     rw sinks_are
     (replays_on g.R.Source.told g.R.Source.unread g.R.Source.failures g.S.Sink.told g.S.Sink.written g.S.Sink.failures (run_in c.args.book c.args.settings.form) _ c.args.book c.run-feeding.result _ c.args.sinks.now c.finish.new.self.sinks.now c.finish.result
-    c.run-feeding.ensures.over c.finish.ensures.stopped c.finish.ensures.concluded c.run-feeding.ensures.form c.run-feeding.ensures.told.1 run_is c.write_header.ensures.told (rw c.header.ensures at c.in-Ok.ensures.ok))
+    c.run-feeding.ensures.over c.finish.ensures.stopped c.finish.ensures.concluded c.run-feeding.ensures.form c.run-feeding.ensures.told.1 run_is c.write_headers.ensures.told (rw c.header.ensures at c.in-Ok.ensures.ok))
 
 pub returns-clause-stopped : goal.returns-clause-stopped
 returns-clause-stopped g c =
@@ -23,7 +23,7 @@ returns-clause-stopped g c =
     let source_is : c.source-1.given.0 ≡ c.finish.new.self.source.now = search rules in
     rw (sinks_are, source_is)
     (stops_on g.R.Source.told g.R.Source.unread g.R.Source.failures g.S.Sink.told g.S.Sink.written g.S.Sink.failures (run_in c.args.book c.args.settings.form) _ c.args.book c.run-feeding.result _ c.finish.new.self.source.now c.args.sinks.now c.finish.new.self.sinks.now c.finish.result
-    c.run-feeding.ensures.over c.run-feeding.ensures.stopped c.finish.ensures.stopped c.finish.ensures.concluded c.finish.ensures.source_stays c.run-feeding.ensures.form c.run-feeding.ensures.told.1 run_is c.write_header.ensures.told (rw c.header.ensures at c.in-Ok.ensures.ok))
+    c.run-feeding.ensures.over c.run-feeding.ensures.stopped c.finish.ensures.stopped c.finish.ensures.concluded c.finish.ensures.source_stays c.run-feeding.ensures.form c.run-feeding.ensures.told.1 run_is c.write_headers.ensures.told (rw c.header.ensures at c.in-Ok.ensures.ok))
 
 pub returns-clause-past : goal.returns-clause-past
 returns-clause-past g c =

@@ -24,7 +24,7 @@ returns-clause-world g c =
     let clock = c.later-clock.result in
     let view = c.args.view.now in
     let outcome = c.unwrap_or-outcome.result.now in
-    let settled = ap (λ (t : StateTable). untold (with_outcome (record before { table = t }) frame clock outcome)) c.settle.ensures in
+    let settled = ap (λ (t : StateTable). untold (with_outcome (job_of c.args.self.now) (record before { table = t }) frame clock outcome)) c.settle.ensures in
     let outcome_is = by_either c.in_ok-held.field-0.held _ c.unwrap_or-outcome.result _ c.unwrap_or-outcome.ensures c.in_ok-held.ensures.held c.in_ok-held.ensures.here ∙ ap (λ (t : StateTable). step_of (job_of c.args.self.now) (c.args.self.now.count + 1) clock (frame_of c.args.packet.now).place view t) c.settle.ensures in
     c.in_ok-take_outcome.ensures.world ∙ settled ∙ ap untold (after_is (job_of c.args.self.now) before frame clock view outcome c.later-clock.ensures c.requires.view outcome_is)
 
@@ -37,7 +37,7 @@ returns-clause-changes g c =
     let view = c.args.view.now in
     let outcome = c.unwrap_or-outcome.result.now in
     let held = held_changes c.args.out.now in
-    let settled = ap (λ (t : StateTable). with_more held (with_outcome (record before { table = t }) frame clock outcome).changes) c.settle.ensures in
+    let settled = ap (λ (t : StateTable). with_more held (with_outcome (job_of c.args.self.now) (record before { table = t }) frame clock outcome).changes) c.settle.ensures in
     let outcome_is = by_either c.in_ok-held.field-0.held _ c.unwrap_or-outcome.result _ c.unwrap_or-outcome.ensures c.in_ok-held.ensures.held c.in_ok-held.ensures.here ∙ ap (λ (t : StateTable). step_of (job_of c.args.self.now) (c.args.self.now.count + 1) clock (frame_of c.args.packet.now).place view t) c.settle.ensures in
     c.in_ok-take_outcome.ensures.changes ∙ settled
     ∙ ap (λ (w : World). with_more held w.changes) (after_is (job_of c.args.self.now) before frame clock view outcome c.later-clock.ensures c.requires.view outcome_is)
