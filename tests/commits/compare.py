@@ -15,7 +15,7 @@ import steps.cases
 import steps.place_cases
 import steps.rows
 from answering import SHOWN, answers_of, differing, place_of_difference, show_lines
-from commits import place_kinds, place_scripts, scripts, translation_scripts
+from commits import place_kinds, place_rows, place_scripts, scripts, translation_scripts
 from commits.scripts import (in_batches, some_placed, some_runs_with_messages, some_scripts, some_translated,
                              some_with_messages)
 from commits.standby import row_faults, with_sizes
@@ -24,7 +24,7 @@ from steps.written_packets import spoilt_sums
 
 BATCHES = (1, 2, 256)
 RANDOM_PACKETS, TRANSLATED_PACKETS, PLACED_PACKETS = 9000, 10000, 12000
-# how often each kind of result on several interfaces has to come up at least
+# how often each kind of result and of what is written on several interfaces has to come up at least
 LEAST = 20
 # random runs of which much is told
 RUNS_WITH_MESSAGES = 30
@@ -40,6 +40,7 @@ def rows():
     yield from scripts.rows()
     yield from translation_scripts.rows()
     yield from place_scripts.rows()
+    yield from place_rows.rows()
 
 
 def script_bytes(script):
@@ -58,23 +59,24 @@ def show(script, expected, seen):
     show_lines(place, expected, seen)
 
 
-def compare(command, title, told, kinds=()):
+def compare(command, title, told, kinds=None):
     """How many scripts are answered otherwise than by the model, how many packets get wrong checksums, and how many of
-    some kinds of results come up too seldom."""
+    some kinds, which stand by titles, come up too seldom."""
     books = [script.by_model() for script in told]
     seen = answers(command, told)
     count = differing(zip(told, (book.told for book in books), seen), show)
     packets = sum(len(book.steps) for book in books)
     own, tried = sum(book.own for book in books), sum(book.tried for book in books)
     closed = sum(len(book.emitted) for book in books)
-    spoilt = sum(bool(spoilt_sums(book.link, step)) for book in books for step in book.steps)
+    spoilt = sum(bool(spoilt_sums(book.run.link_at(step.record.place), step)) for book in books for step in book.steps)
     print(f"{title}: {len(told)} scripts with {packets} packets; of {tried} results {packets - own} were taken and "
           f"{tried + own - packets} dropped; {closed} messages; {count} differ, {spoilt} checksums are wrong that were "
           "right")
-    counts = sum((book.kinds for book in books), Counter())
-    if kinds:
-        print(f"  at least {LEAST} results of each kind: " + ", ".join(f"{counts[kind]} {kind}" for kind in kinds))
-    return count + spoilt + disagreeing(title, books) + sum(counts[kind] < LEAST for kind in kinds)
+    counts, seldom = sum((book.kinds for book in books), Counter()), 0
+    for name, each in (kinds or {}).items():
+        print(f"  {name}, at least {LEAST} of each kind: " + ", ".join(f"{counts[kind]} {kind}" for kind in each))
+        seldom += sum(counts[kind] < LEAST for kind in each)
+    return count + spoilt + disagreeing(title, books) + seldom
 
 
 def disagreeing(title, books):
@@ -86,8 +88,9 @@ def disagreeing(title, books):
 
 
 def seen_as_written(lines, answers):
-    """The lines of an answer that are written by hand, with sizes for messages if these have them."""
-    return list(with_sizes(answers[:len(lines)]))
+    """The lines of an answer beside those that are written by hand, which may go to its end; with sizes for messages."""
+    is_whole = any(line.startswith("message ") for line in lines)
+    return list(with_sizes(answers if is_whole else answers[:len(lines)]))
 
 
 # Messages that are written out

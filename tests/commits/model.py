@@ -10,6 +10,7 @@ It says which results the book tries and which it drops, and so how many packets
 - It is taken where number, clock, place, packet and job are those of the packet, and the table gives each answer anew.
   States whose deadline is at most the clock are gone from the table then. Else the book evaluates the packet itself.
 - What a batch emits, and what is left at the end, is the same in either case: what the packets one by one come to.
+  Packets that are written stand by the places of their interfaces.
 - A batch emits the messages that close at its packets: those that are out behind it and weren't before. The end emits
   the one that is open then.
 """
@@ -21,6 +22,7 @@ from captures.frames import datagram_of, view
 from commits import place_kinds
 from messages.run import told_of
 from messages.spelling import bare
+from steps.marks import state_line, verdict_line
 from steps.model import Outcome, step
 from steps.replay import Refused, counters, job_of, step_of
 from steps.run import seed_of
@@ -140,6 +142,14 @@ def hex_of(octets):
     return octets.hex() or "-"
 
 
+def packet_lines(written):
+    """The lines of packets that are written, each with the place of its interface: one for each place, by place."""
+    texts = {}
+    for place, text in written:
+        texts[place] = texts.get(place, b"") + text
+    return [f"packets {place} {texts[place].hex()}" for place in sorted(texts) if texts[place]] or ["packets -"]
+
+
 def spelled(messages):
     """Messages as a peer gets them, in hex."""
     return hex_of(b"".join(map(bare, messages)))
@@ -149,10 +159,10 @@ class Book:
     """The book of a run. Its records have their headers; `jobs` are pairs of a byte of the seed and a ruleset's text."""
 
     def __init__(self, run, jobs, records):
-        self.link, self.records, self.jobs = run.link, records, jobs
+        self.run, self.records, self.jobs = run, records, jobs
         self.told, self.kept, self.steps, self.emitted = [], [], [], []
         self.own = self.clock = self.tried = 0
-        # of the results that were tried, as place_kinds names them
+        # of the results that were tried and of what was written, as place_kinds names them
         self.kinds = Counter()
         self.meanings = [self.job_of(run, *job) for job in jobs]
         self.table = StateTable(self.meanings[0].ruleset.options.values["states"]) if self.meanings[0] else None
@@ -166,8 +176,9 @@ class Book:
             return None
 
     def seen(self, number):
-        frame = self.records[number - 1].frame
-        return view(self.link, frame), datagram_of(self.link, frame)
+        record = self.records[number - 1]
+        link = self.run.link_at(record.place)
+        return view(link, record.frame), datagram_of(link, record.frame)
 
     # What it is told to do
 
@@ -206,7 +217,7 @@ class Book:
         found = next((each for each in results if each.number == number), None)
         self.tried += found is not None
         self.own += not (found and self.fits(found, number))
-        done = step_of(self.meanings[0], number, self.clock, self.link, record, self.table)
+        done = step_of(self.meanings[0], number, self.clock, self.run.link_at(record.place), record, self.table)
         self.kinds.update(self.kinds_of(found, number, done.outcome) if found else ())
         self.table.apply(done.outcome.change)
         self.steps.append(done)
@@ -227,9 +238,10 @@ class Book:
         for _ in self.records[start:start + count]:
             self.take(results)
         added = self.steps[start:]
-        packets = b"".join(each.text() for each in added)
+        self.kinds.update(place_kinds.kinds_of_batch(self.run.interfaces, added))
         messages = self.emit(self.told_to_standby().online(len(self.steps)))
-        self.told += [*(each.verdict_line() for each in added), f"packets {hex_of(packets)}",
+        self.told += [*(verdict_line(self.run.interfaces, each) for each in added),
+                      *packet_lines((each.record.place, each.text()) for each in added),
                       f"messages {spelled(messages)}", f"own {self.own}, committed {len(self.steps)}"]
 
     def holds(self, call):
@@ -253,6 +265,7 @@ class Book:
         """What is told at the end: the last message, a line for each rule and the totals, and the states."""
         if not self.table:
             return []
+        self.kinds.update(place_kinds.kinds_of_left(self.table.by_number()))
         return [f"message {spelled(self.emit(self.told_to_standby().whole()))}",
                 *counters(self.meanings[0].ruleset, self.steps).splitlines(),
-                *(entry.text() for entry in self.table.by_number())]
+                *(state_line(self.run.interfaces, entry) for entry in self.table.by_number())]

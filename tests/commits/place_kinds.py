@@ -1,4 +1,6 @@
-"""What comes up of results on several interfaces, by kinds that are counted.
+"""What comes up of results on several interfaces and of what is written there, by kinds that are counted.
+
+Of results these are told:
 
 - One is of another interface than its packet, and its record holds; there the packet may come to something else, by
   rules that name interfaces or addresses.
@@ -12,7 +14,12 @@ from steps.states import ALL, meeting
 OF_ANOTHER, OTHERWISE, TAKEN_BESIDE, DROPPED_FOR, BY_LEAST = (
     "of another interface", "otherwise on another interface", "taken beside changes elsewhere",
     "dropped for changes elsewhere", "by the least of several")
-COUNTED = (OF_ANOTHER, OTHERWISE, TAKEN_BESIDE, DROPPED_FOR, BY_LEAST)
+SEVERAL, BEHIND, OF_ONE, FOR_ALL = (
+    "batches with packets of several interfaces", "lines of packets behind the last interface",
+    "lines of states of one interface", "lines of states for all")
+# what is counted, by titles
+COUNTED = {"results": (OF_ANOTHER, OTHERWISE, TAKEN_BESIDE, DROPPED_FOR, BY_LEAST),
+           "what is written": (SEVERAL, BEHIND, OF_ONE, FOR_ALL)}
 
 
 def least(states):
@@ -59,3 +66,15 @@ def kinds_of(found, wanted, failing, table, outcome):
     if failing and all(is_for_others(found, question, table) for question in failing):
         kinds.append(DROPPED_FOR)
     return [*kinds, TAKEN_BESIDE] if is_changed and not failing else kinds
+
+
+def kinds_of_batch(interfaces, steps):
+    """The kinds of what a batch writes, by the steps of its packets."""
+    places = {step.record.place for step in steps if step.text()}
+    behind = [BEHIND for step in steps if step.record.place >= len(interfaces)]
+    return [SEVERAL, *behind] if len(places) > 1 else behind
+
+
+def kinds_of_left(entries):
+    """The kinds of what is written of the states that are left."""
+    return [FOR_ALL if entry.binding is ALL else OF_ONE for entry in entries]

@@ -39,8 +39,8 @@ class Script(NamedTuple):
         yield from (f"interface {each.name} {each.own().address} {each.bits}" for each in self.run.interfaces)
         yield from (f"inside {network.address} {network.bits}" for network in self.run.inside)
         yield from (f"job {seed} {hex_of(text.encode())}" for seed, text in self.jobs)
-        yield from (f"packet {each.place} {self.run.link} {each.seconds} {each.header.hex()} {hex_of(each.frame)}"
-                    for each in self.records())
+        yield from (f"packet {each.place} {self.run.link_at(each.place)} {each.seconds} {each.header.hex()} "
+                    f"{hex_of(each.frame)}" for each in self.records())
         yield from (call.line() for call in self.calls)
         yield "end"
 
@@ -63,10 +63,10 @@ def both_ahead(name, rules, packets, lines):
     written = hex_of(b"".join(each.header + each.frame for each, line in zip(Script(run, [], []).records(), lines)
                               if " pass " in line))
     yield (Script(run, [(0, rules)], [*ahead, Batch(2, (1, 0))]),
-           [*lines, f"packets {written}", "messages -", "own 1, committed 2"])
+           [*lines, f"packets 0 {written}", "messages -", "own 1, committed 2"])
     first = hex_of(b"".join(Script(run, [], []).records()[0][::2]))
     yield (Script(run, [(0, rules)], [*ahead, Holds(1, 0), Batch(1, (0,)), Holds(1, 0), Holds(0, 0)]),
-           ["holds", lines[0], f"packets {first}", "messages -", "own 0, committed 1", "fails", "none"])
+           ["holds", lines[0], f"packets 0 {first}", "messages -", "own 0, committed 1", "fails", "none"])
 
 
 def ahead_in_order(name, rules, packets, lines, own):
@@ -77,7 +77,7 @@ def ahead_in_order(name, rules, packets, lines, own):
     written = hex_of(b"".join(each.header + each.frame for each in Script(run, [], []).records()))
     yield (Script(run, [(0, rules)], [*(Speculate(0, number, number, 0) for number in numbers),
                                       Batch(len(packets), tuple(range(len(packets))))]),
-           [*lines, f"packets {written}", "messages -", f"own {own}, committed {len(packets)}"])
+           [*lines, f"packets 0 {written}", "messages -", f"own {own}, committed {len(packets)}"])
 
 
 def rows():

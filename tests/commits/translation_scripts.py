@@ -8,8 +8,9 @@ from itertools import permutations
 from typing import NamedTuple
 
 from captures.packets import SYN, icmp_error, tcp, udp
-from commits.model import Batch, Commit, Holds, Speculate, hex_of
+from commits.model import Batch, Commit, Holds, Speculate, packet_lines
 from commits.scripts import Script
+from steps.marks import mark
 from steps.run import Run, seed_of
 from steps.translation_rows import SEEDS, TWO_PORTS
 from steps.translation_words import ASKED, H2, OTHER, SERVER, E, H, P
@@ -55,8 +56,9 @@ def answer(run, packets, own, *sizes):
     """What a batch of these packets is answered with, after which the book has evaluated `own` itself, and at which
     messages of these sizes close."""
     records = Script(run, [], []).records()
-    octets = b"".join(records[each.number - 1].header + each.frame for each in packets if each.frame)
-    return [*(f"{each.number} {each.line}" for each in packets), f"packets {hex_of(octets)}",
+    came = [(records[each.number - 1], each) for each in packets]
+    return [*(f"{each.number} {each.line}{mark(run.interfaces, record.place)}" for record, each in came),
+            *packet_lines((record.place, record.header + each.frame) for record, each in came if each.frame),
             " ".join(["messages", *map(str, sizes or "-")]), f"own {own}, committed {packets[-1].number}"]
 
 

@@ -9,6 +9,7 @@ Which messages close at a packet is told by their model.
 from functools import lru_cache
 from typing import NamedTuple
 
+from commits.model import packet_lines
 from expansions.hosts import Interface
 from expansions.model import dotted
 from faults.rulesets import TARGETS
@@ -27,11 +28,17 @@ NOT_KEPT = "none"
 PASSED = ("pass", "skip")
 
 
+class Recorded(NamedTuple):
+    """The place of a packet's interface, and the length of its record."""
+    place: int
+    length: int
+
+
 class Part(NamedTuple):
     """What a batch, or a packet that is committed alone, is answered with."""
     is_refused: bool
     verdicts: list
-    packets: str
+    packets: list
     messages: str
     own: int
     committed: int
@@ -61,34 +68,40 @@ class Answers:
             found.append(self.next())
         return found
 
+    def before(self, word):
+        """The lines before one that begins with a word, and the rest of that one."""
+        found = []
+        while not (line := self.next()).startswith(f"{word} "):
+            found.append(line)
+        return found, line.removeprefix(f"{word} ")
+
     def part(self):
-        is_refused, verdicts = self.takes(REFUSED), []
-        line = self.next()
-        while not line.startswith("packets "):
-            verdicts.append(line)
-            line = self.next()
-        messages = self.next().removeprefix("messages ")
+        is_refused, (lines, messages) = self.takes(REFUSED), self.before("messages")
+        packets = [line for line in lines if line.startswith("packets ")]
+        verdicts = lines[:len(lines) - len(packets)]
         _, own, _, committed = self.next().replace(",", "").split(" ")
-        return Part(is_refused, verdicts, line.removeprefix("packets "), messages, int(own), int(committed))
+        return Part(is_refused, verdicts, packets, messages, int(own), int(committed))
 
 
 def is_verdict(line):
     return " t=" in line and "," not in line
 
 
-def written_packets(lengths, lines):
-    """The bytes in hex of each packet that is written, by its number. They stand behind the lines of each batch, one
-    behind the other, and each is as long as its record."""
+def written_packets(records, lines):
+    """The bytes of each packet that is written, by its number. Behind the lines of each batch they stand by the places of
+    its packets, one behind the other, and each is as long as its record."""
     written, numbers = {}, []
     for line in lines:
         if is_verdict(line):
             number, _, _, verdict, *_ = line.split(" ")
             numbers += [int(number)] if verdict in PASSED else []
-        elif line.startswith("packets "):
-            octets = line.removeprefix("packets ")
-            for number in numbers:
-                length = lengths[number - 1]
+        elif line.startswith("packets ") and numbers:
+            _, place, digits = line.split(" ")
+            octets = bytes.fromhex(digits)
+            for number in (each for each in numbers if records[each - 1].place == int(place)):
+                length = records[number - 1].length
                 written[number], octets = octets[:length], octets[length:]
+        elif line.startswith("messages "):
             numbers = []
     return written
 
@@ -123,8 +136,9 @@ class Judged:
     def __init__(self, lines, whole, seen):
         self.lines = tuple(lines)
         self.told = [line.split(" ") for line in lines]
-        self.records = [words[4] + words[5].replace("-", "") for words in self.told if words[0] == "packet"]
-        self.written = written_packets(list(map(len, self.records)), whole)
+        self.records = [Recorded(int(words[1]), len(octets_of(words[4]) + octets_of(words[5]))) for words in self.told
+                        if words[0] == "packet"]
+        self.written = written_packets(self.records, whole)
         self.whole, self.seen = Answers(whole), Answers(seen)
         self.own = self.committed = 0
         # what was refused, in the words of ENDINGS
@@ -138,8 +152,10 @@ class Judged:
         return "no batch" in self.refusals
 
     def packets_of(self, verdicts):
-        """The bytes in hex of those of some lines' packets that are written."""
-        return "".join(self.written.get(int(line.split(" ")[0]), "") for line in verdicts) or "-"
+        """The lines of those of some lines' packets that are written."""
+        numbers = [int(line.split(" ")[0]) for line in verdicts]
+        return packet_lines((self.records[number - 1].place, self.written[number]) for number in numbers
+                            if number in self.written)
 
     def messages_of(self, count):
         """The bytes in hex of the messages that close at the next `count` packets."""

@@ -16,7 +16,7 @@ ONES, TWOS, THREE_TWOS = Shape((1, 1, 1), 2), Shape((2, 2), 2), Shape((2, 2, 2),
 COUNTS = {Shape((1,), 1): (3, 1), Shape((1,), 2): (3, 1), Shape((1, 1), 1): (27, 2), ONES: (1729, 15), TWOS: (8394, 4),
           THREE_TWOS: (2936514, 137)}
 
-# the verdict lines of the rows, without the numbers of their packets
+# the verdict lines of the rows, without the numbers of their packets and the names of their interfaces
 ONE = ("0 out pass rule r=0 t=- s=1", "0 in pass state r=0 t=- s=1", "1 out pass state r=0 t=- s=1",
        "1 in pass state r=0 t=- s=1", "1 out pass state r=0 t=- s=1", "2 out pass state r=0 t=- s=1")
 IN_TURN = ("0 out pass rule r=0 t=- s=1", "0 out pass rule r=0 t=- s=2", "0 out pass state r=0 t=- s=1",
@@ -60,9 +60,10 @@ def order_of(words):
 
 def written(row, shape, words, surely, maybe=None):
     """A script of a row; where it leaves no choice the packets are told once."""
-    count = len(shape.packets())
-    verdicts = [f"{number} {line}" for number, line in enumerate(LINES[row][:count], 1)]
-    script = Script(known_of(row.run(count), shape), order_of(words))
+    run = row.run(len(shape.packets()))
+    verdicts = [f"{number} {line} i=em{place}"
+                for number, (line, (_, _, place)) in enumerate(zip(LINES[row], run.placed()), 1)]
+    script = Script(known_of(run, shape), order_of(words))
     return Written(script, verdicts, surely, surely if maybe is None else maybe)
 
 

@@ -6,7 +6,8 @@ round it:
 
 - Packets are numbered from 1, and each record is one. The clock is the greatest seconds value so far. Before a packet the
   states go whose deadline is at most the clock; behind the last packet none goes.
-- The verdicts hold a line for each packet, `N CLOCK DIR VERDICT REASON r=R t=T s=S`.
+- The verdicts hold a line for each packet, `N CLOCK DIR VERDICT REASON r=R t=T s=S`. What stands behind it, and behind
+  the line of a state, in a run on several interfaces is in marks.py.
 - The packets are the capture's header and the records of the packets that pass or are skipped. They are as read, but
   for what a translation writes into a packet.
 - The counters hold a line for each filter rule, `filter N EVALUATIONS PACKETS BYTES`, then one for each rule of

@@ -21,8 +21,8 @@ def seed_of(byte):
 
 class Run(NamedTuple):
     """A ruleset, and records: the second and the captured bytes of each. The places are those of the interfaces on which
-    they were captured, and 0 for each if there are none. Only pfreplay takes a seed whose bytes differ, and takes just
-    one interface."""
+    they were captured, and 0 for each if there are none; the links are the types of these interfaces, if they differ.
+    Only pfreplay takes a seed whose bytes differ, and takes just one interface."""
     name: str
     rules: str
     records: list
@@ -31,6 +31,11 @@ class Run(NamedTuple):
     inside: tuple = INSIDE
     seed: bytes = ZERO_SEED
     places: tuple = ()
+    links: tuple = ()
+
+    def link_at(self, place):
+        """The type of the packets of an interface."""
+        return self.links[place] if self.links else self.link
 
     def placed(self):
         """Of each record the second, the captured bytes and the place."""
