@@ -10,6 +10,7 @@ pub mod MachineLemmas
 pub mod OnlineLemmas
 pub mod PlaceLemmas
 pub mod ResultLemmas
+pub mod ScopeLemmas
 pub mod StandLemmas
 pub mod StandbyLemmas
 pub mod TableLemmas

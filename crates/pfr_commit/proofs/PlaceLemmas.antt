@@ -1,12 +1,15 @@
 -- Texts by place.
-use Rattle.std.proofs.Common.{◌≡◌, ◌≤◌, ◌<◌, ◌+◌, ◌==◌, ◌≢◌, ℕ, zero, suc, false, List, [], ◌∷◌, ◌++◌, length, map, take, set, get_or, Result, Ok, Err, OnOk, OnErr, inl, inr, refl, sym, ap, ◌∙◌, arith}
+use Rattle.std.proofs.Common.{◌≡◌, ◌≤◌, ◌<◌, ◌+◌, ◌==◌, ◌≢◌, ℕ, zero, suc, false, true, List, [], ◌∷◌, ◌++◌, length, map, take, set, get_or, Result, Ok, Err, OnOk, OnErr, inl, inr, refl, sym, ap, ◌∙◌, arith}
 use Rattle.std.proofs.Math.Path.{fun_ext}
 use Rattle.std.proofs.lemmas.Bool.{cases_Bool, cases_lt, eq-eqb, eqb-true, false≢true}
 use Rattle.std.proofs.lemmas.List.{append_assoc, append-nil, get_or_past, get_or-set_other, get_or-set_same, length-map, map-append, map-set, take_at}
 use Rattle.std.specs.declared.alloc.Global.{Global}
 use Rattle.std.specs.Prelude.{Vec}
-use Rattle.pfr_commit.specs.Emissions.{by_place, cut_at}
-use Rattle.pfr_commit.specs.World.{ByPlace, each_joined, nowhere, only_at}
+use Rattle.pfr_capture.specs.declared.capture.Record.{Record}
+use Rattle.pfr_packet.specs.declared.outcome.Outcome.{Outcome}
+use Rattle.pfr_packet.specs.Verdicts.{is_written}
+use Rattle.pfr_commit.specs.Emissions.{cut_at, frame_of, held_texts, record_text}
+use Rattle.pfr_commit.specs.World.{ByPlace, each_joined, nowhere, only_at, packet_text}
 
 pub each_assoc : (a b c : ByPlace) → each_joined (each_joined a b) c ≡ each_joined a (each_joined b c)
 each_assoc a b c = fun_ext (λ (place : ℕ). append_assoc (a place) (b place) (c place))
@@ -22,10 +25,6 @@ on_ok_then (Err e) P Q then holds = tt
 pub on_err_then : {X E : Type 0} (r : Result X E) (P Q : Type 0) → (P → Q) → OnErr r P → OnErr r Q
 on_err_then (Ok x) P Q then holds = tt
 on_err_then (Err e) P Q then holds = then holds
-
--- texts by place as a program holds them
-abbrev pub held_texts : List (Vec ℕ Global) → ByPlace
-held_texts texts = by_place (map (λ (text : Vec ℕ Global). text.items) texts)
 
 -- an empty text behind the last one
 empty_behind : (texts : List (List ℕ)) (place : ℕ) → get_or (texts ++ [] ∷ []) place [] ≡ get_or texts place []
@@ -117,6 +116,22 @@ cut_back texts now place count more is long = ap (cut_at place count) is ∙ fun
   | inl same ↦ (let at : other ≡ place = eqb-true other place same in rw same (take_at (texts other) more count (sym (long ∙ ap (λ (p : ℕ). length (texts p)) (sym at)))))
   | inr apart ↦ rw apart (append-nil (texts other))
 ])
+
+-- nothing is added at a place
+pub nothing_at : (texts : ByPlace) (place : ℕ) (text : List ℕ) → text ≡ [] → texts ≡ each_joined texts (only_at place text)
+nothing_at texts place text none = fun_ext (λ (other : ℕ). elim (cases_Bool (other == place)) [
+  | inl same ↦ rw (same, none) (sym (append-nil (texts other)))
+  | inr apart ↦ rw apart (sym (append-nil (texts other)))
+])
+
+-- the text of a packet
+pub blocked_text : (packet : Record) (outcome : Outcome) → is_written outcome.verdict ≡ false → packet_text (frame_of packet) outcome ≡ []
+unfolding packet_text
+blocked_text packet outcome is = rw is refl
+
+pub written_text : (packet : Record) (outcome : Outcome) → is_written outcome.verdict ≡ true → record_text packet outcome.bytes ≡ packet_text (frame_of packet) outcome
+unfolding packet_text
+written_text packet outcome is = rw is refl
 
 -- the first texts are empty
 abbrev pub AreEmptyTo : ℕ → List (Vec ℕ Global) → Type 0

@@ -3,6 +3,7 @@ use Rattle.std.proofs.Common.{◌≡◌, ℕ, false, not, List, [], ◌∷◌, l
 use Rattle.std.specs.List.{Contains}
 use Rattle.std.proofs.lemmas.Bool.{cases_Bool, ltb-true, not-false}
 use Rattle.pfr_net.specs.declared.interface.InterfacePlace.{InterfacePlace}
+use Rattle.pfr_ruleset.specs.declared.ruleset.Ruleset.{Ruleset}
 use Rattle.pfr_headers.specs.declared.packet.View.{View}
 use Rattle.pfr_headers.specs.View.{view_of}
 use Rattle.pfr_track.specs.declared.state.State.{State}
@@ -18,7 +19,7 @@ use Rattle.pfr_states.proofs.PutLemmas.{table_with}
 use Rattle.pfr_states.proofs.TouchLemmas.{table_touched}
 use Rattle.pfr_packet.specs.declared.outcome.Outcome.{Outcome}
 use Rattle.pfr_packet.specs.Job.{RunJob}
-use Rattle.pfr_packet.specs.Laws.{IsOwnChange}
+use Rattle.pfr_packet.specs.Laws.{AreRulesOf, IsOwnChange}
 use Rattle.pfr_packet.specs.Steps.{step_of}
 use Rattle.pfr_telling.specs.Telling.{changed}
 use Rattle.pfr_telling.proofs.ChangeLemmas.{from_touched, from_with}
@@ -67,42 +68,48 @@ abbrev pub OwnChanges : Type 0
 OwnChanges = (job : RunJob) (number : ℕ) (clock : Clock) (place : InterfacePlace) (view : View) (table : StateTable) (change : TableChange) → (step_of job number clock place view table).change ≡ Some change
     → IsOwnChange number clock place (purged clock table.states) (step_of job number clock place view table) change
 
-from_change : (change : TableChange) (number : ℕ) (clock : Clock) (place : InterfacePlace) (states : List State) (outcome : Outcome) (packets : List Taken) (p : Taken) (s : State)
-    → p.number ≡ number → p.clock ≡ clock → p.frame.place ≡ place → p.outcome ≡ outcome → Contains packets p → IsOwnChange number clock place states outcome change → ((s : State) → Contains states s → IsMadeAmong packets s)
-    → Contains (with_change change states) s → IsMadeAmong packets s
-from_change (Made state) number clock place states outcome packets p s number_is clock_is place_is outcome_is is_there own each h = elim (from_with state states s h) [
-  | inl is ↦ rw (← is) (record { packet = p; is_there = is_there; number_is = number_is ∙ sym own.number_is; clock_is = clock_is ∙ sym own.made_is; interface_is = place_is ∙ sym own.interface_is; passed = rw outcome_is own.passes; named = rw outcome_is own.named })
+-- a state is made by the rules on the packet's line
+abbrev pub MadeByRules : Type 0
+MadeByRules = (job : RunJob) (number : ℕ) (clock : Clock) (place : InterfacePlace) (view : View) (table : StateTable) (state : State) → (step_of job number clock place view table).change ≡ Some (Made state)
+    → AreRulesOf job.rules place (step_of job number clock place view table) state.rules
+
+from_change : (rules : Ruleset) (change : TableChange) (number : ℕ) (clock : Clock) (place : InterfacePlace) (states : List State) (outcome : Outcome) (packets : List Taken) (p : Taken) (s : State)
+    → p.number ≡ number → p.clock ≡ clock → p.frame.place ≡ place → p.outcome ≡ outcome → Contains packets p → IsOwnChange number clock place states outcome change → ((state : State) → change ≡ Made state → AreRulesOf rules place outcome state.rules) → ((s : State) → Contains states s → IsMadeAmong rules packets s)
+    → Contains (with_change change states) s → IsMadeAmong rules packets s
+from_change rules (Made state) number clock place states outcome packets p s number_is clock_is place_is outcome_is is_there own by each h = elim (from_with state states s h) [
+  | inl is ↦ rw (← is) (record { packet = p; is_there = is_there; number_is = number_is ∙ sym own.number_is; clock_is = clock_is ∙ sym own.made_is; interface_is = place_is ∙ sym own.interface_is; passed = rw outcome_is own.passes; named = rw outcome_is own.named; rules_are = rw (place_is, outcome_is) (by state refl) })
   | inr rest ↦ each s rest
 ]
-from_change (Touched state) number clock place states outcome packets p s number_is clock_is place_is outcome_is is_there own each h = elim (from_touched state states s h) [
+from_change rules (Touched state) number clock place states outcome packets p s number_is clock_is place_is outcome_is is_there own by each h = elim (from_touched state states s h) [
   | inl is ↦
       (let made = each own.before own.is_there in
-      rw (← is) (record { packet = made.packet; is_there = made.is_there; number_is = made.number_is ∙ ap (λ (n : StateNumber). n.0) (sym own.number_is); clock_is = made.clock_is ∙ sym own.made_is; interface_is = made.interface_is ∙ sym own.interface_is; passed = made.passed; named = rw own.number_is made.named }))
+      rw (← is) (record { packet = made.packet; is_there = made.is_there; number_is = made.number_is ∙ ap (λ (n : StateNumber). n.0) (sym own.number_is); clock_is = made.clock_is ∙ sym own.made_is; interface_is = made.interface_is ∙ sym own.interface_is; passed = made.passed; named = rw own.number_is made.named; rules_are = rw own.rules_are made.rules_are }))
   | inr rest ↦ each s rest
 ]
-from_change (Removed old) number clock place states outcome packets p s number_is clock_is place_is outcome_is is_there own each h = each s (from_filter (λ state. not (is_number old state)) states s h).0
+from_change rules (Removed old) number clock place states outcome packets p s number_is clock_is place_is outcome_is is_there own by each h = each s (from_filter (λ state. not (is_number old state)) states s h).0
 
-from_changed : (change : Option TableChange) (number : ℕ) (clock : Clock) (place : InterfacePlace) (table : StateTable) (outcome : Outcome) (packets : List Taken) (p : Taken) (s : State)
+from_changed : (rules : Ruleset) (change : Option TableChange) (number : ℕ) (clock : Clock) (place : InterfacePlace) (table : StateTable) (outcome : Outcome) (packets : List Taken) (p : Taken) (s : State)
     → p.number ≡ number → p.clock ≡ clock → p.frame.place ≡ place → p.outcome ≡ outcome → Contains packets p → ((c : TableChange) → change ≡ Some c → IsOwnChange number clock place table.states outcome c)
-    → ((s : State) → Contains table.states s → IsMadeAmong packets s) → Contains (changed change table).states s → IsMadeAmong packets s
-from_changed None number clock place table outcome packets p s number_is clock_is place_is outcome_is is_there own each h = each s h
-from_changed (Some change) number clock place table outcome packets p s number_is clock_is place_is outcome_is is_there own each h =
-    from_change change number clock place table.states outcome packets p s number_is clock_is place_is outcome_is is_there (own change refl) each h
+    → ((state : State) → change ≡ Some (Made state) → AreRulesOf rules place outcome state.rules) → ((s : State) → Contains table.states s → IsMadeAmong rules packets s) → Contains (changed change table).states s → IsMadeAmong rules packets s
+from_changed rules None number clock place table outcome packets p s number_is clock_is place_is outcome_is is_there own by each h = each s h
+from_changed rules (Some change) number clock place table outcome packets p s number_is clock_is place_is outcome_is is_there own by each h =
+    from_change rules change number clock place table.states outcome packets p s number_is clock_is place_is outcome_is is_there (own change refl) (λ state is. by state (ap (λ (c : TableChange). Some c) is)) each h
 
-states_next : OwnChanges → (job : RunJob) (packets : List Taken) (world : World) (frame : Frame) → Contains packets (next_taken job world frame) → ((s : State) → Contains world.table.states s → IsMadeAmong packets s)
-    → (s : State) → Contains (after job world frame).table.states s → IsMadeAmong packets s
+states_next : OwnChanges → MadeByRules → (job : RunJob) (packets : List Taken) (world : World) (frame : Frame) → Contains packets (next_taken job world frame) → ((s : State) → Contains world.table.states s → IsMadeAmong job.rules packets s)
+    → (s : State) → Contains (after job world frame).table.states s → IsMadeAmong job.rules packets s
 unfolding after with_outcome purged_at
-states_next own job packets world frame is_there each s h =
+states_next own by job packets world frame is_there each s h =
     let p = next_taken job world frame in
-    from_changed p.outcome.change p.number p.clock frame.place (purged_at p.clock world.table) p.outcome packets p s refl refl refl refl is_there
+    from_changed job.rules p.outcome.change p.number p.clock frame.place (purged_at p.clock world.table) p.outcome packets p s refl refl refl refl is_there
     (λ change change_is. own job p.number p.clock frame.place (view_of frame.link frame.bytes) world.table change change_is)
+    (λ state change_is. by job p.number p.clock frame.place (view_of frame.link frame.bytes) world.table state change_is)
     (λ s h. each s (from_filter (lives p.clock) world.table.states s h).0) h
 
-pub states_after : OwnChanges → (job : RunJob) (packets : List Taken) (world : World) (frames : List Frame) → ((p : Taken) → Contains (taken_after job world frames) p → Contains packets p)
-    → ((s : State) → Contains world.table.states s → IsMadeAmong packets s) → (s : State) → Contains (world_after job world frames).table.states s → IsMadeAmong packets s
+pub states_after : OwnChanges → MadeByRules → (job : RunJob) (packets : List Taken) (world : World) (frames : List Frame) → ((p : Taken) → Contains (taken_after job world frames) p → Contains packets p)
+    → ((s : State) → Contains world.table.states s → IsMadeAmong job.rules packets s) → (s : State) → Contains (world_after job world frames).table.states s → IsMadeAmong job.rules packets s
 unfolding world_after
-states_after own job packets world [] among each s h = each s h
-states_after own job packets world (frame ∷ frames) among each s h =
+states_after own by job packets world [] among each s h = each s h
+states_after own by job packets world (frame ∷ frames) among each s h =
     let p = next_taken job world frame in
     let rest = taken_after job (after job world frame) frames in
-    states_after own job packets (after job world frame) frames (λ q at. among q (there p rest q at)) (states_next own job packets world frame (among p (here p rest)) each) s h
+    states_after own by job packets (after job world frame) frames (λ q at. among q (there p rest q at)) (states_next own by job packets world frame (among p (here p rest)) each) s h

@@ -1,8 +1,10 @@
 -- What was emitted, and what of a record comes into it.
-use Rattle.std.specs.Prelude.{ℕ, ◌==◌, Bool, true, false, if◌then◌else◌, List, [], ◌∷◌, ◌++◌, map, take, get_or, Option, None, Some}
+use Rattle.std.specs.Prelude.{◌≡◌, ℕ, ◌==◌, Bool, true, false, if◌then◌else◌, List, [], ◌∷◌, ◌++◌, map, take, get_or, Option, None, Some, Vec}
+use Rattle.std.specs.declared.alloc.Global.{Global}
 use Rattle.std.specs.Option.{option_map}
 use Rattle.pfr_headers.specs.declared.change.Change as headers
 use Rattle.pfr_capture.specs.declared.capture.Record.{Record}
+use Rattle.pfr_packet.specs.declared.outcome.Outcome.{Outcome}
 use Rattle.pfr_track.specs.declared.time.Clock.{Clock}
 use Rattle.pfr_states.specs.declared.change.Change.{Change}
 use Rattle.pfr_states.specs.declared.change.Change.TheVariants.{Purge}
@@ -13,7 +15,7 @@ use Rattle.pfr_commit.specs.declared.emitted.Emitted.{Emitted}
 use Rattle.pfr_commit.specs.declared.packet_texts.PacketTexts.{PacketTexts}
 use Rattle.pfr_commit.specs.declared.verdict_line.VerdictLine.{VerdictLine}
 use Rattle.pfr_commit.specs.Lines.{verdict_line}
-use Rattle.pfr_commit.specs.World.{ByPlace, Frame, Texts, apply_by, with_bytes}
+use Rattle.pfr_commit.specs.World.{ByPlace, Frame, Texts, apply_by, with_bytes, with_packet}
 
 abbrev pub frame_of : Record → Frame
 frame_of r = record { place = record { 0 = r.place }; link = r.link; seconds = r.seconds; header = r.header; bytes = r.bytes.items }
@@ -22,8 +24,16 @@ frame_of r = record { place = record { 0 = r.place }; link = r.link; seconds = r
 abbrev pub by_place : List (List ℕ) → ByPlace
 by_place texts = λ place. get_or texts place []
 
+-- the same of texts as a program holds them
+abbrev pub held_texts : List (Vec ℕ Global) → ByPlace
+held_texts texts = by_place (map (λ text. text.items) texts)
+
 abbrev pub packets_of : PacketTexts → ByPlace
-packets_of packets = by_place (map (λ text. text.items) packets.texts.items)
+packets_of packets = held_texts packets.texts.items
+
+-- the record of a packet was added at the place of its interface, unless the packet is blocked
+abbrev pub AddsRecord : (old new : PacketTexts) → Record → Outcome → Type 0
+AddsRecord old new packet outcome = packets_of new ≡ with_packet (frame_of packet) outcome (packets_of old)
 
 -- the first `count` bytes of the text at a place, and the others whole
 abbrev pub cut_at : ℕ → ℕ → ByPlace → ByPlace

@@ -1,6 +1,9 @@
 -- What the laws of a run say.
-use Rattle.std.specs.Prelude.{◌≡◌, ◌++◌, List, ◌∷◌, ◌<◌, ◌≤◌, ◌+◌, ◌^◌, length, ℕ, get_or, Some}
+use Rattle.std.specs.Prelude.{◌≡◌, ◌++◌, List, ◌∷◌, ◌<◌, ◌≤◌, ◌+◌, ◌^◌, length, ℕ, true, get_or, Some}
 use Rattle.std.specs.List.{All, flat_map, Any, count_by, sum_by, Contains, slice_get}
+use Rattle.pfr_net.specs.Interfaces.{meets}
+use Rattle.pfr_net.specs.declared.interface.Binding.TheVariants.{To}
+use Rattle.pfr_net.specs.declared.interface.InterfacePlace.{InterfacePlace}
 use Rattle.pfr_net.specs.declared.rule_number.RuleNumber.{RuleNumber}
 use Rattle.pfr_ruleset.specs.declared.flat.FlatRule.{FlatRule}
 use Rattle.pfr_rules.specs.Filter.{most_of}
@@ -61,6 +64,15 @@ OneCaptureHasNoMarks =
     × ((world_of job frames).packets ≡ only_at 0 (flat_map plain_record (taken_in job frames)))
     × ((states : List State) → states_text job.rules.interfaces states ≡ flat_map plain_state states)
 
+-- and each state is found by a question of that interface: every scope meets every binding
+abbrev pub OneCaptureHasOneScope : Type 0
+OneCaptureHasOneScope =
+    (job : RunJob) (frames : List Frame) (state : State) (scope : InterfacePlace)
+    → IsOfOneCapture job frames
+    → Contains (world_of job frames).table.states state
+    → scope.0 ≡ 0
+    → meets state.rules.binding (To scope) ≡ true
+
 -- the clock is the second of one of the records
 abbrev pub ClockIsOfARecord : Type 0
 ClockIsOfARecord =
@@ -117,7 +129,7 @@ abbrev pub StatesAreOfPackets : Type 0
 StatesAreOfPackets =
     (job : RunJob) (frames : List Frame) (state : State)
     → Contains (world_of job frames).table.states state
-    → IsMadeAmong (taken_in job frames) state
+    → IsMadeAmong job.rules (taken_in job frames) state
 
 -- of a rule with `max` there are never more states than it says
 abbrev pub RulesKeepToTheirMax : Type 0

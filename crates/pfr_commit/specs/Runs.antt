@@ -3,6 +3,7 @@ use Rattle.std.specs.Prelude.{◌≡◌, ℕ, ◌+◌, ◌-◌, ◌^◌, ◌==�
 use Rattle.std.specs.List.{Contains, count_by, list_any}
 use Rattle.std.specs.Str.{bytes_eq}
 use Rattle.pfr_net.specs.declared.rule_number.RuleNumber.{RuleNumber}
+use Rattle.pfr_ruleset.specs.declared.ruleset.Ruleset.{Ruleset}
 use Rattle.pfr_ruleset.specs.Rulesets.{counts}
 use Rattle.pfr_headers.specs.declared.packet.View.{View}
 use Rattle.pfr_headers.specs.declared.packet.View.TheVariants.{Ipv4}
@@ -15,6 +16,7 @@ use Rattle.pfr_packet.specs.declared.verdict.Reason.{Reason}
 use Rattle.pfr_packet.specs.declared.verdict.Verdict.{Verdict}
 use Rattle.pfr_packet.specs.declared.verdict.Verdict.TheVariants as verdict
 use Rattle.pfr_packet.specs.Job.{RunJob}
+use Rattle.pfr_packet.specs.Laws.{AreRulesOf}
 use Rattle.pfr_packet.specs.Steps.{step_of}
 use Rattle.pfr_packet.specs.Verdicts.{reason_text}
 use Rattle.pfr_commit.specs.declared.counters.Counters.{Counters}
@@ -70,8 +72,9 @@ plain_state state = keys_part state ++ (ends_part state ++ traffic_before state 
 
 -- ---- what they leave
 
--- one of these packets made the state: it passed at the state's clock on the state's interface, has its number and names it
-pub record IsMadeAmong (packets : List Taken) (state : State) : Type 0 where
+-- One of these packets made the state: it passed at the state's clock on the state's interface, has its number and names it. The state
+-- keeps the rules on its line, and is bound as they say.
+pub record IsMadeAmong (rules : Ruleset) (packets : List Taken) (state : State) : Type 0 where
   pub packet : Taken
   pub is_there : Contains packets packet
   pub number_is : packet.number ≡ state.number.0
@@ -79,6 +82,7 @@ pub record IsMadeAmong (packets : List Taken) (state : State) : Type 0 where
   pub interface_is : packet.frame.place ≡ state.interface
   pub passed : packet.outcome.verdict ≡ verdict.Pass
   pub named : packet.outcome.state ≡ Some state.number
+  pub rules_are : AreRulesOf rules packet.frame.place packet.outcome state.rules
 
 -- ---- what is counted of them
 

@@ -4,7 +4,7 @@ ghost use Rattle.std.specs.Option.{option_map, option_map_or};
 ghost use Rattle.pfr_headers.specs.declared.packet.View.TheVariants.{Ipv4};
 ghost use Rattle.pfr_headers.specs.View.{view_of};
 ghost use Rattle.pfr_states.specs.States.{due};
-ghost use Rattle.pfr_commit.specs.Emissions.{changes_by, frame_of, held_changes, items_of, line_text, packets_of, purges_at, texts_of, with_more};
+ghost use Rattle.pfr_commit.specs.Emissions.{AddsRecord, changes_by, held_changes, items_of, line_text, purges_at, texts_of, with_more};
 ghost use Rattle.pfr_commit.specs.World as spec;
 
 use crate::changes::Changes;
@@ -77,8 +77,8 @@ impl Emitted {
         }
     }
 
-    /// Nothing yet, with room for `verdicts` bytes of verdict lines, and at each place for so many bytes of records as `packets` says. If
-    /// that is refused, room is made as they come. What is done to the table isn't requested.
+    /// Nothing yet, with room for `verdicts` bytes of verdict lines, and at each place for as many bytes of records as `packets` says.
+    /// If that is refused, room is made as they come. What is done to the table isn't requested.
     pub fn with_room(alloc: Global, verdicts: usize, packets: &[usize]) -> Emitted
         ensures texts { texts_of result ≡ spec.no_texts }
         ensures changes { result.changes ≡ None }
@@ -146,7 +146,7 @@ impl Emitted {
     ) -> Result<(), AllocError>
         requires { IfSome line.now.outcome.now.bytes (λ change. view_of packet.now.link packet.now.bytes.items ≡ Ipv4 change.packet) }
         ensures verdicts { OnOk result (self.new.verdicts.items ≡ self.old.verdicts.items ++ line_text line.now) }
-        ensures packets { OnOk result (packets_of self.new.packets ≡ spec.with_packet (frame_of packet.now) line.now.outcome.now (packets_of self.old.packets)) }
+        ensures packets { OnOk result (AddsRecord self.old.packets self.new.packets packet.now line.now.outcome.now) }
         ensures messages { OnOk result (self.new.messages.items ≡ self.old.messages.items ++ messages.old.items) }
         ensures kept { OnErr result (texts_of self.new ≡ texts_of self.old) }
         ensures changes { self.new.changes ≡ self.old.changes }
@@ -172,7 +172,7 @@ impl Emitted {
     ) -> Result<(), AllocError>
         requires { IfSome line.now.outcome.now.bytes (λ change. view_of packet.now.link packet.now.bytes.items ≡ Ipv4 change.packet) }
         ensures verdicts { OnOk result (self.new.verdicts.items ≡ self.old.verdicts.items ++ line_text line.now) }
-        ensures packets { OnOk result (packets_of self.new.packets ≡ spec.with_packet (frame_of packet.now) line.now.outcome.now (packets_of self.old.packets)) }
+        ensures packets { OnOk result (AddsRecord self.old.packets self.new.packets packet.now line.now.outcome.now) }
         ensures messages { OnOk result (self.new.messages.items ≡ self.old.messages.items ++ messages.old.items) }
         ensures changes { OnOk result (held_changes self.new ≡ with_more (held_changes self.old) (changes_by purge line.now.outcome.now.change)) }
         ensures kept { OnErr result ((texts_of self.new ≡ texts_of self.old) × (held_changes self.new ≡ held_changes self.old)) }

@@ -4,14 +4,14 @@ ghost use Rattle.std.specs.List.{All, range_with_len};
 ghost use Rattle.pfr_states.specs.States.{IsTable};
 ghost use Rattle.pfr_packet.specs.Job.{RunJob};
 ghost use Rattle.pfr_commit.specs.Holding.{AStandbyHoldsEachState};
-ghost use Rattle.pfr_commit.specs.Laws.{AStandbyHoldsTheStates, BytesOfARule, ChangesMakeTheTable, ClockIsOfARecord, EachHasItsLine, EachHasItsRecord, EvaluationsArePackets, EvaluationsOfARule, OneCaptureHasNoMarks, PacketsOfARule, RulesKeepToTheirMax, StatesAreOfPackets, TotalsAreTheCount, TheLastMessageIsTheRest, TotalsCountVerdicts, TwoPartsAreTheWhole, WhatIsWrittenStays};
+ghost use Rattle.pfr_commit.specs.Laws.{AStandbyHoldsTheStates, BytesOfARule, ChangesMakeTheTable, ClockIsOfARecord, EachHasItsLine, EachHasItsRecord, EvaluationsArePackets, EvaluationsOfARule, OneCaptureHasNoMarks, OneCaptureHasOneScope, PacketsOfARule, RulesKeepToTheirMax, StatesAreOfPackets, TotalsAreTheCount, TheLastMessageIsTheRest, TotalsCountVerdicts, TwoPartsAreTheWhole, WhatIsWrittenStays};
 ghost use Rattle.pfr_commit.specs.Machine.{EveryRun};
 ghost use Rattle.pfr_commit.specs.Runs.{taken_in};
 ghost use Rattle.pfr_commit.specs.World.{Frame, world_of};
 
 use pfr_packet::laws::{
     a_packet_visits_a_rule_once, every_change_is_of_the_named_state, no_change_is_refused,
-    states_are_made_where_their_rule_has_room,
+    states_are_made_by_the_rules_named, states_are_made_where_their_rule_has_room,
 };
 use pfr_states::laws::a_purge_goes_state_by_state;
 
@@ -41,6 +41,14 @@ pub fn one_capture_has_no_marks()
     ensures { OneCaptureHasNoMarks }
 {}
 
+/// And no state is bound elsewhere: every scope meets every binding.
+pub fn one_capture_has_one_scope()
+    ensures { OneCaptureHasOneScope }
+{
+    every_change_is_of_the_named_state();
+    states_are_made_by_the_rules_named();
+}
+
 /// The clock is the greatest second of the records.
 pub fn the_clock_is_the_greatest_second()
     ensures none_later { (job : RunJob) (frames : List Frame) → All (λ frame. frame.seconds ≤ (world_of job frames).clock.0) frames }
@@ -66,12 +74,14 @@ pub fn rules_are_counted_by_their_lines()
     a_packet_visits_a_rule_once();
 }
 
-/// Each state was made by a packet of the run that passed: it has that packet's number, and was made at its clock on its interface.
+/// Each state was made by a packet of the run that passed: it has that packet's number, was made at its clock on its interface, and
+/// keeps the rules on its line.
 pub fn every_state_is_of_a_packet_that_passed()
     ensures { StatesAreOfPackets }
 {
     // a state is made or touched by the packet that names it
     every_change_is_of_the_named_state();
+    states_are_made_by_the_rules_named();
 }
 
 /// What a run leaves is a table: its numbers rise, no two states share a key on an interface, and there are no

@@ -2,7 +2,7 @@
 ghost use Rattle.std.specs.Prelude.{◌≡◌, ◌<◌, ◌≤◌, ◌+◌, [], ◌++◌, length, take, drop, IfSome, OnOk, OnErr};
 ghost use Rattle.pfr_headers.specs.declared.packet.View.TheVariants.{Ipv4};
 ghost use Rattle.pfr_headers.specs.View.{view_of};
-ghost use Rattle.pfr_commit.specs.Emissions.{cut_at, frame_of, packets_of, record_text};
+ghost use Rattle.pfr_commit.specs.Emissions.{AddsRecord, cut_at, packets_of, record_text};
 ghost use Rattle.pfr_commit.specs.World as spec;
 
 use pfr_capture::Record;
@@ -50,20 +50,6 @@ fn put_record(
     }
     write_into(packets, start, packet.link, change);
     Ok(())
-}
-
-/// Appends the record of a packet, unless the packet is blocked. If memory is refused nothing changes.
-#[tactic(auto, unfolding(crate::specs::World::packet_text))]
-fn put_packet(packets: &mut Vec<u8>, packet: &Record, outcome: &Outcome) -> Result<(), AllocError>
-    requires { IfSome outcome.now.bytes (λ change. view_of packet.now.link packet.now.bytes.items ≡ Ipv4 change.packet) }
-    ensures done { OnOk result (packets.new.items ≡ packets.old.items ++ spec.packet_text (frame_of packet.now) outcome.now) }
-    ensures kept { OnErr result (packets.new.items ≡ packets.old.items) }
-{
-    if outcome.verdict.is_written() {
-        put_record(packets, packet, &outcome.bytes)
-    } else {
-        Ok(())
-    }
 }
 
 /// No bytes, with room for some. If that is refused, room is made as they come.
@@ -136,7 +122,7 @@ impl PacketTexts {
         }
     }
 
-    /// Adds an empty text behind the last one.
+    /// Adds a text, which is empty, behind the last one.
     fn add(&mut self, text: Vec<u8>) -> Result<(), AllocError>
         requires { text.items ≡ [] }
         ensures same { packets_of self.new ≡ packets_of self.old }
@@ -163,11 +149,14 @@ impl PacketTexts {
     /// changes.
     pub(crate) fn put(&mut self, packet: &Record, outcome: &Outcome) -> Result<(), AllocError>
         requires { IfSome outcome.now.bytes (λ change. view_of packet.now.link packet.now.bytes.items ≡ Ipv4 change.packet) }
-        ensures done { OnOk result (packets_of self.new ≡ spec.with_packet (frame_of packet.now) outcome.now (packets_of self.old)) }
+        ensures done { OnOk result (AddsRecord self.old self.new packet.now outcome.now) }
         ensures kept { OnErr result (packets_of self.new ≡ packets_of self.old) }
     {
+        if !outcome.verdict.is_written() {
+            return Ok(());
+        }
         let place = usize::from(packet.place);
         self.reach(place)?;
-        put_packet(&mut self.texts[place], packet, outcome)
+        put_record(&mut self.texts[place], packet, &outcome.bytes)
     }
 }
