@@ -1,7 +1,10 @@
+pub mod CountLemmas
 pub mod LeastLemmas
+pub mod ListLemmas
 pub mod MergeLemmas
 pub mod MergeReadingLemmas
 pub mod MergedLemmas
+pub mod OpeningLemmas
 pub mod OrderLemmas
 pub mod PlaceLemmas
 pub mod RefillAllLemmas

@@ -10,8 +10,9 @@ use Rattle.pfr_capture.specs.Reading.{bytes_of}
 use Rattle.pfr_capture.specs.Records.{RecordBytes}
 use Rattle.pfr_merge.specs.Arrivals.{Arrived, Event, arrived, came, comes_before, event_of, is_before, time_of}
 use Rattle.pfr_merge.specs.Merging.{IsNext, merged}
-use Rattle.pfr_merge.specs.MergeReading.{AllRefilled, Answer, AreOver, AreSettled, Continue, Continues, HasForm, HasMerged, HasTaken, HaveTaken, IsOverWith, IsSettled, MayFollowAll, MergeReads, MergesOn, NoneRefused, Refilled, StopsAt, Waiting, form_in, header_in, joined, time_in, waiting_in}
+use Rattle.pfr_merge.specs.MergeReading.{AllRefilled, Answer, AreOver, AreSettled, Continue, Continues, HasForm, HasMerged, HasPassedOn, HasTaken, HaveTaken, IsOverWith, IsSettled, MayFollowAll, MergeReads, MergesOn, NoneRefused, Refilled, StopsAt, Waiting, form_in, header_in, joined, records_in, time_in, waiting_in}
 use Rattle.pfr_merge.specs.MergeStepping.{HaveNone, TakesNext}
+use Rattle.pfr_merge.proofs.CountLemmas.{passes_taken}
 use Rattle.pfr_merge.proofs.MergeLemmas.{merged_next}
 use Rattle.pfr_merge.proofs.SetLemmas.{map_at, map_kept, set_other, set_same, set_self}
 
@@ -90,7 +91,7 @@ merges_none olds news befores lefts all =
 
 -- ---- two calls, one after the other
 
-joined_assoc : {X : Type 0} (a b c : List (List X)) → joined (joined a b) c ≡ joined a (joined b c)
+pub joined_assoc : {X : Type 0} (a b c : List (List X)) → joined (joined a b) c ≡ joined a (joined b c)
 joined_assoc [] b c = refl
 joined_assoc (x ∷ a) [] c = refl
 joined_assoc (x ∷ a) (y ∷ b) [] = refl
@@ -384,6 +385,12 @@ module _ (value old mid between new written : List Waiting) (old_is : old ≡ va
       let reads = so_reads value mid new settled (forms ∙ ap (map form_in) old_is) befores lefts found all' taken_so in
       subst (λ (ws : List Waiting). MergeReads value ws befores lefts (Ok found)) (sym written_is) reads
 
+  pub ok_counted : ((count : ℕ) → HasPassedOn count old → HasPassedOn count mid) → (count : ℕ) → HasPassedOn count value → HasPassedOn (count + records_in (Ok found)) written
+  ok_counted on count passed =
+      let mid_passed = on count (subst (HasPassedOn count) (sym old_is) passed) in
+      subst (HasPassedOn (count + records_in (Ok found))) (sym written_is)
+      (passes_taken mid new found taken_so.0 taken_so.1 count mid_passed)
+
   pub ok_running : NoneRefused written
   ok_running = subst NoneRefused (sym written_is) (so_running value mid new settled (forms ∙ ap (map form_in) old_is) found taken_so)
 
@@ -407,6 +414,11 @@ module _ (value old mid written : List Waiting) (old_is : old ≡ value) (writte
   pub err_reads : (befores lefts : List (List ℕ)) → AllRefilled old mid befores lefts → MergesOn value written befores lefts []
   err_reads befores lefts all =
       rw written_is (merges_none value mid befores lefts (subst (λ (ws : List Waiting). AllRefilled ws mid befores lefts) old_is all))
+
+  pub err_counted : ((count : ℕ) → HasPassedOn count old → HasPassedOn count mid) → (count : ℕ) → HasPassedOn count value → HasPassedOn (count + 0) written
+  err_counted on count passed =
+      let same : count + 0 ≡ count = omega arith in
+      rw (same, written_is) (on count (subst (HasPassedOn count) (sym old_is) passed))
 
   pub err_again : {S : Type 0} (from to : List S) (stop : ℕ × CaptureError) → StopsAt mid stop → (AreSettled old → (mid ≡ old) × (to ≡ from)) → ((other : ℕ × CaptureError) → StopsAt old other → ◌≡◌ {A = Result (Unit {0}) (ℕ × CaptureError)} (Err stop) (Err other)) → ((other : ℕ × CaptureError) → StopsAt old other → (mid ≡ old) × (to ≡ from)) → (answer : Answer) → IsOverWith value answer → (◌≡◌ {A = Answer} (Err stop) answer) × (written ≡ value) × (to ≡ from)
   err_again from to stop refused stays again still (Ok None) over =

@@ -34,7 +34,7 @@ module _ (place : ℕ) (w : Waiting) (read more : List ℕ) (taken : List Event)
   abbrev behind_so : List RecordBytes
   behind_so = drop (length given_so) c.records
 
-  abbrev rest_so : List Event
+  abbrev pub rest_so : List Event
   rest_so = map (event_of place w.reading.form) behind_so ++ last_event place c.ending
 
   records_are : c.records ≡ given_so ++ behind_so
@@ -59,7 +59,7 @@ module _ (place : ℕ) (w : Waiting) (read more : List ℕ) (taken : List Event)
       rest_over (Err (RecordTooLong asked)) (ends_capture w.reading more (Err (RecordTooLong asked)) follows read given_so has.given)
   may_give (Some (Err e)) follows = tt
 
-  events_are : events_of place c ≡ taken ++ (map (event_of place w.reading.form) (waiting_in w.head) ++ rest_so)
+  pub events_are : events_of place c ≡ taken ++ (map (event_of place w.reading.form) (waiting_in w.head) ++ rest_so)
   events_are =
       let f = event_of place w.reading.form in
       ap (λ (form : Form). map (event_of place form) c.records ++ last_event place c.ending) form_is
@@ -128,11 +128,17 @@ tails_are place (w ∷ ws) (r ∷ reads) (m ∷ mores) (t ∷ taken) (c ∷ capt
 
 -- ---- there are captures
 
-has_form : (reading : Reading) (read more : List ℕ) (records : List RecordBytes) → HasGiven reading read records → opening_of (read ++ more) ≡ Ok reading.form
+pub has_header : (reading : Reading) (read more : List ℕ) (records : List RecordBytes) → HasGiven reading read records → take 24 (read ++ more) ≡ reading.header
+has_header reading read more records h =
+    let behind = (flat_map text_of records ++ reading.ahead) ++ more in
+    let whole : read ++ more ≡ reading.header ++ behind = ap (λ (t : List ℕ). t ++ more) h.read_is ∙ append_assoc reading.header (flat_map text_of records ++ reading.ahead) more in
+    rw whole (take_at reading.header behind 24 h.header_length)
+
+pub has_form : (reading : Reading) (read more : List ℕ) (records : List RecordBytes) → HasGiven reading read records → opening_of (read ++ more) ≡ Ok reading.form
 has_form reading read more records h =
     let behind = (flat_map text_of records ++ reading.ahead) ++ more in
     let whole : read ++ more ≡ reading.header ++ behind = ap (λ (t : List ℕ). t ++ more) h.read_is ∙ append_assoc reading.header (flat_map text_of records ++ reading.ahead) more in
-    let header : take 24 (read ++ more) ≡ reading.header = rw whole (take_at reading.header behind 24 h.header_length) in
+    let header = has_header reading read more records h in
     let long = h.header_length in
     let enough : ltb (length (read ++ more)) 24 ≡ false = le-ltb _ _ (rw whole (omega (arith, length-append reading.header behind))) in
     rw (enough, header) h.says

@@ -4,7 +4,8 @@ use Rattle.std.proofs.lemmas.Bool.{cases_eq, false≢true}
 use Rattle.std.proofs.lemmas.List.{map-set}
 use Rattle.pfr_capture.specs.declared.capture.CaptureError.{CaptureError}
 use Rattle.pfr_capture.specs.Reading.{LacksRecord, NextFails}
-use Rattle.pfr_merge.specs.MergeReading.{AllRefilled, AllTold, AreSettled, FailsAt, IsSettled, IsStopped, LacksRecordAt, NoneRefused, Refilled, StopsAt, Waiting}
+use Rattle.pfr_merge.specs.MergeReading.{AllRefilled, AllTold, AreSettled, FailsAt, HasPassedOn, IsSettled, IsStopped, LacksRecordAt, NoneRefused, RefillCounts, Refilled, StopsAt, Waiting}
+use Rattle.pfr_merge.proofs.CountLemmas.{passes_refilled}
 use Rattle.pfr_merge.proofs.RefillLemmas.{refilled_none, refilled_twice}
 use Rattle.pfr_merge.proofs.SetLemmas.{map_at, map_kept, set_other, set_same, set_self}
 
@@ -24,7 +25,7 @@ all_refilled_at (old ∷ olds) (new ∷ news) (before ∷ befores) (l ∷ lefts)
     (all.0, all_refilled_at olds news befores lefts place w v mid left all.1 at from reads)
 all_refilled_at olds news befores lefts place w v mid left all at from reads = absurd all
 
-told_at : {S : Type 0} (told : S → Bool) (sources : List S) (place : ℕ) (s : S) → AllTold (map told sources) → slice_get sources place ≡ Some s → IsTrue (told s)
+pub told_at : {S : Type 0} (told : S → Bool) (sources : List S) (place : ℕ) (s : S) → AllTold (map told sources) → slice_get sources place ≡ Some s → IsTrue (told s)
 told_at told [] place s all at = absurd (cc)
 told_at {S = S} told (t ∷ sources) zero s all at =
     let here : t ≡ s = cc in
@@ -47,6 +48,9 @@ module _ {S : Type 0} (olds inputs : List Waiting) (froms sources : List S) (pla
       let here = told_at told sources place s (subst AllTold (sym same) all) from in
       rw (map-set unread sources place t)
       (all_refilled_at olds inputs (map unread froms) (map unread sources) place w v (unread s) (unread t) (before all) at (map_at unread sources place s from) (reads here))
+
+  pub passes_on : ((count : ℕ) → HasPassedOn count olds → HasPassedOn count inputs) → RefillCounts w v → (count : ℕ) → HasPassedOn count olds → HasPassedOn count (set inputs place v)
+  passes_on before on count passed = passes_refilled inputs place w v at on count (before count passed)
 
   pub settled_on : ((k : ℕ) (u : Waiting) → k < place → slice_get inputs k ≡ Some u → IsSettled u) → IsSettled v → (k : ℕ) (u : Waiting) → k < place + 1 → slice_get (set inputs place v) k ≡ Some u → IsSettled u
   settled_on before here k u below there = elim (cases_eq k place) [

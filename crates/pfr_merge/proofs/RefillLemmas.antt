@@ -1,5 +1,5 @@
 -- One capture of a merge reads its next record.
-use Rattle.std.proofs.Common.{◌≡◌, ◌∙◌, ℕ, List, [], ◌∷◌, ◌++◌, Option, Some, None, option_map, is_some, IfSome, false, Result, Ok, Err, refl, sym, ap, subst}
+use Rattle.std.proofs.Common.{◌≡◌, ◌∙◌, ℕ, ◌+◌, List, [], ◌∷◌, ◌++◌, Option, Some, None, option_map, is_some, IfSome, false, Result, Ok, Err, refl, sym, ap, subst, arith}
 use Rattle.std.proofs.lemmas.List.{append_assoc, append-nil}
 use Rattle.std.specs.List.{flat_map}
 use Rattle.pfr_capture.specs.declared.capture.CaptureError.{CaptureError}
@@ -10,7 +10,7 @@ use Rattle.pfr_capture.specs.Reading.{Answers, EndsCapture, EndsReading, HasGive
 use Rattle.pfr_capture.specs.Records.{EndsAs, IsCapture, RecordBytes, text_of}
 use Rattle.pfr_capture.proofs.CaptureLemmas.{same_rests}
 use Rattle.pfr_merge.specs.Arrivals.{Event}
-use Rattle.pfr_merge.specs.MergeReading.{Continues, FollowsOver, MayGive, Refilled, Waiting}
+use Rattle.pfr_merge.specs.MergeReading.{Continues, FollowsOver, MayGive, RefillCounts, Refilled, Waiting}
 
 -- ---- nothing was read, and two calls
 
@@ -135,3 +135,32 @@ module _ {S : Type 0} (unread : S → List ℕ) (old new : Reading) (s t : S) wh
   pub err_refills : (e : CaptureError) (head : Option Record) → is_some head ≡ false → Again (Err e) old.over → new.form ≡ old.form → (old.over ≡ None → Answers old new (Err e)) → (old.over ≡ None → ReadsOn old new (unread s) (unread t) []) → (old.over ≡ None → Refuses old (unread s) e) → Refilled (record { reading = old; head = option_map bytes_of head }) (record { reading = new; head = option_map bytes_of head }) (unread s) (unread t)
   err_refills e None none again form answers reads refuses = err_by e old.over refl again form answers reads refuses
   err_refills e (Some r) none again form answers reads refuses = absurd (cc)
+
+  -- ---- counts
+
+  ok_counts_open : (found : Option Record) → Answers old new (Ok found) → RefillCounts (record { reading = old; head = None }) (record { reading = new; head = option_map bytes_of found })
+  ok_counts_open (Some r) answers =
+      let below = answers.1 in
+      let more = answers.2 in
+      record { same = omega (arith, more); few = λ few. omega (arith, below, more) }
+  ok_counts_open None (tail, over, count) = record { same = ap (λ (n : ℕ). n + 0) count; few = λ few. rw count few }
+
+  counts_stay : (head : Option Record) → new ≡ old → RefillCounts (record { reading = old; head = option_map bytes_of head }) (record { reading = new; head = option_map bytes_of head })
+  counts_stay head same = rw same (record { same = refl; few = λ few. few })
+
+  ok_counts_by : (found : Option Record) (over : Option (Result Tail CaptureError)) → old.over ≡ over → Again (Ok found) over → (old.over ≡ None → Answers old new (Ok found)) → RefillCounts (record { reading = old; head = None }) (record { reading = new; head = option_map bytes_of found })
+  ok_counts_by found None is again answers = ok_counts_open found (answers is)
+  ok_counts_by (Some r) (Some (Ok tail)) is again answers = let answer = again.0 in absurd (cc)
+  ok_counts_by (Some r) (Some (Err e)) is again answers = let answer = again.0 in absurd (cc)
+  ok_counts_by None (Some over) is again answers = counts_stay None again.1
+
+  pub ok_counts : (found head : Option Record) → is_some head ≡ false → Again (Ok found) old.over → (old.over ≡ None → Answers old new (Ok found)) → RefillCounts (record { reading = old; head = option_map bytes_of head }) (record { reading = new; head = option_map bytes_of found })
+  ok_counts found None none again answers = ok_counts_by found old.over refl again answers
+  ok_counts found (Some r) none again answers = absurd (cc)
+
+  err_counts_by : (e : CaptureError) (head : Option Record) (over : Option (Result Tail CaptureError)) → old.over ≡ over → Again (Err e) over → (old.over ≡ None → Answers old new (Err e)) → RefillCounts (record { reading = old; head = option_map bytes_of head }) (record { reading = new; head = option_map bytes_of head })
+  err_counts_by e head None is again answers = let count = (answers is).1 in record { same = rw count refl; few = λ few. rw count few }
+  err_counts_by e head (Some over) is again answers = counts_stay head again.1
+
+  pub err_counts : (e : CaptureError) (head : Option Record) → Again (Err e) old.over → (old.over ≡ None → Answers old new (Err e)) → RefillCounts (record { reading = old; head = option_map bytes_of head }) (record { reading = new; head = option_map bytes_of head })
+  err_counts e head again answers = err_counts_by e head old.over refl again answers

@@ -4,3 +4,4 @@ pub mod MergeReading
 pub mod MergeStepping
 pub mod MergedCaptures
 pub mod Merging
+pub mod Opening

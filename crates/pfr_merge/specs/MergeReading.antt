@@ -1,5 +1,5 @@
 -- A merge of captures between two calls, and what a call may do to it.
-use Rattle.std.specs.Prelude.{◌≡◌, ◌≢◌, ℕ, suc, ◌<◌, Bool, IsTrue, List, [], ◌∷◌, ◌++◌, map, Option, Some, None, slice_get, MatchOption, Result, Ok, Err, ⊤}
+use Rattle.std.specs.Prelude.{◌≡◌, ◌≢◌, ℕ, suc, ◌+◌, ◌^◌, ◌<◌, ◌≤◌, Bool, IsTrue, List, [], ◌∷◌, ◌++◌, map, Option, Some, None, slice_get, MatchOption, Result, Ok, Err, ⊤}
 use Rattle.std.specs.Option.{option_map}
 use Rattle.pfr_capture.specs.declared.capture.CaptureError.{CaptureError}
 use Rattle.pfr_capture.specs.declared.capture.CaptureError.TheVariants.{RecordTooLong}
@@ -28,6 +28,11 @@ none_waits reading = record { reading = reading; head = None }
 abbrev pub waiting_in : Option RecordBytes → List RecordBytes
 waiting_in None = []
 waiting_in (Some r) = r ∷ []
+
+-- how many that are
+abbrev pub waits_of : Option RecordBytes → ℕ
+waits_of None = 0
+waits_of (Some r) = 1
 
 -- when that record was captured
 abbrev pub time_in : Waiting → Option Time
@@ -74,6 +79,11 @@ IsSettled w = MatchOption w.head ((tail : Tail) × (w.reading.over ≡ Some (Ok 
 -- no record of it waits, and it was refused
 abbrev pub IsStopped : CaptureError → Waiting → Type 0
 IsStopped e w = (w.head ≡ None) × (w.reading.over ≡ Some (Err e))
+
+-- a call reads a record more, which waits then, or none; a capture has at most 2^40 records
+pub record RefillCounts (old new : Waiting) : Type 0 where
+  pub same : new.reading.count + waits_of old.head ≡ old.reading.count + waits_of new.head
+  pub few : old.reading.count ≤ 2 ^ 40 → new.reading.count ≤ 2 ^ 40
 
 -- a call read on in one capture, whose source gave bytes
 pub record Refilled (old new : Waiting) (before left : List ℕ) : Type 0 where
@@ -141,6 +151,23 @@ pub record MergesOn (old new : List Waiting) (befores lefts : List (List ℕ)) (
   pub on : (reads : List (List ℕ)) (given : List Arrived) → HasMerged old reads given → HasMerged new (joined reads came) (given ++ list)
   pub follow : (reads : List (List ℕ)) (given : List Arrived) → HasMerged old reads given → MayFollowAll old befores → MayFollowAll new lefts
 
+-- how many records the readers have given, and how many of them wait
+abbrev pub count_in_all : List Waiting → ℕ
+count_in_all [] = 0
+count_in_all (w ∷ ws) = w.reading.count + count_in_all ws
+
+abbrev pub waits_in_all : List Waiting → ℕ
+waits_in_all [] = 0
+waits_in_all (w ∷ ws) = waits_of w.head + waits_in_all ws
+
+-- no capture has more than 2^40
+abbrev pub AreFew : List Waiting → Type 0
+AreFew ws = (k : ℕ) (w : Waiting) → slice_get ws k ≡ Some w → w.reading.count ≤ 2 ^ 40
+
+-- the merge has given so many records, or more
+abbrev pub HasPassedOn : ℕ → List Waiting → Type 0
+HasPassedOn count ws = (count + waits_in_all ws ≤ count_in_all ws) × AreFew ws
+
 -- of each capture the next record waits, or it has none
 abbrev pub AreSettled : List Waiting → Type 0
 AreSettled ws = (k : ℕ) (w : Waiting) → slice_get ws k ≡ Some w → IsSettled w
@@ -197,6 +224,12 @@ HasForm ws found = (form : Form) × IsRecordOf ws found form
 -- what a call answers: a record with its capture's place, or None, or a refusal with the place of the capture that is refused
 abbrev pub Answer : Type 0
 Answer = Result (Option (ℕ × Record)) (ℕ × CaptureError)
+
+-- how many records an answer gives
+abbrev pub records_in : Answer → ℕ
+records_in (Ok (Some found)) = 1
+records_in (Ok None) = 0
+records_in (Err stop) = 0
 
 -- how a call reads on, by its answer
 abbrev pub MergeReads : (old new : List Waiting) (befores lefts : List (List ℕ)) → Answer → Type 0

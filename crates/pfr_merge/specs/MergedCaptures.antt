@@ -1,9 +1,11 @@
 -- What a merge says of the captures that it reads.
-use Rattle.std.specs.Prelude.{◌≡◌, ℕ, List, [], ◌∷◌, ◌++◌, length, map, Some, None, slice_get, slice_set, Err, ⊤}
+use Rattle.std.specs.Prelude.{◌≡◌, ℕ, Bool, true, false, List, [], ◌∷◌, ◌++◌, length, map, Option, Some, None, slice_get, slice_set, Result, Ok, Err, ⊤}
 use Rattle.pfr_capture.specs.declared.capture.CaptureError.{CaptureError}
 use Rattle.pfr_capture.specs.declared.capture.CaptureError.TheVariants.{Read, RecordTooLong}
+use Rattle.pfr_capture.specs.declared.capture.Form.{Form}
 use Rattle.pfr_capture.specs.declared.capture.Tail.{Tail}
 use Rattle.pfr_capture.specs.declared.capture.Tail.TheVariants.{Clean}
+use Rattle.pfr_capture.specs.Header.{opening_of}
 use Rattle.pfr_capture.specs.Reading.{HasGiven, Reading, tail_of}
 use Rattle.pfr_capture.specs.Records.{IsCapture}
 use Rattle.pfr_merge.specs.Arrivals.{Arrived, Captured, Event, came, events_from, refused}
@@ -24,6 +26,67 @@ all_events captures = merged (events_from 0 captures)
 abbrev pub tail_of_all : List Captured → Tail
 tail_of_all [] = Clean
 tail_of_all (c ∷ captures) = tail_with (tail_of (Some c.ending)) (tail_of_all captures)
+
+-- ---- what a run takes of several captures
+
+-- the records that come before the first refusal; what stands behind it is never given
+abbrev pub arrivals_in : List Event → List Arrived
+arrivals_in [] = []
+arrivals_in (came a ∷ events) = a ∷ arrivals_in events
+arrivals_in (refused place e ∷ events) = []
+
+-- how events end: with the first refusal, or else with this tail
+abbrev pub ending_in : Tail → List Event → Result Tail (ℕ × CaptureError)
+ending_in tail [] = Ok tail
+ending_in tail (came a ∷ events) = ending_in tail events
+ending_in tail (refused place e ∷ events) = Err (place, e)
+
+-- captures give these records, one after the other, and end so
+pub record Give (captures : List Captured) (list : List Arrived) (ending : Result Tail (ℕ × CaptureError)) : Type 0 where
+  pub records : list ≡ arrivals_in (all_events captures)
+  pub ends : ending ≡ ending_in (tail_of_all captures) (all_events captures)
+
+-- each text is a capture, and together they give these records and end so
+pub record TextsGive (texts : List (List ℕ)) (list : List Arrived) (ending : Result Tail (ℕ × CaptureError)) : Type 0 where
+  pub captures : List Captured
+  pub are : AreCaptures texts captures
+  pub give : Give captures list ending
+
+-- each text begins with a header that is accepted
+abbrev pub AreOpened : List (List ℕ) → Type 0
+AreOpened [] = ⊤
+AreOpened (text ∷ texts) = ((form : Form) × (opening_of text ≡ Ok form)) × AreOpened texts
+
+-- Of the source at a place a read failed, behind all records of what came of it: together with it the captures give these records, and
+-- then the failure. The others have what their sources have left.
+pub record FailedGive (reads lefts : List (List ℕ)) (place : ℕ) (list : List Arrived) : Type 0 where
+  pub captures : List Captured
+  pub are : AreCaptures (joined reads (slice_set lefts place [])) captures
+  pub at : Captured
+  pub stands : slice_get captures place ≡ Some at
+  pub give : Give (slice_set captures place (record at { ending = Err Read })) list (Err (place, Read))
+
+-- ---- what may follow the bytes that were read
+
+-- the end of a capture was read, or the header of a record that is too long
+abbrev pub is_over : Option (Result Tail CaptureError) → Bool
+is_over (Some (Ok tail)) = true
+is_over (Some (Err (RecordTooLong asked))) = true
+is_over _ = false
+
+abbrev pub has_ended : Waiting → Bool
+has_ended w = is_over w.reading.over
+
+-- behind a capture that has ended comes what its source has left, and behind the others anything
+abbrev pub EachFollows : List Bool → (lefts mores : List (List ℕ)) → Type 0
+EachFollows [] [] [] = ⊤
+EachFollows (ended ∷ more) (left ∷ lefts) (text ∷ texts) = (ended ≡ true → text ≡ left) × EachFollows more lefts texts
+EachFollows _ _ _ = ⊥
+
+-- the same of several captures; behind a single one anything may come
+abbrev pub MayContinue : List Bool → (lefts mores : List (List ℕ)) → Type 0
+MayContinue (ended ∷ []) (left ∷ []) (text ∷ []) = ⊤
+MayContinue ended lefts mores = EachFollows ended lefts mores
 
 -- the merge begins with these records
 abbrev pub BeginsWith : List Captured → List Arrived → Type 0

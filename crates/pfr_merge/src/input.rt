@@ -3,7 +3,7 @@ ghost use Rattle.std.specs.Prelude.{◌≡◌, ◌⊎◌, IsTrue, None, Err, IfE
 ghost use Rattle.std.specs.Option.{option_map};
 ghost use Rattle.pfr_capture.specs.Reading.{FieldsOf, LacksRecord, NextFails, bytes_of, tail_of};
 ghost use Rattle.pfr_capture.specs.declared.capture.CaptureError.{CaptureError};
-ghost use Rattle.pfr_merge.specs.MergeReading.{IsSettled, IsStopped, Refilled, time_in};
+ghost use Rattle.pfr_merge.specs.MergeReading.{IsSettled, IsStopped, RefillCounts, Refilled, time_in};
 
 use crate::time::{Time, nanoseconds};
 use pfr_capture::{Capture, CaptureError, Record, Source, Tail};
@@ -46,6 +46,7 @@ impl Input {
         ensures reads { IsTrue (S.told source.old) → Refilled self.old self.new (S.unread source.old) (S.unread source.new) }
         ensures form { self.new.reading.form ≡ self.old.reading.form }
         ensures header { self.new.reading.header ≡ self.old.reading.header }
+        ensures counts { RefillCounts self.old self.new }
         ensures settled { OnOk result (IsSettled self.new) }
         ensures stopped { IfErr result (λ e. IsStopped e self.new) }
         ensures stays { IsSettled self.old → IsOk result × (self.new ≡ self.old) × (source.new ≡ source.old) }

@@ -1,10 +1,11 @@
 //! The merge of several captures.
 ghost use Rattle.std.specs.Prelude.{◌≡◌, ◌<◌, ◌+◌, ℕ, List, Option, Some, None, Ok, Err, length, map, slice_get, IfErr, IfNone, IfOk, IfSome, OnOk};
 ghost use Rattle.pfr_capture.specs.declared.capture.CaptureError.{CaptureError};
-ghost use Rattle.pfr_merge.specs.MergeReading.{AllRefilled, AllTold, Answer, AreOver, AreSettled, FailsAt, HasForm, IsOfCapture, IsOverWith, LacksRecordAt, MergeReads, NoneRefused, StopsAt, form_in, header_in, merged_tail, none_waits, time_in};
+ghost use Rattle.pfr_merge.specs.MergeReading.{AllRefilled, AllTold, Answer, AreOver, AreSettled, FailsAt, HasForm, HasPassedOn, IsOfCapture, IsOverWith, LacksRecordAt, MergeReads, NoneRefused, StopsAt, form_in, header_in, merged_tail, none_waits, records_in, time_in};
 ghost use Rattle.pfr_capture.specs.declared.capture.Form.{Form};
 ghost use Rattle.pfr_capture.specs.Reading.{FieldsOf, bytes_of};
 ghost use Rattle.pfr_merge.specs.MergeStepping.{HaveNone, LeastSo, TakesNext};
+ghost use Rattle.pfr_merge.specs.Opening.{AreFresh, HaveOpened, MergeOpens, OpeningFails, OpeningStops};
 ghost use Rattle.pfr_merge.specs.declared.time.Time.{Time};
 
 use crate::input::Input;
@@ -32,7 +33,48 @@ impl Model for Merge {
     ghost view = { λ a. a.inputs.items };
 }
 
+/// Opens the captures of sources, in their order. It stops at the first that is refused, whose place it returns.
+fn open_each<S: Source>(
+    alloc: Global,
+    sources: &mut [S],
+) -> Result<Vec<Capture>, (usize, CaptureError)>
+    ensures told { map S.told sources.new ≡ map S.told sources.old }
+    ensures fresh { IfOk result (λ captures. AreFresh captures.items × (length captures.items ≡ length sources.old)) }
+    ensures opens { IfOk result (λ captures. AllTold (map S.told sources.old) → HaveOpened captures.items (map S.unread sources.old) (map S.unread sources.new)) }
+    ensures ok { OnOk result (map S.failures sources.new ≡ map S.failures sources.old) }
+    ensures stops { IfErr result (λ stop. AllTold (map S.told sources.old) → OpeningStops (map S.unread sources.old) (map S.unread sources.new) stop) }
+    ensures failed { IfErr result (OpeningFails (map S.failures sources.old) (map S.failures sources.new)) }
+{
+    let mut captures = Vec::new(alloc);
+    for place in 0..sources.len() {
+        match Capture::open(alloc, &mut sources[place]) {
+            Ok(capture) => match captures.push(capture) {
+                Ok(()) => {}
+                Err(_) => return Err((place, CaptureError::Memory)),
+            },
+            Err(e) => return Err((place, e)),
+        }
+    }
+    Ok(captures)
+}
+
 impl Merge {
+    /// Opens the captures of sources, each at its place, in their order. The first one that is refused, and its place, end it.
+    pub fn open<S: Source>(alloc: Global, sources: &mut [S]) -> Result<Merge, (usize, CaptureError)>
+        ensures told { map S.told sources.new ≡ map S.told sources.old }
+        ensures starts { IfOk result (λ merge. NoneRefused merge × HasPassedOn 0 merge × (length merge ≡ length sources.old)) }
+        ensures opens { IfOk result (λ merge. AllTold (map S.told sources.old) → MergeOpens (map S.unread sources.old) (map S.unread sources.new) merge) }
+        ensures ok { OnOk result (map S.failures sources.new ≡ map S.failures sources.old) }
+        ensures stops { IfErr result (λ stop. AllTold (map S.told sources.old) → OpeningStops (map S.unread sources.old) (map S.unread sources.new) stop) }
+        ensures failed { IfErr result (OpeningFails (map S.failures sources.old) (map S.failures sources.new)) }
+    {
+        let captures = open_each(alloc, sources)?;
+        match Merge::new(alloc, captures) {
+            Ok(merge) => Ok(merge),
+            Err(_) => Err((0, CaptureError::Memory)),
+        }
+    }
+
     /// A merge of these captures, of which no record was read yet.
     pub fn new(alloc: Global, captures: Vec<Capture>) -> Result<Merge, AllocError>
         ensures { IfOk result (λ merge. merge ≡ map none_waits captures.items) }
@@ -58,6 +100,7 @@ impl Merge {
         ensures length { length self.new ≡ length self.old }
         ensures forms { map form_in self.new ≡ map form_in self.old }
         ensures headers { map header_in self.new ≡ map header_in self.old }
+        ensures counted { (count : ℕ) → HasPassedOn count self.old → HasPassedOn (count + records_in result) self.new }
 
         // Once the merge is over.
         ensures again { (answer : Answer) → IsOverWith self.old answer → result ≡ answer }
@@ -86,12 +129,39 @@ impl Merge {
         joint_tail(self.inputs.as_slice())
     }
 
+    /// The headers of the captures, by their places.
+    pub fn headers(&self, alloc: Global) -> Result<Vec<[u8; 24]>, AllocError>
+        ensures { IfOk result (λ headers. headers.items ≡ map header_in self.now) }
+    {
+        let mut headers = Vec::new(alloc);
+        for input in self.inputs.as_slice() {
+            headers.push(input.capture().header())?;
+        }
+        Ok(headers)
+    }
+
     /// The capture at a place.
     pub fn capture(&self, place: usize) -> &Capture
         requires { place < length self.now }
         ensures { IfSome (slice_get self.now place) (λ w. result.now ≡ w.reading) }
     {
         self.inputs[place].capture()
+    }
+
+    /// Whether a source may have to be waited for when that many bytes more are read of each capture.
+    pub fn may_wait(&self, bytes: usize) -> bool {
+        self.inputs
+            .iter()
+            .any(|input| input.capture().may_wait(bytes))
+    }
+
+    /// How many bytes its records so far have taken with their headers, those that wait among them, modulo 2^64.
+    pub fn taken(&self) -> usize {
+        let mut taken = 0_usize;
+        for input in self.inputs.as_slice() {
+            taken = taken.wrapping_add(input.capture().taken());
+        }
+        taken
     }
 
     /// Takes a record of the capture at a place back that isn't needed any more. Its buffer may serve for one that is
@@ -129,6 +199,7 @@ fn refill_all<S: Source>(
     ensures reads { AllTold (map S.told sources.old) → AllRefilled inputs.old inputs.new (map S.unread sources.old) (map S.unread sources.new) }
     ensures forms { map form_in inputs.new ≡ map form_in inputs.old }
     ensures headers { map header_in inputs.new ≡ map header_in inputs.old }
+    ensures counted { (count : ℕ) → HasPassedOn count inputs.old → HasPassedOn count inputs.new }
     ensures settled { OnOk result (AreSettled inputs.new) }
     ensures stopped { IfErr result (StopsAt inputs.new) }
     ensures stays { AreSettled inputs.old → (inputs.new ≡ inputs.old) × (sources.new ≡ sources.old) }

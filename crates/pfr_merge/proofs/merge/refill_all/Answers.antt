@@ -1,7 +1,7 @@
 use Rattle.std.proofs.Common.{refl, rules, arith}
 use Rattle.std.proofs.lemmas.Option.{slice_get-get_or, slice_get_within}
 use Rattle.pfr_merge.specs.MergeReading.{form_in, header_in}
-use Rattle.pfr_merge.proofs.RefillAllLemmas.{again_on, all_refilled_none, failures_on, fails_on, kept_on, lacks_on, no_error_settled, reads_on, same_on, settled_on, stays_on, stopped_on, stops_on, told_on}
+use Rattle.pfr_merge.proofs.RefillAllLemmas.{again_on, all_refilled_none, failures_on, fails_on, kept_on, lacks_on, no_error_settled, passes_on, reads_on, same_on, settled_on, stays_on, stopped_on, stops_on, told_on}
 use Rattle.pfr_merge.proofs.merge.refill_all.Goals as goal
 
 pub loop-place-init : goal.loop-place-init
@@ -11,6 +11,7 @@ loop-place-init g c = record {
   reads = λ told. all_refilled_none g.S.Source.unread c.args.inputs.now c.args.sources.now c.requires;
   forms = refl;
   headers = refl;
+  counted = λ count passed. passed;
   settled = λ k w below at. absurd (omega arith);
   kept = λ k from. refl;
   stays = λ settled. (refl, refl);
@@ -33,6 +34,10 @@ returns-in-Err-clause-forms g c =
 pub returns-in-Err-clause-headers : goal.returns-in-Err-clause-headers
 returns-in-Err-clause-headers g c =
     same_on c.args.inputs.now c.loop-place.inputs c.args.sources.now c.loop-place.sources c.loop-place.place _ c.refill.new.self _ c.refill.new.source (slice_get-get_or c.loop-place.inputs c.loop-place.place c.index-inputs-place.result (omega arith)) (slice_get-get_or c.loop-place.sources c.loop-place.place c.index-sources-place.result (omega arith)) header_in c.refill.ensures.header c.loop-place.invariant.headers
+
+pub returns-in-Err-clause-counted : goal.returns-in-Err-clause-counted
+returns-in-Err-clause-counted g c =
+    passes_on c.args.inputs.now c.loop-place.inputs c.args.sources.now c.loop-place.sources c.loop-place.place _ c.refill.new.self _ c.refill.new.source (slice_get-get_or c.loop-place.inputs c.loop-place.place c.index-inputs-place.result (omega arith)) (slice_get-get_or c.loop-place.sources c.loop-place.place c.index-sources-place.result (omega arith)) c.loop-place.invariant.counted c.refill.ensures.counts
 
 pub returns-in-Err-clause-stopped : goal.returns-in-Err-clause-stopped
 returns-in-Err-clause-stopped g c =
@@ -68,6 +73,7 @@ loop-place-preserved g c = record {
   reads = reads_on c.args.inputs.now c.loop-place.inputs c.args.sources.now c.loop-place.sources c.loop-place.place _ c.refill.new.self _ c.refill.new.source (slice_get-get_or c.loop-place.inputs c.loop-place.place c.index-inputs-place.result (omega arith)) (slice_get-get_or c.loop-place.sources c.loop-place.place c.index-sources-place.result (omega arith)) g.S.Source.told g.S.Source.unread c.loop-place.invariant.told c.loop-place.invariant.reads c.refill.ensures.reads;
   forms = same_on c.args.inputs.now c.loop-place.inputs c.args.sources.now c.loop-place.sources c.loop-place.place _ c.refill.new.self _ c.refill.new.source (slice_get-get_or c.loop-place.inputs c.loop-place.place c.index-inputs-place.result (omega arith)) (slice_get-get_or c.loop-place.sources c.loop-place.place c.index-sources-place.result (omega arith)) form_in c.refill.ensures.form c.loop-place.invariant.forms;
   headers = same_on c.args.inputs.now c.loop-place.inputs c.args.sources.now c.loop-place.sources c.loop-place.place _ c.refill.new.self _ c.refill.new.source (slice_get-get_or c.loop-place.inputs c.loop-place.place c.index-inputs-place.result (omega arith)) (slice_get-get_or c.loop-place.sources c.loop-place.place c.index-sources-place.result (omega arith)) header_in c.refill.ensures.header c.loop-place.invariant.headers;
+  counted = passes_on c.args.inputs.now c.loop-place.inputs c.args.sources.now c.loop-place.sources c.loop-place.place _ c.refill.new.self _ c.refill.new.source (slice_get-get_or c.loop-place.inputs c.loop-place.place c.index-inputs-place.result (omega arith)) (slice_get-get_or c.loop-place.sources c.loop-place.place c.index-sources-place.result (omega arith)) c.loop-place.invariant.counted c.refill.ensures.counts;
   settled = settled_on c.args.inputs.now c.loop-place.inputs c.args.sources.now c.loop-place.sources c.loop-place.place _ c.refill.new.self _ c.refill.new.source (slice_get-get_or c.loop-place.inputs c.loop-place.place c.index-inputs-place.result (omega arith)) (slice_get-get_or c.loop-place.sources c.loop-place.place c.index-sources-place.result (omega arith)) c.loop-place.invariant.settled c.in-Ok.ensures.settled;
   kept = kept_on c.args.inputs.now c.loop-place.inputs c.args.sources.now c.loop-place.sources c.loop-place.place _ c.refill.new.self _ c.refill.new.source (slice_get-get_or c.loop-place.inputs c.loop-place.place c.index-inputs-place.result (omega arith)) (slice_get-get_or c.loop-place.sources c.loop-place.place c.index-sources-place.result (omega arith)) c.loop-place.invariant.kept;
   stays = stays_on c.args.inputs.now c.loop-place.inputs c.args.sources.now c.loop-place.sources c.loop-place.place _ c.refill.new.self _ c.refill.new.source (slice_get-get_or c.loop-place.inputs c.loop-place.place c.index-inputs-place.result (omega arith)) (slice_get-get_or c.loop-place.sources c.loop-place.place c.index-sources-place.result (omega arith)) c.refill.result c.loop-place.invariant.stays c.refill.ensures.stays;

@@ -1,7 +1,7 @@
 use Rattle.std.proofs.Common.{◌∙◌, refl, subst, sym, arith}
 use Rattle.std.proofs.lemmas.List.{take_at}
 use Rattle.pfr_merge.specs.MergeReading.{NoneRefused}
-use Rattle.pfr_merge.proofs.MergeReadingLemmas.{err_again, err_reads, ok_again, ok_ends, ok_form, ok_forms, ok_headers, ok_reads, ok_running}
+use Rattle.pfr_merge.proofs.MergeReadingLemmas.{err_again, err_counted, err_reads, ok_again, ok_counted, ok_ends, ok_form, ok_forms, ok_headers, ok_reads, ok_running}
 use Rattle.pfr_merge.proofs.merge.Merge.next.Goals as goal
 
 pub returns-in-Ok-clause-forms : goal.returns-in-Ok-clause-forms
@@ -57,3 +57,11 @@ returns-in-Err-clause-reads g c =
 pub returns-in-Err-clause-failed : goal.returns-in-Err-clause-failed
 returns-in-Err-clause-failed g c =
     λ none. c.in-Err.ensures.failed (subst NoneRefused (sym (c.as_mut_slice.ensures.value ∙ c.self.view_is)) none)
+
+pub returns-in-Ok-clause-counted : goal.returns-in-Ok-clause-counted
+returns-in-Ok-clause-counted g c =
+    ok_counted _ _ c.refill_all.new.inputs _ c.take_next.new.inputs _ (c.as_mut_slice.ensures.value ∙ c.self.view_is) (c.as_mut_slice-in-Ok.ensures.value ∙ take_at _ _ _ (omega arith)) (take_at _ _ _ (c.take_next.auto.inputs ∙ c.as_mut_slice-in-Ok.ensures.len)) c.in-Ok.ensures.settled c.refill_all.ensures.forms c.take_next.result c.take_next.ensures.none c.take_next.ensures.taken c.refill_all.ensures.counted
+
+pub returns-in-Err-clause-counted : goal.returns-in-Err-clause-counted
+returns-in-Err-clause-counted g c =
+    err_counted _ _ c.refill_all.new.inputs _ (c.as_mut_slice.ensures.value ∙ c.self.view_is) (take_at _ _ _ (omega arith)) c.refill_all.ensures.counted
