@@ -131,9 +131,9 @@ if_closed : (closed : Bool) (changes : List Change) → EndNoLine changes → En
 if_closed true changes none = none
 if_closed false changes none = tt
 
-none_ends : (text own : List ℕ) (given : Given) → EndNoLine (changes text own given)
+none_ends : (text : List ℕ) (own : List (List ℕ)) (given : Given) → EndNoLine (changes text own given)
 unfolding changes
 none_ends text own given = if_closed (are_closed (marks text)) _ (none_from given (known_before own (marks text)) before 0 (marks text) (marks text))
 
-pub is_lined : (text own : List ℕ) (given : Given) → IsLined (rewritten text (changes text own given))
+pub is_lined : (text : List ℕ) (own : List (List ℕ)) (given : Given) → IsLined (rewritten text (changes text own given))
 is_lined text own given = rewritten_lined text (changes text own given) (none_ends text own given)

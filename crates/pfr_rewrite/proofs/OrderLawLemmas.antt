@@ -153,7 +153,7 @@ if_closed : (closed : Bool) (end : ℕ) (changes : List Change) → LieBetween 0
 if_closed true end changes lie = lie
 if_closed false end changes lie = omega arith
 
-pub lie_in_order : (text own : List ℕ) (given : Given) → LieBetween 0 (length text) (changes text own given)
+pub lie_in_order : (text : List ℕ) (own : List (List ℕ)) (given : Given) → LieBetween 0 (length text) (changes text own given)
 unfolding changes
 lie_in_order text own given =
     if_closed (are_closed (marks text)) (length text) _

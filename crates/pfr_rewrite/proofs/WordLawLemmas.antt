@@ -48,7 +48,7 @@ if_closed : (closed : Bool) (changes : List Change) (marks : List Mark) → AreA
 if_closed true changes marks at = at
 if_closed false changes marks at = tt
 
-pub are_at_words : (text own : List ℕ) (given : Given) → AreAtWords (changes text own given) (marks text)
+pub are_at_words : (text : List ℕ) (own : List (List ℕ)) (given : Given) → AreAtWords (changes text own given) (marks text)
 unfolding changes
 are_at_words text own given =
     if_closed (are_closed (marks text)) _ (marks text)

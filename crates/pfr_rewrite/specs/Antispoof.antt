@@ -56,9 +56,10 @@ forms_in networks addresses =
 unfoldable pub given_forms : Given → List ℕ → Option Forms
 given_forms given name = forms_in (texts_of given subject.Address (name ++ codes ":network")) (texts_of given subject.Address (name ++ []))
 
-unfoldable pub forms_of : Given → List ℕ → List ℕ → Option Forms
+-- those of an interface that the text is for are named by it
+unfoldable pub forms_of : Given → (own : List (List ℕ)) → (name : List ℕ) → Option Forms
 forms_of given own name =
-    if bytes_eq name own then Some (own_forms own)
+    if is_among own name then Some (own_forms name)
     else if bytes_eq name (codes "lo0") then Some loopback_forms
     else given_forms given name
 
@@ -132,14 +133,14 @@ with_address (Some address) made frame = with_rule made frame [] [] address
 abbrev pub with_rules : List ℕ → Frame → List ℕ → Forms → List ℕ
 with_rules made frame name forms = with_address forms.address (with_rule made frame (codes " on ! ") name forms.network) frame
 
-abbrev pub rules_from : Given → List ℕ → Frame → List ℕ → List (List ℕ) → Option (List ℕ)
+abbrev pub rules_from : Given → List (List ℕ) → Frame → List ℕ → List (List ℕ) → Option (List ℕ)
 rules_from given own frame made [] = Some made
 rules_from given own frame made (name ∷ names) = elim (forms_of given own name) [
   | Some forms ↦ rules_from given own frame (with_rules made frame name forms) names
   | None ↦ None
 ]
 
-abbrev pub rules_with : Given → List ℕ → List Mark → List (List ℕ) → Option (List ℕ) → Option (List ℕ)
+abbrev pub rules_with : Given → List (List ℕ) → List Mark → List (List ℕ) → Option (List ℕ) → Option (List ℕ)
 rules_with given own front names None = None
 rules_with given own front names (Some tail) = rules_from given own (record { head = head_of front; tail = tail }) [] names
 

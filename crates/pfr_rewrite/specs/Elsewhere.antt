@@ -2,6 +2,7 @@
 use Rattle.std.specs.Prelude.{ℕ, ◌&&◌, ◌||◌, Bool, true, false, not, nat_lt, if◌then◌else◌, List, [], ◌∷◌, ◌++◌, length, take, codes, Option, Some, None}
 use Rattle.std.specs.Str.{bytes_eq}
 use Rattle.pfr_given.specs.declared.entry.Given.{Given}
+use Rattle.pfr_words.specs.Names.{is_among}
 use Rattle.pfr_marks.specs.Braces.{are_closed}
 use Rattle.pfr_marks.specs.Marks.{beginning, begins_with, is, marks}
 use Rattle.pfr_marks.specs.declared.mark.Mark.{Mark}
@@ -17,11 +18,11 @@ use Rattle.pfr_spelling.specs.declared.known.Known.{Known}
 use Rattle.pfr_rewrite.specs.Interfaces.{interfaces_len, names_in, unknown_name}
 use Rattle.pfr_rewrite.specs.Whole.{known_before}
 
--- the run's own interface, or one that isn't known
-abbrev pub may_hold : (own name : List ℕ) → Bool
-may_hold own name = bytes_eq name own || bytes_eq name unknown_name
+-- one of the run's own interfaces, or one that isn't known
+abbrev pub may_hold : (own : List (List ℕ)) → (name : List ℕ) → Bool
+may_hold own name = is_among own name || bytes_eq name unknown_name
 
-abbrev pub one_may_hold : List ℕ → List (List ℕ) → Bool
+abbrev pub one_may_hold : (own names : List (List ℕ)) → Bool
 one_may_hold own [] = false
 one_may_hold own (name ∷ names) = if may_hold own name then true else one_may_hold own names
 
@@ -78,6 +79,6 @@ said_from given known context (mark ∷ marks) =
 abbrev pub before : Context
 before = beginning_at beginning
 
--- the rules and anchors of a text that hold for no packet of a run, since they name other interfaces than its own
-unfoldable pub other_interfaces : (text own : List ℕ) → Given → List Finding
+-- the rules and anchors of a text that hold for no packet of a run, since they name other interfaces than its own ones
+unfoldable pub other_interfaces : (text : List ℕ) → (own : List (List ℕ)) → Given → List Finding
 other_interfaces text own given = if are_closed (marks text) then said_from given (known_before own (marks text)) before (marks text) else []

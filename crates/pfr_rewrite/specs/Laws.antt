@@ -18,7 +18,7 @@ AreAtWords (change ∷ changes) marks = IsAtWord change.finding marks × AreAtWo
 
 -- each change of a text is said of a word of the text, at its place
 abbrev pub EachFindingIsAtAWord : Type 0
-EachFindingIsAtAWord = (text own : List ℕ) (given : Given) → AreAtWords (changes text own given) (marks text)
+EachFindingIsAtAWord = (text : List ℕ) (own : List (List ℕ)) (given : Given) → AreAtWords (changes text own given) (marks text)
 
 -- ---- changes lie one behind the other
 
@@ -29,7 +29,7 @@ LieBetween from end (change ∷ changes) = (from ≤ change.from) × (change.fro
 
 -- the changes of a text lie within it, in their order, and no two have a byte in common
 abbrev pub ChangesLieOneBehindTheOther : Type 0
-ChangesLieOneBehindTheOther = (text own : List ℕ) (given : Given) → LieBetween 0 (length text) (changes text own given)
+ChangesLieOneBehindTheOther = (text : List ℕ) (own : List (List ℕ)) (given : Given) → LieBetween 0 (length text) (changes text own given)
 
 -- ---- what stands between changes stays
 
@@ -64,5 +64,5 @@ WhatStandsBetweenStays = (text : List ℕ) (changes : List Change) → (rewritte
 
 -- the list of lines beside the new text has one entry for each line of it: one more than it has ends of lines
 abbrev pub EachLineHasItsLine : Type 0
-EachLineHasItsLine = (text own : List ℕ) (given : Given)
+EachLineHasItsLine = (text : List ℕ) (own : List (List ℕ)) (given : Given)
     → let made = rewritten text (changes text own given) in length made.lines ≡ newlines made.text + 1

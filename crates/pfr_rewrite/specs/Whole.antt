@@ -77,10 +77,10 @@ abbrev pub before : Context
 before = beginning_at beginning
 
 -- macros' values of 4 MiB are looked at
-abbrev pub known_before : List ℕ → List Mark → Known
+abbrev pub known_before : (own : List (List ℕ)) → List Mark → Known
 known_before own marks = record { own = own; tables = tables_from [] marks; macros = []; left = 4194304 }
 
--- what is rewritten of a text for an interface, from its beginning to its end: nothing if a brace isn't closed, or closes nothing
-unfoldable pub changes : (text own : List ℕ) → Given → List Change
+-- what is rewritten of a text for interfaces of these names, from its beginning to its end: nothing if a brace isn't closed, or closes nothing
+unfoldable pub changes : (text : List ℕ) → (own : List (List ℕ)) → Given → List Change
 changes text own given =
     if are_closed (marks text) then changes_from given (known_before own (marks text)) before 0 (marks text) (marks text) else []

@@ -2,7 +2,7 @@
 ghost use Rattle.std.specs.Prelude.{◌≡◌, ◌≤◌, ◌++◌, [], length, IfOk, OnOk};
 ghost use Rattle.pfr_rewrite.specs.Antispoof as spec;
 
-use crate::interfaces::{interfaces_len, names_in};
+use crate::interfaces::{interfaces_len, is_named, names_in};
 use pfr_given::{Given, Subject, count_of, joined};
 use pfr_items::Items;
 use pfr_marks::mark::{Mark, begins_with, is};
@@ -62,7 +62,7 @@ struct Forms {
     address: Option<Items<u8>>,
 }
 
-/// The forms of the interface that the text is for.
+/// The forms of an interface that the text is for.
 fn own_forms(alloc: Global, own: &[u8]) -> Result<Forms, AllocError>
     ensures { IfOk result (λ forms. forms ≡ spec.own_forms own.now) }
 {
@@ -104,13 +104,13 @@ fn given_forms(alloc: Global, given: &Given, name: &[u8]) -> Result<Option<Forms
 fn forms_of(
     alloc: Global,
     given: &Given,
-    own: &[u8],
+    own: &[Items<u8>],
     name: &[u8],
 ) -> Result<Option<Forms>, AllocError>
     ensures { IfOk result (λ forms. forms ≡ spec.forms_of given.now own.now name.now) }
 {
-    if name == own {
-        return Ok(Some(own_forms(alloc, own)?));
+    if is_named(own, name) {
+        return Ok(Some(own_forms(alloc, name)?));
     }
     if name == LOOPBACK {
         return Ok(Some(loopback_forms(alloc)?));
@@ -272,7 +272,7 @@ fn put_rules(
 fn rules_for(
     alloc: Global,
     given: &Given,
-    own: &[u8],
+    own: &[Items<u8>],
     frame: &Frame,
     names: &[Items<u8>],
 ) -> Result<Option<Items<u8>>, AllocError>
@@ -292,7 +292,7 @@ fn rules_for(
 fn rules_with(
     alloc: Global,
     given: &Given,
-    own: &[u8],
+    own: &[Items<u8>],
     front: &[Mark<'_>],
     names: &[Items<u8>],
     tail: Option<Items<u8>>,

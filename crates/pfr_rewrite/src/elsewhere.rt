@@ -2,7 +2,7 @@
 ghost use Rattle.std.specs.Prelude.{◌≡◌, ◌++◌, IfOk, OnOk};
 ghost use Rattle.pfr_rewrite.specs.Elsewhere as spec;
 
-use crate::interfaces::{UNKNOWN, interfaces_len, names_in};
+use crate::interfaces::{UNKNOWN, interfaces_len, is_named, names_in};
 use crate::whole::known_before;
 use pfr_given::Given;
 use pfr_items::Items;
@@ -14,15 +14,15 @@ use pfr_phrases::reason::Reason;
 use pfr_spelling::known::Known;
 use std::alloc::{AllocError, Global};
 
-/// Whether a rule of an interface of this name may hold: it is the run's own, or isn't known.
-fn may_hold(own: &[u8], name: &[u8]) -> bool
+/// Whether a rule of an interface of this name may hold: it is one of the run's own, or isn't known.
+fn may_hold(own: &[Items<u8>], name: &[u8]) -> bool
     ensures { result ≡ spec.may_hold own.now name.now }
 {
-    name == own || name == UNKNOWN
+    is_named(own, name) || name == UNKNOWN
 }
 
 /// Whether a rule of one of these interfaces may hold.
-fn one_may_hold(own: &[u8], names: &[Items<u8>]) -> bool
+fn one_may_hold(own: &[Items<u8>], names: &[Items<u8>]) -> bool
     ensures { result ≡ spec.one_may_hold own.now names.now }
 {
     for name in names {
@@ -142,16 +142,16 @@ fn said_of<'a>(
     Ok(said)
 }
 
-/// The rules and anchors of a text that hold for no packet of a run, since they name other interfaces than its own: each at the first
-/// of them.
+/// The rules and anchors of a text that hold for no packet of a run, since they name other interfaces than its own ones: each at the
+/// first of them.
 #[tactic(auto, unfolding(crate::specs::Elsewhere::other_interfaces))]
 pub fn other_interfaces<'a>(
     alloc: Global,
     text: &'a [u8],
-    own: &[u8],
+    own: Items<Items<u8>>,
     given: &Given,
 ) -> Result<Items<Finding<'a>>, AllocError>
-    ensures { IfOk result (λ said. said ≡ spec.other_interfaces text.now own.now given.now) }
+    ensures { IfOk result (λ said. said ≡ spec.other_interfaces text.now own given.now) }
 {
     let marks = marks(alloc, text)?;
     if !are_closed(marks.as_slice()) {

@@ -1,5 +1,6 @@
 //! The interfaces that words name: their own names, the members of groups, and what macros stand for.
 ghost use Rattle.std.specs.Prelude.{◌≡◌, ◌≤◌, ◌++◌, length, IfOk, OnOk};
+ghost use Rattle.pfr_words.specs.Names.{is_among};
 ghost use Rattle.pfr_rewrite.specs.Interfaces as spec;
 
 use pfr_given::{Given, Subject, count_of, joined};
@@ -13,6 +14,18 @@ use std::alloc::{AllocError, Global};
 
 /// What stands for a macro whose value isn't known: no interface has this name.
 pub(crate) const UNKNOWN: &[u8] = b"$";
+
+/// Whether one of these interfaces has this name.
+pub(crate) fn is_named(interfaces: &[Items<u8>], name: &[u8]) -> bool
+    ensures { result ≡ is_among interfaces.now name.now }
+{
+    for interface in interfaces {
+        if interface.as_slice() == name {
+            return true;
+        }
+    }
+    false
+}
 
 /// How many marks the interfaces have: a word, one in round brackets, or a list; none if there are none.
 pub(crate) fn interfaces_len(marks: &[Mark<'_>]) -> usize

@@ -142,15 +142,14 @@ fn begin_at(context: Context, before: usize, here: usize) -> usize
     }
 }
 
-/// What is known before a text.
+/// What is known before a text for interfaces of these names.
 pub(crate) fn known_before(
     alloc: Global,
-    own: &[u8],
+    own: Items<Items<u8>>,
     marks: &[Mark<'_>],
 ) -> Result<Known, AllocError>
-    ensures { IfOk result (λ known. known ≡ spec.known_before own.now marks.now) }
+    ensures { IfOk result (λ known. known ≡ spec.known_before own marks.now) }
 {
-    let own = Items::copied(alloc, own)?;
     let tables = tables(alloc, marks)?;
     Ok(Known {
         own,
@@ -193,16 +192,16 @@ fn changes_of<'a>(
     Ok(changes)
 }
 
-/// What is rewritten of a text for an interface, from its beginning to its end: nothing if a brace isn't closed, or closes nothing, since
-/// then nobody knows where a statement ends.
+/// What is rewritten of a text for interfaces of these names, from its beginning to its end: nothing if a brace isn't closed, or closes
+/// nothing, since then nobody knows where a statement ends.
 #[tactic(auto, unfolding(crate::specs::Whole::changes))]
 pub fn changes<'a>(
     alloc: Global,
     text: &'a [u8],
-    own: &[u8],
+    own: Items<Items<u8>>,
     given: &Given,
 ) -> Result<Items<Change<'a>>, AllocError>
-    ensures { IfOk result (λ changes. changes ≡ spec.changes text.now own.now given.now) }
+    ensures { IfOk result (λ changes. changes ≡ spec.changes text.now own given.now) }
 {
     let marks = marks(alloc, text)?;
     if !are_closed(marks.as_slice()) {

@@ -21,8 +21,8 @@ use std::alloc::{AllocError, Global};
 /// What is known of a text beside a statement.
 #[derive(Drop)]
 pub struct Known {
-    /// The name of the interface that the text is for.
-    pub own: Items<u8>,
+    /// The names of the interfaces that the text is for.
+    pub own: Items<Items<u8>>,
     /// The tables that the text names.
     pub tables: Items<Table>,
     /// The macros so far.
