@@ -12,6 +12,7 @@ use Rattle.pfr_phrases.specs.Tracing.{old_place, traced}
 use Rattle.pfr_rewrite.specs.Elsewhere.{other_interfaces}
 use Rattle.pfr_rewrite.specs.Whole.{changes}
 use Rattle.pfr_net.specs.declared.interface.IfName.{IfName}
+use Rattle.pfr_ruleset.specs.declared.interface.Interface.{Interface}
 use Rattle.pfr_phrases.specs.declared.change.Change.{Change}
 use Rattle.pfr_phrases.specs.declared.change.Finding.{Finding}
 use Rattle.pfr_phrases.specs.declared.change.Text.{Text}
@@ -21,7 +22,7 @@ use Rattle.pfr_phrases.specs.declared.tracing.Piece.{Piece}
 
 -- the strict reader accepts a text
 abbrev pub is_accepted : List ℕ → Surroundings → Bool
-is_accepted text around = is_ok (ruleset_of text (around.interface ∷ []))
+is_accepted text around = is_ok (ruleset_of text around.interfaces)
 
 -- how many bytes stand before the first zero, with those before
 abbrev pub zero_from : ℕ → List ℕ → ℕ
@@ -32,9 +33,13 @@ zero_from before (b ∷ bytes) = if b == 0 then before else zero_from (before + 
 abbrev pub name_of : IfName → List ℕ
 name_of name = take (zero_from 0 name.bytes) name.bytes
 
+-- the names of interfaces, by their places
+abbrev pub names_of : List Interface → List (List ℕ)
+names_of interfaces = map (λ interface. name_of interface.name) interfaces
+
 -- what is rewritten of a text
 abbrev pub changes_for : List ℕ → Surroundings → List Change
-changes_for text around = changes text (name_of around.interface.name) around.given
+changes_for text around = changes text (names_of around.interfaces) around.given
 
 -- what is said at the place of a finding, for another reason
 abbrev pub finding_for : Finding → Reason → Finding
@@ -112,4 +117,4 @@ adapted text around = if is_accepted text around then unchanged text else settle
 -- the rules and anchors that hold for no packet, since they name other interfaces
 abbrev pub rules_of_others : List ℕ → Surroundings → Bool → List Finding
 rules_of_others text around was_adapted =
-    other_interfaces text (name_of around.interface.name) (if was_adapted then around.given else record { entries = [] })
+    other_interfaces text (names_of around.interfaces) (if was_adapted then around.given else record { entries = [] })

@@ -19,8 +19,8 @@ use std::alloc::{AllocError, Global};
 /// What a text can't say.
 #[derive(Drop)]
 pub struct Surroundings {
-    /// The interface that it is for.
-    pub interface: Interface,
+    /// The interfaces that it is for, by their places.
+    pub interfaces: Items<Interface>,
     /// What is written for its words.
     pub given: Given,
 }
@@ -41,7 +41,7 @@ pub struct Adapted<'a> {
 fn is_accepted(alloc: Global, text: &[u8], around: &Surroundings) -> Result<bool, AllocError>
     ensures { IfOk result (λ accepted. accepted ≡ spec.is_accepted text.now around.now) }
 {
-    match ruleset_of(alloc, text, &[around.interface]) {
+    match ruleset_of(alloc, text, around.interfaces.as_slice()) {
         Ok(_) => Ok(true),
         Err(fault) => match fault.kind {
             ConfErrorKind::Memory => Err(AllocError),
@@ -72,6 +72,17 @@ fn name_of(name: &IfName) -> &[u8]
     name
 }
 
+/// The names of interfaces, by their places.
+fn names_of(alloc: Global, interfaces: &[Interface]) -> Result<Items<Items<u8>>, AllocError>
+    ensures { IfOk result (λ names. names ≡ spec.names_of interfaces.now) }
+{
+    let mut names = Items::new(alloc);
+    for interface in interfaces {
+        names.push(Items::copied(alloc, name_of(&interface.name))?)?;
+    }
+    Ok(names)
+}
+
 /// What is rewritten of a text.
 fn changes_for<'a>(
     alloc: Global,
@@ -80,7 +91,8 @@ fn changes_for<'a>(
 ) -> Result<Items<Change<'a>>, AllocError>
     ensures { IfOk result (λ changes. changes ≡ spec.changes_for text.now around.now) }
 {
-    changes(alloc, text, name_of(&around.interface.name), &around.given)
+    let own = names_of(alloc, around.interfaces.as_slice())?;
+    changes(alloc, text, own, &around.given)
 }
 
 /// What is said at the place of a finding, for another reason.
@@ -270,7 +282,7 @@ pub fn adapt<'a>(
     }
 }
 
-/// The rules and anchors of a text that hold for no packet, since they name other interfaces than the one that it is for: each at the
+/// The rules and anchors of a text that hold for no packet, since they name other interfaces than those that it is for: each at the
 /// first of them. A group that is given isn't taken for one if the text was adapted, since its interfaces are written for it then.
 pub fn rules_of_others<'a>(
     alloc: Global,
@@ -280,7 +292,7 @@ pub fn rules_of_others<'a>(
 ) -> Result<Items<Finding<'a>>, AllocError>
     ensures { IfOk result (λ findings. findings ≡ spec.rules_of_others text.now around.now was_adapted) }
 {
-    let own = name_of(&around.interface.name);
+    let own = names_of(alloc, around.interfaces.as_slice())?;
     if was_adapted {
         return other_interfaces(alloc, text, own, &around.given);
     }
