@@ -1,1 +1,1 @@
-mod FlagLemmas
+pub mod CutLemmas

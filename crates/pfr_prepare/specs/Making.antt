@@ -47,5 +47,5 @@ prepared_of included around = record {
 }
 
 -- a text with its files, in the words of the strict reader
-unfoldable pub made_text : Interface → List ℕ → List Source → Prepared
-made_text interface text sources = prepared_of (text_with_files text sources) (around_of interface sources)
+unfoldable pub made_text : List Interface → List ℕ → List Source → Prepared
+made_text interfaces text sources = prepared_of (text_with_files text sources) (around_of interfaces sources)

@@ -6,6 +6,7 @@ use crate::flag::Flag;
 use crate::source::Source;
 use pfr_adapt::Surroundings;
 use pfr_given::Given;
+use pfr_items::Items;
 use pfr_net::interface::LONGEST_NAME;
 use pfr_net::{IfName, Net};
 use pfr_ruleset::Interface;
@@ -26,6 +27,18 @@ fn has_name(interface: &Interface, name: &[u8]) -> bool
     ensures { result ≡ spec.has_name interface.now name.now }
 {
     name.len() <= LONGEST_NAME && IfName::new(name) == interface.name
+}
+
+/// The first of these interfaces that has this name.
+fn named(interfaces: &[Interface], name: &[u8]) -> Option<Interface>
+    ensures { result ≡ spec.named interfaces.now name.now }
+{
+    for interface in interfaces {
+        if has_name(interface, name) {
+            return Some(*interface);
+        }
+    }
+    None
 }
 
 /// Adds the forms of an interface for the group of which it is a member, if a flag says its address.
@@ -65,21 +78,21 @@ fn add_all_forms(
     Ok(())
 }
 
-/// Adds the forms of an interface for the group of which it is a member: those of the run's interface, or else as flags say its address.
+/// Adds the forms of an interface for the group of which it is a member: those of the run's interface of its name, or else as flags say its
+/// address.
 fn add_group_forms(
     given: &mut Given,
     alloc: Global,
-    interface: &Interface,
+    interfaces: &[Interface],
     sources: &[Source<'_>],
     group: &[u8],
     member: &[u8],
 ) -> Result<(), AllocError>
-    ensures { OnOk result (given.new.entries ≡ given.old.entries ++ spec.group_forms interface.now sources.now group.now member.now) }
+    ensures { OnOk result (given.new.entries ≡ given.old.entries ++ spec.group_forms interfaces.now sources.now group.now member.now) }
 {
-    if has_name(interface, member) {
-        given.add_forms(alloc, group, &network_of(interface))
-    } else {
-        add_all_forms(given, alloc, group, member, sources)
+    match named(interfaces, member) {
+        Some(interface) => given.add_forms(alloc, group, &network_of(&interface)),
+        None => add_all_forms(given, alloc, group, member, sources),
     }
 }
 
@@ -87,26 +100,26 @@ fn add_group_forms(
 fn add_group(
     given: &mut Given,
     alloc: Global,
-    interface: &Interface,
+    interfaces: &[Interface],
     sources: &[Source<'_>],
     group: &[u8],
     member: &[u8],
 ) -> Result<(), AllocError>
-    ensures { OnOk result (given.new.entries ≡ given.old.entries ++ spec.group_entries interface.now sources.now group.now member.now) }
+    ensures { OnOk result (given.new.entries ≡ given.old.entries ++ spec.group_entries interfaces.now sources.now group.now member.now) }
 {
     given.add_member(alloc, group, member)?;
-    add_group_forms(given, alloc, interface, sources, group, member)
+    add_group_forms(given, alloc, interfaces, sources, group, member)
 }
 
 /// Adds what one of the flags gives.
 fn add(
     given: &mut Given,
     alloc: Global,
-    interface: &Interface,
+    interfaces: &[Interface],
     sources: &[Source<'_>],
     source: &Source<'_>,
 ) -> Result<(), AllocError>
-    ensures { OnOk result (given.new.entries ≡ given.old.entries ++ spec.entries_of interface.now sources.now source.now) }
+    ensures { OnOk result (given.new.entries ≡ given.old.entries ++ spec.entries_of interfaces.now sources.now source.now) }
 {
     let text = source.text.as_slice();
     match &source.flag {
@@ -115,7 +128,7 @@ fn add(
         }
         Flag::Group { group, member } => {
             let (group, member) = (group.as_bytes(), member.as_bytes());
-            add_group(given, alloc, interface, sources, group, member)
+            add_group(given, alloc, interfaces, sources, group, member)
         }
         Flag::Hosts(_) => given.add_hosts(alloc, text),
         Flag::Services(_) => given.add_services(alloc, text),
@@ -128,30 +141,30 @@ fn add(
 fn add_all(
     given: &mut Given,
     alloc: Global,
-    interface: &Interface,
+    interfaces: &[Interface],
     sources: &[Source<'_>],
 ) -> Result<(), AllocError>
-    ensures { OnOk result (given.new.entries ≡ given.old.entries ++ spec.all_entries interface.now sources.now sources.now) }
+    ensures { OnOk result (given.new.entries ≡ given.old.entries ++ spec.all_entries interfaces.now sources.now sources.now) }
 {
     for source in sources {
-        add(given, alloc, interface, sources, source)?;
+        add(given, alloc, interfaces, sources, source)?;
     }
     Ok(())
 }
 
-/// What a ruleset can't say of an interface and of other words: what flags give for them.
+/// What a ruleset can't say of interfaces and of other words: what flags give for them.
 #[tactic(auto, unfolding(crate::specs::Sources::around_of))]
 pub(crate) fn around_of(
     alloc: Global,
-    interface: &Interface,
+    interfaces: &[Interface],
     sources: &[Source<'_>],
 ) -> Result<Surroundings, AllocError>
-    ensures { IfOk result (λ around. around ≡ spec.around_of interface.now sources.now) }
+    ensures { IfOk result (λ around. around ≡ spec.around_of interfaces.now sources.now) }
 {
     let mut given = Given::new(alloc);
-    add_all(&mut given, alloc, interface, sources)?;
+    add_all(&mut given, alloc, interfaces, sources)?;
     Ok(Surroundings {
-        interface: *interface,
+        interfaces: Items::copied(alloc, interfaces)?,
         given,
     })
 }

@@ -53,7 +53,7 @@ fn parts_of(word: &str) -> Option<(&str, &str)>
 }
 
 /// The network that a text writes as `A.B.C.D/BITS`.
-fn network_of(text: &[u8]) -> Option<Net>
+pub fn network_of(text: &[u8]) -> Option<Net>
     ensures { result ≡ spec.network_of text.now }
 {
     match cut(b'/', text) {

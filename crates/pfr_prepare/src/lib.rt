@@ -18,6 +18,6 @@ mod saying;
 mod source;
 
 pub use files::Refusal;
-pub use flag::{Flag, FlagKind};
+pub use flag::{Flag, FlagKind, network_of};
 pub use prepared::Prepared;
 pub use preparing::{Request, prepared_text, say_faults};

@@ -183,9 +183,9 @@ pub(crate) fn made_text<E: Write>(
     sources: &[Source<'_>],
     err: &mut E,
 ) -> Result<Prepared, AllocError>
-    ensures { IfOk result (λ prepared. prepared ≡ spec.made_text request.now.interface text.now sources.now) }
+    ensures { IfOk result (λ prepared. prepared ≡ spec.made_text request.now.interfaces text.now sources.now) }
 {
-    let around = around_of(alloc, &request.interface, sources)?;
+    let around = around_of(alloc, request.interfaces.as_slice(), sources)?;
     let included = text_with_files(alloc, text, sources)?;
     prepared_of(alloc, request, &around, included, err)
 }

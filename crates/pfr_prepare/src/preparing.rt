@@ -21,8 +21,8 @@ pub struct Request<'a> {
     pub name: &'a str,
     /// Whether its text is rewritten in the words of the strict reader.
     pub adapts: bool,
-    /// The interface that it is for.
-    pub interface: Interface,
+    /// The interfaces that it is for, by their places.
+    pub interfaces: Items<Interface>,
     /// What its text can't say. It counts only if the text is rewritten.
     pub flags: Items<Flag<'a>>,
 }
@@ -78,9 +78,13 @@ pub fn say_faults<E: Write>(
     prepared: &Prepared,
     err: &mut E,
 ) -> Result<bool, AllocError>
-    ensures { IfOk result (λ refused. refused ≡ spec.is_refused request.now.interface prepared.now) }
+    ensures { IfOk result (λ refused. refused ≡ spec.is_refused request.now.interfaces prepared.now) }
 {
-    let faults = all_faults(alloc, prepared.text.as_slice(), &[request.interface])?;
+    let faults = all_faults(
+        alloc,
+        prepared.text.as_slice(),
+        request.interfaces.as_slice(),
+    )?;
     say_all_faults(request, prepared, faults.as_slice(), err);
     Ok(faults.len() > 0)
 }
