@@ -1,1 +1,2 @@
-pub mod PeerLemmas
+mod PeerLemmas
+mod PlaceLemmas

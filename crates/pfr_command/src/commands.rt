@@ -1,12 +1,17 @@
 //! The commands of the program, with their words, flags and help.
+use crate::also::also_arg;
 use crate::around::surrounding_args;
 use crate::values::{ADDRESS, BATCH, FILE, INSIDE, INTERFACE, PEER, SEED, WORKERS};
 use clap::{Arg, ArgAction, Command};
 use std::alloc::{AllocError, Global};
 
-const RUN_EXAMPLE: &str = "Example:
+const RUN_EXAMPLE: &str = "Examples:
   pfreplay run office.pcap /etc/pf.conf --interface em0 --address 192.0.2.1/24 \\
       --inside 10.0.0.0/8,192.0.2.1 --verdicts verdicts.txt --packets passed.pcap \\
+      --counters counters.txt --states states.txt
+  pfreplay run em0.pcap /etc/pf.conf --interface em0 --address 192.0.2.1/24 \\
+      --also em1,10.0.0.1/8,em1.pcap,passed1.pcap --inside 10.0.0.0/8 \\
+      --verdicts verdicts.txt --packets passed0.pcap \\
       --counters counters.txt --states states.txt";
 
 const CHECK_EXAMPLE: &str = "Example:
@@ -102,6 +107,7 @@ fn run_command<'a>(alloc: Global) -> Result<Command<'a>, AllocError> {
 fn with_choices<'a>(alloc: Global, command: Command<'a>) -> Result<Command<'a>, AllocError> {
     let seed = "What random choices begin with, 64 hexadecimal digits [default: 64 zeros]";
     let command = with_flags(alloc, command, &RUN_FLAGS)?;
+    let command = command.arg(also_arg(alloc))?;
     let command = command.arg(flag(alloc, "seed", SEED, seed).required(false))?;
     let command = with_sizes(alloc, command)?;
     with_messages(alloc, command)

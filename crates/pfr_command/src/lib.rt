@@ -7,6 +7,7 @@
 //! workers. Which words belong to which command has no contract.
 #![tactic(auto)]
 
+mod also;
 mod around;
 mod commands;
 mod peer;
@@ -14,6 +15,7 @@ mod refused;
 mod values;
 mod words;
 
+pub use also::CaptureWords;
 pub use peer::Peer;
 pub use refused::Refused;
 pub use words::{Asked, Messages, OutputNames, RunWords, Stream, of_process, parse};

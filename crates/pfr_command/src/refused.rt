@@ -1,4 +1,5 @@
 //! What is wrong with the words of a command line.
+use crate::also::MOST_INTERFACES;
 use std::alloc::AllocError;
 use std::fmt;
 
@@ -20,6 +21,10 @@ pub enum Refused<'a> {
         /// The word behind the flag, or the part of it that is wrong.
         word: &'a str,
     },
+    /// Two interfaces of a run have this name.
+    InterfaceTwice(&'a str),
+    /// A run is for more interfaces than it may be.
+    TooManyInterfaces,
     /// Memory was refused.
     Memory,
 }
@@ -39,6 +44,8 @@ impl fmt::Display for Refused<'_> {
             Refused::BadValue { flag, form, word } => {
                 write!(f, "invalid value '{word}' for '{flag} <{form}>'")
             }
+            Refused::InterfaceTwice(name) => write!(f, "interface twice: {name}"),
+            Refused::TooManyInterfaces => write!(f, "more than {MOST_INTERFACES} interfaces"),
             Refused::Memory => write!(f, "no memory"),
         }
     }

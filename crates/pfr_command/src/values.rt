@@ -1,7 +1,11 @@
 //! The values behind the flags of the command line, and their forms.
 ghost use Rattle.std.specs.Prelude.{◌≡◌, ◌≤◌, ◌<◌, ℕ, IfOk, IfSome, MatchOption, OnErr, SomeIff, length, slice_index};
 ghost use Rattle.std.specs.Char.{digit_value};
+ghost use Rattle.std.specs.Result.{result_ok};
+ghost use Rattle.pfr_net.specs.Interfaces.{if_name};
+ghost use Rattle.pfr_prepare.specs.Flags as flags;
 ghost use Rattle.pfr_command.specs.Peers.{Names, NamesNone, WritesNone, WritesPort};
+ghost use Rattle.pfr_command.specs.Places.{interface_of, name_of};
 ghost use Rattle.pfr_command.specs.Seeds.{byte_at};
 
 use crate::peer::Peer;
@@ -9,6 +13,7 @@ use crate::refused::Refused;
 use pfr_net::interface::LONGEST_NAME;
 use pfr_net::notation::number;
 use pfr_net::{IfName, Net, Port};
+use pfr_prepare::network_of;
 use pfr_ruleset::Interface;
 use std::alloc::{AllocError, Global};
 
@@ -29,27 +34,51 @@ pub(crate) const PEER: &str = "HOST:PORT";
 /// The form of the value behind the flags that name a file.
 pub(crate) const FILE: &str = "FILE";
 
-/// The interface of this name, which has 1 to 15 bytes, and this address, with the length of its prefix.
-pub(crate) fn interface<'a>(name: &'a str, address: &'a str) -> Result<Interface, Refused<'a>> {
+/// The name of an interface, which has 1 to 15 bytes, in the value of a flag of this form.
+pub(crate) fn interface_name<'a>(
+    flag: &'a str,
+    form: &'a str,
+    name: &'a str,
+) -> Result<IfName, Refused<'a>>
+    ensures { result_ok result ≡ name_of name.entry.now }
+{
     if name.is_empty() || name.len() > LONGEST_NAME {
         return Err(Refused::BadValue {
-            flag: "--interface",
-            form: INTERFACE,
+            flag,
+            form,
             word: name,
         });
     }
-    match Net::parse(address.as_bytes()) {
-        Some(network) if address.contains('/') => Ok(Interface {
-            name: IfName::new(name.as_bytes()),
-            address: network.address,
-            bits: network.bits,
-        }),
-        _ => Err(Refused::BadValue {
-            flag: "--address",
-            form: ADDRESS,
-            word: address,
-        }),
-    }
+    Ok(IfName::new(name.as_bytes()))
+}
+
+/// The address of an interface, with the length of its network's prefix, in the value of a flag of this form.
+pub(crate) fn network<'a>(
+    flag: &'a str,
+    form: &'a str,
+    address: &'a str,
+) -> Result<Net, Refused<'a>>
+    ensures { result_ok result ≡ flags.network_of address.entry.now }
+{
+    network_of(address.as_bytes()).ok_or(Refused::BadValue {
+        flag,
+        form,
+        word: address,
+    })
+}
+
+/// The interface of this name and this address, with the length of its prefix.
+pub(crate) fn interface<'a>(name: &'a str, address: &'a str) -> Result<Interface, Refused<'a>>
+    ensures value { result_ok result ≡ interface_of name.entry.now address.entry.now }
+    ensures named { IfOk result (λ interface. interface.name ≡ if_name name.entry.now) }
+{
+    let name = interface_name("--interface", INTERFACE, name)?;
+    let network = network("--address", ADDRESS, address)?;
+    Ok(Interface {
+        name,
+        address: network.address,
+        bits: network.bits,
+    })
 }
 
 /// The networks that a word lists, one or more, separated by commas; one without a prefix is a single address.

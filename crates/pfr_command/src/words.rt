@@ -1,6 +1,9 @@
 //! The words of the command line.
-ghost use Rattle.std.specs.Prelude.{◌≤◌, IfOk};
+ghost use Rattle.std.specs.Prelude.{◌≡◌, ◌≤◌, IfOk};
+ghost use Rattle.std.proofs.Props.{props};
+ghost use Rattle.pfr_command.specs.Places.{ArePlaces};
 
+use crate::also::{CaptureWords, Places, places_of};
 use crate::around::given_flags;
 use crate::commands::command_line;
 use crate::peer::Peer;
@@ -8,6 +11,7 @@ use crate::refused::Refused;
 use crate::values::{batch, interface, networks, peer, seed, workers};
 use clap::ArgMatches;
 use clap::error::ErrorKind;
+use pfr_items::Items;
 use pfr_net::Net;
 use pfr_prepare::Request;
 use pfr_ruleset::Interface;
@@ -39,12 +43,12 @@ pub enum Stream<'a> {
     Listen(Peer<'a>),
 }
 
-/// What the words behind `run` say: which capture is replayed through which ruleset, and how.
+/// What the words behind `run` say: which captures are replayed through which ruleset, and how.
 #[derive(Drop)]
 pub struct RunWords<'a> {
-    /// The file with the packet capture.
-    pub capture: &'a str,
-    /// The ruleset, and the interface that it is for.
+    /// The interfaces of the run and the files of each, by their places.
+    pub captures: Items<CaptureWords<'a>>,
+    /// The ruleset, and the interfaces that it is for.
     pub rules: Request<'a>,
     /// The networks whose packets go out.
     pub inside: Vec<Net>,
@@ -56,6 +60,7 @@ pub struct RunWords<'a> {
     pub workers: u64,
     /// The files that are written, and where the messages go.
     pub outputs: OutputNames<'a>,
+    pub ghost are_places: { ArePlaces rules.interfaces captures } by { Prim.hlevel props },
     pub ghost batch_within: { (1 ≤ batch) × (batch ≤ 4096) },
     pub ghost workers_within: { workers ≤ 64 },
 }
@@ -66,13 +71,11 @@ const BATCH: usize = 256;
 /// How many workers evaluate them ahead where the words don't say. Where they don't pay they rest.
 const WORKERS: u64 = 4;
 
-/// The files that a run writes, and where its messages go.
+/// The files that a run writes beside the packets of its interfaces, and where its messages go.
 #[derive(Clone, Copy)]
 pub struct OutputNames<'a> {
     /// The file for a line on each packet.
     pub verdicts: &'a str,
-    /// The file for the packets that go on.
-    pub packets: &'a str,
     /// The file for the counters of the rules.
     pub counters: &'a str,
     /// The file for the states at the end.
@@ -137,16 +140,16 @@ fn refused<'a>(alloc: Global, error: &clap::Error) -> Result<Asked<'a>, Refused<
 
 /// What the words behind `run` ask for.
 fn run_words<'a>(alloc: Global, matches: &ArgMatches<'a>) -> Result<Asked<'a>, Refused<'a>> {
-    let capture = given(matches, "CAPTURE")?;
     let outputs = given_outputs(matches)?;
     let inside = given(matches, "inside")?;
     let seed = given_seed(matches)?;
     let batch = given_batch(matches)?;
     let workers = given_workers(matches)?;
-    let rules = given_rules(alloc, matches, matches.get_flag("adapt"))?;
+    let places = given_places(alloc, matches)?;
+    let rules = given_rules(alloc, matches, matches.get_flag("adapt"), places.interfaces)?;
     let inside = networks(alloc, inside)?;
     Ok(Asked::Run(RunWords {
-        capture,
+        captures: places.captures,
         rules,
         inside,
         seed,
@@ -156,11 +159,24 @@ fn run_words<'a>(alloc: Global, matches: &ArgMatches<'a>) -> Result<Asked<'a>, R
     }))
 }
 
+/// The interfaces that the words say, and the files of each.
+fn given_places<'a>(alloc: Global, matches: &ArgMatches<'a>) -> Result<Places<'a>, Refused<'a>>
+    ensures { IfOk result (λ places. ArePlaces places.interfaces places.captures) }
+{
+    let name = given(matches, "interface")?;
+    let words = CaptureWords {
+        interface: name,
+        capture: given(matches, "CAPTURE")?,
+        packets: given(matches, "packets")?,
+    };
+    let first = interface(name, given(matches, "address")?)?;
+    places_of(alloc, first, words, matches)
+}
+
 /// The files that the words name for the outputs, and where they send the messages.
 fn given_outputs<'a>(matches: &ArgMatches<'a>) -> Result<OutputNames<'a>, Refused<'a>> {
     Ok(OutputNames {
         verdicts: given(matches, "verdicts")?,
-        packets: given(matches, "packets")?,
         counters: given(matches, "counters")?,
         states: given(matches, "states")?,
         messages: given_messages(matches)?,
@@ -206,19 +222,21 @@ fn given_workers<'a>(matches: &ArgMatches<'a>) -> Result<u64, Refused<'a>>
     }
 }
 
-/// The file with the ruleset, its interface and what else its text can't say.
+/// The file with the ruleset, its interfaces and what else its text can't say.
 fn given_rules<'a>(
     alloc: Global,
     matches: &ArgMatches<'a>,
     adapts: bool,
-) -> Result<Request<'a>, Refused<'a>> {
+    interfaces: Items<Interface>,
+) -> Result<Request<'a>, Refused<'a>>
+    ensures { IfOk result (λ rules. rules.interfaces ≡ interfaces) }
+{
     let name = given(matches, "RULES")?;
-    let interface = given_interface(matches)?;
     let flags = given_flags(alloc, matches)?;
     Ok(Request {
         name,
         adapts,
-        interface,
+        interfaces,
         flags,
     })
 }
@@ -226,12 +244,14 @@ fn given_rules<'a>(
 /// What the words behind `check` ask for.
 fn check_words<'a>(alloc: Global, matches: &ArgMatches<'a>) -> Result<Asked<'a>, Refused<'a>> {
     let adapts = matches.get_flag("adapt");
-    Ok(Asked::Check(given_rules(alloc, matches, adapts)?))
+    let interfaces = given_interfaces(alloc, matches)?;
+    Ok(Asked::Check(given_rules(alloc, matches, adapts, interfaces)?))
 }
 
 /// What the words behind `adapt` ask for.
 fn adapt_words<'a>(alloc: Global, matches: &ArgMatches<'a>) -> Result<Asked<'a>, Refused<'a>> {
-    Ok(Asked::Adapt(given_rules(alloc, matches, true)?))
+    let interfaces = given_interfaces(alloc, matches)?;
+    Ok(Asked::Adapt(given_rules(alloc, matches, true, interfaces)?))
 }
 
 /// What the words behind `standby` ask for. One of the two flags has to be there, and at most one is.
@@ -248,6 +268,16 @@ fn standby_words<'a>(matches: &ArgMatches<'a>) -> Result<Asked<'a>, Refused<'a>>
 /// The interface that the words say.
 fn given_interface<'a>(matches: &ArgMatches<'a>) -> Result<Interface, Refused<'a>> {
     interface(given(matches, "interface")?, given(matches, "address")?)
+}
+
+/// The interface that the words say, alone.
+fn given_interfaces<'a>(
+    alloc: Global,
+    matches: &ArgMatches<'a>,
+) -> Result<Items<Interface>, Refused<'a>> {
+    let mut interfaces = Items::new(alloc);
+    interfaces.push(given_interface(matches)?)?;
+    Ok(interfaces)
 }
 
 /// The word for this place or flag, which was asked for.

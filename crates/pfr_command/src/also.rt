@@ -1,0 +1,192 @@
+//! The interfaces of a run, and the files of each.
+ghost use Rattle.std.specs.Prelude.{◌≡◌, [], ◌∷◌, map, IfOk, OnOk, option_map};
+ghost use Rattle.std.specs.List.{list_any};
+ghost use Rattle.std.specs.Result.{result_ok};
+ghost use Rattle.std.specs.Str.{bytes_eq};
+ghost use Rattle.pfr_net.specs.Interfaces.{if_name};
+ghost use Rattle.pfr_net.specs.Notation.{cut_at};
+ghost use Rattle.pfr_command.specs.Places as spec;
+
+use crate::refused::Refused;
+use crate::values::{interface_name, network};
+use clap::{Arg, ArgAction, ArgMatches};
+use pfr_items::Items;
+use pfr_ruleset::Interface;
+use std::alloc::{AllocError, Global};
+
+/// How many interfaces a run has at most.
+pub(crate) const MOST_INTERFACES: usize = 8;
+
+/// The flag that names another interface of a run.
+const FLAG: &str = "--also";
+
+/// The form of the value behind it.
+const FORM: &str = "NAME,A.B.C.D/BITS,CAPTURE,PACKETS";
+
+/// An interface of a run by its name, and its files.
+#[derive(Clone, Copy)]
+pub struct CaptureWords<'a> {
+    /// The name of the interface.
+    pub interface: &'a str,
+    /// The file with the packet capture.
+    pub capture: &'a str,
+    /// The file for the packets that go on.
+    pub packets: &'a str,
+}
+
+/// The interfaces of a run, by their places, and the files of each.
+#[derive(Drop)]
+pub(crate) struct Places<'a> {
+    pub interfaces: Items<Interface>,
+    pub captures: Items<CaptureWords<'a>>,
+}
+
+/// The parts of a word that names another interface.
+#[derive(Clone, Copy)]
+struct AlsoWords<'a> {
+    address: &'a str,
+    words: CaptureWords<'a>,
+}
+
+/// The flag as the command line has it.
+pub(crate) fn also_arg<'a>(alloc: Global) -> Arg<'a> {
+    let help = "Another interface with its capture, seven times at most; no name holds a comma";
+    Arg::new(alloc, "also")
+        .long("also")
+        .value_name(FORM)
+        .help(help)
+        .action(ArgAction::Append)
+}
+
+/// What stands before the first comma of a word and behind it.
+fn cut(word: &str) -> Option<(&str, &str)>
+    ensures { option_map (λ p. (p.0.now, p.1.now)) result ≡ cut_at 44 word.now }
+{
+    word.split_once(',')
+}
+
+/// The four parts of a word, between which commas stand; nothing if it has more or fewer.
+fn parts_of<'a>(word: &'a str) -> Option<AlsoWords<'a>>
+    ensures { option_map spec.shape result ≡ spec.parts_of word.entry.now }
+{
+    let (interface, rest) = cut(word)?;
+    let (address, rest) = cut(rest)?;
+    let (capture, packets) = cut(rest)?;
+    if cut(packets).is_some() {
+        return None;
+    }
+    let words = CaptureWords {
+        interface,
+        capture,
+        packets,
+    };
+    Some(AlsoWords { address, words })
+}
+
+/// What the word behind the flag says.
+fn parts<'a>(word: &'a str) -> Result<AlsoWords<'a>, Refused<'a>>
+    ensures { option_map spec.shape (result_ok result) ≡ spec.parts_of word.entry.now }
+{
+    parts_of(word).ok_or(Refused::BadValue {
+        flag: FLAG,
+        form: FORM,
+        word,
+    })
+}
+
+/// The interface that these parts of a word say.
+fn interface<'a>(parts: &AlsoWords<'a>) -> Result<Interface, Refused<'a>>
+    ensures value { result_ok result ≡ spec.interface_of parts.now.words.interface.now parts.now.address.now }
+    ensures named { IfOk result (λ interface. interface.name ≡ if_name parts.now.words.interface.now) }
+{
+    let name = interface_name(FLAG, FORM, parts.words.interface)?;
+    let network = network(FLAG, FORM, parts.address)?;
+    Ok(Interface {
+        name,
+        address: network.address,
+        bits: network.bits,
+    })
+}
+
+/// Whether one of the interfaces of a run has this name.
+fn is_named(captures: &[CaptureWords<'_>], name: &str) -> bool
+    ensures { result ≡ list_any (λ other. bytes_eq other name.now) (spec.names_of captures.now) }
+{
+    for words in captures {
+        if words.interface == name {
+            return true;
+        }
+    }
+    false
+}
+
+impl<'a> Places<'a> {
+    /// One interface.
+    fn of(
+        alloc: Global,
+        interface: Interface,
+        words: CaptureWords<'a>,
+    ) -> Result<Places<'a>, Refused<'a>>
+        requires { interface.name ≡ if_name words.interface.now }
+        ensures places { IfOk result (λ places. spec.ArePlaces places.interfaces places.captures) }
+        ensures one { IfOk result (λ places. places ≡ spec.one_place interface words.entry) }
+    {
+        let mut interfaces = Items::new(alloc);
+        interfaces.push(interface)?;
+        let mut captures = Items::new(alloc);
+        captures.push(words)?;
+        Ok(Places {
+            interfaces,
+            captures,
+        })
+    }
+
+    /// Adds the interface that the word behind the flag says.
+    fn add(&mut self, word: &'a str) -> Result<(), Refused<'a>>
+        requires { spec.ArePlaces self.old.interfaces self.old.captures }
+        ensures places { OnOk result (spec.ArePlaces self.new.interfaces self.new.captures) }
+        ensures added { OnOk result (spec.Adds (word.entry.now ∷ []) self.old self.new) }
+    {
+        if self.interfaces.len() >= MOST_INTERFACES {
+            return Err(Refused::TooManyInterfaces);
+        }
+        let parts = parts(word)?;
+        let interface = interface(&parts)?;
+        if is_named(self.captures.as_slice(), parts.words.interface) {
+            return Err(Refused::InterfaceTwice(parts.words.interface));
+        }
+        self.interfaces.push(interface)?;
+        self.captures.push(parts.words)?;
+        Ok(())
+    }
+
+    /// Adds the interfaces that words behind the flag say.
+    fn add_all(&mut self, words: &[&'a str]) -> Result<(), Refused<'a>>
+        requires { spec.ArePlaces self.old.interfaces self.old.captures }
+        ensures places { OnOk result (spec.ArePlaces self.new.interfaces self.new.captures) }
+        ensures added { OnOk result (spec.Adds (map (λ w. w.now) words.now) self.old self.new) }
+    {
+        for word in words {
+            self.add(word)?;
+        }
+        Ok(())
+    }
+}
+
+/// The interfaces of a run: its first one, and those that a command line gives by the flag.
+pub(crate) fn places_of<'a>(
+    alloc: Global,
+    first: Interface,
+    words: CaptureWords<'a>,
+    matches: &ArgMatches<'a>,
+) -> Result<Places<'a>, Refused<'a>>
+    requires { first.name ≡ if_name words.interface.now }
+    ensures places { IfOk result (λ places. spec.ArePlaces places.interfaces places.captures) }
+    ensures added { IfOk result (λ places. spec.Adds (spec.words_behind matches.now) (spec.one_place first words.entry) places) }
+{
+    let mut places = Places::of(alloc, first, words)?;
+    if let Some(words) = matches.get_strs("also") {
+        places.add_all(words)?;
+    }
+    Ok(places)
+}
