@@ -1,30 +1,30 @@
--- Whatever a stop leaves in the outputs is a beginning of what the replay of the capture writes.
-use Rattle.std.proofs.Common.{◌≡◌, ℕ, zero, suc, Bool, IsTrue, false, ◌≤◌, ◌+◌, List, [], ◌∷◌, ◌++◌, length, take, drop, None, Result, Ok, Err, ◌⊎◌, inl, inr, refl, sym, ◌∙◌, ap, subst, arith}
+-- Whatever a stop leaves in the outputs is a beginning of what the replay of the captures writes.
+use Rattle.std.proofs.Common.{◌≡◌, ◌∙◌, ℕ, zero, suc, Bool, IsTrue, false, ◌+◌, List, [], ◌∷◌, ◌++◌, length, map, take, drop, Some, slice_get, Ok, Err, ◌⊎◌, inl, inr, refl, sym, ap, subst, arith}
 use Rattle.std.specs.List.{flat_map}
 use Rattle.std.proofs.lemmas.Bool.{cases_lt}
-use Rattle.std.proofs.lemmas.List.{append_assoc, append_cancel_right, append-nil, length-take-le, take-append-drop, take_at}
+use Rattle.std.proofs.lemmas.List.{append_assoc, append-nil, take-append-drop, take_at}
 use Rattle.pfr_capture.specs.declared.capture.CaptureError.{CaptureError}
 use Rattle.pfr_capture.specs.declared.capture.CaptureError.TheVariants as refusal
 use Rattle.pfr_capture.specs.declared.capture.Form.{Form}
-use Rattle.pfr_capture.specs.declared.capture.Tail.{Tail}
 use Rattle.pfr_capture.specs.Device.{GrewByBeginning, GrewByPart}
 use Rattle.pfr_capture.specs.Header.{opening_of}
-use Rattle.pfr_capture.specs.Reading.{HasGiven, Reading}
-use Rattle.pfr_capture.specs.Records.{IsCapture, RecordBytes, text_of}
-use Rattle.pfr_capture.proofs.CaptureLemmas.{IsFront, given_first}
-use Rattle.pfr_capture.proofs.LawLemmas.{every_capture, one_capture}
-use Rattle.pfr_commit.specs.World.{World}
+use Rattle.pfr_capture.specs.Records.{text_of}
+use Rattle.pfr_capture.proofs.LawLemmas.{every_capture}
+use Rattle.pfr_commit.specs.World.{Frame, World, world_of}
 use Rattle.pfr_commit.specs.World.{online as written}
+use Rattle.pfr_commit.proofs.OnlineLemmas.{online_grows}
+use Rattle.pfr_merge.specs.MergeReading.{joined}
+use Rattle.pfr_merge.specs.MergedCaptures.{AreOpened}
+use Rattle.pfr_merge.proofs.ListLemmas.{continue_long, continue_self, give_opened, one_give, opened_longer}
 use Rattle.pfr_out.specs.declared.report.Output.{Output}
 use Rattle.pfr_out.specs.declared.report.Output.TheVariants as output
 use Rattle.pfr_out.specs.declared.report.Stop.{Stop}
 use Rattle.pfr_out.specs.declared.report.Stop.TheVariants as stop
 use Rattle.pfr_out.specs.declared.sinks.Sinks.{Sinks}
+use Rattle.pfr_out.specs.Captures.{BeginWith, CapturesGive, End, frame_in, headers_of}
 use Rattle.pfr_out.specs.Outputs.{Extends, Grew, OutputTexts, Outputs, PartWritten, Untouched, headers_alone, of_output, output_text, texts_alone, turn}
-use Rattle.pfr_out.specs.Replay.{Begins, Holds, HoldsAll, HoldsAllRead, HoldsPartOfBatch, HoldsPartOfEnding, HoldsPartOfHeader, OfEvery, Refused, Stopped, closing, committed_of, online, replay_of, run_of, whole}
+use Rattle.pfr_out.specs.Replay.{Begins, Holds, HoldsAll, HoldsAllRead, HoldsPartOfBatch, HoldsPartOfEnding, HoldsPartOfHeaders, OfEvery, Refused, Stopped, closing, committed_of, online, replay_of, whole}
 use Rattle.pfr_out.specs.Spelling.{Run}
-use Rattle.pfr_out.proofs.ReadingLemmas.{capture_opens}
-use Rattle.pfr_out.proofs.RunLemmas.{run_grows}
 use Rattle.pfr_out.proofs.WritingLemmas.{each_output, online_behind, whole_is}
 
 -- ---- texts
@@ -102,179 +102,194 @@ part_begins_all told old new a written p o t = elim (cases_lt (turn o) (turn wri
 
 -- ---- what a replay writes
 
--- what packets write begins what the replay writes, however the capture ends
-online_begins : (told : Sinks Bool) (old new : Outputs) (headers : List (List ℕ)) (run : Run) (world : World) (end : Result Tail CaptureError) → Begins told old new (online headers run world) → Begins told old new (replay_of headers run world end)
+-- what packets write begins what the replay writes, however the captures end
+online_begins : (told : Sinks Bool) (old new : Outputs) (headers : List (List ℕ)) (run : Run) (world : World) (end : End) → Begins told old new (online headers run world) → Begins told old new (replay_of headers run world end)
 online_begins told old new headers run world (Ok tail) b = all_longer told old new (online headers run world) (closing run world) (whole headers run world) (whole_is headers run world) b
-online_begins told old new headers run world (Err e) b = b
+online_begins told old new headers run world (Err stop) b = b
 
 headers_begin : (headers : List (List ℕ)) (run : Run) (world : World) → Extends (headers_alone headers) (online headers run world) (texts_alone run (written run.job world))
 headers_begin headers run world = each_output _ refl (λ place. refl) refl refl refl
 
-front_and_rest : (given records : List RecordBytes) → IsFront given records → records ≡ given ++ drop (length given) records
-front_and_rest given records f = sym (ap (λ (t : List RecordBytes). t ++ drop (length given) records) f.front ∙ take-append-drop (length given) records)
-
 -- and so does what the first of them write
-fewer_begin : (run : Run) (told : Sinks Bool) (old new : Outputs) (headers : List (List ℕ)) (form : Form) (given records : List RecordBytes) → IsFront given records → Begins told old new (online headers run (run_of run.job form given)) → Begins told old new (online headers run (run_of run.job form records))
-fewer_begin run told old new headers form given records front b =
-    let grows = run_grows run.job form given (drop (length given) records) in
-    let is = ap (λ (rs : List RecordBytes). written run.job (run_of run.job form rs)) (front_and_rest given records front) ∙ grows.1 in
-    all_longer told old new (online headers run (run_of run.job form given)) (texts_alone run grows.0) (online headers run (run_of run.job form records))
-    (online_behind headers run (run_of run.job form given) (run_of run.job form records) grows.0 is) b
+fewer_begin : (run : Run) (told : Sinks Bool) (old new : Outputs) (headers : List (List ℕ)) (frames all : List Frame) → BeginWith frames all → Begins told old new (online headers run (world_of run.job frames)) → Begins told old new (online headers run (world_of run.job all))
+fewer_begin run told old new headers frames all begins b =
+    let grows = online_grows run.job frames begins.0 in
+    let is = ap (λ (fs : List Frame). written run.job (world_of run.job fs)) begins.1 ∙ grows.1 in
+    all_longer told old new (online headers run (world_of run.job frames)) (texts_alone run grows.0) (online headers run (world_of run.job all))
+    (online_behind headers run (world_of run.job frames) (world_of run.job all) grows.0 is) b
 
-taken_front : (count : ℕ) (records : List RecordBytes) → count ≤ length records → IsFront (take count records) records
-taken_front count records within =
-    let long : length (take count records) ≡ count = length-take-le count records within in
-    record { within = omega (arith, long); front = rw long refl }
+taken_front : (count : ℕ) (frames : List Frame) → BeginWith (take count frames) frames
+taken_front count frames = (drop count frames, sym (take-append-drop count frames))
 
 -- ---- captures
 
--- the records of a capture are the first of every capture that begins with its text
-capture_first : (read more : List ℕ) (form form' : Form) (records records' : List RecordBytes) (end end' : Result Tail CaptureError) → IsCapture read form records end → IsCapture (read ++ more) form' records' end'
-    → (form' ≡ form) × IsFront records records'
-capture_first read more form form' records records' end end' c c' =
-    let reading : Reading = record { form = form; header = c.header; count = length records; over = None; ahead = c.rest } in
-    let given : HasGiven reading read records = record { read_is = c.whole; header_length = c.header_length; says = c.says; each = c.each; counted = refl; at_most = c.at_most } in
-    let first = given_first reading read more records form' records' end' given c' in
-    (first.form_is, first.first)
+-- what holds of all captures that begin with the bytes read holds of the sources'
+of_source : (texts lefts : List (List ℕ)) (P : List (List ℕ) → List Frame → End → Type 0) (frames : List Frame) (end : End) → OfEvery texts lefts P → CapturesGive texts frames end → P (headers_of texts) frames end
+of_source texts lefts P frames end o c =
+    let is : CapturesGive (joined o.reads lefts) frames end = rw (← o.are) c in
+    rw o.are (o.every lefts frames end (continue_self o.ended lefts o.long) is)
 
-capture_header : (text : List ℕ) (form : Form) (records : List RecordBytes) (end : Result Tail CaptureError) (c : IsCapture text form records end) → take 24 text ≡ c.header
-capture_header text form records end c = rw c.whole (take_at c.header (flat_map text_of records ++ c.rest) 24 c.header_length)
-
-same_header : (read left : List ℕ) (form : Form) (records : List RecordBytes) (end : Result Tail CaptureError) → IsCapture read form records end → take 24 (read ++ left) ≡ take 24 read
-same_header read left form records end c =
-    let whole : read ++ left ≡ c.header ++ ((flat_map text_of records ++ c.rest) ++ left) = ap (λ (t : List ℕ). t ++ left) c.whole ∙ append_assoc c.header (flat_map text_of records ++ c.rest) left in
-    rw (whole, capture_header read form records end c) (take_at c.header ((flat_map text_of records ++ c.rest) ++ left) 24 c.header_length)
+-- texts are captures in one way
+one_way : (texts : List (List ℕ)) (frames other : List Frame) (end end' : End) → CapturesGive texts frames end → CapturesGive texts other end' → (frames ≡ other) × (end ≡ end')
+one_way texts frames other end end' c c' =
+    let one = one_give texts c.list c'.list end end' c.give c'.give in
+    (c.frames_are ∙ ap (map frame_in) one.0 ∙ sym c'.frames_are, one.1)
 
 -- ---- stops
 
--- what every capture that begins with the bytes read says holds of the source's
-of_source : (text left : List ℕ) (P : List ℕ → Form → List RecordBytes → Type 0) (form : Form) (records : List RecordBytes) (end : Result Tail CaptureError) → OfEvery text left P → IsCapture text form records end → P (take 24 text) form records
-of_source text left P form records end o c =
-    let is : IsCapture (o.read ++ left) form records end = rw (← o.is) c in
-    rw o.is (o.every left form records end is)
+all_begins : (run : Run) (texts : List (List ℕ)) (told : Sinks Bool) (old new : Outputs) (end : End) (committed : ℕ) (frames : List Frame) (end' : End) → HoldsAll run texts told old new end committed → CapturesGive texts frames end'
+    → Begins told old new (replay_of (headers_of texts) run (world_of run.job frames) end')
+all_begins run texts told old new end committed frames end' h c =
+    let one = one_way texts h.frames frames end end' h.captures c in
+    online_begins told old new (headers_of texts) run (world_of run.job frames) end' (rw (← one.0) (all_whole told old new (online (headers_of texts) run (world_of run.job h.frames)) h.grew))
 
-all_begins : (run : Run) (text : List ℕ) (told : Sinks Bool) (old new : Outputs) (end : Result Tail CaptureError) (committed : ℕ) (form : Form) (records : List RecordBytes) (end' : Result Tail CaptureError) → HoldsAll run text told old new end committed → IsCapture text form records end'
-    → Begins told old new (replay_of (take 24 text ∷ []) run (run_of run.job form records) end')
-all_begins run text told old new end committed form records end' h c =
-    let one = one_capture text h.form form h.records records end end' h.capture c in
-    online_begins told old new (take 24 text ∷ []) run (run_of run.job form records) end' (rw (← one.0, ← one.1) (all_whole told old new (online (take 24 text ∷ []) run (run_of run.job h.form h.records)) h.grew))
+read_begins : (run : Run) (texts lefts : List (List ℕ)) (told : Sinks Bool) (old new : Outputs) (place committed : ℕ) (frames : List Frame) (end : End) → HoldsAllRead run texts lefts told old new place committed → CapturesGive texts frames end
+    → Begins told old new (replay_of (headers_of texts) run (world_of run.job frames) end)
+read_begins run texts lefts told old new place committed frames end h c =
+    online_begins told old new (headers_of texts) run (world_of run.job frames) end
+    (fewer_begin run told old new (headers_of texts) h.frames frames (of_source texts lefts (λ headers all ending. BeginWith h.frames all) frames end h.first c) (all_whole told old new (online (headers_of texts) run (world_of run.job h.frames)) h.grew))
 
-read_begins : (run : Run) (text left : List ℕ) (told : Sinks Bool) (old new : Outputs) (committed : ℕ) (form : Form) (records : List RecordBytes) (end : Result Tail CaptureError) → HoldsAllRead run text left told old new committed → IsCapture text form records end
-    → Begins told old new (replay_of (take 24 text ∷ []) run (run_of run.job form records) end)
-read_begins run text left told old new committed form records end h c =
-    let first = capture_first h.read left h.form form h.records records (Ok h.tail) end h.capture (rw (← h.is) c) in
-    online_begins told old new (take 24 text ∷ []) run (run_of run.job form records) end
-    (rw first.0 (fewer_begin run told old new (take 24 text ∷ []) h.form h.records records first.1 (all_whole told old new (online (take 24 text ∷ []) run (run_of run.job h.form h.records)) h.grew)))
+holds_begins : (run : Run) (batch : ℕ) (told : Sinks Bool) (old new : Outputs) (committed : ℕ) (headers : List (List ℕ)) (frames : List Frame) (end : End) → Holds run batch told old new committed headers frames
+    → Begins told old new (replay_of headers run (world_of run.job frames) end)
+holds_begins run batch told old new committed headers frames end h =
+    online_begins told old new headers run (world_of run.job frames) end
+    (fewer_begin run told old new headers (take committed frames) frames (taken_front committed frames) (all_whole told old new (online headers run (world_of run.job (take committed frames))) h.grew))
 
-holds_begins : (run : Run) (batch : ℕ) (told : Sinks Bool) (old new : Outputs) (committed : ℕ) (header : List ℕ) (form : Form) (records : List RecordBytes) (end : Result Tail CaptureError) → Holds run batch told old new committed header form records
-    → Begins told old new (replay_of (header ∷ []) run (run_of run.job form records) end)
-holds_begins run batch told old new committed header form records end h =
-    online_begins told old new (header ∷ []) run (run_of run.job form records) end
-    (fewer_begin run told old new (header ∷ []) form (take committed records) records (taken_front committed records h.within) (all_whole told old new (online (header ∷ []) run (run_of run.job form (take committed records))) h.grew))
+part_of_headers_begins : (run : Run) (told : Sinks Bool) (old new : Outputs) (at : Output) (committed : ℕ) (headers : List (List ℕ)) (frames : List Frame) (end : End) → HoldsPartOfHeaders told old new at committed headers
+    → Begins told old new (replay_of headers run (world_of run.job frames) end)
+part_of_headers_begins run told old new at committed headers frames end h =
+    online_begins told old new headers run (world_of run.job frames) end
+    (all_longer told old new (headers_alone headers) (texts_alone run (written run.job (world_of run.job frames))) (online headers run (world_of run.job frames)) (headers_begin headers run (world_of run.job frames)) (part_begins_all told old new (headers_alone headers) at h.part))
 
-part_of_header_begins : (run : Run) (told : Sinks Bool) (old new : Outputs) (at : Output) (committed : ℕ) (header : List ℕ) (form : Form) (records : List RecordBytes) (end : Result Tail CaptureError) → HoldsPartOfHeader told old new at committed header
-    → Begins told old new (replay_of (header ∷ []) run (run_of run.job form records) end)
-part_of_header_begins run told old new at committed header form records end h =
-    online_begins told old new (header ∷ []) run (run_of run.job form records) end
-    (all_longer told old new (headers_alone (header ∷ [])) (texts_alone run (written run.job (run_of run.job form records))) (online (header ∷ []) run (run_of run.job form records)) (headers_begin (header ∷ []) run (run_of run.job form records)) (part_begins_all told old new (headers_alone (header ∷ [])) at h.part))
+part_of_batch_begins : (run : Run) (batch : ℕ) (told : Sinks Bool) (old new : Outputs) (at : Output) (committed : ℕ) (headers : List (List ℕ)) (frames : List Frame) (end : End) → HoldsPartOfBatch run batch told old new at committed headers frames
+    → Begins told old new (replay_of headers run (world_of run.job frames) end)
+part_of_batch_begins run batch told old new at committed headers frames end h =
+    online_begins told old new headers run (world_of run.job frames) end
+    (fewer_begin run told old new headers (take h.next frames) frames (taken_front h.next frames)
+    (all_behind told old h.mid new (online headers run (world_of run.job (take committed frames))) (texts_alone run h.piece) (online headers run (world_of run.job (take h.next frames))) h.before h.piece_is (part_begins_all told h.mid new (texts_alone run h.piece) at h.part)))
 
-part_of_batch_begins : (run : Run) (batch : ℕ) (told : Sinks Bool) (old new : Outputs) (at : Output) (committed : ℕ) (header : List ℕ) (form : Form) (records : List RecordBytes) (end : Result Tail CaptureError) → HoldsPartOfBatch run batch told old new at committed header form records
-    → Begins told old new (replay_of (header ∷ []) run (run_of run.job form records) end)
-part_of_batch_begins run batch told old new at committed header form records end h =
-    online_begins told old new (header ∷ []) run (run_of run.job form records) end
-    (fewer_begin run told old new (header ∷ []) form (take h.next records) records (taken_front h.next records h.within)
-    (all_behind told old h.mid new (online (header ∷ []) run (run_of run.job form (take committed records))) (texts_alone run h.piece) (online (header ∷ []) run (run_of run.job form (take h.next records))) h.before h.piece_is (part_begins_all told h.mid new (texts_alone run h.piece) at h.part)))
+part_of_ending_begins : (run : Run) (texts : List (List ℕ)) (told : Sinks Bool) (old new : Outputs) (at : Output) (committed : ℕ) (frames : List Frame) (end : End) → HoldsPartOfEnding run texts told old new at committed → CapturesGive texts frames end
+    → Begins told old new (replay_of (headers_of texts) run (world_of run.job frames) end)
+part_of_ending_begins run texts told old new at committed frames end h c =
+    let one = one_way texts h.frames frames (Ok h.tail) end h.captures c in
+    rw (← one.0, ← one.1)
+    (all_behind told old h.mid new (online (headers_of texts) run (world_of run.job h.frames)) (closing run (world_of run.job h.frames)) (whole (headers_of texts) run (world_of run.job h.frames)) h.before (whole_is (headers_of texts) run (world_of run.job h.frames))
+    (part_begins_all told h.mid new (closing run (world_of run.job h.frames)) at h.part))
 
-part_of_ending_begins : (run : Run) (text : List ℕ) (told : Sinks Bool) (old new : Outputs) (at : Output) (committed : ℕ) (form : Form) (records : List RecordBytes) (end : Result Tail CaptureError) → HoldsPartOfEnding run text told old new at committed → IsCapture text form records end
-    → Begins told old new (replay_of (take 24 text ∷ []) run (run_of run.job form records) end)
-part_of_ending_begins run text told old new at committed form records end h c =
-    let one = one_capture text h.form form h.records records (Ok h.tail) end h.capture c in
-    rw (← one.0, ← one.1, ← one.2)
-    (all_behind told old h.mid new (online (take 24 text ∷ []) run (run_of run.job h.form h.records)) (closing run (run_of run.job h.form h.records)) (whole (take 24 text ∷ []) run (run_of run.job h.form h.records)) h.before (whole_is (take 24 text ∷ []) run (run_of run.job h.form h.records))
-    (part_begins_all told h.mid new (closing run (run_of run.job h.form h.records)) at h.part))
+refused_begins : (run : Run) (texts : List (List ℕ)) (told : Sinks Bool) (old new : Outputs) (place : ℕ) (e : CaptureError) (committed : ℕ) (frames : List Frame) (end : End) → Refused run texts told old new place e committed → CapturesGive texts frames end
+    → Begins told old new (replay_of (headers_of texts) run (world_of run.job frames) end)
+refused_begins run texts told old new place refusal.Read committed frames end r c = absurd r
+refused_begins run texts told old new place refusal.Memory committed frames end r c = absurd r
+refused_begins run texts told old new place (refusal.RecordTooLong asked) committed frames end r c = all_begins run texts told old new (Err (place, refusal.RecordTooLong asked)) committed frames end r c
+refused_begins run texts told old new place refusal.HeaderCut committed frames end r c = all_nothing told old new _ r.2
+refused_begins run texts told old new place refusal.BadMagic committed frames end r c = all_nothing told old new _ r.2
+refused_begins run texts told old new place refusal.BadVersion committed frames end r c = all_nothing told old new _ r.2
+refused_begins run texts told old new place (refusal.LinkType link) committed frames end r c = all_nothing told old new _ r.2
 
-refused_begins : (run : Run) (text : List ℕ) (told : Sinks Bool) (old new : Outputs) (e : CaptureError) (committed : ℕ) (form : Form) (records : List RecordBytes) (end : Result Tail CaptureError) → Refused run text told old new e committed → IsCapture text form records end
-    → Begins told old new (replay_of (take 24 text ∷ []) run (run_of run.job form records) end)
-refused_begins run text told old new refusal.Read committed form records end r c = absurd r
-refused_begins run text told old new refusal.Memory committed form records end r c = absurd r
-refused_begins run text told old new (refusal.RecordTooLong asked) committed form records end r c = all_begins run text told old new (Err (refusal.RecordTooLong asked)) committed form records end r c
-refused_begins run text told old new refusal.HeaderCut committed form records end r c = all_nothing told old new _ r.2
-refused_begins run text told old new refusal.BadMagic committed form records end r c = all_nothing told old new _ r.2
-refused_begins run text told old new refusal.BadVersion committed form records end r c = all_nothing told old new _ r.2
-refused_begins run text told old new (refusal.LinkType link) committed form records end r c = all_nothing told old new _ r.2
-
-pub stop_begins : (run : Run) (batch : ℕ) (text left : List ℕ) (told : Sinks Bool) (old new : Outputs) (s : Stop) (form : Form) (records : List RecordBytes) (end : Result Tail CaptureError) → Stopped run batch text left told old new s → IsCapture text form records end
-    → Begins told old new (replay_of (take 24 text ∷ []) run (run_of run.job form records) end)
-stop_begins run batch text left told old new (stop.Ruleset fault) form records end s c = absurd s
-stop_begins run batch text left told old new (stop.Capture e committed) form records end s c = refused_begins run text told old new e committed form records end s c
-stop_begins run batch text left told old new (stop.Read committed) form records end (inl unopened) c = all_nothing told old new _ unopened.same
-stop_begins run batch text left told old new (stop.Read committed) form records end (inr holds) c = read_begins run text left told old new committed form records end holds c
-stop_begins run batch text left told old new (stop.Memory committed) form records end (inl unwritten) c = all_nothing told old new _ unwritten.same
-stop_begins run batch text left told old new (stop.Memory committed) form records end (inr (inl holds)) c =
-    holds_begins run batch told old new committed (take 24 text) form records end (of_source text left (Holds run batch told old new committed) form records end holds c)
-stop_begins run batch text left told old new (stop.Memory committed) form records end (inr (inr (inl read))) c = read_begins run text left told old new committed form records end read c
-stop_begins run batch text left told old new (stop.Memory committed) form records end (inr (inr (inr all))) c = all_begins run text told old new all.0 committed form records end all.1 c
-stop_begins run batch text left told old new (stop.Write at committed) form records end (inl holds) c =
-    by_part (of_source text left (λ header form records. HoldsPartOfHeader told old new at committed header ⊎ HoldsPartOfBatch run batch told old new at committed header form records) form records end holds c)
+pub stop_begins : (run : Run) (batch : ℕ) (texts lefts : List (List ℕ)) (told : Sinks Bool) (old new : Outputs) (s : Stop) (frames : List Frame) (end : End) → Stopped run batch texts lefts told old new s → CapturesGive texts frames end
+    → Begins told old new (replay_of (headers_of texts) run (world_of run.job frames) end)
+stop_begins run batch texts lefts told old new (stop.Ruleset fault) frames end s c = absurd s
+stop_begins run batch texts lefts told old new (stop.Capture place e committed) frames end s c = refused_begins run texts told old new place e committed frames end s c
+stop_begins run batch texts lefts told old new (stop.Read place committed) frames end (inl unopened) c = all_nothing told old new _ unopened.same
+stop_begins run batch texts lefts told old new (stop.Read place committed) frames end (inr holds) c = read_begins run texts lefts told old new place committed frames end holds c
+stop_begins run batch texts lefts told old new (stop.Memory committed) frames end (inl unwritten) c = all_nothing told old new _ unwritten.same
+stop_begins run batch texts lefts told old new (stop.Memory committed) frames end (inr (inl holds)) c =
+    holds_begins run batch told old new committed (headers_of texts) frames end (of_source texts lefts (λ headers fs ending. Holds run batch told old new committed headers fs) frames end holds c)
+stop_begins run batch texts lefts told old new (stop.Memory committed) frames end (inr (inr (inl read))) c = read_begins run texts lefts told old new read.0 committed frames end read.1 c
+stop_begins run batch texts lefts told old new (stop.Memory committed) frames end (inr (inr (inr all))) c = all_begins run texts told old new all.0 committed frames end all.1 c
+stop_begins run batch texts lefts told old new (stop.Write at committed) frames end (inl holds) c =
+    by_part (of_source texts lefts (λ headers fs ending. HoldsPartOfHeaders told old new at committed headers ⊎ HoldsPartOfBatch run batch told old new at committed headers fs) frames end holds c)
   where
-    by_part : HoldsPartOfHeader told old new at committed (take 24 text) ⊎ HoldsPartOfBatch run batch told old new at committed (take 24 text) form records → Begins told old new (replay_of (take 24 text ∷ []) run (run_of run.job form records) end)
-    by_part (inl h) = part_of_header_begins run told old new at committed (take 24 text) form records end h
-    by_part (inr h) = part_of_batch_begins run batch told old new at committed (take 24 text) form records end h
-stop_begins run batch text left told old new (stop.Write at committed) form records end (inr holds) c = part_of_ending_begins run text told old new at committed form records end holds c
+    by_part : HoldsPartOfHeaders told old new at committed (headers_of texts) ⊎ HoldsPartOfBatch run batch told old new at committed (headers_of texts) frames → Begins told old new (replay_of (headers_of texts) run (world_of run.job frames) end)
+    by_part (inl h) = part_of_headers_begins run told old new at committed (headers_of texts) frames end h
+    by_part (inr h) = part_of_batch_begins run batch told old new at committed (headers_of texts) frames end h
+stop_begins run batch texts lefts told old new (stop.Write at committed) frames end (inr holds) c = part_of_ending_begins run texts told old new at committed frames end holds c
 
--- if reading failed, the outputs begin the replay of every capture that begins with what was read
-pub read_stop_begins : (run : Run) (batch : ℕ) (text left : List ℕ) (told : Sinks Bool) (old new : Outputs) (committed : ℕ) (read more : List ℕ) (form : Form) (records : List RecordBytes) (end : Result Tail CaptureError) → Stopped run batch text left told old new (stop.Read committed)
-    → text ≡ read ++ left → IsCapture (read ++ more) form records end → Begins told old new (replay_of (take 24 (read ++ more) ∷ []) run (run_of run.job form records) end)
-read_stop_begins run batch text left told old new committed read more form records end (inl unopened) is c = all_nothing told old new _ unopened.same
-read_stop_begins run batch text left told old new committed read more form records end (inr h) is c =
-    let same : h.read ≡ read = append_cancel_right h.read read left (sym h.is ∙ is) in
-    let whole_read : IsCapture read h.form h.records (Ok h.tail) = rw same at h.capture in
-    let first = capture_first read more h.form form h.records records (Ok h.tail) end whole_read c in
-    let grew = rw (is, same_header read left h.form h.records (Ok h.tail) whole_read) at h.grew in
-    online_begins told old new (take 24 (read ++ more) ∷ []) run (run_of run.job form records) end
-    (rw (first.0, same_header read more h.form h.records (Ok h.tail) whole_read) (fewer_begin run told old new (take 24 read ∷ []) h.form h.records records first.1 (all_whole told old new (online (take 24 read ∷ []) run (run_of run.job h.form h.records)) grew)))
+-- ---- headers of texts that begin alike
+
+same_header : (read left : List ℕ) (form : Form) → opening_of read ≡ Ok form → take 24 (read ++ left) ≡ take 24 read
+same_header read left form opened =
+    let is = (every_capture read form opened).2 in
+    let records = (every_capture read form opened).0 in
+    let whole : read ++ left ≡ is.header ++ ((flat_map text_of records ++ is.rest) ++ left) = ap (λ (t : List ℕ). t ++ left) is.whole ∙ append_assoc is.header (flat_map text_of records ++ is.rest) left in
+    let own : take 24 read ≡ is.header = ap (take 24) is.whole ∙ take_at is.header (flat_map text_of records ++ is.rest) 24 is.header_length in
+    ap (take 24) whole ∙ take_at is.header ((flat_map text_of records ++ is.rest) ++ left) 24 is.header_length ∙ sym own
+
+same_headers : (reads lefts mores : List (List ℕ)) → AreOpened reads → length mores ≡ length lefts → headers_of (joined reads lefts) ≡ headers_of (joined reads mores)
+same_headers [] lefts mores opened long = refl
+same_headers (r ∷ reads) [] [] opened long = refl
+same_headers (r ∷ reads) [] (m ∷ mores) opened long = absurd (omega (arith, long))
+same_headers (r ∷ reads) (l ∷ lefts) [] opened long = absurd (omega (arith, long))
+same_headers (r ∷ reads) (l ∷ lefts) (m ∷ mores) opened long =
+    let form = opened.0.0 in
+    ap (λ (header : List ℕ). header ∷ headers_of (joined reads lefts)) (same_header r l form opened.0.1 ∙ sym (same_header r m form opened.0.1))
+    ∙ ap (λ (headers : List (List ℕ)). take 24 (r ++ m) ∷ headers) (same_headers reads lefts mores opened.1 (omega (arith, long)))
+
+-- if reading failed, the outputs begin the replay of all captures that begin with what was read
+pub read_stop_begins : (run : Run) (batch : ℕ) (texts lefts : List (List ℕ)) (told : Sinks Bool) (old new : Outputs) (place committed : ℕ) → Stopped run batch texts lefts told old new (stop.Read place committed)
+    → Untouched told old new ⊎ OfEvery texts lefts (λ headers frames ending. Begins told old new (replay_of headers run (world_of run.job frames) ending))
+read_stop_begins run batch texts lefts told old new place committed (inl unopened) = inl unopened.same
+read_stop_begins run batch texts lefts told old new place committed (inr h) =
+    let first = h.first in
+    inr (record {
+      reads = first.reads;
+      are = first.are;
+      opened = first.opened;
+      ended = first.ended;
+      long = first.long;
+      every = λ mores frames ending may c.
+          let begins = first.every mores frames ending may c in
+          let headers_are : headers_of texts ≡ headers_of (joined first.reads mores) = ap headers_of first.are ∙ same_headers first.reads lefts mores first.opened (continue_long first.ended lefts mores may) in
+          online_begins told old new (headers_of (joined first.reads mores)) run (world_of run.job frames) ending
+          (fewer_begin run told old new (headers_of (joined first.reads mores)) h.frames frames begins
+          (subst (λ (headers : List (List ℕ)). Begins told old new (online headers run (world_of run.job h.frames))) headers_are (all_whole told old new (online (headers_of texts) run (world_of run.job h.frames)) h.grew)));
+    })
 
 -- ---- a refused header
 
--- an accepted one is no refused one
-not_both : (text : List ℕ) (form : Form) (e : CaptureError) → opening_of text ≡ Err e → opening_of text ≡ Ok form → ⊥
-not_both text form e refused opened = cc (refused, opened)
+of_every_opened : (texts lefts : List (List ℕ)) (P : List (List ℕ) → List Frame → End → Type 0) → OfEvery texts lefts P → AreOpened texts
+of_every_opened texts lefts P o = rw o.are (opened_longer o.reads lefts o.opened)
 
-capture_is_opened : (text : List ℕ) (form : Form) (records : List RecordBytes) (end : Result Tail CaptureError) → IsCapture text form records end → opening_of text ≡ Ok form
-capture_is_opened text form records end c = rw (append-nil text) at (capture_opens text [] form records end c)
+captures_opened : (texts : List (List ℕ)) (frames : List Frame) (end : End) → CapturesGive texts frames end → AreOpened texts
+captures_opened texts frames end c = give_opened texts c.list end c.give
 
--- an accepted header is accepted with more bytes after it
-opened_longer : (read left : List ℕ) (form : Form) → opening_of read ≡ Ok form → opening_of (read ++ left) ≡ Ok form
-opened_longer read left form opened =
-    let is = every_capture read form opened in
-    capture_opens read left form is.0 is.1 is.2
+module _ (texts : List (List ℕ)) (place : ℕ) (text : List ℕ) (e : CaptureError) (at : slice_get texts place ≡ Some text) (refused : opening_of text ≡ Err e) where
+  -- an accepted one is no refused one
+  not_opened : AreOpened texts → ⊥
+  not_opened opened = by_place texts place at opened
+    where
+      by_place : (texts : List (List ℕ)) (k : ℕ) → slice_get texts k ≡ Some text → AreOpened texts → ⊥
+      by_place [] k at opened = absurd (cc at)
+      by_place (t ∷ texts) zero at opened =
+          let here : t ≡ text = cc at in
+          let accepted = opened.0.1 in
+          let same : opening_of t ≡ Err e = ap opening_of here ∙ refused in
+          cc (accepted, same)
+      by_place (t ∷ texts) (suc k) at opened = by_place texts k at opened.1
 
-of_every_opens : (text left : List ℕ) (P : List ℕ → Form → List RecordBytes → Type 0) (o : OfEvery text left P) → opening_of text ≡ Ok o.form
-of_every_opens text left P o = rw o.is (opened_longer o.read left o.form o.opened)
+  -- then nothing was written, and no packet committed
+  pub nothing_written : (run : Run) (batch : ℕ) (lefts : List (List ℕ)) (told : Sinks Bool) (old new : Outputs) (s : Stop) → Stopped run batch texts lefts told old new s
+      → Untouched told old new × (committed_of s ≡ 0)
+  nothing_written run batch lefts told old new (stop.Ruleset fault) s = absurd s
+  nothing_written run batch lefts told old new (stop.Capture place' e' committed) s = by_refusal e' s
+    where
+      by_refusal : (e' : CaptureError) → Refused run texts told old new place' e' committed → Untouched told old new × (committed ≡ 0)
+      by_refusal refusal.Read s = absurd s
+      by_refusal refusal.Memory s = absurd s
+      by_refusal (refusal.RecordTooLong asked) s = absurd (not_opened (captures_opened texts s.frames (Err (place', refusal.RecordTooLong asked)) s.captures))
+      by_refusal refusal.HeaderCut s = (s.2, s.1)
+      by_refusal refusal.BadMagic s = (s.2, s.1)
+      by_refusal refusal.BadVersion s = (s.2, s.1)
+      by_refusal (refusal.LinkType link) s = (s.2, s.1)
+  nothing_written run batch lefts told old new (stop.Read place' committed) (inl unopened) = (unopened.same, unopened.none)
+  nothing_written run batch lefts told old new (stop.Read place' committed) (inr h) = absurd (not_opened (of_every_opened texts lefts _ h.first))
+  nothing_written run batch lefts told old new (stop.Memory committed) (inl unwritten) = (unwritten.same, unwritten.none)
+  nothing_written run batch lefts told old new (stop.Memory committed) (inr (inl holds)) = absurd (not_opened (of_every_opened texts lefts _ holds))
+  nothing_written run batch lefts told old new (stop.Memory committed) (inr (inr (inl h))) = absurd (not_opened (of_every_opened texts lefts _ h.1.first))
+  nothing_written run batch lefts told old new (stop.Memory committed) (inr (inr (inr all))) = absurd (not_opened (captures_opened texts all.1.frames all.0 all.1.captures))
+  nothing_written run batch lefts told old new (stop.Write at' committed) (inl holds) = absurd (not_opened (of_every_opened texts lefts _ holds))
+  nothing_written run batch lefts told old new (stop.Write at' committed) (inr h) = absurd (not_opened (captures_opened texts h.frames (Ok h.tail) h.captures))
 
--- then nothing was written, and no packet committed
-pub nothing_behind_a_refusal : (run : Run) (batch : ℕ) (text left : List ℕ) (told : Sinks Bool) (old new : Outputs) (s : Stop) (e : CaptureError) → opening_of text ≡ Err e → Stopped run batch text left told old new s
+pub nothing_behind_a_refusal : (run : Run) (batch : ℕ) (texts lefts : List (List ℕ)) (told : Sinks Bool) (old new : Outputs) (s : Stop) (place : ℕ) (text : List ℕ) (e : CaptureError) → slice_get texts place ≡ Some text → opening_of text ≡ Err e → Stopped run batch texts lefts told old new s
     → Untouched told old new × (committed_of s ≡ 0)
-nothing_behind_a_refusal run batch text left told old new (stop.Ruleset fault) e refused s = absurd s
-nothing_behind_a_refusal run batch text left told old new (stop.Capture e' committed) e refused s = by_refusal e' s
-  where
-    by_refusal : (e' : CaptureError) → Refused run text told old new e' committed → Untouched told old new × (committed ≡ 0)
-    by_refusal refusal.Read s = absurd s
-    by_refusal refusal.Memory s = absurd s
-    by_refusal (refusal.RecordTooLong asked) s = absurd (not_both text s.form e refused (capture_is_opened text s.form s.records (Err (refusal.RecordTooLong asked)) s.capture))
-    by_refusal refusal.HeaderCut s = (s.2, s.1)
-    by_refusal refusal.BadMagic s = (s.2, s.1)
-    by_refusal refusal.BadVersion s = (s.2, s.1)
-    by_refusal (refusal.LinkType link) s = (s.2, s.1)
-nothing_behind_a_refusal run batch text left told old new (stop.Read committed) e refused (inl unopened) = (unopened.same, unopened.none)
-nothing_behind_a_refusal run batch text left told old new (stop.Read committed) e refused (inr h) =
-    absurd (not_both text h.form e refused (rw h.is (capture_opens h.read left h.form h.records (Ok h.tail) h.capture)))
-nothing_behind_a_refusal run batch text left told old new (stop.Memory committed) e refused (inl unwritten) = (unwritten.same, unwritten.none)
-nothing_behind_a_refusal run batch text left told old new (stop.Memory committed) e refused (inr (inl holds)) = absurd (not_both text holds.form e refused (of_every_opens text left _ holds))
-nothing_behind_a_refusal run batch text left told old new (stop.Memory committed) e refused (inr (inr (inl h))) =
-    absurd (not_both text h.form e refused (rw h.is (capture_opens h.read left h.form h.records (Ok h.tail) h.capture)))
-nothing_behind_a_refusal run batch text left told old new (stop.Memory committed) e refused (inr (inr (inr all))) =
-    absurd (not_both text all.1.form e refused (capture_is_opened text all.1.form all.1.records all.0 all.1.capture))
-nothing_behind_a_refusal run batch text left told old new (stop.Write at committed) e refused (inl holds) = absurd (not_both text holds.form e refused (of_every_opens text left _ holds))
-nothing_behind_a_refusal run batch text left told old new (stop.Write at committed) e refused (inr h) =
-    absurd (not_both text h.form e refused (capture_is_opened text h.form h.records (Ok h.tail) h.capture))
+nothing_behind_a_refusal run batch texts lefts told old new s place text e at refused stopped = nothing_written texts place text e at refused run batch lefts told old new s stopped

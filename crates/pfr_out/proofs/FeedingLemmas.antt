@@ -7,7 +7,7 @@ use Rattle.pfr_net.specs.declared.address.Ipv4Address.{Ipv4Address}
 use Rattle.pfr_packet.specs.Job.{RunJob}
 use Rattle.pfr_capture.specs.declared.capture.CaptureError.TheVariants as refusal
 use Rattle.pfr_capture.specs.declared.capture.Record.{Record}
-use Rattle.pfr_capture.specs.Reading.{Gave, Reading}
+use Rattle.pfr_merge.specs.MergeReading.{Waiting, joined}
 use Rattle.pfr_commit.specs.declared.book.Book.{Book}
 use Rattle.pfr_commit.specs.Books.{StandsAt}
 use Rattle.pfr_commit.specs.Emissions.{frame_of}
@@ -22,8 +22,9 @@ use Rattle.pfr_out.specs.declared.report.Stop.TheVariants as stop
 use Rattle.pfr_out.specs.declared.settings.Form.{Form}
 use Rattle.pfr_out.specs.declared.sinks.Sinks.{Sinks}
 use Rattle.pfr_out.specs.Feedings.{Behind, CutsOff, Ends, Fresh, Gives, Reads, Rests, Same, Takes, Writes, piece_alone, stop_by, stop_of, transitions_of}
-use Rattle.pfr_out.specs.Outputs.{Grew, KeepsMessages, OutputTexts, Outputs, PartWritten, RoseAt, Stay, each_of, texts_alone}
-use Rattle.pfr_out.specs.Reading.{BatchFails, BatchSays, End, wants_memory}
+use Rattle.pfr_out.specs.Outputs.{Grew, KeepsMessages, OutputTexts, PartWritten, RoseAt, Stay, each_of, texts_alone}
+use Rattle.pfr_out.specs.Captures.{End}
+use Rattle.pfr_out.specs.Reading.{AllGave, BatchFails, BatchSays, wants_memory}
 use Rattle.pfr_out.specs.Replay.{StopFails, Stopped}
 use Rattle.pfr_out.specs.Spelling.{Run, source_of}
 use Rattle.pfr_out.specs.Taking.{Add, IsPastHeader, Reaches, SinksFail}
@@ -36,7 +37,7 @@ use Rattle.pfr_out.proofs.RunLemmas.{reaches}
 -- has ended.
 pub record Progress {R S : Type 0} (tells : R → Bool) (unread : R → List ℕ) (failures : R → ℕ) (told : S → Bool) (written : S → List ℕ) (sink_failures : S → ℕ) (run : Run) (start feed : Feeding R S) (world : World) (waiting : List (List Record)) (is_over : Bool) : Type 0 where
   pub same : Same start feed
-  pub source_told : tells feed.source.now ≡ tells start.source.now
+  pub source_told : map tells feed.sources.now ≡ map tells start.sources.now
   pub sinks_told : each_of told feed.sinks.now ≡ each_of told start.sinks.now
   pub stop : feed.cut ≡ start.cut
   pub committed : feed.committed ≡ world.count
@@ -44,10 +45,10 @@ pub record Progress {R S : Type 0} (tells : R → Bool) (unread : R → List ℕ
   pub full : AreFull start.most feed.end waiting
   pub head : IsHead start.most world.count waiting feed.end
   pub over : is_over ≡ true → feed.end ≡ None → ⊥
-  pub failed : BatchFails feed.end (failures start.source.now) (failures feed.source.now)
+  pub failed : BatchFails feed.end (map failures start.sources.now) (map failures feed.sources.now)
   pub sinks_failed : Stay sink_failures start.sinks.now feed.sinks.now
   pub messages : KeepsMessages start.channel.now.form start.sinks.now feed.sinks.now
-  pub far : Behind tells unread told written start feed (λ text left told before behind. Ahead run feed.capture.now text left told before behind world waiting feed.end)
+  pub far : Behind tells unread told written start feed (λ texts lefts told before behind. Ahead run feed.merge.now texts lefts told before behind world waiting feed.end)
 
 same_twice : {R S : Type 0} (old mid new : Feeding R S) → Same old mid → Same mid new → Same old new
 same_twice old mid new first second = record { form = second.form ∙ first.form; address = second.address ∙ first.address; most = second.most ∙ first.most }
@@ -65,7 +66,7 @@ opening_count : (job : RunJob) → (opening job).count ≡ 0
 unfolding opening
 opening_count job = refl
 
-none_failed : (end : Option End) (old new : ℕ) → end ≡ None → BatchFails end old new → new ≡ old
+none_failed : (end : Option End) (old new : List ℕ) → end ≡ None → BatchFails end old new → new ≡ old
 none_failed end old new is fails = subst (λ (e : Option End). BatchFails e old new) is fails
 
 -- nothing stands in an option
@@ -90,16 +91,16 @@ pub not_none : (end : Option End) → wants_memory end ≡ true → end ≡ None
 not_none None wants is = cc wants
 not_none (Some end) wants is = cc is
 
-pub gave_nothing : (old new : Reading) (before left : List ℕ) (end : Option End) → wants_memory end ≡ true → Gave before left → BatchSays old new before left [] end
-gave_nothing old new before left None wants came = absurd (cc wants)
-gave_nothing old new before left (Some (Ok tail)) wants came = absurd (cc wants)
-gave_nothing old new before left (Some (Err refusal.Read)) wants came = absurd (cc wants)
-gave_nothing old new before left (Some (Err refusal.Memory)) wants came = came
-gave_nothing old new before left (Some (Err (refusal.RecordTooLong asked))) wants came = absurd (cc wants)
-gave_nothing old new before left (Some (Err refusal.HeaderCut)) wants came = absurd (cc wants)
-gave_nothing old new before left (Some (Err refusal.BadMagic)) wants came = absurd (cc wants)
-gave_nothing old new before left (Some (Err refusal.BadVersion)) wants came = absurd (cc wants)
-gave_nothing old new before left (Some (Err (refusal.LinkType link))) wants came = absurd (cc wants)
+pub wanted_nothing : (old new : List Waiting) (befores lefts : List (List ℕ)) (end : Option End) → wants_memory end ≡ true → AllGave befores lefts → BatchSays old new befores lefts [] end
+wanted_nothing old new befores lefts None wants came = absurd (cc wants)
+wanted_nothing old new befores lefts (Some (Ok tail)) wants came = absurd (cc wants)
+wanted_nothing old new befores lefts (Some (Err (place, refusal.Read))) wants came = absurd (cc wants)
+wanted_nothing old new befores lefts (Some (Err (place, refusal.Memory))) wants came = came
+wanted_nothing old new befores lefts (Some (Err (place, refusal.RecordTooLong asked))) wants came = absurd (cc wants)
+wanted_nothing old new befores lefts (Some (Err (place, refusal.HeaderCut))) wants came = absurd (cc wants)
+wanted_nothing old new befores lefts (Some (Err (place, refusal.BadMagic))) wants came = absurd (cc wants)
+wanted_nothing old new befores lefts (Some (Err (place, refusal.BadVersion))) wants came = absurd (cc wants)
+wanted_nothing old new befores lefts (Some (Err (place, refusal.LinkType link))) wants came = absurd (cc wants)
 
 module _ {R S : Type 0} (tells : R → Bool) (unread : R → List ℕ) (failures : R → ℕ) (told : S → Bool) (written : S → List ℕ) (sink_failures : S → ℕ) (run : Run) (start : Feeding R S)
     (form_is : run.form ≡ start.channel.now.form) (address_is : source_of run.job ≡ start.address) where
@@ -120,15 +121,15 @@ module _ {R S : Type 0} (tells : R → Bool) (unread : R → List ℕ) (failures
     failed = rw fresh.end refl;
     sinks_failed = refl;
     messages = λ none. refl;
-    far = λ t read before h grew.
-        rw fresh.end (ahead_first run start.capture.now read (unread start.source.now) (each_of told start.sinks.now) before (each_of written start.sinks.now) h grew);
+    far = λ t reads before h may grew.
+        rw fresh.end (ahead_first run start.merge.now reads (map unread start.sources.now) (each_of told start.sinks.now) before (each_of written start.sinks.now) h may grew);
   }
 
   -- what is known as long as the reading goes on
   going_far : (feed : Feeding R S) (world : World) (waiting : List (List Record)) (is_over : Bool) → At feed world waiting is_over → feed.end ≡ None
-      → Behind tells unread told written start feed (λ text left told before behind. Ahead run feed.capture.now text left told before behind world waiting None)
-  going_far feed world waiting is_over p going = λ tells_is read old h grew.
-      subst (λ (e : Option End). Ahead run feed.capture.now (read ++ unread start.source.now) (unread feed.source.now) (each_of told start.sinks.now) old (each_of written feed.sinks.now) world waiting e) going (p.far tells_is read old h grew)
+      → Behind tells unread told written start feed (λ texts lefts told before behind. Ahead run feed.merge.now texts lefts told before behind world waiting None)
+  going_far feed world waiting is_over p going = λ tells_is reads old h may grew.
+      subst (λ (e : Option End). Ahead run feed.merge.now (joined reads (map unread start.sources.now)) (map unread feed.sources.now) (each_of told start.sinks.now) old (each_of written feed.sinks.now) world waiting e) going (p.far tells_is reads old h may grew)
 
   -- a batch was given
   at_gave : (feed given : Feeding R S) (world : World) (waiting : List (List Record)) (is_over : Bool) (records : List Record) → At feed world waiting is_over → Gives tells unread failures feed records given → At given world (waiting ++ records ∷ []) false
@@ -144,13 +145,13 @@ module _ {R S : Type 0} (tells : R → Bool) (unread : R → List ℕ) (failures
         full = full_more start.most given.end waiting records (rw r.going at p.full) (rw (← p.same.most) r.at_most) (λ e. r.full e ∙ p.same.most) g.wants;
         head = head_gave start.most world.count waiting (waiting ++ records ∷ []) given.end (rw r.going at p.head);
         over = λ is. absurd (cc is);
-        failed = subst (λ (n : ℕ). BatchFails given.end n (failures given.source.now)) (none_failed feed.end _ _ r.going p.failed) r.failed;
+        failed = subst (λ (n : List ℕ). BatchFails given.end n (map failures given.sources.now)) (none_failed feed.end _ _ r.going p.failed) r.failed;
         sinks_failed = ap (each_of sink_failures) r.sinks ∙ p.sinks_failed;
         messages = λ none. ap (λ (s : Sinks S). s.messages) r.sinks ∙ p.messages none;
-        far = λ tells_is read old h grew.
+        far = λ tells_is reads old h may grew.
             rw r.sinks
-            (ahead_gave run feed.capture.now given.capture.now (read ++ unread start.source.now) (unread feed.source.now) (unread given.source.now) (each_of told start.sinks.now) old (each_of written feed.sinks.now)
-            world waiting records given.end (going_far feed world waiting is_over p r.going tells_is read old h grew) g.wants (r.says (rw p.source_told tells_is)) (r.form, r.header) r.fields);
+            (ahead_gave run feed.merge.now given.merge.now (joined reads (map unread start.sources.now)) (map unread feed.sources.now) (map unread given.sources.now) (each_of told start.sinks.now) old (each_of written feed.sinks.now)
+            world waiting records given.end (going_far feed world waiting is_over p r.going tells_is reads old h may grew) g.wants (r.says (rw p.source_told tells_is)) r.headers);
       }
 
   -- the reading ended
@@ -183,13 +184,13 @@ module _ {R S : Type 0} (tells : R → Bool) (unread : R → List ℕ) (failures
         full = full_over start.most new.end waiting (rw r.going at p.full);
         head = head_gave start.most world.count waiting waiting new.end (rw r.going at p.head);
         over = λ is none. cc (ending.1, none);
-        failed = subst (λ (n : ℕ). BatchFails new.end n (failures new.source.now)) (none_failed feed.end _ _ r.going p.failed) r.failed;
+        failed = subst (λ (n : List ℕ). BatchFails new.end n (map failures new.sources.now)) (none_failed feed.end _ _ r.going p.failed) r.failed;
         sinks_failed = ap (each_of sink_failures) r.sinks ∙ p.sinks_failed;
         messages = λ none. ap (λ (s : Sinks S). s.messages) r.sinks ∙ p.messages none;
-        far = λ tells_is read old h grew.
+        far = λ tells_is reads old h may grew.
             rw (ending.1, r.sinks)
-            (ahead_ended run feed.capture.now new.capture.now (read ++ unread start.source.now) (unread feed.source.now) (unread new.source.now) (each_of told start.sinks.now) old (each_of written feed.sinks.now) world waiting end
-            (going_far feed world waiting is_over p r.going tells_is read old h grew) (rw ending.1 at (r.says (rw p.source_told tells_is))) (r.form, r.header));
+            (ahead_ended run feed.merge.now new.merge.now (joined reads (map unread start.sources.now)) (map unread feed.sources.now) (map unread new.sources.now) (each_of told start.sinks.now) old (each_of written feed.sinks.now) world waiting end
+            (going_far feed world waiting is_over p r.going tells_is reads old h may grew) (rw ending.1 at (r.says (rw p.source_told tells_is))) r.headers);
       }
 
   -- what a batch adds, of outputs that took its piece
@@ -227,7 +228,7 @@ module _ {R S : Type 0} (tells : R → Bool) (unread : R → List ℕ) (failures
       let count = counted run.job world records in
       record {
         same = same_twice start feed taken p.same t.writes.same;
-        source_told = ap tells t.writes.source ∙ p.source_told;
+        source_told = ap (map tells) t.writes.sources ∙ p.source_told;
         sinks_told = t.writes.told ∙ p.sinks_told;
         stop = t.cut ∙ p.stop;
         committed = t.committed ∙ committed_next feed world records later is_over p ∙ sym count;
@@ -235,20 +236,20 @@ module _ {R S : Type 0} (tells : R → Bool) (unread : R → List ℕ) (failures
         full = rw t.writes.end p.full.1;
         head = rw t.writes.end (head_took start.most world.count (behind run.job world records).count records later feed.end p.full p.head count);
         over = λ is none. p.over is (sym t.writes.end ∙ none);
-        failed = rw (t.writes.end, t.writes.source) p.failed;
+        failed = rw (t.writes.end, t.writes.sources) p.failed;
         sinks_failed = t.failed ∙ p.sinks_failed;
         messages = λ none. t.writes.messages (p.same.form ∙ none) ∙ p.messages none;
-        far = λ tells_is read old h grew.
-            rw (t.writes.capture, t.writes.source, t.writes.end)
-            (ahead_took run feed.capture.now (read ++ unread start.source.now) (unread feed.source.now) (each_of told start.sinks.now) old (each_of written feed.sinks.now) (each_of written taken.sinks.now)
-            world records later feed.end (p.far tells_is read old h grew) (hold feed world (records ∷ later) is_over records piece p is (λ tl added. Grew tl (each_of written feed.sinks.now) (each_of written taken.sinks.now) added) t.grew));
+        far = λ tells_is reads old h may grew.
+            rw (t.writes.merge, t.writes.sources, t.writes.end)
+            (ahead_took run feed.merge.now (joined reads (map unread start.sources.now)) (map unread feed.sources.now) (each_of told start.sinks.now) old (each_of written feed.sinks.now) (each_of written taken.sinks.now)
+            world records later feed.end (p.far tells_is reads old h may grew) (hold feed world (records ∷ later) is_over records piece p is (λ tl added. Grew tl (each_of written feed.sinks.now) (each_of written taken.sinks.now) added) t.grew));
       }
 
   -- the packets were taken back
   at_rested : (feed new : Feeding R S) (world : World) (waiting : List (List Record)) (is_over : Bool) → At feed world waiting is_over → Rests feed new → At new world waiting is_over
   at_rested feed new world waiting is_over p r = record {
     same = same_twice start feed new p.same r.same;
-    source_told = ap tells r.source ∙ p.source_told;
+    source_told = ap (map tells) r.sources ∙ p.source_told;
     sinks_told = ap (each_of told) r.sinks ∙ p.sinks_told;
     stop = r.cut ∙ p.stop;
     committed = r.committed ∙ p.committed;
@@ -256,10 +257,10 @@ module _ {R S : Type 0} (tells : R → Bool) (unread : R → List ℕ) (failures
     full = rw r.end p.full;
     head = rw r.end p.head;
     over = λ is none. p.over is (sym r.end ∙ none);
-    failed = rw (r.end, r.source) p.failed;
+    failed = rw (r.end, r.sources) p.failed;
     sinks_failed = ap (each_of sink_failures) r.sinks ∙ p.sinks_failed;
     messages = λ none. ap (λ (s : Sinks S). s.messages) r.sinks ∙ p.messages none;
-    far = λ tells_is read old h grew. rw (r.capture, r.source, r.sinks, r.end) (p.far tells_is read old h grew);
+    far = λ tells_is reads old h may grew. rw (r.merge, r.sources, r.sinks, r.end) (p.far tells_is reads old h may grew);
   }
 
   calls_on : (calls : List Call) (old new : Point (Feeding R S)) → Calls (transitions_of tells unread failures told written sink_failures) run.job old calls new
@@ -277,16 +278,16 @@ module _ {R S : Type 0} (tells : R → Bool) (unread : R → List ℕ) (failures
 
   -- a stop, and what it says of the outputs and the devices
   pub record StopsAt (new : Feeding R S) (why : Stop) : Type 0 where
-    pub stopped : Behind tells unread told written start new (λ text left told before behind. Stopped run start.most text left told before behind why)
+    pub stopped : Behind tells unread told written start new (λ texts lefts told before behind. Stopped run start.most texts lefts told before behind why)
     pub late : IsPastHeader why
-    pub failed : StopFails why (failures start.source.now) (failures new.source.now) (each_of sink_failures start.sinks.now) (each_of sink_failures new.sinks.now)
+    pub failed : StopFails why (map failures start.sources.now) (map failures new.sources.now) (each_of sink_failures start.sinks.now) (each_of sink_failures new.sinks.now)
 
   -- memory was refused
-  wanted : (feed new : Feeding R S) (world : World) (waiting : List (List Record)) (is_over : Bool) (count : ℕ) → At feed world waiting is_over → count ≡ feed.committed → new.source.now ≡ feed.source.now → new.sinks.now ≡ feed.sinks.now → StopsAt new (stop.Memory count)
+  wanted : (feed new : Feeding R S) (world : World) (waiting : List (List Record)) (is_over : Bool) (count : ℕ) → At feed world waiting is_over → count ≡ feed.committed → new.sources.now ≡ feed.sources.now → new.sinks.now ≡ feed.sinks.now → StopsAt new (stop.Memory count)
   wanted feed new world waiting is_over count p count_is source_is sinks_are = record {
-    stopped = λ tells_is read old h grew.
+    stopped = λ tells_is reads old h may grew.
         rw (count_is, source_is, sinks_are, p.committed)
-        (memory_stopped run start.most feed.capture.now (read ++ unread start.source.now) (unread feed.source.now) (each_of told start.sinks.now) old (each_of written feed.sinks.now) world waiting feed.end (p.far tells_is read old h grew) p.head);
+        (memory_stopped run start.most feed.merge.now (joined reads (map unread start.sources.now)) (map unread feed.sources.now) (each_of told start.sinks.now) old (each_of written feed.sinks.now) world waiting feed.end (p.far tells_is reads old h may grew) p.head);
     late = tt;
     failed = ap (each_of sink_failures) sinks_are ∙ p.sinks_failed;
   }
@@ -294,19 +295,19 @@ module _ {R S : Type 0} (tells : R → Bool) (unread : R → List ℕ) (failures
   cut_by : (feed new : Feeding R S) (world : World) (records : List Record) (later : List (List Record)) (is_over : Bool) (piece : Texts) (why : Stop) → At feed world (records ∷ later) is_over → IsPiece run.job world records piece
       → Writes told feed new → CutsOff told written feed.committed feed.sinks.now new.sinks.now (piece_alone feed.channel.now.form feed.address piece) why
       → SinksFail why (each_of sink_failures feed.sinks.now) (each_of sink_failures new.sinks.now) → StopsAt new why
-  cut_by feed new world records later is_over piece (stop.Memory count) p is writes off fails = wanted feed new world (records ∷ later) is_over count p off.0 writes.source off.1
+  cut_by feed new world records later is_over piece (stop.Memory count) p is writes off fails = wanted feed new world (records ∷ later) is_over count p off.0 writes.sources off.1
   cut_by feed new world records later is_over piece (stop.Write output count) p is writes off fails = record {
-    stopped = λ tells_is read old h grew.
-        rw (off.0, writes.source, p.committed)
-        (batch_cut run start.most feed.capture.now (read ++ unread start.source.now) (unread feed.source.now) (each_of told start.sinks.now) old (each_of written feed.sinks.now) (each_of written new.sinks.now)
-        world records later feed.end output (p.far tells_is read old h grew) p.head p.full
+    stopped = λ tells_is reads old h may grew.
+        rw (off.0, writes.sources, p.committed)
+        (batch_cut run start.most feed.merge.now (joined reads (map unread start.sources.now)) (map unread feed.sources.now) (each_of told start.sinks.now) old (each_of written feed.sinks.now) (each_of written new.sinks.now)
+        world records later feed.end output (p.far tells_is reads old h may grew) p.head p.full
         (hold feed world (records ∷ later) is_over records piece p is (λ tl added. PartWritten tl (each_of written feed.sinks.now) (each_of written new.sinks.now) added output) off.1));
     late = tt;
     failed = subst (λ (n : Sinks ℕ). RoseAt output n (each_of sink_failures new.sinks.now)) p.sinks_failed fails;
   }
   cut_by feed new world records later is_over piece (stop.Ruleset fault) p is writes off fails = absurd off
-  cut_by feed new world records later is_over piece (stop.Capture e count) p is writes off fails = absurd off
-  cut_by feed new world records later is_over piece (stop.Read count) p is writes off fails = absurd off
+  cut_by feed new world records later is_over piece (stop.Capture place e count) p is writes off fails = absurd off
+  cut_by feed new world records later is_over piece (stop.Read place count) p is writes off fails = absurd off
 
   -- ---- a run that began fresh
 
@@ -326,8 +327,8 @@ module _ {R S : Type 0} (tells : R → Bool) (unread : R → List ℕ) (failures
   pub record AtEnd (last : Book) (new : Feeding R S) : Type 0 where
     pub end : End
     pub end_is : new.end ≡ Some end
-    pub reaches : Behind tells unread told written start new (λ text left told before behind. Reaches run start.most text left told before behind last end)
-    pub failed : BatchFails (Some end) (failures start.source.now) (failures new.source.now)
+    pub reaches : Behind tells unread told written start new (λ texts lefts told before behind. Reaches run start.most texts lefts told before behind last end)
+    pub failed : BatchFails (Some end) (map failures start.sources.now) (map failures new.sources.now)
     pub sinks_failed : Stay sink_failures start.sinks.now new.sinks.now
 
   at_end : (last : Book) (new : Feeding R S) (world : World) → StandsAt last world → At new world [] true → AtEnd last new
@@ -338,13 +339,13 @@ module _ {R S : Type 0} (tells : R → Bool) (unread : R → List ℕ) (failures
       by_end (Some end) is = record {
         end = end;
         end_is = is;
-        reaches = λ tells_is read old h grew.
-            reaches run start.most (read ++ unread start.source.now) (unread new.source.now) (each_of told start.sinks.now) old (each_of written new.sinks.now) world last end
-            (ahead_over run start.most new.capture.now (read ++ unread start.source.now) (unread new.source.now) (each_of told start.sinks.now) old (each_of written new.sinks.now) world end
-            (subst (λ (x : Option End). Ahead run new.capture.now (read ++ unread start.source.now) (unread new.source.now) (each_of told start.sinks.now) old (each_of written new.sinks.now) world [] x) is (p.far tells_is read old h grew))
+        reaches = λ tells_is reads old h may grew.
+            reaches run start.most (joined reads (map unread start.sources.now)) (map unread new.sources.now) (each_of told start.sinks.now) old (each_of written new.sinks.now) world last end
+            (ahead_over run start.most new.merge.now (joined reads (map unread start.sources.now)) (map unread new.sources.now) (each_of told start.sinks.now) old (each_of written new.sinks.now) world end
+            (subst (λ (x : Option End). Ahead run new.merge.now (joined reads (map unread start.sources.now)) (map unread new.sources.now) (each_of told start.sinks.now) old (each_of written new.sinks.now) world [] x) is (p.far tells_is reads old h may grew))
             (subst (λ (x : Option End). IsHead start.most world.count [] x) is p.head))
             stands;
-        failed = subst (λ (x : Option End). BatchFails x (failures start.source.now) (failures new.source.now)) is p.failed;
+        failed = subst (λ (x : Option End). BatchFails x (map failures start.sources.now) (map failures new.sources.now)) is p.failed;
         sinks_failed = p.sinks_failed;
       }
 
@@ -373,12 +374,12 @@ module _ {R S : Type 0} (tells : R → Bool) (unread : R → List ℕ) (failures
   pub stops_refused : (last : Book) (new : Feeding R S) → Fresh start → WentOn (λ calls at. Refused last new at) → StopsAt new (stop.Memory new.committed)
   stops_refused last new fresh w =
       let p = went_on _ fresh w in
-      wanted w.at.feed new w.at.world w.at.waiting w.at.is_over new.committed p (ap (λ (f : Feeding R S). f.committed) w.then.feed_is) (ap (λ (f : Feeding R S). f.source.now) w.then.feed_is) (ap (λ (f : Feeding R S). f.sinks.now) w.then.feed_is)
+      wanted w.at.feed new w.at.world w.at.waiting w.at.is_over new.committed p (ap (λ (f : Feeding R S). f.committed) w.then.feed_is) (ap (λ (f : Feeding R S). f.sources.now) w.then.feed_is) (ap (λ (f : Feeding R S). f.sinks.now) w.then.feed_is)
 
   -- a stop, of the same devices
-  pub at_moved : (old new : Feeding R S) (why : Stop) → new.source.now ≡ old.source.now → new.sinks.now ≡ old.sinks.now → StopsAt old why → StopsAt new why
+  pub at_moved : (old new : Feeding R S) (why : Stop) → new.sources.now ≡ old.sources.now → new.sinks.now ≡ old.sinks.now → StopsAt old why → StopsAt new why
   at_moved old new why source_is sinks_are at_old = record {
-    stopped = λ tells_is read before h grew. rw (source_is, sinks_are) (at_old.stopped tells_is read before h grew);
+    stopped = λ tells_is reads before h may grew. rw (source_is, sinks_are) (at_old.stopped tells_is reads before h may grew);
     late = at_old.late;
     failed = rw (source_is, sinks_are) at_old.failed;
   }
@@ -386,7 +387,7 @@ module _ {R S : Type 0} (tells : R → Bool) (unread : R → List ℕ) (failures
   -- what no call changes
   pub record Kept (new : Feeding R S) : Type 0 where
     pub form : new.channel.now.form ≡ start.channel.now.form
-    pub source_told : tells new.source.now ≡ tells start.source.now
+    pub source_told : map tells new.sources.now ≡ map tells start.sources.now
     pub sinks_told : each_of told new.sinks.now ≡ each_of told start.sinks.now
     pub messages : KeepsMessages start.channel.now.form start.sinks.now new.sinks.now
 
@@ -396,7 +397,7 @@ module _ {R S : Type 0} (tells : R → Bool) (unread : R → List ℕ) (failures
   kept_written : (feed new : Feeding R S) → Writes told feed new → Kept feed → Kept new
   kept_written feed new writes k = record {
     form = writes.same.form ∙ k.form;
-    source_told = ap tells writes.source ∙ k.source_told;
+    source_told = ap (map tells) writes.sources ∙ k.source_told;
     sinks_told = writes.told ∙ k.sinks_told;
     messages = λ none. writes.messages (k.form ∙ none) ∙ k.messages none;
   }

@@ -1,112 +1,112 @@
 -- Batches of records, and the captures that they come from.
-use Rattle.std.proofs.Common.{◌≡◌, ℕ, ltb, false, List, [], ◌∷◌, ◌++◌, length, map, take, Some, Ok, Err, refl, sym, ◌∙◌, ap, arith}
-use Rattle.std.specs.List.{All, flat_map}
-use Rattle.std.proofs.lemmas.Bool.{le-ltb}
-use Rattle.std.proofs.lemmas.List.{append_assoc, append-nil, length-append, map-append, take_at}
-use Rattle.std.proofs.lemmas.List.Elements.{All-head, All-tail}
+use Rattle.std.proofs.Common.{◌≡◌, ◌∙◌, ◌≤◌, ℕ, List, [], ◌∷◌, ◌++◌, length, map, Some, Ok, Err, refl, sym, ap, subst, arith}
+use Rattle.std.proofs.lemmas.List.{append-nil, length-map, map-append}
+use Rattle.std.proofs.lemmas.Option.{slice_get_within}
 use Rattle.pfr_capture.specs.declared.capture.CaptureError.{CaptureError}
 use Rattle.pfr_capture.specs.declared.capture.CaptureError.TheVariants as refusal
 use Rattle.pfr_capture.specs.declared.capture.Form.{Form}
 use Rattle.pfr_capture.specs.declared.capture.Record.{Record}
-use Rattle.pfr_capture.specs.Header.{form_of, opening_of}
-use Rattle.pfr_capture.specs.Reading.{EndsCapture, FieldsOf, Gave, HasGiven, LacksRecord, NextFails, Reading, ReadsOn, Refuses, bytes_of}
-use Rattle.pfr_capture.specs.Records.{IsCapture, RecordBytes, text_of}
-use Rattle.pfr_capture.proofs.CaptureLemmas.{IsFront, given_first}
+use Rattle.pfr_capture.specs.Reading.{FieldsOf, bytes_of}
 use Rattle.pfr_commit.specs.Emissions.{frame_of}
-use Rattle.pfr_out.specs.Reading.{BatchSays, End, EndsBehind, records_of}
-use Rattle.pfr_out.specs.Replay.{OfEvery, frame_in}
+use Rattle.pfr_commit.specs.World.{Frame}
+use Rattle.pfr_merge.specs.Arrivals.{Arrived, arrived}
+use Rattle.pfr_merge.specs.MergeReading.{HasForm, HasMerged, LacksRecordAt, MayFollowAll, MergeReads, MergesOn, StopsAt, Waiting, form_in, header_in, joined}
+use Rattle.pfr_merge.specs.MergedCaptures.{TextsGive, has_ended}
+use Rattle.pfr_merge.specs.Opening.{ReadingFails}
+use Rattle.pfr_merge.proofs.ListLemmas.{continue_long, continue_on, follow_long, front_of, headers_are, opened_longer, reads_opened}
+use Rattle.pfr_merge.proofs.MergeReadingLemmas.{joined_assoc, merges_twice}
+use Rattle.pfr_out.specs.Captures.{BeginWith, End, frame_in}
+use Rattle.pfr_out.specs.Reading.{AllGave, BatchSays, GaveRecords}
+use Rattle.pfr_out.specs.Replay.{OfEvery}
 
--- records of a capture, as packets of a run
-pub same_frames : (form : Form) (records : List Record) → All (FieldsOf form) records → map frame_of records ≡ map (frame_in form) (records_of records)
-same_frames form [] all = refl
-same_frames form (one ∷ records) all =
-    let is = All-head (FieldsOf form) one records all in
-    rw (is.place, is.link, is.seconds, same_frames form records (All-tail (FieldsOf form) one records all)) refl
+-- ---- a record
 
--- ---- the reader
+-- a record that a merge gives is a packet of its capture
+same_frame : (place : ℕ) (form : Form) (r : Record) → r.place ≡ place → FieldsOf form (record r { place = 0 }) → frame_of r ≡ frame_in (arrived place form (bytes_of r))
+same_frame place form r at fields = rw (at, fields.link, fields.seconds) refl
 
--- the reader read on twice
-pub reads_twice : (old mid new : Reading) (before between left : List ℕ) (xs ys : List RecordBytes) → ReadsOn old mid before between xs → ReadsOn mid new between left ys → ReadsOn old new before left (xs ++ ys)
-reads_twice old mid new before between left xs ys first second = record {
-  came = first.came ++ second.came;
-  gave = first.gave ∙ (rw second.gave (sym (append_assoc first.came second.came left)));
-  on = λ read records given.
-      rw (← append_assoc read first.came second.came, ← append_assoc records xs ys) (second.on (read ++ first.came) (records ++ xs) (first.on read records given));
+-- ---- the merge
+
+abbrev no_bytes : List (List ℕ) → List (List ℕ)
+no_bytes [] = []
+no_bytes (text ∷ texts) = [] ∷ no_bytes texts
+
+joins_none : (texts : List (List ℕ)) → texts ≡ joined (no_bytes texts) texts
+joins_none [] = refl
+joins_none (text ∷ texts) = ap (λ (more : List (List ℕ)). text ∷ more) (joins_none texts)
+
+pub gave_nothing : (lefts : List (List ℕ)) → AllGave lefts lefts
+gave_nothing lefts = record { came = no_bytes lefts; gave = joins_none lefts; long = refl }
+
+-- a merge that has given nothing yet
+pub gives_none : (ws : List Waiting) (lefts : List (List ℕ)) → MergesOn ws ws lefts lefts [] → GaveRecords ws ws lefts lefts []
+gives_none ws lefts on = record { list = []; records_are = refl; on = on }
+
+-- it gave more records, and then others
+pub gives_twice : (old mid new : List Waiting) (befores betweens lefts : List (List ℕ)) (xs ys : List Record) → GaveRecords old mid befores betweens xs → GaveRecords mid new betweens lefts ys → GaveRecords old new befores lefts (xs ++ ys)
+gives_twice old mid new befores betweens lefts xs ys first second = record {
+  list = first.list ++ second.list;
+  records_are = map-append frame_of xs ys ∙ ap (λ (t : List Frame). t ++ map frame_of ys) first.records_are ∙ ap (λ (t : List Frame). map frame_in first.list ++ t) second.records_are
+      ∙ sym (map-append frame_in first.list second.list);
+  on = merges_twice old mid new befores betweens lefts first.list second.list first.on second.on;
 }
-
-pub reads_nothing : (reading : Reading) (before : List ℕ) → ReadsOn reading reading before before []
-reads_nothing reading before = record {
-  came = [];
-  gave = refl;
-  on = λ read records given. rw (append-nil read, append-nil records) given;
-}
-
-pub gave_of : (old new : Reading) (before left : List ℕ) (given : List RecordBytes) → ReadsOn old new before left given → Gave before left
-gave_of old new before left given on = record { came = on.came; gave = on.gave }
-
--- the reader read on, and gave nothing more
-pub reads_and_nothing : (old mid new : Reading) (before between left : List ℕ) (given : List RecordBytes) → ReadsOn old mid before between given → ReadsOn mid new between left [] → ReadsOn old new before left given
-reads_and_nothing old mid new before between left given first second =
-    rw (← append-nil given) (reads_twice old mid new before between left given [] first second)
-
--- the capture ends after what was given
-pub ends_twice : (old mid : Reading) (before between : List ℕ) (given : List RecordBytes) (end : End) → ReadsOn old mid before between given → mid.form ≡ old.form → EndsCapture mid between end → EndsBehind old before given end
-ends_twice old mid before between given end on form ends read records h =
-    rw (on.gave, ← append_assoc read on.came between, ← form) (ends (read ++ on.came) (records ++ given) (on.on read records h))
-
--- the reader refused
-pub batch_refused : (old mid new : Reading) (before between left : List ℕ) (given : List RecordBytes) (e : CaptureError) (count count' : ℕ) → ReadsOn old mid before between given → mid.form ≡ old.form → ReadsOn mid new between left []
-    → Refuses mid between e → LacksRecord new e → NextFails e count count' → BatchSays old new before left given (Some (Err e))
-batch_refused old mid new before between left given refusal.Read count count' on form nothing refuses lacks fails = (reads_and_nothing old mid new before between left given on nothing, lacks)
-batch_refused old mid new before between left given refusal.Memory count count' on form nothing refuses lacks fails = gave_of old new before left given (reads_and_nothing old mid new before between left given on nothing)
-batch_refused old mid new before between left given (refusal.RecordTooLong asked) count count' on form nothing refuses lacks fails =
-    (reads_and_nothing old mid new before between left given on nothing, ends_twice old mid before between given (Err (refusal.RecordTooLong asked)) on form refuses)
-batch_refused old mid new before between left given refusal.HeaderCut count count' on form nothing refuses lacks fails = absurd fails
-batch_refused old mid new before between left given refusal.BadMagic count count' on form nothing refuses lacks fails = absurd fails
-batch_refused old mid new before between left given refusal.BadVersion count count' on form nothing refuses lacks fails = absurd fails
-batch_refused old mid new before between left given (refusal.LinkType link) count count' on form nothing refuses lacks fails = absurd fails
 
 -- one record more
-pub one_record : (records : List Record) (one : Record) → records_of (records ++ one ∷ []) ≡ records_of records ++ bytes_of one ∷ []
-one_record records one = map-append bytes_of records (one ∷ [])
+pub gives_one : (old new : List Waiting) (befores lefts : List (List ℕ)) (place : ℕ) (r : Record) → length old ≤ 8 → HasForm old (place, r) → MergeReads old new befores lefts (Ok (Some (place, r))) → GaveRecords old new befores lefts (r ∷ [])
+gives_one old new befores lefts place r short has reads =
+    let form = has.0 in
+    let within = slice_get_within (map form_in old) place form has.1.at in
+    let long = length-map old form_in in
+    record {
+      list = arrived place form (bytes_of r) ∷ [];
+      records_are = ap (λ (f : Frame). f ∷ []) (same_frame place form r (has.1.fields.place_is (omega (arith, short, within, long))) has.1.fields.fields);
+      on = reads form has.1.at;
+    }
 
--- the header of every text that begins with what was read
-pub header_is : (capture : Reading) (read more : List ℕ) (given : List RecordBytes) → HasGiven capture read given → take 24 (read ++ more) ≡ capture.header
-header_is capture read more given h =
-    let whole : read ++ more ≡ capture.header ++ ((flat_map text_of given ++ capture.ahead) ++ more) =
-    ap (λ (t : List ℕ). t ++ more) h.read_is ∙ append_assoc capture.header (flat_map text_of given ++ capture.ahead) more in
-    rw whole (take_at capture.header ((flat_map text_of given ++ capture.ahead) ++ more) 24 h.header_length)
-
--- a text that begins with a whole header opens as that says
-opens_as : (header rest : List ℕ) (form : Form) → length header ≡ 24 → form_of header ≡ Ok form → opening_of (header ++ rest) ≡ Ok form
-opens_as header rest form long says =
-    let enough : ltb (length (header ++ rest)) 24 ≡ false = le-ltb _ _ (omega (arith, length-append header rest)) in
-    rw (enough, take_at header rest 24 long) says
-
--- and so does the text that was read
-pub read_opens : (capture : Reading) (read more : List ℕ) (given : List RecordBytes) → HasGiven capture read given → opening_of (read ++ more) ≡ Ok capture.form
-read_opens capture read more given h =
-    let whole : read ++ more ≡ capture.header ++ ((flat_map text_of given ++ capture.ahead) ++ more) =
-    ap (λ (t : List ℕ). t ++ more) h.read_is ∙ append_assoc capture.header (flat_map text_of given ++ capture.ahead) more in
-    rw whole (opens_as capture.header ((flat_map text_of given ++ capture.ahead) ++ more) capture.form h.header_length h.says)
-
--- and a capture
-pub capture_opens : (text more : List ℕ) (form : Form) (records : List RecordBytes) (end : End) → IsCapture text form records end → opening_of (text ++ more) ≡ Ok form
-capture_opens text more form records end c =
-    let whole : text ++ more ≡ c.header ++ ((flat_map text_of records ++ c.rest) ++ more) =
-    ap (λ (t : List ℕ). t ++ more) c.whole ∙ append_assoc c.header (flat_map text_of records ++ c.rest) more in
-    rw whole (opens_as c.header ((flat_map text_of records ++ c.rest) ++ more) form c.header_length c.says)
-
--- what holds of the reader's header and form, and of all records that begin with those given, if more of the source was read since
-pub of_every : (capture : Reading) (text left read later : List ℕ) (given : List RecordBytes) (P : List ℕ → Form → List RecordBytes → Type 0) → text ≡ read ++ later → Gave later left → HasGiven capture read given
-    → ((records : List RecordBytes) → IsFront given records → P capture.header capture.form records) → OfEvery text left P
-of_every capture text left read later given P is gave h p = record {
-  read = read ++ gave.came;
-  is = is ∙ (rw gave.gave (sym (append_assoc read gave.came left)));
-  form = capture.form;
-  opened = read_opens capture read gave.came given h;
-  every = λ more form records ending c.
-      let capture_is : IsCapture (read ++ (gave.came ++ more)) form records ending = rw (append_assoc read gave.came more) at c in
-      let g = given_first capture read (gave.came ++ more) given form records ending h capture_is in
-      rw (g.form_is, append_assoc read gave.came more, header_is capture read (gave.came ++ more) given h) (p records g.first);
+-- none more
+pub gives_no_more : (old mid new : List Waiting) (befores betweens lefts : List (List ℕ)) (records : List Record) → GaveRecords old mid befores betweens records → MergesOn mid new betweens lefts [] → GaveRecords old new befores lefts records
+gives_no_more old mid new befores betweens lefts records first on = record {
+  list = first.list;
+  records_are = first.records_are;
+  on = subst (λ (list : List Arrived). MergesOn old new befores lefts list) (append-nil first.list) (merges_twice old mid new befores betweens lefts first.list [] first.on on);
 }
+
+pub gave_of : (old new : List Waiting) (befores lefts : List (List ℕ)) (records : List Record) → GaveRecords old new befores lefts records → length lefts ≡ length befores → AllGave befores lefts
+gave_of old new befores lefts records gives long = record { came = gives.on.came; gave = gives.on.gave; long = long }
+
+-- the merge refused a capture
+pub batch_refused : (old mid new : List Waiting) (befores betweens lefts : List (List ℕ)) (records : List Record) (olds news : List ℕ) (place : ℕ) (e : CaptureError) → GaveRecords old mid befores betweens records → MergesOn mid new betweens lefts [] → StopsAt new (place, e) → LacksRecordAt new (place, e) → length lefts ≡ length befores
+    → ReadingFails olds news (place, e) → BatchSays old new befores lefts records (Some (Err (place, e)))
+batch_refused old mid new befores betweens lefts records olds news place refusal.Read gives on stop lacks long fails = (gives_no_more old mid new befores betweens lefts records gives on, stop, lacks)
+batch_refused old mid new befores betweens lefts records olds news place refusal.Memory gives on stop lacks long fails = gave_of old new befores lefts records (gives_no_more old mid new befores betweens lefts records gives on) long
+batch_refused old mid new befores betweens lefts records olds news place (refusal.RecordTooLong asked) gives on stop lacks long fails = (gives_no_more old mid new befores betweens lefts records gives on, stop)
+batch_refused old mid new befores betweens lefts records olds news place refusal.HeaderCut gives on stop lacks long fails = absurd fails
+batch_refused old mid new befores betweens lefts records olds news place refusal.BadMagic gives on stop lacks long fails = absurd fails
+batch_refused old mid new befores betweens lefts records olds news place refusal.BadVersion gives on stop lacks long fails = absurd fails
+batch_refused old mid new befores betweens lefts records olds news place (refusal.LinkType link) gives on stop lacks long fails = absurd fails
+
+-- ---- what holds of every continuation
+
+-- What holds of the headers of a merge's captures, and of all packets that begin with those given, if more of the sources was read since.
+pub of_every : (ws : List Waiting) (texts reads laters lefts : List (List ℕ)) (list : List Arrived) (P : List (List ℕ) → List Frame → End → Type 0) → texts ≡ joined reads laters → AllGave laters lefts → HasMerged ws reads list → MayFollowAll ws laters
+    → ((frames : List Frame) (ending : End) → BeginWith (map frame_in list) frames → P (map header_in ws) frames ending) → OfEvery texts lefts P
+of_every ws texts reads laters lefts list P are gave has follow p =
+    let laters_long = follow_long ws laters follow in
+    let flags_long = length-map ws has_ended in
+    record {
+      reads = joined reads gave.came;
+      are = are ∙ ap (joined reads) gave.gave ∙ sym (joined_assoc reads gave.came lefts);
+      opened = opened_longer reads gave.came (reads_opened 0 ws reads has.taken has.each);
+      ended = map has_ended ws;
+      long = flags_long ∙ sym laters_long ∙ sym gave.long;
+      every = λ mores frames ending may captures.
+          let joins_long : length (joined gave.came lefts) ≡ length (map has_ended ws) = ap (λ (ls : List (List ℕ)). length ls) (sym gave.gave) ∙ laters_long ∙ sym flags_long in
+          let on = continue_on (map has_ended ws) gave.came lefts mores joins_long may in
+          let later_may = rw (← gave.gave) at on in
+          let texts_are = joined_assoc reads gave.came mores in
+          let give : TextsGive (joined reads (joined gave.came mores)) captures.list ending = rw texts_are at captures.give in
+          let front = front_of ws reads laters (joined gave.came mores) list captures.list ending has follow later_may give in
+          let more_long = continue_long (map has_ended ws) laters (joined gave.came mores) later_may ∙ laters_long in
+          let begins : BeginWith (map frame_in list) frames = (map frame_in front.0, captures.frames_are ∙ ap (map frame_in) front.1 ∙ map-append frame_in list front.0) in
+          rw (texts_are, headers_are 0 ws reads (joined gave.came mores) has.taken has.each more_long) (p frames ending begins);
+    }

@@ -115,6 +115,10 @@ told_list : {S : Type 0} (told : S → Bool) (sinks : List S) → list_all told 
 told_list told [] = refl
 told_list told (sink ∷ sinks) = ap (λ (rest : Bool). told sink && rest) (told_list told sinks)
 
+-- devices tell as others do that tell one by one as they do
+pub list_told_alike : {S : Type 0} (told : S → Bool) (old new : List S) → map told new ≡ map told old → list_all told new ≡ list_all told old
+list_told_alike told old new is = told_list told new ∙ ap (λ (each : List Bool). list_all (λ (it : Bool). it) each) is ∙ sym (told_list told old)
+
 -- sinks tell as others do that tell one by one as they do
 pub all_told_alike : {S : Type 0} (told : S → Bool) (old new : Sinks S) → each_of told new ≡ each_of told old → all_told told new ≡ all_told told old
 all_told_alike {S = S} told old new is =

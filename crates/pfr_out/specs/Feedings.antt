@@ -1,10 +1,9 @@
--- How the batches of a capture are given, and what they add is taken.
-use Rattle.std.specs.Prelude.{◌≡◌, ◌⊎◌, ◌≤◌, ◌+◌, ◌++◌, min, ℕ, Bool, IsTrue, false, List, [], ◌∷◌, length, Option, Some, None, Result, Ok, Err, IfErr, IfOk, IfSome, OnOk}
-use Rattle.std.specs.List.{All}
+-- How the batches of captures are given, and what they add is taken.
+use Rattle.std.specs.Prelude.{◌≡◌, ◌⊎◌, ◌≤◌, ◌+◌, min, ℕ, Bool, false, List, [], length, map, Option, Some, None, Result, Ok, Err, IfErr, IfOk, IfSome, OnOk}
 use Rattle.std.specs.Option.{option_map}
 use Rattle.pfr_net.specs.declared.address.Ipv4Address.{Ipv4Address}
 use Rattle.pfr_capture.specs.declared.capture.Record.{Record}
-use Rattle.pfr_capture.specs.Reading.{FieldsOf, HasGiven}
+use Rattle.pfr_merge.specs.MergeReading.{AllTold, HasMerged, MayFollowAll, header_in, joined}
 use Rattle.pfr_commit.specs.declared.book.Book.{Book}
 use Rattle.pfr_commit.specs.World.{Texts}
 use Rattle.pfr_feed.specs.Transitions.{Transitions}
@@ -17,7 +16,8 @@ use Rattle.pfr_out.specs.declared.report.Stop.TheVariants as stop
 use Rattle.pfr_out.specs.declared.settings.Form.{Form}
 use Rattle.pfr_out.specs.declared.sinks.Sinks.{Sinks}
 use Rattle.pfr_out.specs.Outputs.{Grew, GrewBy, KeepsMessages, OutputTexts, Outputs, Stay, TookPart, batch_alone, each_of, headers_alone}
-use Rattle.pfr_out.specs.Reading.{BatchFails, End, SaysIn, wants_memory}
+use Rattle.pfr_out.specs.Captures.{End}
+use Rattle.pfr_out.specs.Reading.{BatchFails, SaysIn, wants_memory}
 use Rattle.pfr_out.specs.Replay.{StopFails, Stopped}
 use Rattle.pfr_out.specs.Spelling.{spelled}
 use Rattle.pfr_out.specs.Taking.{ClosesIn, ConcludeFails, ConcludesIn, IsPastHeader, Reaches, SinksFail, run_in}
@@ -45,14 +45,12 @@ pub record Same {R S : Type 0} (old new : Feeding R S) : Type 0 where
 -- it read these records; it dropped those of a batch for which memory was refused
 pub record Reads {R S : Type 0} (tells : R → Bool) (unread : R → List ℕ) (failures : R → ℕ) (old new : Feeding R S) (records : List Record) : Type 0 where
   pub going : old.end ≡ None
-  pub says : SaysIn tells unread old.capture.now new.capture.now old.source.now new.source.now records new.end
-  pub form : new.capture.now.form ≡ old.capture.now.form
-  pub header : new.capture.now.header ≡ old.capture.now.header
-  pub fields : All (FieldsOf old.capture.now.form) records
+  pub says : SaysIn tells unread old.merge.now new.merge.now old.sources.now new.sources.now records new.end
+  pub headers : map header_in new.merge.now ≡ map header_in old.merge.now
   pub at_most : length records ≤ old.most
   pub full : new.end ≡ None → length records ≡ old.most
-  pub told : tells new.source.now ≡ tells old.source.now
-  pub failed : BatchFails new.end (failures old.source.now) (failures new.source.now)
+  pub told : map tells new.sources.now ≡ map tells old.sources.now
+  pub failed : BatchFails new.end (map failures old.sources.now) (map failures new.sources.now)
   pub same : Same old new
   pub sinks : new.sinks.now ≡ old.sinks.now
   pub given : new.given ≡ old.given + length records
@@ -69,8 +67,8 @@ Ends tells unread failures old new = ((end : End) × (old.end ≡ Some end) × (
 
 -- it took packets back, and the reader is in the state in which it was
 pub record Rests {R S : Type 0} (old new : Feeding R S) : Type 0 where
-  pub capture : new.capture.now ≡ old.capture.now
-  pub source : new.source.now ≡ old.source.now
+  pub merge : new.merge.now ≡ old.merge.now
+  pub sources : new.sources.now ≡ old.sources.now
   pub sinks : new.sinks.now ≡ old.sinks.now
   pub end : new.end ≡ old.end
   pub given : new.given ≡ old.given
@@ -82,8 +80,8 @@ pub record Rests {R S : Type 0} (old new : Feeding R S) : Type 0 where
 
 -- what stays when a piece is written
 pub record Writes {R S : Type 0} (tells : S → Bool) (old new : Feeding R S) : Type 0 where
-  pub capture : new.capture.now ≡ old.capture.now
-  pub source : new.source.now ≡ old.source.now
+  pub merge : new.merge.now ≡ old.merge.now
+  pub sources : new.sources.now ≡ old.sources.now
   pub end : new.end ≡ old.end
   pub given : new.given ≡ old.given
   pub told : each_of tells new.sinks.now ≡ each_of tells old.sinks.now
@@ -138,24 +136,24 @@ transitions_of tells unread failures told written sink_failures = record {
 
 -- the devices tell their bytes as before
 abbrev pub TellAsBefore : {R S : Type 0} → (tells : R → Bool) → (told : S → Bool) → (old new : Feeding R S) → Type 0
-TellAsBefore tells told old new = (tells new.source.now ≡ tells old.source.now) × (each_of told new.sinks.now ≡ each_of told old.sinks.now)
+TellAsBefore tells told old new = (map tells new.sources.now ≡ map tells old.sources.now) × (each_of told new.sinks.now ≡ each_of told old.sinks.now)
 
 -- nothing has been given or taken
 pub record Fresh {R S : Type 0} (feeding : Feeding R S) : Type 0 where
-  pub count : feeding.capture.now.count ≡ 0
   pub given : feeding.given ≡ 0
   pub committed : feeding.committed ≡ 0
   pub end : feeding.end ≡ None
   pub cut : feeding.cut ≡ None
 
--- A fact of a run after its reader was opened and the header of the capture was written: of the text, what is left of it, and the outputs
--- before the header and at the end.
+-- A fact of a run after its captures were opened and their headers were written: of the texts, what is left of them, and the outputs
+-- before the headers and at the end.
 abbrev pub Behind : {R S : Type 0} → (tells : R → Bool) → (unread : R → List ℕ) → (told : S → Bool) → (written : S → List ℕ) → (old new : Feeding R S)
-    → ((text left : List ℕ) → (told : Sinks Bool) → (before behind : Outputs) → Type 0) → Type 0
+    → ((texts lefts : List (List ℕ)) → (told : Sinks Bool) → (before behind : Outputs) → Type 0) → Type 0
 Behind tells unread told written old new P =
-    IsTrue (tells old.source.now) → (read : List ℕ) (before : Outputs) → HasGiven old.capture.now read []
-    → Grew (each_of told old.sinks.now) before (each_of written old.sinks.now) (headers_alone (old.capture.now.header ∷ []))
-    → P (read ++ unread old.source.now) (unread new.source.now) (each_of told old.sinks.now) before (each_of written new.sinks.now)
+    AllTold (map tells old.sources.now) → (reads : List (List ℕ)) (before : Outputs)
+    → HasMerged old.merge.now reads [] → MayFollowAll old.merge.now (map unread old.sources.now)
+    → Grew (each_of told old.sinks.now) before (each_of written old.sinks.now) (headers_alone (map header_in old.merge.now))
+    → P (joined reads (map unread old.sources.now)) (map unread new.sources.now) (each_of told old.sinks.now) before (each_of written new.sinks.now)
 
 -- the run went to the end of the reading, and the book has taken all packets
 pub record RunEnds {R S : Type 0} (tells : R → Bool) (unread : R → List ℕ) (failures : R → ℕ) (told : S → Bool) (written : S → List ℕ) (sink_failures : S → ℕ) (book : Book) (old new : Feeding R S) (last_book : Option Book) : Type 0 where
@@ -164,15 +162,15 @@ pub record RunEnds {R S : Type 0} (tells : R → Bool) (unread : R → List ℕ)
   pub end_is : new.end ≡ Some end
   pub last_is : last_book ≡ Some last
   pub job : last.job ≡ book.job
-  pub reaches : Behind tells unread told written old new (λ text left told before behind. Reaches (run_in book old.channel.now.form) old.most text left told before behind last end)
-  pub failed : BatchFails (Some end) (failures old.source.now) (failures new.source.now)
+  pub reaches : Behind tells unread told written old new (λ texts lefts told before behind. Reaches (run_in book old.channel.now.form) old.most texts lefts told before behind last end)
+  pub failed : BatchFails (Some end) (map failures old.sources.now) (map failures new.sources.now)
   pub sinks_failed : Stay sink_failures old.sinks.now new.sinks.now
 
 -- it stopped before
 pub record RunStops {R S : Type 0} (tells : R → Bool) (unread : R → List ℕ) (failures : R → ℕ) (told : S → Bool) (written : S → List ℕ) (sink_failures : S → ℕ) (book : Book) (old new : Feeding R S) (why : Stop) : Type 0 where
-  pub stopped : Behind tells unread told written old new (λ text left told before behind. Stopped (run_in book old.channel.now.form) old.most text left told before behind why)
+  pub stopped : Behind tells unread told written old new (λ texts lefts told before behind. Stopped (run_in book old.channel.now.form) old.most texts lefts told before behind why)
   pub late : IsPastHeader why
-  pub failed : StopFails why (failures old.source.now) (failures new.source.now) (each_of sink_failures old.sinks.now) (each_of sink_failures new.sinks.now)
+  pub failed : StopFails why (map failures old.sources.now) (map failures new.sources.now) (each_of sink_failures old.sinks.now) (each_of sink_failures new.sinks.now)
 
 -- the end of a run whose reading has ended
 pub record Concluded {S : Type 0} (told : S → Bool) (written : S → List ℕ) (failures : S → ℕ) (book : Book) (form : Form) (end : End) (old new : Sinks S) (result : Result Report Stop) : Type 0 where

@@ -1,3 +1,4 @@
+pub mod Captures
 pub mod Feedings
 pub mod Laws
 pub mod Outputs

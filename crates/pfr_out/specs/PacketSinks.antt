@@ -1,13 +1,8 @@
 -- The sinks of the packets, one for each capture, and what is written to them, by the places of the captures.
-use Rattle.std.specs.Prelude.{◌≡◌, ◌≢◌, ◌<◌, ℕ, Bool, false, List, ◌++◌, map, IsTrue, slice_index, slice_index_or, Vec}
-use Rattle.std.specs.declared.alloc.Global.{Global}
+use Rattle.std.specs.Prelude.{◌≡◌, ◌≢◌, ◌<◌, ℕ, Bool, false, List, ◌++◌, map, IsTrue, slice_index, slice_index_or}
 use Rattle.pfr_capture.specs.Device.{GrewByPart, Rose}
 use Rattle.pfr_commit.specs.Emissions.{by_place}
 use Rattle.pfr_commit.specs.World.{ByPlace}
-
--- texts of captures, by place
-abbrev pub held_texts : List (Vec ℕ Global) → ByPlace
-held_texts texts = by_place (map (λ text. text.items) texts)
 
 -- a sink is there, and tells its bytes
 abbrev pub TellsAt : List Bool → ℕ → Type 0

@@ -1,20 +1,23 @@
-//! The batches of a capture, and the way of what they add into the outputs.
-ghost use Rattle.std.specs.Prelude.{◌≡◌, ◌≤◌, ◌+◌, ◌^◌, min, None, Some, IfErr, IfSome, IsSome, OnOk};
+//! The batches of captures, and the way of what they add into the outputs.
+ghost use Rattle.std.specs.Prelude.{◌≡◌, ◌≤◌, ◌+◌, min, length, None, Some, IfErr, IfSome, IsSome, OnOk};
 ghost use Rattle.pfr_commit.specs.Books.{StandsAt, job_of};
 ghost use Rattle.pfr_commit.specs.World.{opening};
 ghost use Rattle.pfr_commit.specs.Emissions.{texts_of};
+ghost use Rattle.pfr_merge.specs.MergeReading.{HasPassedOn, NoneRefused};
 ghost use Rattle.pfr_out.specs.Outputs.{KeepsMessages, Stay, each_of};
 ghost use Rattle.pfr_out.specs.Spelling.{source_of};
 ghost use Rattle.pfr_out.specs.declared.report.Stop.TheVariants.{Memory};
 
 use crate::channel::Channel;
-use crate::reading::{give_back, read_batch, wants_memory};
+use crate::reading::{give_back, wants_memory};
 use crate::report::{Output, Report, Stop};
 use crate::sinks::Sinks;
+use crate::sources::Sources;
 use crate::taking::conclude;
-use pfr_capture::{Capture, CaptureError, Record, Sink, Source, Tail};
+use pfr_capture::{CaptureError, Record, Sink, Source, Tail};
 use pfr_commit::{Book, Emitted};
 use pfr_headers::View;
+use pfr_merge::Merge;
 use pfr_net::Ipv4Address;
 use pfr_work::{Feed, Gate, Histories, Naming, OfRun, run_workers};
 use std::alloc::{AllocGlobal, Global};
@@ -30,12 +33,13 @@ pub(crate) enum Cut {
     Write(Output),
 }
 
-/// Reads a capture, a batch at a time, and writes what each batch adds.
+/// Reads captures, a batch at a time, and writes what each batch adds.
 #[derive(Drop)]
 pub(crate) struct Feeding<'a, R, S> {
     pub(crate) alloc: Global,
-    pub(crate) capture: &'a mut Capture,
-    pub(crate) source: &'a mut R,
+    /// The captures, each with the source at its place.
+    pub(crate) merge: &'a mut Merge,
+    pub(crate) sources: &'a mut Sources<R>,
     /// The most records of a batch, and the bytes of the largest one so far.
     pub(crate) most: usize,
     pub(crate) bytes: usize,
@@ -47,12 +51,13 @@ pub(crate) struct Feeding<'a, R, S> {
     pub(crate) given: u64,
     pub(crate) committed: u64,
     /// How the reading has ended, if it has.
-    pub(crate) end: Option<Result<Tail, CaptureError>>,
+    pub(crate) end: Option<Result<Tail, (usize, CaptureError)>>,
     /// Why the run stopped before that, if it did.
     pub(crate) cut: Option<Cut>,
     ghost batch: { (1 ≤ most) × (most ≤ 4096) },
-    ghost reading: { end ≡ None → capture.now.over ≡ None },
-    ghost counted: { (committed ≤ given) × (given ≤ capture.now.count) × (capture.now.count ≤ 2 ^ 40) },
+    ghost captures: { (length sources.now ≡ length merge.now) × (length merge.now ≤ 8) },
+    ghost reading: { end ≡ None → NoneRefused merge.now },
+    ghost counted: { (committed ≤ given) × HasPassedOn given merge.now },
 }
 
 impl<R: Source, S: Sink> Feeding<'_, R, S> {
@@ -63,7 +68,7 @@ impl<R: Source, S: Sink> Feeding<'_, R, S> {
         ensures writes { Writes S.told self.old self.new }
         ensures committed { self.new.committed ≡ self.old.committed }
         ensures cut { self.new.cut ≡ self.old.cut }
-        ensures names { (self.new.source.ghost_name ≡ self.old.source.ghost_name) × (self.new.sinks.ghost_name ≡ self.old.sinks.ghost_name) }
+        ensures names { (self.new.sources.ghost_name ≡ self.old.sources.ghost_name) × (self.new.sinks.ghost_name ≡ self.old.sinks.ghost_name) }
         ensures grew { OnOk result (GrewByPiece S.told S.written self.old (texts_of piece.now) self.new) }
         ensures no_failure { OnOk result (Stay S.failures self.old.sinks.now self.new.sinks.now) }
         ensures off { IfErr result (λ cut. CutsPiece S.told S.written self.old (texts_of piece.now) self.new cut) }
@@ -89,16 +94,17 @@ impl<R: Source, S: Sink> Feeding<'_, R, S> {
 
 impl<R: Source, S: Sink> Feed for Feeding<'_, R, S> {
     ghost use Rattle.std.specs.Prelude.{◌&&◌};
+    ghost use Rattle.std.specs.List.{list_all};
     ghost use Rattle.pfr_out.specs.Feedings.{transitions_of};
     ghost use Rattle.pfr_out.specs.Outputs.{all_told};
 
     ghost transitions = { transitions_of R.told R.unread R.failures S.told S.written S.failures };
 
-    ghost told = { λ feeding. R.told feeding.source.now && all_told S.told feeding.sinks.now };
+    ghost told = { λ feeding. list_all R.told feeding.sources.now && all_told S.told feeding.sinks.now };
 
     ghost given = { λ feeding. feeding.given };
 
-    ghost names = { λ feeding. (feeding.source.ghost_name, feeding.sinks.ghost_name) };
+    ghost names = { λ feeding. (feeding.sources.ghost_name, feeding.sinks.ghost_name) };
 
     fn batch(&mut self) -> Option<Vec<Record>> {
         if self.end.is_some() {
@@ -107,9 +113,9 @@ impl<R: Source, S: Sink> Feed for Feeding<'_, R, S> {
         let mut records = Vec::new(self.alloc);
         // if room is refused here, so is the room of a record
         let _ = records.reserve(self.most);
-        let before = self.capture.taken();
-        self.end = read_batch(self.capture, self.source, self.most, &mut records);
-        let bytes = self.capture.taken().wrapping_sub(before);
+        let before = self.merge.taken();
+        self.end = self.sources.read_batch(self.merge, self.most, &mut records);
+        let bytes = self.merge.taken().wrapping_sub(before);
         self.bytes = self.bytes.max(bytes);
         if records.is_empty() {
             return None;
@@ -135,15 +141,15 @@ impl<R: Source, S: Sink> Feed for Feeding<'_, R, S> {
     }
 
     fn give_back(&mut self, packets: Vec<(Record, View)>) {
-        give_back(self.capture, packets);
+        give_back(self.merge, packets);
     }
 
     fn may_wait(&self) -> bool {
-        self.capture.may_wait(self.bytes)
+        self.merge.may_wait(self.bytes)
     }
 
     fn tells(&self) -> bool {
-        self.source.tells() && self.sinks.tell()
+        self.sources.tell() && self.sinks.tell()
     }
 }
 
@@ -152,8 +158,8 @@ impl<'a, R: Source, S: Sink> Feeding<'a, R, S> {
 
     /// Notes that memory was refused.
     fn without_memory(mut self) -> Feeding<'a, R, S>
-        ensures names { (result.source.ghost_name ≡ self.entry.source.ghost_name) × (result.sinks.ghost_name ≡ self.entry.sinks.ghost_name) }
-        ensures source { result.source.now ≡ self.entry.source.now }
+        ensures names { (result.sources.ghost_name ≡ self.entry.sources.ghost_name) × (result.sinks.ghost_name ≡ self.entry.sinks.ghost_name) }
+        ensures sources { result.sources.now ≡ self.entry.sources.now }
         ensures sinks { result.sinks.now ≡ self.entry.sinks.now }
         ensures form { result.channel.now.form ≡ self.entry.channel.now.form }
         ensures stop { stop_of result ≡ Some (Memory self.entry.committed) }
@@ -162,7 +168,7 @@ impl<'a, R: Source, S: Sink> Feeding<'a, R, S> {
         self
     }
 
-    /// Has a book take the packets of the capture, and writes what they add, a batch at a time. If there are `workers`, they evaluate
+    /// Has a book take the packets of the captures, and writes what they add, a batch at a time. If there are `workers`, they evaluate
     /// the packets of the next batches ahead. `last` is that book then, unless memory was refused.
     pub(crate) fn run<
         J: OfRun + Send + Sync + 'static,
@@ -186,7 +192,7 @@ impl<'a, R: Source, S: Sink> Feeding<'a, R, S> {
         requires changes { histories.changes ≡ J.history }
         requires batches { histories.batches ≡ K.history }
         requires workers { workers ≤ 64 }
-        ensures source { result.source.ghost_name ≡ self.entry.source.ghost_name }
+        ensures sources { result.sources.ghost_name ≡ self.entry.sources.ghost_name }
         ensures sinks { result.sinks.ghost_name ≡ self.entry.sinks.ghost_name }
         ensures told { TellAsBefore R.told S.told self.entry result }
         ensures form { result.channel.now.form ≡ self.entry.channel.now.form }
@@ -223,8 +229,8 @@ impl<'a, R: Source, S: Sink> Feeding<'a, R, S> {
     /// Ends a run: if the reading has ended it writes the last texts, and it reports a stop that came before.
     pub(crate) fn finish(&mut self, last: Option<Book>) -> Result<Report, Stop>
         requires over { self.old.cut ≡ None → IsSome self.old.end × IsSome last }
-        ensures source { self.new.source.ghost_name ≡ self.old.source.ghost_name }
-        ensures source_stays { self.new.source.now ≡ self.old.source.now }
+        ensures sources { self.new.sources.ghost_name ≡ self.old.sources.ghost_name }
+        ensures sources_stay { self.new.sources.now ≡ self.old.sources.now }
         ensures sinks { self.new.sinks.ghost_name ≡ self.old.sinks.ghost_name }
         ensures told { each_of S.told self.new.sinks.now ≡ each_of S.told self.old.sinks.now }
         ensures messages { KeepsMessages self.old.channel.now.form self.old.sinks.now self.new.sinks.now }

@@ -1,9 +1,9 @@
-//! A capture through a ruleset: the lines that say what becomes of each packet, the packets that aren't blocked, the counters
+//! Captures through a ruleset: the lines that say what becomes of each packet, the packets that aren't blocked, the counters
 //! of the rules, the states that are left, and the messages by which another firewall is told of the states.
 //!
-//! [`replay`] is the whole run, over any source and any sinks. Its contract is the theorem of this crate, for all sizes of a batch,
+//! [`replay`] is the whole run, over any sources and any sinks. Its contract is the theorem of this crate, for all sizes of a batch,
 //! numbers of workers and orders of their results. After a run to the end the sinks have grown by exactly what one thread writes
-//! that takes the packets in the order of the capture. If a device fails, they have grown by a beginning of that, which holds at
+//! that takes the packets in the order of the captures. If a device fails, they have grown by a beginning of that, which holds at
 //! least the packets that the stop reports as committed.
 //!
 //! [`standby`] reads the messages that a run writes, and writes the states that who reads them holds.
@@ -18,6 +18,7 @@ pub mod report;
 mod run;
 pub mod settings;
 pub mod sinks;
+pub mod sources;
 mod taking;
 
 pub use packet_sinks::PacketSinks;
@@ -28,3 +29,4 @@ pub use report::{Output, Report, Stop};
 pub use run::{replay, replay_job};
 pub use settings::{Form, RunSettings, Settings};
 pub use sinks::Sinks;
+pub use sources::Sources;

@@ -1,8 +1,8 @@
 //! Where the packets go.
 ghost use Rattle.std.specs.Prelude.{◌≡◌, IfErr, OnOk, map};
 ghost use Rattle.std.specs.List.{list_all};
-ghost use Rattle.pfr_commit.specs.Emissions.{by_place};
-ghost use Rattle.pfr_out.specs.PacketSinks.{EachGrew, OneRose, OneTookPart, held_texts};
+ghost use Rattle.pfr_commit.specs.Emissions.{by_place, held_texts};
+ghost use Rattle.pfr_out.specs.PacketSinks.{EachGrew, OneRose, OneTookPart};
 
 use pfr_capture::{Sink, write_all};
 use std::convert::AsSlice;

@@ -1,50 +1,50 @@
-//! Records from a capture, a batch at a time.
-ghost use Rattle.std.specs.Prelude.{◌≡◌, ◌≤◌, ◌+◌, ◌^◌, [], None, length};
-ghost use Rattle.std.specs.List.{All};
-ghost use Rattle.pfr_capture.specs.Reading.{FieldsOf};
+//! Records from captures, a batch at a time.
+ghost use Rattle.std.specs.Prelude.{◌≡◌, ◌≤◌, ◌+◌, ℕ, [], None, length, map};
+ghost use Rattle.pfr_merge.specs.MergeReading.{HasPassedOn, NoneRefused, header_in};
 ghost use Rattle.pfr_out.specs.Reading.{BatchFails, SaysIn, wants_memory};
 
-use pfr_capture::{Capture, CaptureError, Record, Source, Tail};
+use pfr_capture::{CaptureError, Record, Source, Tail};
 use pfr_headers::View;
+use pfr_merge::Merge;
 
-/// Gives the records of packets back to their capture.
-pub(crate) fn give_back(capture: &mut Capture, packets: Vec<(Record, View)>)
-    ensures { capture.new ≡ capture.old }
+/// Gives the records of packets back, each to its capture.
+pub(crate) fn give_back(merge: &mut Merge, packets: Vec<(Record, View)>)
+    ensures { merge.new ≡ merge.old }
 {
     for (packet, _view) in packets {
-        capture.give_back(packet);
+        merge.give_back(usize::from(packet.place), packet);
     }
 }
 
-/// Reads a batch of at most `most` records. It returns how the reading ends, if it does: at the end of the capture, or with a
-/// refusal.
+/// Reads a batch of at most `most` records. It returns how the reading ends, if it does: at the end of the captures, or with the
+/// refusal of the one at a place.
 pub(crate) fn read_batch<R: Source>(
-    capture: &mut Capture,
-    source: &mut R,
+    merge: &mut Merge,
+    sources: &mut [R],
     most: usize,
     records: &mut Vec<Record>,
-) -> Option<Result<Tail, CaptureError>>
-    requires reading { capture.old.over ≡ None }
+) -> Option<Result<Tail, (usize, CaptureError)>>
+    requires reading { NoneRefused merge.old }
+    requires captures { (length sources.old ≡ length merge.old) × (length merge.old ≤ 8) }
     requires most { 1 ≤ most }
     requires none { records.old.items ≡ [] }
-    ensures told { R.told source.new ≡ R.told source.old }
-    ensures same { (capture.new.form ≡ capture.old.form) × (capture.new.header ≡ capture.old.header) }
-    ensures fields { All (FieldsOf capture.old.form) records.new.items }
+    ensures told { map R.told sources.new ≡ map R.told sources.old }
+    ensures captures { (length sources.new ≡ length sources.old) × (length merge.new ≡ length merge.old) }
+    ensures headers { map header_in merge.new ≡ map header_in merge.old }
     ensures at_most { length records.new.items ≤ most }
     ensures full { result ≡ None → length records.new.items ≡ most }
-    ensures goes_on { result ≡ None → (capture.new.over ≡ None) × (capture.new.count ≡ capture.old.count + length records.new.items) }
-    ensures counted { capture.old.count + length records.new.items ≤ capture.new.count }
-    ensures few { capture.old.count ≤ 2 ^ 40 → capture.new.count ≤ 2 ^ 40 }
-    ensures says { SaysIn R.told R.unread capture.old capture.new source.old source.new records.new.items result }
-    ensures failures { BatchFails result (R.failures source.old) (R.failures source.new) }
+    ensures goes_on { result ≡ None → NoneRefused merge.new }
+    ensures counted { (count : ℕ) → HasPassedOn count merge.old → HasPassedOn (count + length records.new.items) merge.new }
+    ensures says { SaysIn R.told R.unread merge.old merge.new sources.old sources.new records.new.items result }
+    ensures failures { BatchFails result (map R.failures sources.old) (map R.failures sources.new) }
 {
     while records.len() < most {
-        match capture.next(source) {
-            Ok(Some(given)) => match records.push(given) {
+        match merge.next(sources) {
+            Ok(Some((_place, given))) => match records.push(given) {
                 Ok(()) => {}
-                Err(_) => return Some(Err(CaptureError::Memory)),
+                Err(_) => return Some(Err((0, CaptureError::Memory))),
             },
-            Ok(None) => return Some(Ok(capture.tail())),
+            Ok(None) => return Some(Ok(merge.tail())),
             Err(refusal) => return Some(Err(refusal)),
         }
     }
@@ -52,11 +52,11 @@ pub(crate) fn read_batch<R: Source>(
 }
 
 /// Whether the reading ends because memory was refused.
-pub(crate) fn wants_memory(end: &Option<Result<Tail, CaptureError>>) -> bool
+pub(crate) fn wants_memory(end: &Option<Result<Tail, (usize, CaptureError)>>) -> bool
     ensures { result ≡ wants_memory end.now }
 {
     match end {
-        Some(Err(CaptureError::Memory)) => true,
+        Some(Err((_, CaptureError::Memory))) => true,
         _ => false,
     }
 }

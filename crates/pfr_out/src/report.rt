@@ -3,12 +3,12 @@ use pfr_capture::{CaptureError, Tail};
 use pfr_conf::ConfError;
 use thiserror::Error;
 
-/// A run that went to the end of its capture.
+/// A run that went to the end of its captures.
 #[derive(Clone, Copy, PartialEq, Eq)]
 pub struct Report {
     /// How many packets were replayed.
     pub committed: u64,
-    /// How the capture ends.
+    /// How the captures end: cut if one of them is.
     pub tail: Tail,
 }
 
@@ -28,16 +28,18 @@ pub enum Output {
     Messages,
 }
 
-/// Why a run ended before the end of its capture. The number counts the packets committed: the outputs of verdicts and packets hold
-/// all that these write.
+/// Why a run ended before the end of its captures. The last number counts the packets committed: the outputs of verdicts and packets
+/// hold all that these write.
 #[derive(Debug, Drop, Error)]
 pub enum Stop {
     #[error("{0}")]
     Ruleset(ConfError),
-    #[error("capture: {0}, committed {1}")]
-    Capture(CaptureError, u64),
-    #[error("read failed, committed {0}")]
-    Read(u64),
+    /// The capture at a place is refused.
+    #[error("capture {0}: {1}, committed {2}")]
+    Capture(usize, CaptureError, u64),
+    /// The source at a place failed.
+    #[error("read failed: capture {0}, committed {1}")]
+    Read(usize, u64),
     #[error("write failed: {0}, committed {1}")]
     Write(Output, u64),
     #[error("no memory, committed {0}")]

@@ -1,4 +1,4 @@
-//! How a capture is replayed.
+//! How captures are replayed.
 use pfr_net::Net;
 use pfr_ruleset::Interface;
 
@@ -13,7 +13,7 @@ pub enum Form {
     None,
 }
 
-/// How the packets of a capture are taken and written, whatever the ruleset.
+/// How the packets of captures are taken and written, whatever the ruleset.
 #[derive(Clone, Copy)]
 pub struct RunSettings {
     /// How many packets are taken and written at a time, 1 to 4096.
@@ -24,7 +24,7 @@ pub struct RunSettings {
     pub form: Form,
 }
 
-/// How a capture is replayed through the text of a ruleset.
+/// How captures are replayed through the text of a ruleset.
 #[derive(Clone, Copy)]
 pub struct Settings<'a> {
     /// The interfaces that the packets pass, by their places.

@@ -41,21 +41,22 @@ pub(crate) fn close<S: Sink>(
     }
 }
 
-/// The stop for a refusal of the capture's reader.
-pub(crate) fn stop_for(refusal: CaptureError, committed: u64) -> Stop
+/// The stop for the refusal of the capture at a place.
+pub(crate) fn stop_for(refusal: (usize, CaptureError), committed: u64) -> Stop
     ensures { result ≡ stop_for refusal committed }
 {
+    let (place, refusal) = refusal;
     match refusal {
-        CaptureError::Read => Stop::Read(committed),
+        CaptureError::Read => Stop::Read(place, committed),
         CaptureError::Memory => Stop::Memory(committed),
-        refusal => Stop::Capture(refusal, committed),
+        refusal => Stop::Capture(place, refusal, committed),
     }
 }
 
-/// Ends a run whose reading has ended: at the end of the capture it writes the last texts, and it reports a refusal.
+/// Ends a run whose reading has ended: at the end of the captures it writes the last texts, and it reports a refusal.
 pub(crate) fn conclude<S: Sink>(
     book: Book,
-    end: Result<Tail, CaptureError>,
+    end: Result<Tail, (usize, CaptureError)>,
     channel: &mut Channel,
     sinks: &mut Sinks<S>,
 ) -> Result<Report, Stop>

@@ -73,7 +73,7 @@ pub(crate) fn end_of(end: Result<Report, Stop>, output: Output) -> End {
                 tail: Tail::Clean,
             },
         ) => End::Whole(committed),
-        Err(Stop::Read(committed)) => End::Read(committed),
+        Err(Stop::Read(0, committed)) => End::Read(committed),
         Err(Stop::Write(failed, committed)) if is_same(failed, output) => End::Write(committed),
         _ => End::Otherwise,
     }
@@ -113,20 +113,20 @@ fn run<R: AllocGlobal + Threads + Wait + Clock + Sync>(
     requires workers { workers ≤ 64 }
 {
     let alloc = rt.alloc();
-    let mut source = capture(alloc, 5, 0)?
+    let source = capture(alloc, 5, 0)?
         .at_most(28)
         .failing_after(faults.reads);
     let mut outputs = failing(alloc, faults)?;
-    let end = replay_into(
+    let (end, source) = replay_into(
         rt,
-        &mut source,
+        source,
         b"pass out\n",
         batch,
         workers,
         Form::File,
         &mut outputs,
         &Turns::by(rt, Freely),
-    );
+    )?;
     let left = Left {
         end: end_of(end, faults.output),
         verdicts: length_in(LINES, outputs.verdicts.bytes()),
@@ -280,18 +280,18 @@ fn read_part<R: AllocGlobal + Threads + Wait + Clock + Sync>(
     requires workers { workers ≤ 64 }
 {
     let alloc = rt.alloc();
-    let mut source = capture(alloc, 4500, 0)?.failing_after(reads);
+    let source = capture(alloc, 4500, 0)?.failing_after(reads);
     let mut outputs = sinks(alloc, Mem::new(Vec::new(alloc)))?;
-    let end = replay_into(
+    let (end, source) = replay_into(
         rt,
-        &mut source,
+        source,
         b"pass out\n",
         300,
         workers,
         Form::File,
         &mut outputs,
         &Turns::by(rt, Freely),
-    );
+    )?;
     drop(source);
     let lines = Vec::from_slice(alloc, outputs.verdicts.bytes());
     drop(outputs);

@@ -6,7 +6,7 @@ ghost use Rattle.pfr_commit.specs.World.{opening};
 use pfr_capture::{Mem, Record, Sink, Source};
 use pfr_commit::Book;
 use pfr_net::{IfName, Ipv4Address, Net};
-use pfr_out::{Form, Gate, PacketSinks, Report, Settings, Sinks, Stop, replay};
+use pfr_out::{Form, Gate, PacketSinks, Report, Settings, Sinks, Sources, Stop, replay};
 use pfr_packet::Job;
 use pfr_ruleset::Interface;
 use std::alloc::{AllocError, AllocGlobal, Global};
@@ -115,20 +115,28 @@ pub(crate) fn sinks(alloc: Global, verdicts: Mem) -> Result<Sinks<Mem>, AllocErr
     })
 }
 
-/// Replays a capture by these rules, `batch` packets at a time and with `workers` workers.
-pub(crate) fn replay_into<R: AllocGlobal + Threads + Wait + Sync, S: Source, O: Sink, G: Gate>(
+/// Replays a capture by these rules, `batch` packets at a time and with `workers` workers. It gives its source back.
+pub(crate) fn replay_into<
+    R: AllocGlobal + Threads + Wait + Sync,
+    S: Source + Drop,
+    O: Sink,
+    G: Gate,
+>(
     rt: &R,
-    source: &mut S,
+    source: S,
     rules: &[u8],
     batch: usize,
     workers: u64,
     form: Form,
     outputs: &mut Sinks<O>,
     gate: &G,
-) -> Result<Report, Stop>
+) -> Result<(Result<Report, Stop>, S), AllocError>
     requires batch { (1 ≤ batch) × (batch ≤ 4096) }
     requires workers { workers ≤ 64 }
 {
+    let mut sources = Vec::new(rt.alloc());
+    sources.push(source)?;
+    let mut sources = Sources::new(sources);
     let interfaces = interfaces();
     let settings = Settings {
         interfaces: &interfaces,
@@ -137,5 +145,9 @@ pub(crate) fn replay_into<R: AllocGlobal + Threads + Wait + Sync, S: Source, O: 
         workers,
         form,
     };
-    replay(rt, source, rules, [0; 32], &settings, outputs, gate)
+    let end = replay(rt, &mut sources, rules, [0; 32], &settings, outputs, gate);
+    match sources.into_vec().pop() {
+        Some(source) => Ok((end, source)),
+        None => Err(AllocError),
+    }
 }

@@ -109,10 +109,10 @@ fn a_standby_hears_a_run(rt: HostRuntime) -> Result<(), Fail> {
         states: nowhere(),
         messages: WriterSink::new(Output(Some(stream))),
     };
-    let mut source = capture(alloc)?;
-    let end = replay_into(
+    let source = capture(alloc)?;
+    let replayed = replay_into(
         &rt,
-        &mut source,
+        source,
         b"pass out\n",
         256,
         2,
@@ -123,6 +123,7 @@ fn a_standby_hears_a_run(rt: HostRuntime) -> Result<(), Fail> {
     // the standby sees the end of the stream
     drop(outputs);
     let heard = child.join(&rt).expect(&rt, "messages");
+    let (end, _source) = replayed?;
     assert!(rt; end.is_ok() && heard.0 == 1 && heard.1.bytes() == LINE);
     Ok(())
 }

@@ -45,21 +45,21 @@ impl Source for ByRecords {
 #[test]
 fn reads_ahead(rt: HostRuntime) -> Result<(), Fail> {
     let alloc = rt.alloc();
-    let mut source = ByRecords {
+    let source = ByRecords {
         capture: capture(alloc, 10, 0)?,
         reads: 0,
     };
     let mut outputs = sinks(alloc, Mem::new(Vec::new(alloc)).failing_after(0))?;
-    let end = replay_into(
+    let (end, source) = replay_into(
         &rt,
-        &mut source,
+        source,
         b"pass out\n",
         1,
         2,
         Form::File,
         &mut outputs,
         &Turns::by(&rt, Freely),
-    );
+    )?;
     let reads = source.reads;
     drop(source);
     drop(outputs);
@@ -72,7 +72,7 @@ fn reads_ahead(rt: HostRuntime) -> Result<(), Fail> {
 /// stops, and whether the next read is the one that fails: if so, the run has made all reads before that one.
 fn makes_all_reads<R: AllocGlobal + Threads + Wait + Clock + Sync>(
     rt: &R,
-    mut source: Mem,
+    source: Mem,
     text: &[u8],
     writes: u64,
     batch: usize,
@@ -84,16 +84,16 @@ fn makes_all_reads<R: AllocGlobal + Threads + Wait + Clock + Sync>(
     let alloc = rt.alloc();
     let verdicts = Mem::new(Vec::new(alloc)).failing_after(writes);
     let mut outputs = sinks(alloc, verdicts)?;
-    let end = replay_into(
+    let (end, mut source) = replay_into(
         rt,
-        &mut source,
+        source,
         text,
         batch,
         workers,
         Form::File,
         &mut outputs,
         &Turns::by(rt, Freely),
-    );
+    )?;
     let taken = writes.saturating_mul(batch as u64);
     let stops = end_of(end, Output::Verdicts) == End::Write(taken);
     let read = source.read(&mut [0; 44]).is_err();

@@ -66,19 +66,19 @@ fn run<R: AllocGlobal + Threads + Wait + Sync>(
     requires workers { workers ≤ 64 }
 {
     let alloc = rt.alloc();
-    let mut source = capture(alloc, 5, 0)?.at_most(28).failing_after(reads);
+    let source = capture(alloc, 5, 0)?.at_most(28).failing_after(reads);
     let verdicts = Mem::new(Vec::new(alloc)).failing_after(writes);
     let mut outputs = sinks(alloc, verdicts)?;
-    let end = replay_into(
+    let (end, source) = replay_into(
         rt,
-        &mut source,
+        source,
         b"pass out\n",
         batch,
         workers,
         Form::File,
         &mut outputs,
         &Unwatched,
-    );
+    )?;
     drop(source);
     let left = Left::of(end, &outputs);
     drop(outputs);
@@ -110,7 +110,7 @@ fn a_batch_of_one_is_committed_by_itself(rt: HostRuntime) -> Result<(), Fail> {
 fn a_failed_read_leaves_what_was_read(rt: HostRuntime) -> Result<(), Fail> {
     for workers in 0..3 {
         let left = run(&rt, 4, 99, 256, workers)?;
-        assert!(rt; matches!(&left.end, Err(Stop::Read(2))));
+        assert!(rt; matches!(&left.end, Err(Stop::Read(0, 2))));
         assert!(rt; left.has_two_lines && left.counters == 0 && left.messages == 0);
     }
     Ok(())

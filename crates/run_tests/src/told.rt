@@ -35,19 +35,19 @@ fn told_by<R: AllocGlobal + Threads + Wait + Clock + Sync>(
     requires workers { workers ≤ 64 }
 {
     let alloc = rt.alloc();
-    let mut source = capture(alloc, packets, packets)?;
+    let source = capture(alloc, packets, packets)?;
     let mut outputs = sinks(alloc, Mem::new(Vec::new(alloc)))?;
     let turns = Turns::by(rt, Freely);
-    let end = replay_into(
+    let (end, source) = replay_into(
         rt,
-        &mut source,
+        source,
         text.as_slice(),
         batch,
         workers,
         Form::None,
         &mut outputs,
         &turns,
-    );
+    )?;
     let seen = turns.told();
     drop(text);
     drop(source);
@@ -193,7 +193,7 @@ fn most_at_once<R: AllocGlobal + Threads + Wait + Clock + Sync>(
     requires workers { workers ≤ 64 }
 {
     let alloc = rt.alloc();
-    let mut source = capture(alloc, 3072, 3072)?;
+    let source = capture(alloc, 3072, 3072)?;
     let mut outputs = sinks(alloc, Mem::new(Vec::new(alloc)))?;
     let gate = AtOnce {
         rt,
@@ -201,16 +201,16 @@ fn most_at_once<R: AllocGlobal + Threads + Wait + Clock + Sync>(
         now: AtomicU64::new(0),
         most: AtomicU64::new(0),
     };
-    let end = replay_into(
+    let (end, source) = replay_into(
         rt,
-        &mut source,
+        source,
         text,
         1024,
         workers,
         Form::None,
         &mut outputs,
         &gate,
-    );
+    )?;
     drop(source);
     drop(outputs);
     match end {

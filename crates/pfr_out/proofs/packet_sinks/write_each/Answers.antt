@@ -1,4 +1,4 @@
-use Rattle.std.proofs.Common.{◌≡◌, ◌∙◌, ◌<◌, [], length, map, get_or, ap, sym, arith}
+use Rattle.std.proofs.Common.{◌≡◌, ◌∙◌, ◌<◌, [], length, map, ap, sym, arith}
 use Rattle.std.proofs.lemmas.List.{get_or-map}
 use Rattle.pfr_commit.specs.Emissions.{by_place}
 use Rattle.pfr_out.proofs.PlaceLemmas.{grew_one, one_rose, stay_all, took_part}

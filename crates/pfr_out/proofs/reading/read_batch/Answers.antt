@@ -1,57 +1,116 @@
-use Rattle.std.proofs.Common.{◌≡◌, ◌+◌, ◌∙◌, IsTrue, length, arith}
-use Rattle.std.proofs.lemmas.List.{length_push}
-use Rattle.std.proofs.lemmas.List.Elements.{All-push}
-use Rattle.pfr_capture.specs.Reading.{FieldsOf}
-use Rattle.pfr_out.proofs.ReadingLemmas.{batch_refused, ends_twice, gave_of, one_record, reads_and_nothing, reads_twice}
+use Rattle.std.proofs.Common.{◌≡◌, ℕ, List, ◌+◌, ◌≤◌, ◌∙◌, map, length, refl, sym, subst, arith}
+use Rattle.std.proofs.lemmas.List.{length-map, length_push}
+use Rattle.pfr_merge.specs.MergeReading.{AllTold}
+use Rattle.pfr_merge.specs.Opening.{ReadingFails}
+use Rattle.pfr_merge.proofs.CountLemmas.{passes_fewer}
+use Rattle.pfr_merge.proofs.ListLemmas.{reading_fails}
+use Rattle.pfr_merge.proofs.MergeReadingLemmas.{merges_none}
+use Rattle.pfr_merge.proofs.RefillAllLemmas.{all_refilled_none}
+use Rattle.pfr_out.proofs.ReadingLemmas.{batch_refused, gave_of, gives_no_more, gives_none, gives_one, gives_twice}
 use Rattle.pfr_out.proofs.reading.read_batch.Goals as goal
+
+pub loop-merge-init : goal.loop-merge-init
+loop-merge-init g c = record {
+  reading = c.requires.reading;
+  lengths = (refl, refl);
+  told = refl;
+  failures = refl;
+  headers = refl;
+  counted = λ count passed.
+      let same : count + length c.args.records.now.items ≡ count = rw c.requires.none (omega arith) in
+      rw same passed;
+  at_most = rw c.requires.none (omega arith);
+  on = λ told. rw c.requires.none (gives_none _ _ (merges_none _ _ _ _ (all_refilled_none g.R.Source.unread c.args.merge.now c.args.sources.now c.requires.captures.0)));
+}
+
+pub loop-merge-preserved : goal.loop-merge-preserved
+loop-merge-preserved g c =
+    let i = c.loop-merge.invariant in
+    let e = c.in-Ok-Some.ensures in
+    let done = c.in-Ok.ensures.items in
+    let long = length_push c.loop-merge.records.items c.in-Ok-Some.given in
+    let test = c.loop-merge-test.true in
+    let held = c.len.ensures in
+    record {
+      reading = e.running;
+      lengths = (c.next.auto.sources ∙ i.lengths.0, e.length ∙ i.lengths.1);
+      told = e.told ∙ i.told;
+      failures = e.ok ∙ i.failures;
+      headers = e.headers ∙ i.headers;
+      counted = λ count passed.
+          let after = rw c.in-Ok-Some.field-0-is at (e.counted (count + length c.loop-merge.records.items) (i.counted count passed)) in
+          let same : count + length c.push.new.self.items ≡ (count + length c.loop-merge.records.items) + 1 = rw done (omega (arith, long)) in
+          rw same after;
+      at_most = (let all : length c.push.new.self.items ≡ length c.loop-merge.records.items + 1 = rw done long in omega (arith, all, test, held));
+      on = λ told.
+          let mid : AllTold (map g.R.Source.told c.loop-merge.sources) = rw i.told told in
+          let most = i.lengths.1 in
+          let few = c.requires.captures.1 in
+          let short : length c.loop-merge.merge ≤ 8 = omega (arith, most, few) in
+          rw done (gives_twice _ _ _ _ _ _ _ _ (i.on told) (gives_one _ _ _ _ c.in-Ok-Some._place c.in-Ok-Some.given short (rw c.in-Ok-Some.field-0-is at e.form) (rw c.in-Ok-Some.field-0-is at (e.reads mid))));
+    }
+
+pub returns-in-Err-push-clause-counted : goal.returns-in-Err-push-clause-counted
+returns-in-Err-push-clause-counted g c =
+    λ count passed.
+    let i = c.loop-merge.invariant in
+    let after = c.in-Ok-Some.ensures.counted (count + length c.loop-merge.records.items) (i.counted count passed) in
+    rw c.in-Err-push.ensures.items (passes_fewer _ _ _ (omega arith) after)
 
 pub returns-in-Err-push-clause-says : goal.returns-in-Err-push-clause-says
 returns-in-Err-push-clause-says g c =
     λ told.
-    let i = c.loop-capture.invariant in
-    let mid : IsTrue (g.R.Source.told c.loop-capture.source) = rw i.told told in
-    gave_of _ _ _ _ _ (reads_twice _ _ _ _ _ _ _ _ (i.on told) (c.in-Ok-Some.ensures.reads_on i.reading mid))
+    let i = c.loop-merge.invariant in
+    let e = c.in-Ok-Some.ensures in
+    let mid : AllTold (map g.R.Source.told c.loop-merge.sources) = rw i.told told in
+    let most = i.lengths.1 in
+    let few = c.requires.captures.1 in
+    let short : length c.loop-merge.merge ≤ 8 = omega (arith, most, few) in
+    gave_of _ _ _ _ _ (gives_twice _ _ _ _ _ _ _ _ (i.on told) (gives_one _ _ _ _ c.in-Ok-Some._place c.in-Ok-Some.given short (rw c.in-Ok-Some.field-0-is at e.form) (rw c.in-Ok-Some.field-0-is at (e.reads mid))))
+    (length-map c.next.new.sources g.R.Source.unread ∙ c.next.auto.sources ∙ i.lengths.0 ∙ sym (length-map c.args.sources.now g.R.Source.unread))
 
-pub loop-capture-preserved : goal.loop-capture-preserved
-loop-capture-preserved g c =
-    let i = c.loop-capture.invariant in
-    let answers = rw c.in-Ok-Some.field-0-is at (c.in-Ok-Some.ensures.answers i.reading) in
-    let done = c.in-Ok.ensures.items in
-    let more = answers.2 in
-    let below = answers.1 in
-    let before = i.counted in
-    let long = length_push c.loop-capture.records.items c.in-Ok-Some.given in
-    let test = c.loop-capture-test.true in
-    record {
-      reading = answers.0;
-      told = c.next.ensures.told ∙ i.told;
-      failures = c.in-Ok-Some.ensures.ok i.reading ∙ i.failures;
-      same = (c.next.ensures.same.0 ∙ i.same.0, c.next.ensures.same.1 ∙ i.same.1);
-      counted = (let all : length c.push.new.self.items ≡ length c.loop-capture.records.items + 1 = rw done long in omega arith);
-      few = λ few. omega arith;
-      at_most = (let all : length c.push.new.self.items ≡ length c.loop-capture.records.items + 1 = rw done long in let held = c.len.ensures in omega arith);
-      fields = rw done (All-push (FieldsOf c.args.capture.now.form) _ _ i.fields (rw i.same.0 at answers.3));
-      on = λ told.
-          let mid : IsTrue (g.R.Source.told c.loop-capture.source) = rw i.told told in
-          let on = rw c.in-Ok-Some.field-0-is at (c.in-Ok-Some.ensures.reads_on i.reading mid) in
-          rw (done, one_record c.loop-capture.records.items _) (reads_twice _ _ _ _ _ _ _ _ (i.on told) on);
-    }
+pub returns-in-Ok-None-clause-counted : goal.returns-in-Ok-None-clause-counted
+returns-in-Ok-None-clause-counted g c =
+    λ count passed.
+    let after = c.in-Ok-None.ensures.counted (count + length c.loop-merge.records.items) (c.loop-merge.invariant.counted count passed) in
+    passes_fewer _ _ _ (omega arith) after
 
 pub returns-in-Ok-None-clause-says : goal.returns-in-Ok-None-clause-says
 returns-in-Ok-None-clause-says g c =
     λ told.
-    let i = c.loop-capture.invariant in
-    let mid : IsTrue (g.R.Source.told c.loop-capture.source) = rw i.told told in
-    let on = rw c.in-Ok-None.field-0-is at (c.in-Ok-None.ensures.reads_on i.reading mid) in
-    let over = rw c.in-Ok-None.field-0-is at (c.in-Ok-None.ensures.answers i.reading) in
-    let ends = rw (c.in-Ok-None.field-0-is, over.1) at (c.in-Ok-None.ensures.end i.reading mid) in
-    let tail : c.tail.result ≡ over.0 = rw over.1 at c.tail.ensures in
-    (reads_and_nothing _ _ _ _ _ _ _ (i.on told) on, ends_twice _ _ _ _ _ _ (i.on told) i.same.0 (rw tail ends))
+    let i = c.loop-merge.invariant in
+    let e = c.in-Ok-None.ensures in
+    let mid : AllTold (map g.R.Source.told c.loop-merge.sources) = rw i.told told in
+    (gives_no_more _ _ _ _ _ _ _ (i.on told) (rw c.in-Ok-None.field-0-is at (e.reads mid)), rw c.in-Ok-None.field-0-is at e.end, c.tail.ensures)
+
+pub returns-in-Err-clause-counted : goal.returns-in-Err-clause-counted
+returns-in-Err-clause-counted g c =
+    λ count passed.
+    let after = c.in-Err.ensures.counted (count + length c.loop-merge.records.items) (c.loop-merge.invariant.counted count passed) in
+    passes_fewer _ _ _ (omega arith) after
+
+pub returns-in-Err-clause-failures : goal.returns-in-Err-clause-failures
+returns-in-Err-clause-failures g c =
+    let i = c.loop-merge.invariant in
+    let e = c.in-Err.ensures in
+    let olds = length-map c.loop-merge.sources g.R.Source.failures in
+    let news = length-map c.next.new.sources g.R.Source.failures in
+    let same = c.next.auto.sources in
+    subst (λ (counts : List ℕ). ReadingFails counts (map g.R.Source.failures c.next.new.sources) c.in-Err.refusal) i.failures
+    (reading_fails c.next.new.self _ _ c.in-Err.refusal.0 c.in-Err.refusal.1 e.refused (olds ∙ i.lengths.0 ∙ c.requires.captures.0 ∙ sym i.lengths.1 ∙ sym e.length) (news ∙ same ∙ sym olds) (e.failed i.reading))
 
 pub returns-in-Err-clause-says : goal.returns-in-Err-clause-says
 returns-in-Err-clause-says g c =
     λ told.
-    let i = c.loop-capture.invariant in
-    let mid : IsTrue (g.R.Source.told c.loop-capture.source) = rw i.told told in
-    batch_refused _ _ _ _ _ _ _ c.in-Err.refusal _ _ (i.on told) i.same.0 (c.in-Err.ensures.reads_on i.reading mid) (c.in-Err.ensures.refused i.reading mid)
-    (c.in-Err.ensures.lacks i.reading) (c.in-Err.ensures.failed i.reading)
+    let i = c.loop-merge.invariant in
+    let e = c.in-Err.ensures in
+    let mid : AllTold (map g.R.Source.told c.loop-merge.sources) = rw i.told told in
+    let olds = length-map c.loop-merge.sources g.R.Source.failures in
+    let news = length-map c.next.new.sources g.R.Source.failures in
+    let same = c.next.auto.sources in
+    batch_refused _ _ _ _ _ _ _ _ _ c.in-Err.refusal.0 c.in-Err.refusal.1 (i.on told) (e.reads mid) e.refused (e.lacks i.reading)
+    (length-map c.next.new.sources g.R.Source.unread ∙ same ∙ i.lengths.0 ∙ sym (length-map c.args.sources.now g.R.Source.unread))
+    (reading_fails c.next.new.self _ _ c.in-Err.refusal.0 c.in-Err.refusal.1 e.refused (olds ∙ i.lengths.0 ∙ c.requires.captures.0 ∙ sym i.lengths.1 ∙ sym e.length) (news ∙ same ∙ sym olds) (e.failed i.reading))
+
+pub returns-clause-counted : goal.returns-clause-counted
+returns-clause-counted g c = λ count passed. c.loop-merge.invariant.counted count passed

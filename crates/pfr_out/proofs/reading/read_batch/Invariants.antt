@@ -1,21 +1,19 @@
-use Rattle.std.proofs.Common.{◌≡◌, ◌≤◌, ◌+◌, ◌-◌, ◌^◌, None, IsTrue, length}
-use Rattle.std.specs.List.{All}
-use Rattle.pfr_capture.specs.Reading.{FieldsOf, ReadsOn}
-use Rattle.pfr_out.specs.Reading.{records_of}
+use Rattle.std.proofs.Common.{◌≡◌, ◌≤◌, ◌+◌, ◌-◌, ℕ, length, map}
+use Rattle.pfr_merge.specs.MergeReading.{AllTold, HasPassedOn, NoneRefused, header_in}
+use Rattle.pfr_out.specs.Reading.{GaveRecords}
 use Rattle.pfr_out.proofs.reading.read_batch.Given as goal
 
-abbrev pub invariant-loop-capture : goal.invariant-loop-capture
-invariant-loop-capture g l = record {
-  reading : l.capture.over ≡ None;
-  told : g.R.Source.told l.source ≡ g.R.Source.told l.fn.source;
-  failures : g.R.Source.failures l.source ≡ g.R.Source.failures l.fn.source;
-  same : (l.capture.form ≡ l.fn.capture.form) × (l.capture.header ≡ l.fn.capture.header);
-  counted : l.capture.count ≡ l.fn.capture.count + length l.records.items;
-  few : l.fn.capture.count ≤ 2 ^ 40 → l.capture.count ≤ 2 ^ 40;
+abbrev pub invariant-loop-merge : goal.invariant-loop-merge
+invariant-loop-merge g l = record {
+  reading : NoneRefused l.merge;
+  lengths : (length l.sources ≡ length l.fn.sources) × (length l.merge ≡ length l.fn.merge);
+  told : map g.R.Source.told l.sources ≡ map g.R.Source.told l.fn.sources;
+  failures : map g.R.Source.failures l.sources ≡ map g.R.Source.failures l.fn.sources;
+  headers : map header_in l.merge ≡ map header_in l.fn.merge;
+  counted : (count : ℕ) → HasPassedOn count l.fn.merge → HasPassedOn (count + length l.records.items) l.merge;
   at_most : length l.records.items ≤ l.most;
-  fields : All (FieldsOf l.fn.capture.form) l.records.items;
-  on : IsTrue (g.R.Source.told l.fn.source) → ReadsOn l.fn.capture l.capture (g.R.Source.unread l.fn.source) (g.R.Source.unread l.source) (records_of l.records.items);
+  on : AllTold (map g.R.Source.told l.fn.sources) → GaveRecords l.fn.merge l.merge (map g.R.Source.unread l.fn.sources) (map g.R.Source.unread l.sources) l.records.items;
 }
 
-abbrev pub decreases-loop-capture : goal.decreases-loop-capture
-decreases-loop-capture g l = l.most - length l.records.items
+abbrev pub decreases-loop-merge : goal.decreases-loop-merge
+decreases-loop-merge g l = l.most - length l.records.items

@@ -1,4 +1,4 @@
-use Rattle.std.proofs.Common.{◌∙◌, Option, IfSome, ap, refl, subst, sym}
+use Rattle.std.proofs.Common.{◌∙◌, Option, IfSome, ap, map, refl, subst, sym}
 use Rattle.pfr_out.specs.declared.report.Stop.{Stop}
 use Rattle.pfr_commit.specs.Books.{job_of}
 use Rattle.pfr_published.specs.Ends.{is_shown, list_of}
@@ -58,7 +58,7 @@ returns-in-Err-clause-told g c =
     let ran = c.run_workers-book.result in
     let k = kept_err g.R.Source.told g.R.Source.unread g.R.Source.failures g.S.Sink.told g.S.Sink.written g.S.Sink.failures (run_in c.args.book c.args.self.channel.now.form) c.args.self refl (sym c.requires.address)
     ran.0 ran.1 c.requires.fresh (traces.ends_refused (transitions_of g.R.Source.told g.R.Source.unread g.R.Source.failures g.S.Sink.told g.S.Sink.written g.S.Sink.failures) (job_of c.args.book) c.args.workers c.args.self ran.0 ran.1 (seen_of list_of is_shown ran.2) (rw c.in-Err.is at c.run_workers-book.ensures.err)) in
-    (ap g.R.Source.told c.without_memory.ensures.source ∙ k.source_told, ap (each_of g.S.Sink.told) c.without_memory.ensures.sinks ∙ k.sinks_told)
+    (ap (map g.R.Source.told) c.without_memory.ensures.sources ∙ k.source_told, ap (each_of g.S.Sink.told) c.without_memory.ensures.sinks ∙ k.sinks_told)
 
 pub returns-in-Err-clause-messages : goal.returns-in-Err-clause-messages
 returns-in-Err-clause-messages g c =
@@ -78,7 +78,7 @@ pub returns-in-Err-clause-stopped : goal.returns-in-Err-clause-stopped
 returns-in-Err-clause-stopped g c =
     let ran = c.run_workers-book.result in
     let s = at_moved g.R.Source.told g.R.Source.unread g.R.Source.failures g.S.Sink.told g.S.Sink.written g.S.Sink.failures (run_in c.args.book c.args.self.channel.now.form) c.args.self refl (sym c.requires.address) ran.1 c.without_memory.result _
-    c.without_memory.ensures.source c.without_memory.ensures.sinks
+    c.without_memory.ensures.sources c.without_memory.ensures.sinks
     (stops_refused g.R.Source.told g.R.Source.unread g.R.Source.failures g.S.Sink.told g.S.Sink.written g.S.Sink.failures (run_in c.args.book c.args.self.channel.now.form) c.args.self refl (sym c.requires.address)
     ran.0 ran.1 c.requires.fresh (traces.ends_refused (transitions_of g.R.Source.told g.R.Source.unread g.R.Source.failures g.S.Sink.told g.S.Sink.written g.S.Sink.failures) (job_of c.args.book) c.args.workers c.args.self ran.0 ran.1 (seen_of list_of is_shown ran.2) (rw c.in-Err.is at c.run_workers-book.ensures.err))) in
     subst (λ (o : Option Stop). IfSome o (λ why. RunStops g.R.Source.told g.R.Source.unread g.R.Source.failures g.S.Sink.told g.S.Sink.written g.S.Sink.failures c.args.book c.args.self c.without_memory.result why)) (sym c.without_memory.ensures.stop)

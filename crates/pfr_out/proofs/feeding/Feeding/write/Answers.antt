@@ -4,8 +4,8 @@ use Rattle.pfr_out.proofs.feeding.Feeding.write.Goals as goal
 
 pub returns-in-Ok-write_batch-clause-writes : goal.returns-in-Ok-write_batch-clause-writes
 returns-in-Ok-write_batch-clause-writes g c = record {
-  capture = refl;
-  source = refl;
+  merge = refl;
+  sources = refl;
   end = refl;
   given = refl;
   told = c.write_batch.ensures.told;
@@ -15,8 +15,8 @@ returns-in-Ok-write_batch-clause-writes g c = record {
 
 pub returns-in-Err-write_batch-clause-writes : goal.returns-in-Err-write_batch-clause-writes
 returns-in-Err-write_batch-clause-writes g c = record {
-  capture = refl;
-  source = refl;
+  merge = refl;
+  sources = refl;
   end = refl;
   given = refl;
   told = c.write_batch.ensures.told;

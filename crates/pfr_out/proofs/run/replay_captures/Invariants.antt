@@ -1,6 +1,6 @@
 use Rattle.std.proofs.Common.{Some}
 use Rattle.std.specs.Arc.{arc_value}
-use Rattle.pfr_out.proofs.run.replay_capture.Given as goal
+use Rattle.pfr_out.proofs.run.replay_captures.Given as goal
 
 -- the histories that were just opened, and the book's job
 abbrev pub ghosts-run-J-Naming : goal.ghosts-run-J-Naming
