@@ -1,6 +1,6 @@
 //! What the program says when something is wrong, in one line, and the statuses that it ends with.
 use pfr_capture::CaptureError;
-use pfr_command::Refused;
+use pfr_command::{CaptureWords, Refused};
 use pfr_out::{ConfError, ConfErrorKind, StandbyStop, Stop};
 use pfr_prepare::{Prepared, Refusal};
 use pfr_sync::SyncError;
@@ -23,12 +23,16 @@ pub const NO_MEMORY: u8 = 4;
 pub enum Failure<'a> {
     /// The words of the command line don't fit. Where memory was refused for them, it is `Stopped`.
     Words(Refused<'a>),
-    /// The output of this name is the capture, the ruleset or another output.
+    /// The output of this name is a capture, the ruleset or another output.
     SameFile(&'a str),
     /// A file can't be opened or created, a ruleset's not be read, or a peer not be reached.
     CannotOpen(&'a str),
     /// The ruleset was refused, or the run was stopped.
-    Stopped(Stop),
+    Stopped {
+        stop: Stop,
+        /// The interface of the capture at fault, if the run has several.
+        interface: Option<&'a str>,
+    },
     /// A standby has not taken all messages.
     StandbyStopped(StandbyStop),
     /// Standard output failed.
@@ -46,7 +50,7 @@ impl<'a> From<Refused<'a>> for Failure<'a> {
 
 impl From<ConfError> for Failure<'_> {
     fn from(fault: ConfError) -> Self {
-        Failure::Stopped(Stop::Ruleset(fault))
+        Failure::from(Stop::Ruleset(fault))
     }
 }
 
@@ -61,14 +65,17 @@ impl<'a> From<Refusal<'a>> for Failure<'a> {
 
 impl From<Stop> for Failure<'_> {
     fn from(stop: Stop) -> Self {
-        Failure::Stopped(stop)
+        Failure::Stopped {
+            stop,
+            interface: None,
+        }
     }
 }
 
 /// Memory was refused, with nothing replayed.
 impl From<AllocError> for Failure<'_> {
     fn from(_refused: AllocError) -> Self {
-        Failure::Stopped(Stop::Memory(0))
+        Failure::from(Stop::Memory(0))
     }
 }
 
@@ -81,10 +88,19 @@ impl<'a> Failure<'a> {
         }
     }
 
+    /// The failure for a run of these captures that was stopped.
+    pub fn of_run(stop: Stop, captures: &[CaptureWords<'a>]) -> Failure<'a> {
+        let interface = interface_of(&stop, captures);
+        Failure::Stopped { stop, interface }
+    }
+
     /// The same with the line of the ruleset's file, if it is a fault of a text that was made of that file.
     pub fn in_file(self, text: &Prepared) -> Failure<'a> {
         match self {
-            Failure::Stopped(Stop::Ruleset(fault)) => Failure::from(ConfError {
+            Failure::Stopped {
+                stop: Stop::Ruleset(fault),
+                ..
+            } => Failure::from(ConfError {
                 line: text.line_of(fault.line),
                 kind: fault.kind,
             }),
@@ -97,9 +113,28 @@ impl<'a> Failure<'a> {
         match self {
             Failure::Words(_) | Failure::SameFile(_) => REFUSED,
             Failure::CannotOpen(_) | Failure::PrintFailed => DEVICE,
-            Failure::Stopped(stop) => status_of(stop),
+            Failure::Stopped { stop, .. } => status_of(stop),
             Failure::StandbyStopped(stop) => standby_status_of(stop),
         }
+    }
+}
+
+/// The interface of the capture that stopped a run, if the run has several.
+fn interface_of<'a>(stop: &Stop, captures: &[CaptureWords<'a>]) -> Option<&'a str> {
+    if captures.len() <= 1 {
+        return None;
+    }
+    match stop {
+        Stop::Capture(place, _, _) | Stop::Read(place, _) => name_at(captures, *place),
+        Stop::Ruleset(_) | Stop::Write(_, _) | Stop::Memory(_) => None,
+    }
+}
+
+/// The name of the interface at a place.
+fn name_at<'a>(captures: &[CaptureWords<'a>], place: usize) -> Option<&'a str> {
+    match captures.get(place) {
+        Some(words) => Some(words.interface),
+        None => None,
     }
 }
 
@@ -110,8 +145,8 @@ fn status_of(stop: &Stop) -> u8 {
             ConfErrorKind::Memory => NO_MEMORY,
             _ => REFUSED,
         },
-        Stop::Capture(_, _) => REFUSED,
-        Stop::Read(_) | Stop::Write(_, _) => DEVICE,
+        Stop::Capture(_, _, _) => REFUSED,
+        Stop::Read(_, _) | Stop::Write(_, _) => DEVICE,
         Stop::Memory(_) => NO_MEMORY,
     }
 }
@@ -154,7 +189,7 @@ impl fmt::Display for Failure<'_> {
             Failure::Words(refused) => write!(f, "{refused}"),
             Failure::SameFile(name) => write!(f, "same file: {name}"),
             Failure::CannotOpen(name) => write!(f, "cannot open: {name}"),
-            Failure::Stopped(stop) => write_stop(stop, f),
+            Failure::Stopped { stop, interface } => write_stop(stop, *interface, f),
             Failure::StandbyStopped(stop) => write_standby_stop(stop, f),
             Failure::PrintFailed => write!(f, "write failed: standard output"),
         }
@@ -162,20 +197,50 @@ impl fmt::Display for Failure<'_> {
 }
 
 /// Writes why a run was stopped, with the number of the packets committed where some may be.
-fn write_stop<W: fmt::Write>(stop: &Stop, f: &mut fmt::Formatter<W>) -> fmt::Result {
+fn write_stop<W: fmt::Write>(
+    stop: &Stop,
+    interface: Option<&str>,
+    f: &mut fmt::Formatter<W>,
+) -> fmt::Result {
     match stop {
         Stop::Ruleset(fault) => write!(f, "{fault}"),
-        Stop::Capture(refusal, committed) => match refusal {
-            CaptureError::RecordTooLong(_) => {
-                write!(f, "capture: {refusal}, committed {committed}")
-            }
-            _ => write!(f, "capture: {refusal}"),
-        },
-        Stop::Read(committed) => write!(f, "read failed, committed {committed}"),
+        Stop::Capture(_, refusal, committed) => write_refusal(refusal, *committed, interface, f),
+        Stop::Read(_, committed) => {
+            write!(f, "read failed")?;
+            write_behind(": ", interface, f)?;
+            write!(f, ", committed {committed}")
+        }
         Stop::Write(output, committed) => {
             write!(f, "write failed: {output}, committed {committed}")
         }
         Stop::Memory(committed) => write!(f, "no memory, committed {committed}"),
+    }
+}
+
+/// Writes why a capture is refused, with the number of the packets committed if it is refused for a record.
+fn write_refusal<W: fmt::Write>(
+    refusal: &CaptureError,
+    committed: u64,
+    interface: Option<&str>,
+    f: &mut fmt::Formatter<W>,
+) -> fmt::Result {
+    write!(f, "capture")?;
+    write_behind(" ", interface, f)?;
+    match refusal {
+        CaptureError::RecordTooLong(_) => write!(f, ": {refusal}, committed {committed}"),
+        _ => write!(f, ": {refusal}"),
+    }
+}
+
+/// Writes the name of an interface, if there is one, and what parts it from what stands before.
+fn write_behind<W: fmt::Write>(
+    parting: &str,
+    interface: Option<&str>,
+    f: &mut fmt::Formatter<W>,
+) -> fmt::Result {
+    match interface {
+        Some(name) => write!(f, "{parting}{name}"),
+        None => Ok(()),
     }
 }
 

@@ -1,12 +1,14 @@
 //! What `pfreplay run` does.
+ghost use Rattle.std.specs.Prelude.{◌≡◌, IfOk, length};
+
 use crate::destination::Destination;
 use crate::failure::{CUT, DONE, Failure};
 use crate::files::{created, opened};
 use crate::peer::{Connection, connected};
 use crate::same_file::repeated_output;
 use pfr_capture::{ReaderSource, Tail, WriterSink};
-use pfr_command::{Messages, OutputNames, RunWords};
-use pfr_out::{Form, Gate, PacketSinks, Report, RunSettings, Sinks, replay_job};
+use pfr_command::{CaptureWords, Messages, RunWords};
+use pfr_out::{Form, Gate, PacketSinks, Report, RunSettings, Sinks, Sources, replay_job};
 use pfr_packet::Job;
 use pfr_prepare::prepared_text;
 use std::alloc::{AllocError, AllocGlobal};
@@ -30,7 +32,7 @@ impl Gate for Unwatched {
 /// What takes an output, by the files and the network of a runtime.
 type OutputSink<R> = WriterSink<Destination<<R as Files>::File, Connection<<R as Net>::Stream>>>;
 
-/// Replays a capture through a ruleset, prints how many packets were committed, and answers the status.
+/// Replays captures through a ruleset, prints how many packets were committed, and answers the status.
 pub fn replay<'a, R: Files + Net + AllocGlobal + Threads + Wait + Sync, O: Write, E: Write>(
     rt: &R,
     asked: &RunWords<'a>,
@@ -42,15 +44,17 @@ pub fn replay<'a, R: Files + Net + AllocGlobal + Threads + Wait + Sync, O: Write
     }
     // A fault of the ruleset is reported before any other file is touched.
     let job = job_of(rt, asked, err)?;
-    let mut source = ReaderSource::new(opened(rt, asked.capture)?);
-    let mut sinks = sinks(rt, &asked.outputs)?;
+    let mut sources = sources(rt, asked.captures.as_slice())?;
+    let mut sinks = sinks(rt, asked)?;
     let settings = RunSettings {
         batch: asked.batch,
         workers: asked.workers,
         form: form_of(&asked.outputs.messages),
     };
-    let report = replay_job(rt, &mut source, job, settings, &mut sinks, &Unwatched)?;
-    finish(&report, out)
+    match replay_job(rt, &mut sources, job, settings, &mut sinks, &Unwatched) {
+        Ok(report) => finish(&report, out),
+        Err(stop) => Err(Failure::of_run(stop, asked.captures.as_slice())),
+    }
 }
 
 /// What the packets of the run are evaluated by. The ruleset's text is read here, and nowhere else.
@@ -63,7 +67,7 @@ fn job_of<'a, R: Files + AllocGlobal, E: Write>(
     let job = Job::new(
         rt.alloc(),
         text.text.as_slice(),
-        &[asked.rules.interface],
+        asked.rules.interfaces.as_slice(),
         asked.inside.as_slice(),
         asked.seed,
     );
@@ -82,27 +86,48 @@ fn form_of(messages: &Messages<'_>) -> Form {
     }
 }
 
+/// Opens the captures, by the places of their interfaces.
+fn sources<'a, R: Files + AllocGlobal>(
+    rt: &R,
+    captures: &[CaptureWords<'a>],
+) -> Result<Sources<ReaderSource<R::File>>, Failure<'a>>
+    ensures { IfOk result (λ sources. length sources ≡ length captures.now) }
+{
+    let mut sources = Vec::with_capacity(rt.alloc(), captures.len())?;
+    for words in captures {
+        let file = opened(rt, words.capture)?;
+        sources
+            .push(ReaderSource::new(file))
+            .map_err(AllocError::from)?;
+    }
+    Ok(Sources::new(sources))
+}
+
 /// Creates the files of the outputs, in this order, and behind them the connection to a peer.
 fn sinks<'a, R: Files + Net + AllocGlobal>(
     rt: &R,
-    names: &OutputNames<'a>,
+    asked: &RunWords<'a>,
 ) -> Result<Sinks<OutputSink<R>>, Failure<'a>> {
+    let names = &asked.outputs;
     Ok(Sinks {
         verdicts: file_sink(rt, names.verdicts)?,
-        packets: packet_sinks(rt, names.packets)?,
+        packets: packet_sinks(rt, asked.captures.as_slice())?,
         counters: file_sink(rt, names.counters)?,
         states: file_sink(rt, names.states)?,
         messages: messages_sink(rt, &names.messages)?,
     })
 }
 
-/// Creates the file of the packets, which are those of one capture.
+/// Creates the files of the packets, by the places of their captures.
 fn packet_sinks<'a, R: Files + Net + AllocGlobal>(
     rt: &R,
-    name: &'a str,
+    captures: &[CaptureWords<'a>],
 ) -> Result<PacketSinks<OutputSink<R>>, Failure<'a>> {
-    let mut sinks = Vec::with_capacity(rt.alloc(), 1)?;
-    sinks.push(file_sink(rt, name)?).map_err(AllocError::from)?;
+    let mut sinks = Vec::with_capacity(rt.alloc(), captures.len())?;
+    for words in captures {
+        let sink = file_sink(rt, words.packets)?;
+        sinks.push(sink).map_err(AllocError::from)?;
+    }
     Ok(PacketSinks::new(sinks))
 }
 

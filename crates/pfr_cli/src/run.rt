@@ -23,7 +23,12 @@ pub fn run<R: Files + Net + AllocGlobal + Threads + Wait + Sync, O: Write, E: Wr
 ) -> u8 {
     match work(rt, words, out, err) {
         Ok(status) => status,
-        Err(Failure::Stopped(Stop::Memory(_))) if ask_for_standby(words) => {
+        Err(
+            Failure::Stopped {
+                stop: Stop::Memory(_),
+                ..
+            },
+        ) if ask_for_standby(words) => {
             report(&Failure::StandbyStopped(StandbyStop::Memory(0)), err)
         }
         Err(failure) => report(&failure, err),
@@ -61,7 +66,8 @@ fn check<'a, R: Files + AllocGlobal, O: Write, E: Write>(
     err: &mut E,
 ) -> Result<u8, Failure<'a>> {
     let text = prepared_text(rt, rules, err)?;
-    match Summary::of(rt.alloc(), text.text.as_slice(), &[rules.interface]) {
+    let interfaces = rules.interfaces.as_slice();
+    match Summary::of(rt.alloc(), text.text.as_slice(), interfaces) {
         Ok(summary) => print_summary(rt.alloc(), summary, out),
         Err(error) => Err(Failure::from(error).in_file(&text)),
     }

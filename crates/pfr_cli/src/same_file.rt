@@ -1,13 +1,14 @@
 //! Finds an output of a run that is another of its files.
 //!
-//! A run empties its outputs before it reads the capture. So a run is refused before it opens a file if an output is the
+//! A run empties its outputs before it reads its captures. So a run is refused before it opens a file if an output is a
 //! capture, the ruleset, a file that a flag names for it, or another output, by whatever name.
-ghost use Rattle.std.specs.Prelude.{◌≡◌, [], ◌∷◌, ◌++◌, Contains, IfOk, IfSome, if◌then◌else◌};
-ghost use Rattle.pfr_cli.specs.Outputs.{file_names};
+ghost use Rattle.std.specs.Prelude.{◌≡◌, [], ◌∷◌, ◌++◌, Contains, IfOk, IfSome, OnOk, if◌then◌else◌};
+ghost use Rattle.pfr_cli.specs.Outputs.{file_names, messages_names, packets_names};
 
-use pfr_command::{Messages, RunWords};
+use pfr_command::{CaptureWords, Messages, RunWords};
+use pfr_items::Items;
 use pfr_prepare::{Flag, Request};
-use std::alloc::AllocError;
+use std::alloc::{AllocError, Global};
 use std::fs::Metadata;
 use std::io::ErrorKind;
 use std::os::unix::fs::MetadataExt;
@@ -36,13 +37,13 @@ enum Location {
     Path(PathBuf),
 }
 
-/// The name of the first output that is the capture, the ruleset, a file that a flag names for it, or an output before it. Only
+/// The name of the first output that is a capture, the ruleset, a file that a flag names for it, or an output before it. Only
 /// regular files are compared, and files that don't exist yet. A file that can't be looked at equals none.
 pub fn repeated_output<'a, R: Files + AllocGlobal>(
     rt: &R,
     asked: &RunWords<'a>,
 ) -> Result<Option<&'a str>, AllocError>
-    ensures { IfOk result (λ repeated. IfSome repeated (Contains (file_names asked.now.outputs))) }
+    ensures { IfOk result (λ repeated. IfSome repeated (Contains (file_names asked.now.captures asked.now.outputs))) }
 {
     let mut files = Vec::new(rt.alloc());
     repeated_among(rt, &mut files, asked)
@@ -54,23 +55,47 @@ fn repeated_among<'a, R: Files + AllocGlobal>(
     files: &mut Vec<FileIdentity>,
     asked: &RunWords<'a>,
 ) -> Result<Option<&'a str>, AllocError>
-    ensures { IfOk result (λ repeated. IfSome repeated (Contains (file_names asked.now.outputs))) }
+    ensures { IfOk result (λ repeated. IfSome repeated (Contains (file_names asked.now.captures asked.now.outputs))) }
 {
-    add_input(rt, files, asked.capture)?;
+    add_captures(rt, files, asked.captures.as_slice())?;
     add_ruleset(rt, files, &asked.rules)?;
+    let names = names_of(rt.alloc(), asked)?;
+    first_repeated(rt, files, names.as_slice())
+}
+
+/// The names of the files of a run's outputs, in the order in which they are made.
+fn names_of<'a>(alloc: Global, asked: &RunWords<'a>) -> Result<Items<&'a str>, AllocError>
+    ensures { IfOk result (λ names. names ≡ file_names asked.now.captures asked.now.outputs) }
+{
     let outputs = &asked.outputs;
-    let names = [
-        outputs.verdicts,
-        outputs.packets,
-        outputs.counters,
-        outputs.states,
-    ];
-    if let Some(name) = first_repeated(rt, files, &names)? {
-        return Ok(Some(name));
+    let mut names = Items::new(alloc);
+    names.push(outputs.verdicts)?;
+    add_packets(&mut names, asked.captures.as_slice())?;
+    names.push(outputs.counters)?;
+    names.push(outputs.states)?;
+    add_messages(&mut names, &outputs.messages).and(Ok(names))
+}
+
+/// Adds the names of the files of packets, by the places of their captures.
+fn add_packets<'a>(
+    names: &mut Items<&'a str>,
+    captures: &[CaptureWords<'a>],
+) -> Result<(), AllocError>
+    ensures { OnOk result (names.new ≡ names.old ++ packets_names captures.now) }
+{
+    for words in captures {
+        names.push(words.packets)?;
     }
-    match outputs.messages {
-        Messages::File(name) => first_repeated(rt, files, &[name]),
-        Messages::Peer(_) | Messages::Nowhere => Ok(None),
+    Ok(())
+}
+
+/// Adds the name of the file of messages, if they go into one.
+fn add_messages<'a>(names: &mut Items<&'a str>, messages: &Messages<'a>) -> Result<(), AllocError>
+    ensures { OnOk result (names.new ≡ names.old ++ messages_names messages.now) }
+{
+    match messages {
+        Messages::File(name) => names.push(*name),
+        Messages::Peer(_) | Messages::Nowhere => Ok(()),
     }
 }
 
@@ -112,6 +137,18 @@ fn is_among(files: &mut Vec<FileIdentity>, file: FileIdentity) -> Result<bool, A
     }
     files.push(file)?;
     Ok(false)
+}
+
+/// Adds the files of captures, if they exist.
+fn add_captures<R: Files + AllocGlobal>(
+    rt: &R,
+    files: &mut Vec<FileIdentity>,
+    captures: &[CaptureWords<'_>],
+) -> Result<(), AllocError> {
+    for words in captures {
+        add_input(rt, files, words.capture)?;
+    }
+    Ok(())
 }
 
 /// Adds a ruleset's file, and if it is rewritten those that flags name, if they exist.
