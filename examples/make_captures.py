@@ -40,6 +40,10 @@ OTHER_MAIL, PARTNER, NO_PARTNER = "192.0.2.99", "192.0.2.130", "192.0.2.200"
 PHONE, OTHER_PHONE, CONSOLE, CAMERA, HOME_DISKS = "10.0.0.11", "10.0.0.12", "10.0.0.20", "10.0.0.40", "10.0.0.30"
 DISKS_OUTSIDE, OFFICE, GAME, FRIEND = "192.0.2.9", "172.16.1.5", "203.0.113.30", "203.0.113.80"
 
+# the office with two providers
+DESK, OFFICE_WEB, SECOND_LINE = "198.51.100.66", "198.51.100.80", "203.0.113.2"
+SECOND_PROVIDER, SHOP, CUSTOMER = "203.0.113.254", "203.0.113.7", "203.0.113.150"
+
 URG = 0x20
 GRE = 47
 # the IP option 'record route', with room for three addresses
@@ -80,14 +84,37 @@ class Story:
         frame = ethernet(kind, payload, (), source, destination).ljust(LEAST_FRAME, b"\0")
         self.frames.append((second, frame, captured))
 
-    def capture(self):
-        """The frames by their seconds, else in the order in which they were added."""
-        parts = [capture_header(network=LINKTYPE_ETHERNET)]
+    def records(self):
+        """The frames as records, by their seconds, else in the order in which they were added."""
         for number, (second, frame, captured) in enumerate(sorted(self.frames, key=lambda each: each[0])):
             # the fractions only have to differ a little, as they do in a real capture
             fraction = number * 20011 % 1000000
-            parts.append(record(OPENING + second, fraction, frame[:captured], original=len(frame)))
-        return b"".join(parts)
+            yield record(OPENING + second, fraction, frame[:captured], original=len(frame))
+
+    def capture(self):
+        return capture_header(network=LINKTYPE_ETHERNET) + b"".join(self.records())
+
+
+class Lines(Story):
+    """Ethernet frames at two interfaces of a firewall, which lead to two providers. A packet is added at that of the place
+    that is set then."""
+
+    def __init__(self, *inside):
+        super().__init__(*inside)
+        self.place, self.places = 0, []
+
+    def at(self, place):
+        self.place = place
+        return self
+
+    def add_frame(self, *words):
+        super().add_frame(*words)
+        self.places.append(self.place)
+
+    def capture_at(self, place):
+        """The frames at one interface. Their seconds have to rise as they were added."""
+        own = (each for each, where in zip(self.records(), self.places) if where == place)
+        return capture_header(network=LINKTYPE_ETHERNET) + b"".join(own)
 
 
 class Connection:
@@ -363,13 +390,50 @@ def home():
     return story.capture()
 
 
+def office():
+    """Half a minute of an office with two providers."""
+    lines = Lines(("198.51.100.64", 27), (FIREWALL, 32), (SECOND_LINE, 32))
+    look_for_firewall(lines, 0)
+    look_up(lines, 1, DESK, 40001, NAMES)
+    # the question goes to the first provider, and the answer comes by the second one
+    lines.add(2, udp, DESK, 40002, NAMES, 53, dns_query(40002, "www.example.com"))
+    lines.at(1).add(2, udp, NAMES, 53, DESK, 40002, dns_reply(40002, "www.example.com", SHOP))
+    lines.add(3, udp, DESK, 40003, NAMES, 53, dns_query(40003, "www.example.com"))
+    page = Connection(lines.at(0), (DESK, 49152), (SHOP, 443))
+    page.ask(4)
+    lines.at(1)
+    page.send(4, SERVER, SYN | ACK, window=65160, options=SYN_OPTIONS)
+    lines.at(0)
+    page.send(4, CLIENT, ACK)
+    asked = page.send(5, CLIENT, PSH | ACK, 200)
+    lines.at(1).add(5, icmp_error, SECOND_PROVIDER, UNREACHABLE, 4, asked)
+    page.send(6, SERVER, PSH | ACK, 1200)
+    visit = Connection(lines, (CUSTOMER, 50500), (OFFICE_WEB, 443))
+    visit.ask(10)
+    lines.at(0)
+    visit.send(10, SERVER, SYN | ACK, window=65160, options=SYN_OPTIONS)
+    lines.at(1)
+    visit.send(10, CLIENT, ACK)
+    ping(lines, 20, SECOND_PROVIDER, SECOND_LINE, 7)
+    lines.at(0).add(21, echo, UPLINK, SECOND_LINE, True, 8, 1, b"abcdefgh")
+    knock(lines, 30, SCANNER, (OFFICE_WEB, 22), SYN)
+    knock(lines.at(1), 30, SCANNER, (OFFICE_WEB, 22), SYN)
+    return lines
+
+
+def office_at(place):
+    """The capture of the office at one of its interfaces."""
+    return lambda: office().capture_at(place)
+
+
 def first():
     """Three datagrams without payload at second 0, without frames."""
     packets = [udp("198.51.100.7", 9, FIREWALL, 9), udp("203.0.113.9", 9, FIREWALL, 9), udp("10.0.0.5", 9, "198.51.100.7", 9)]
     return capture_header() + b"".join(record(0, 0, packet) for packet in packets)
 
 
-CAPTURES = {"first.pcap": first, "gateway.pcap": gateway, "home.pcap": home, "router.pcap": router, "server.pcap": server}
+CAPTURES = {"first.pcap": first, "gateway.pcap": gateway, "home.pcap": home, "office_em0.pcap": office_at(0),
+            "office_em1.pcap": office_at(1), "router.pcap": router, "server.pcap": server}
 
 
 def main():

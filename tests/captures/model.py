@@ -8,8 +8,10 @@ from captures.frames import ETHERNET, LOOPBACK, RAW
 HEADER, RECORD_HEADER = 24, 16
 MOST_CAPTURED = 262144
 MAJOR_VERSION = 2
-# the byte order of all headers, as struct's sign, by the magic number's bytes
-ORDERS = {b"\xd4\xc3\xb2\xa1": "<", b"\x4d\x3c\xb2\xa1": "<", b"\xa1\xb2\xc3\xd4": ">", b"\xa1\xb2\x3c\x4d": ">"}
+MICROSECONDS, NANOSECONDS = "microseconds", "nanoseconds"
+# the byte order of all headers, as struct's sign, and what the fractions of times are, by the magic number's bytes
+FORMS = {b"\xd4\xc3\xb2\xa1": ("<", MICROSECONDS), b"\x4d\x3c\xb2\xa1": ("<", NANOSECONDS),
+         b"\xa1\xb2\xc3\xd4": (">", MICROSECONDS), b"\xa1\xb2\x3c\x4d": (">", NANOSECONDS)}
 
 
 class Refused(Exception):
@@ -17,9 +19,10 @@ class Refused(Exception):
 
 
 class Header(NamedTuple):
-    """What the capture's header tells: the byte order, and the link type."""
+    """What the capture's header tells: the byte order, the link type, and what the fractions of its times are."""
     order: str
     link: int
+    fraction: str
 
 
 class Record(NamedTuple):
@@ -32,16 +35,16 @@ class Record(NamedTuple):
 def read_header(capture):
     """The capture's header, where it is accepted."""
     if len(capture) < HEADER:
-        raise Refused("capture: header cut")
-    order = ORDERS.get(capture[:4])
-    if order is None:
-        raise Refused("capture: bad magic")
+        raise Refused("header cut")
+    if capture[:4] not in FORMS:
+        raise Refused("bad magic")
+    order, fraction = FORMS[capture[:4]]
     if struct.unpack_from(order + "H", capture, 4)[0] != MAJOR_VERSION:
-        raise Refused("capture: bad version")
+        raise Refused("bad version")
     link = struct.unpack_from(order + "I", capture, 20)[0] & 0xFFFF
     if link not in (LOOPBACK, ETHERNET, RAW):
-        raise Refused(f"capture: link type {link}")
-    return Header(order, link)
+        raise Refused(f"link type {link}")
+    return Header(order, link, fraction)
 
 
 def records_of(capture, order):

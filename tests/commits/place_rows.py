@@ -44,11 +44,14 @@ class Came(NamedTuple):
 
 class Answer(NamedTuple):
     """What a run is answered with: by place the numbers of the packets that are written there, and by number the sizes
-    of the messages that close at a packet."""
+    of the messages that close at a packet. At the end come the size of the last message, if there is one, and the lines
+    of the counters and of the states."""
     run: Run
     came: list
     packets: dict
     closed: dict
+    last: tuple
+    ending: list
 
     def texts(self):
         """By number what a packet adds if it is written, in hex."""
@@ -72,191 +75,200 @@ def sizes_line(word, sizes):
 
 
 def row(name, rules, *judged, packets, ending, closed=None, last=(), interfaces=TWO, links=()):
-    """A run that is committed in one batch, and packet by packet in batches and alone in turn. The ending is the lines of
-    the counters and of the states, and `last` has the size of the message at the end, if there is one."""
+    """The answer of a run on some interfaces."""
     came = [Came(*each) for each in judged]
     run = Run(name, rules, [(each.second, each.frame) for each in came], interfaces=interfaces,
               places=tuple(each.place for each in came), links=links)
-    answer, numbers = Answer(run, came, packets, closed or {}), range(1, len(came) + 1)
-    ways = [([Batch(len(came))], [numbers]),
-            ([call for call, _ in zip(cycle((Batch(1), Commit())), came)], [[number] for number in numbers])]
+    return Answer(run, came, packets, closed or {}, tuple(last), ending)
+
+
+def scripts_of(answer):
+    """The run committed in one batch, and packet by packet in batches and alone in turn."""
+    run, numbers = answer.run, range(1, len(answer.came) + 1)
+    ways = [([Batch(len(numbers))], [numbers]),
+            ([call for call, _ in zip(cycle((Batch(1), Commit())), numbers)], [[number] for number in numbers])]
     for calls, parts in ways:
         lines = [line for part in parts for line in answer.part(part)]
-        yield Script(run, [(run.seed[0], run.rules)], calls), [*lines, sizes_line("message", last), *ending]
+        yield Script(run, [(run.seed[0], run.rules)], calls), [*lines, sizes_line("message", answer.last), *answer.ending]
 
 
 # Rules on interfaces, and own addresses
 
 def rule_rows():
-    yield from row("one interface is skipped", "set skip on em1\nblock all",
-                   (0, 0, ASKED, "1 0 out block rule r=0 t=- s=- i=em0"),
-                   (0, 1, ASKED, "2 0 - pass skip-on r=- t=- s=- i=em1"),
-                   packets={1: [2]}, ending=["filter 0 1 1 28", "total 2 1 1 0 0"])
-    yield from row("a rule on the other interfaces", "block all\npass out on ! em0 no state",
-                   (0, 0, ASKED, "1 0 out block rule r=0 t=- s=- i=em0"),
-                   (0, 1, ASKED, "2 0 out pass rule r=1 t=- s=- i=em1"),
-                   packets={1: [2]}, ending=["filter 0 2 1 28", "filter 1 2 1 28", "total 2 1 1 0 0"])
-    yield from row("own addresses on any interface",
-                   "block all\npass in from any to self no state\npass out from any to ! self no state",
-                   (0, 0, sent(E1), "1 0 in pass rule r=1 t=- s=- i=em0"),
-                   (1, 1, sent(E), "2 1 in pass rule r=1 t=- s=- i=em1"),
-                   (2, 0, sent("203.0.113.9"), "3 2 in block rule r=0 t=- s=- i=em0"),
-                   (3, 1, udp(H, 9, E, 9), "4 3 out block rule r=0 t=- s=- i=em1"),
-                   (4, 1, ASKED, "5 4 out pass rule r=2 t=- s=- i=em1"),
-                   packets={0: [1], 1: [2, 5]},
-                   ending=["filter 0 5 2 56", "filter 1 5 2 56", "filter 2 5 1 28", "total 5 3 2 0 0"])
-    yield from row("own addresses in a table", "table <t> { self, !203.0.113.0/24 }\npass in to <t>",
-                   (0, 0, sent(E1), "1 0 in pass rule r=0 t=- s=1 i=em0"),
-                   (0, 1, sent("203.0.113.9"), "2 0 in pass default r=- t=- s=- i=em1"),
-                   (0, 1, sent(E), "3 0 in pass rule r=0 t=- s=3 i=em1"),
-                   packets={0: [1], 1: [2, 3]}, last=[532],
-                   ending=["filter 0 3 2 56", "total 3 3 0 0 0",
-                           f"1 17 in 198.51.100.7:9,203.0.113.2:9 198.51.100.7:9,203.0.113.2:9 r=0 t=- {FRESH} i=-",
-                           f"3 17 in 198.51.100.7:9,192.0.2.1:9 198.51.100.7:9,192.0.2.1:9 r=0 t=- {FRESH} i=-"])
+    yield row("one interface is skipped", "set skip on em1\nblock all",
+              (0, 0, ASKED, "1 0 out block rule r=0 t=- s=- i=em0"),
+              (0, 1, ASKED, "2 0 - pass skip-on r=- t=- s=- i=em1"),
+              packets={1: [2]}, ending=["filter 0 1 1 28", "total 2 1 1 0 0"])
+    yield row("a rule on the other interfaces", "block all\npass out on ! em0 no state",
+              (0, 0, ASKED, "1 0 out block rule r=0 t=- s=- i=em0"),
+              (0, 1, ASKED, "2 0 out pass rule r=1 t=- s=- i=em1"),
+              packets={1: [2]}, ending=["filter 0 2 1 28", "filter 1 2 1 28", "total 2 1 1 0 0"])
+    yield row("own addresses on any interface",
+              "block all\npass in from any to self no state\npass out from any to ! self no state",
+              (0, 0, sent(E1), "1 0 in pass rule r=1 t=- s=- i=em0"),
+              (1, 1, sent(E), "2 1 in pass rule r=1 t=- s=- i=em1"),
+              (2, 0, sent("203.0.113.9"), "3 2 in block rule r=0 t=- s=- i=em0"),
+              (3, 1, udp(H, 9, E, 9), "4 3 out block rule r=0 t=- s=- i=em1"),
+              (4, 1, ASKED, "5 4 out pass rule r=2 t=- s=- i=em1"),
+              packets={0: [1], 1: [2, 5]},
+              ending=["filter 0 5 2 56", "filter 1 5 2 56", "filter 2 5 1 28", "total 5 3 2 0 0"])
+    yield row("own addresses in a table", "table <t> { self, !203.0.113.0/24 }\npass in to <t>",
+              (0, 0, sent(E1), "1 0 in pass rule r=0 t=- s=1 i=em0"),
+              (0, 1, sent("203.0.113.9"), "2 0 in pass default r=- t=- s=- i=em1"),
+              (0, 1, sent(E), "3 0 in pass rule r=0 t=- s=3 i=em1"),
+              packets={0: [1], 1: [2, 3]}, last=[532],
+              ending=["filter 0 3 2 56", "total 3 3 0 0 0",
+                      f"1 17 in 198.51.100.7:9,203.0.113.2:9 198.51.100.7:9,203.0.113.2:9 r=0 t=- {FRESH} i=-",
+                      f"3 17 in 198.51.100.7:9,192.0.2.1:9 198.51.100.7:9,192.0.2.1:9 r=0 t=- {FRESH} i=-"])
 
 
 # States that are bound, and states for all
 
 def state_rows():
-    yield from row("one connection with a state on each interface", f"{BOUND}block in\npass out",
-                   (0, 0, ASKED, "1 0 out pass rule r=1 t=- s=1 i=em0"),
-                   (0, 1, ASKED, "2 0 out pass rule r=1 t=- s=2 i=em1"),
-                   (1, 0, REPLY, "3 1 in pass state r=1 t=- s=1 i=em0"),
-                   (2, 1, REPLY, "4 2 in pass state r=1 t=- s=2 i=em1"),
-                   packets={0: [1, 3], 1: [2, 4]}, closed={3: [532], 4: [132]}, last=[132],
-                   ending=["filter 0 2 0 0", "filter 1 2 4 112", "total 4 4 0 0 0",
-                           f"1 17 out {UDP_KEYS} r=1 t=- 2/0/0/0/- 1/0/0/0/- 0 31 1 28 1 28 i=em0",
-                           f"2 17 out {UDP_KEYS} r=1 t=- 2/0/0/0/- 1/0/0/0/- 0 32 1 28 1 28 i=em1"])
-    yield from row("a state for all beside two that are bound",
-                   "pass out on em0 keep state (if-bound)\npass out on em1 keep state (if-bound)\npass out on em2",
-                   (0, 0, ASKED, "1 0 out pass rule r=0 t=- s=1 i=em0"),
-                   (0, 1, ASKED, "2 0 out pass rule r=1 t=- s=2 i=em1"),
-                   (0, 2, ASKED, "3 0 out block state-insert r=2 t=- s=- i=em2"),
-                   packets={0: [1], 1: [2]}, last=[532], interfaces=THREE,
-                   ending=["filter 0 3 1 28", "filter 1 3 1 28", "filter 2 3 0 0", "total 3 2 1 0 0",
-                           f"1 17 out {UDP_KEYS} r=0 t=- {FRESH} i=em0", f"2 17 out {UDP_KEYS} r=1 t=- {FRESH} i=em1"])
-    yield from row("a rule for states of all interfaces", f"{BOUND}pass out keep state (floating)\nblock in",
-                   (0, 0, ASKED, "1 0 out pass rule r=0 t=- s=1 i=em0"),
-                   (1, 1, REPLY, "2 1 in pass state r=0 t=- s=1 i=em1"),
-                   packets={0: [1], 1: [2]}, closed={2: [290]}, last=[132],
-                   ending=["filter 0 1 2 56", "filter 1 1 0 0", "total 2 2 0 0 0",
-                           f"1 17 out {UDP_KEYS} r=0 t=- 2/0/0/0/- 1/0/0/0/- 0 31 1 28 1 28 i=-"])
-    yield from row("room for one state of all interfaces together",
-                   "pass out quick proto udp keep state (max 1, if-bound)\nblock out all",
-                   (0, 0, ASKED, "1 0 out pass rule r=0 t=- s=1 i=em0"),
-                   (1, 1, ASKED, "2 1 out block rule r=1 t=- s=- i=em1"),
-                   packets={0: [1]}, closed={2: [290]},
-                   ending=["filter 0 2 1 28", "filter 1 1 1 28", "total 2 1 1 0 0",
-                           f"1 17 out {UDP_KEYS} r=0 t=- {FRESH} i=em0"])
-    yield from row("one clock for all interfaces", "set timeout udp.first 10\npass out\nblock in",
-                   (0, 0, ASKED, "1 0 out pass rule r=0 t=- s=1 i=em0"),
-                   (10, 1, REPLY, "2 10 in block rule r=1 t=- s=- i=em1"),
-                   packets={0: [1]}, closed={2: [290]}, last=[60],
-                   ending=["filter 0 2 1 28", "filter 1 2 1 28", "total 2 1 1 0 0"])
-    yield from row("a connection that one interface ends and another removes", "pass out",
-                   (0, 0, FIRST_SYN, "1 0 out pass rule r=0 t=- s=1 i=em0"),
-                   (1, 1, tcp(P, 80, H, 1000, RST | ACK, 0, 1001), "2 1 in pass state r=0 t=- s=1 i=em1"),
-                   (2, 1, FIRST_SYN, "3 2 out block state-mismatch r=0 t=- s=1 i=em1"),
-                   (2, 1, FIRST_SYN, "4 2 out pass rule r=0 t=- s=4 i=em1"),
-                   packets={0: [1], 1: [2, 4]}, closed={2: [290], 3: [132]}, last=[306],
-                   ending=["filter 0 2 3 120", "total 4 3 1 0 0",
-                           f"4 6 out {KEYS} r=0 t=- 2/1000/1002/1000/- 0/0/1/1/- 2 122 1 40 0 0 i=-"])
+    yield row("one connection with a state on each interface", f"{BOUND}block in\npass out",
+              (0, 0, ASKED, "1 0 out pass rule r=1 t=- s=1 i=em0"),
+              (0, 1, ASKED, "2 0 out pass rule r=1 t=- s=2 i=em1"),
+              (1, 0, REPLY, "3 1 in pass state r=1 t=- s=1 i=em0"),
+              (2, 1, REPLY, "4 2 in pass state r=1 t=- s=2 i=em1"),
+              packets={0: [1, 3], 1: [2, 4]}, closed={3: [532], 4: [132]}, last=[132],
+              ending=["filter 0 2 0 0", "filter 1 2 4 112", "total 4 4 0 0 0",
+                      f"1 17 out {UDP_KEYS} r=1 t=- 2/0/0/0/- 1/0/0/0/- 0 31 1 28 1 28 i=em0",
+                      f"2 17 out {UDP_KEYS} r=1 t=- 2/0/0/0/- 1/0/0/0/- 0 32 1 28 1 28 i=em1"])
+    yield row("a state for all beside two that are bound",
+              "pass out on em0 keep state (if-bound)\npass out on em1 keep state (if-bound)\npass out on em2",
+              (0, 0, ASKED, "1 0 out pass rule r=0 t=- s=1 i=em0"),
+              (0, 1, ASKED, "2 0 out pass rule r=1 t=- s=2 i=em1"),
+              (0, 2, ASKED, "3 0 out block state-insert r=2 t=- s=- i=em2"),
+              packets={0: [1], 1: [2]}, last=[532], interfaces=THREE,
+              ending=["filter 0 3 1 28", "filter 1 3 1 28", "filter 2 3 0 0", "total 3 2 1 0 0",
+                      f"1 17 out {UDP_KEYS} r=0 t=- {FRESH} i=em0", f"2 17 out {UDP_KEYS} r=1 t=- {FRESH} i=em1"])
+    yield row("a rule for states of all interfaces", f"{BOUND}pass out keep state (floating)\nblock in",
+              (0, 0, ASKED, "1 0 out pass rule r=0 t=- s=1 i=em0"),
+              (1, 1, REPLY, "2 1 in pass state r=0 t=- s=1 i=em1"),
+              packets={0: [1], 1: [2]}, closed={2: [290]}, last=[132],
+              ending=["filter 0 1 2 56", "filter 1 1 0 0", "total 2 2 0 0 0",
+                      f"1 17 out {UDP_KEYS} r=0 t=- 2/0/0/0/- 1/0/0/0/- 0 31 1 28 1 28 i=-"])
+    yield row("room for one state of all interfaces together",
+              "pass out quick proto udp keep state (max 1, if-bound)\nblock out all",
+              (0, 0, ASKED, "1 0 out pass rule r=0 t=- s=1 i=em0"),
+              (1, 1, ASKED, "2 1 out block rule r=1 t=- s=- i=em1"),
+              packets={0: [1]}, closed={2: [290]},
+              ending=["filter 0 2 1 28", "filter 1 1 1 28", "total 2 1 1 0 0",
+                      f"1 17 out {UDP_KEYS} r=0 t=- {FRESH} i=em0"])
+    yield row("one clock for all interfaces", "set timeout udp.first 10\npass out\nblock in",
+              (0, 0, ASKED, "1 0 out pass rule r=0 t=- s=1 i=em0"),
+              (10, 1, REPLY, "2 10 in block rule r=1 t=- s=- i=em1"),
+              packets={0: [1]}, closed={2: [290]}, last=[60],
+              ending=["filter 0 2 1 28", "filter 1 2 1 28", "total 2 1 1 0 0"])
+    yield row("a connection that one interface ends and another removes", "pass out",
+              (0, 0, FIRST_SYN, "1 0 out pass rule r=0 t=- s=1 i=em0"),
+              (1, 1, tcp(P, 80, H, 1000, RST | ACK, 0, 1001), "2 1 in pass state r=0 t=- s=1 i=em1"),
+              (2, 1, FIRST_SYN, "3 2 out block state-mismatch r=0 t=- s=1 i=em1"),
+              (2, 1, FIRST_SYN, "4 2 out pass rule r=0 t=- s=4 i=em1"),
+              packets={0: [1], 1: [2, 4]}, closed={2: [290], 3: [132]}, last=[306],
+              ending=["filter 0 2 3 120", "total 4 3 1 0 0",
+                      f"4 6 out {KEYS} r=0 t=- 2/1000/1002/1000/- 0/0/1/1/- 2 122 1 40 0 0 i=-"])
 
 
 def error_rows():
     """An error on another interface than that of the packet that it is about."""
     error, rules = icmp_error(OTHER, UNREACHABLE, 1, ASKED), "block in\npass out"
     opening = (0, 0, ASKED, "1 0 out pass rule r=1 t=- s=1 i=em0")
-    yield from row("an error about a state for all", rules, opening,
-                   (1, 1, error, "2 1 in pass state-error r=1 t=- s=1 i=em1"),
-                   packets={0: [1], 1: [2]}, closed={2: [290]},
-                   ending=["filter 0 1 0 0", "filter 1 1 2 84", "total 2 2 0 0 0",
-                           f"1 17 out {UDP_KEYS} r=1 t=- {FRESH} i=-"])
-    yield from row("an error about a state that is bound elsewhere", BOUND + rules, opening,
-                   (1, 1, error, "2 1 in block rule r=0 t=- s=- i=em1"),
-                   packets={0: [1]}, closed={2: [290]},
-                   ending=["filter 0 2 1 56", "filter 1 2 1 28", "total 2 1 1 0 0",
-                           f"1 17 out {UDP_KEYS} r=1 t=- {FRESH} i=em0"])
+    yield row("an error about a state for all", rules, opening,
+              (1, 1, error, "2 1 in pass state-error r=1 t=- s=1 i=em1"),
+              packets={0: [1], 1: [2]}, closed={2: [290]},
+              ending=["filter 0 1 0 0", "filter 1 1 2 84", "total 2 2 0 0 0",
+                      f"1 17 out {UDP_KEYS} r=1 t=- {FRESH} i=-"])
+    yield row("an error about a state that is bound elsewhere", BOUND + rules, opening,
+              (1, 1, error, "2 1 in block rule r=0 t=- s=- i=em1"),
+              packets={0: [1]}, closed={2: [290]},
+              ending=["filter 0 2 1 56", "filter 1 2 1 28", "total 2 1 1 0 0",
+                      f"1 17 out {UDP_KEYS} r=1 t=- {FRESH} i=em0"])
 
 
 # Translation
 
 def nat_rows():
-    yield from row("a port that a state of another interface has", f"{BOUND}{NAT}pass out",
-                   (0, 0, ASKED, "1 0 out pass rule r=0 t=0 s=1 i=em0", WIRE),
-                   (0, 1, udp(H, 1001, P, 53), "2 0 out block nat-exhausted r=- t=0 s=- i=em1"),
-                   packets={0: [1]}, last=[290],
-                   ending=["filter 0 1 1 28", "translation 0 2 1 28", "total 2 1 1 0 0",
-                           f"1 17 out {WIRE_KEYS} r=0 t=0 {FRESH} i=em0"])
-    yield from row("a translated connection on its interface alone", f"{BOUND}{NAT_ON}block in\npass out",
-                   (0, 0, ASKED, "1 0 out pass rule r=1 t=0 s=1 i=em0", WIRE),
-                   (1, 1, ANSWER, "2 1 in block rule r=0 t=- s=- i=em1"),
-                   (2, 0, ANSWER, "3 2 in pass state r=1 t=0 s=1 i=em0", REPLY),
-                   packets={0: [1, 3]}, closed={2: [290]}, last=[132],
-                   ending=["filter 0 2 1 28", "filter 1 2 2 56", "translation 0 1 2 56", "total 3 2 1 0 0",
-                           f"1 17 out {WIRE_KEYS} r=1 t=0 2/0/0/0/- 1/0/0/0/- 0 32 1 28 1 28 i=em0"])
-    yield from row("a translation without a rule that keeps state", f"{BOUND}{NAT_ON}pass out on em1",
-                   (0, 0, ASKED, "1 0 out pass default r=- t=0 s=1 i=em0", WIRE),
-                   packets={0: [1]}, last=[290],
-                   ending=["filter 0 1 0 0", "translation 0 1 0 0", "total 1 1 0 0 0",
-                           f"1 17 out {WIRE_KEYS} r=- t=0 {FRESH} i=em0"])
+    yield row("a port that a state of another interface has", f"{BOUND}{NAT}pass out",
+              (0, 0, ASKED, "1 0 out pass rule r=0 t=0 s=1 i=em0", WIRE),
+              (0, 1, udp(H, 1001, P, 53), "2 0 out block nat-exhausted r=- t=0 s=- i=em1"),
+              packets={0: [1]}, last=[290],
+              ending=["filter 0 1 1 28", "translation 0 2 1 28", "total 2 1 1 0 0",
+                      f"1 17 out {WIRE_KEYS} r=0 t=0 {FRESH} i=em0"])
+    yield row("a translated connection on its interface alone", f"{BOUND}{NAT_ON}block in\npass out",
+              (0, 0, ASKED, "1 0 out pass rule r=1 t=0 s=1 i=em0", WIRE),
+              (1, 1, ANSWER, "2 1 in block rule r=0 t=- s=- i=em1"),
+              (2, 0, ANSWER, "3 2 in pass state r=1 t=0 s=1 i=em0", REPLY),
+              packets={0: [1, 3]}, closed={2: [290]}, last=[132],
+              ending=["filter 0 2 1 28", "filter 1 2 2 56", "translation 0 1 2 56", "total 3 2 1 0 0",
+                      f"1 17 out {WIRE_KEYS} r=1 t=0 2/0/0/0/- 1/0/0/0/- 0 32 1 28 1 28 i=em0"])
+    yield row("a translation without a rule that keeps state", f"{BOUND}{NAT_ON}pass out on em1",
+              (0, 0, ASKED, "1 0 out pass default r=- t=0 s=1 i=em0", WIRE),
+              packets={0: [1]}, last=[290],
+              ending=["filter 0 1 0 0", "translation 0 1 0 0", "total 1 1 0 0 0",
+                      f"1 17 out {WIRE_KEYS} r=- t=0 {FRESH} i=em0"])
 
 
 def redirection_rows():
-    yield from row("a redirection to the address of another interface",
-                   "rdr on em0 proto udp from any to 192.0.2.1 port 53 -> em1\npass in",
-                   (0, 0, TO_OWN, "1 0 in pass rule r=0 t=0 s=1 i=em0", TO_OTHER),
-                   (0, 1, TO_OWN, "2 0 in pass state r=0 t=0 s=1 i=em1", TO_OTHER),
-                   packets={0: [1], 1: [2]}, last=[290],
-                   ending=["filter 0 1 2 56", "translation 0 1 2 56", "total 2 2 0 0 0",
-                           "1 17 in 198.51.100.7:9,192.0.2.1:53 198.51.100.7:9,203.0.113.2:53 r=0 t=0 1/0/0/0/- "
-                           "0/0/0/0/- 0 30 2 56 0 0 i=-"])
-    yield from row("a redirection on one interface beside a state for all",
-                   f"{BOUND}rdr on em1 proto udp from any to 203.0.113.2 port 53 -> 10.0.0.5 port 53\n"
-                   "pass in keep state (floating)",
-                   (0, 0, udp(P, 9, H, 53), "1 0 in pass rule r=0 t=- s=1 i=em0"),
-                   (1, 1, TO_OTHER, "2 1 in block state-insert r=0 t=0 s=- i=em1"),
-                   packets={0: [1]}, closed={2: [290]},
-                   ending=["filter 0 2 1 28", "translation 0 2 0 0", "total 2 1 1 0 0",
-                           f"1 17 in 198.51.100.7:9,10.0.0.5:53 198.51.100.7:9,10.0.0.5:53 r=0 t=- {FRESH} i=-"])
+    yield row("a redirection to the address of another interface",
+              "rdr on em0 proto udp from any to 192.0.2.1 port 53 -> em1\npass in",
+              (0, 0, TO_OWN, "1 0 in pass rule r=0 t=0 s=1 i=em0", TO_OTHER),
+              (0, 1, TO_OWN, "2 0 in pass state r=0 t=0 s=1 i=em1", TO_OTHER),
+              packets={0: [1], 1: [2]}, last=[290],
+              ending=["filter 0 1 2 56", "translation 0 1 2 56", "total 2 2 0 0 0",
+                      "1 17 in 198.51.100.7:9,192.0.2.1:53 198.51.100.7:9,203.0.113.2:53 r=0 t=0 1/0/0/0/- "
+                      "0/0/0/0/- 0 30 2 56 0 0 i=-"])
+    yield row("a redirection on one interface beside a state for all",
+              f"{BOUND}rdr on em1 proto udp from any to 203.0.113.2 port 53 -> 10.0.0.5 port 53\n"
+              "pass in keep state (floating)",
+              (0, 0, udp(P, 9, H, 53), "1 0 in pass rule r=0 t=- s=1 i=em0"),
+              (1, 1, TO_OTHER, "2 1 in block state-insert r=0 t=0 s=- i=em1"),
+              packets={0: [1]}, closed={2: [290]},
+              ending=["filter 0 2 1 28", "translation 0 2 0 0", "total 2 1 1 0 0",
+                      f"1 17 in 198.51.100.7:9,10.0.0.5:53 198.51.100.7:9,10.0.0.5:53 r=0 t=- {FRESH} i=-"])
 
 
 # Packets and names of each interface
 
 def output_rows():
-    yield from row("an interface of another kind", "pass out",
-                   (0, 0, ASKED, "1 0 out pass rule r=0 t=- s=1 i=em0"),
-                   (0, 1, ethernet(ETHER_IPV4, REPLY), "2 0 in pass state r=0 t=- s=1 i=em1"),
-                   (1, 1, ethernet(ETHER_IPV4, ASKED, (1, 2)), "3 1 - skip not-ip r=- t=- s=- i=em1"),
-                   packets={0: [1], 1: [2, 3]}, closed={3: [290]}, links=(LINKTYPE_RAW, LINKTYPE_ETHERNET),
-                   ending=["filter 0 1 2 56", "total 3 2 0 0 1",
-                           f"1 17 out {UDP_KEYS} r=0 t=- 2/0/0/0/- 1/0/0/0/- 0 30 1 28 1 28 i=-"])
-    yield from row("packets of the last interface before those of the first", f"{BOUND}pass out",
-                   (0, 2, ASKED, "1 0 out pass rule r=0 t=- s=1 i=em2"),
-                   (0, 0, ASKED, "2 0 out pass rule r=0 t=- s=2 i=em0"),
-                   (0, 2, ASKED, "3 0 out pass state r=0 t=- s=1 i=em2"),
-                   packets={0: [2], 2: [1, 3]}, last=[532], interfaces=THREE,
-                   ending=["filter 0 2 3 84", "total 3 3 0 0 0",
-                           f"1 17 out {UDP_KEYS} r=0 t=- 1/0/0/0/- 0/0/0/0/- 0 30 2 56 0 0 i=em2",
-                           f"2 17 out {UDP_KEYS} r=0 t=- {FRESH} i=em0"])
-    yield from row("a packet behind the last interface", f"{BOUND}pass out",
-                   (0, 2, ASKED, "1 0 out pass rule r=0 t=- s=1 i="),
-                   packets={2: [1]}, last=[290],
-                   ending=["filter 0 1 1 28", "total 1 1 0 0 0", f"1 17 out {UDP_KEYS} r=0 t=- {FRESH} i="])
-    yield from row("a single interface, and a packet behind it", f"{BOUND}pass out",
-                   (0, 1, ASKED, "1 0 out pass rule r=0 t=- s=1"), (0, 0, ASKED, "2 0 out pass rule r=0 t=- s=2"),
-                   packets={0: [2], 1: [1]}, last=[532], interfaces=(INTERFACE,),
-                   ending=["filter 0 2 2 56", "total 2 2 0 0 0", f"1 17 out {UDP_KEYS} r=0 t=- {FRESH}",
-                           f"2 17 out {UDP_KEYS} r=0 t=- {FRESH}"])
-    yield from row("names of one letter and of fifteen", f"{BOUND}pass out",
-                   (0, 0, ASKED, "1 0 out pass rule r=0 t=- s=1 i=a23456789012345"),
-                   (0, 1, REPLY, "2 0 in pass default r=- t=- s=- i=b"),
-                   packets={0: [1], 1: [2]}, last=[290],
-                   interfaces=(Interface("a23456789012345", E, 24), Interface("b", E1, 24)),
-                   ending=["filter 0 2 1 28", "total 2 2 0 0 0", f"1 17 out {UDP_KEYS} r=0 t=- {FRESH} i=a23456789012345"])
+    yield row("an interface of another kind", "pass out",
+              (0, 0, ASKED, "1 0 out pass rule r=0 t=- s=1 i=em0"),
+              (0, 1, ethernet(ETHER_IPV4, REPLY), "2 0 in pass state r=0 t=- s=1 i=em1"),
+              (1, 1, ethernet(ETHER_IPV4, ASKED, (1, 2)), "3 1 - skip not-ip r=- t=- s=- i=em1"),
+              packets={0: [1], 1: [2, 3]}, closed={3: [290]}, links=(LINKTYPE_RAW, LINKTYPE_ETHERNET),
+              ending=["filter 0 1 2 56", "total 3 2 0 0 1",
+                      f"1 17 out {UDP_KEYS} r=0 t=- 2/0/0/0/- 1/0/0/0/- 0 30 1 28 1 28 i=-"])
+    yield row("packets of the last interface before those of the first", f"{BOUND}pass out",
+              (0, 2, ASKED, "1 0 out pass rule r=0 t=- s=1 i=em2"),
+              (0, 0, ASKED, "2 0 out pass rule r=0 t=- s=2 i=em0"),
+              (0, 2, ASKED, "3 0 out pass state r=0 t=- s=1 i=em2"),
+              packets={0: [2], 2: [1, 3]}, last=[532], interfaces=THREE,
+              ending=["filter 0 2 3 84", "total 3 3 0 0 0",
+                      f"1 17 out {UDP_KEYS} r=0 t=- 1/0/0/0/- 0/0/0/0/- 0 30 2 56 0 0 i=em2",
+                      f"2 17 out {UDP_KEYS} r=0 t=- {FRESH} i=em0"])
+    yield row("a packet behind the last interface", f"{BOUND}pass out",
+              (0, 2, ASKED, "1 0 out pass rule r=0 t=- s=1 i="),
+              packets={2: [1]}, last=[290],
+              ending=["filter 0 1 1 28", "total 1 1 0 0 0", f"1 17 out {UDP_KEYS} r=0 t=- {FRESH} i="])
+    yield row("a single interface, and a packet behind it", f"{BOUND}pass out",
+              (0, 1, ASKED, "1 0 out pass rule r=0 t=- s=1"), (0, 0, ASKED, "2 0 out pass rule r=0 t=- s=2"),
+              packets={0: [2], 1: [1]}, last=[532], interfaces=(INTERFACE,),
+              ending=["filter 0 2 2 56", "total 2 2 0 0 0", f"1 17 out {UDP_KEYS} r=0 t=- {FRESH}",
+                      f"2 17 out {UDP_KEYS} r=0 t=- {FRESH}"])
+    yield row("names of one letter and of fifteen", f"{BOUND}pass out",
+              (0, 0, ASKED, "1 0 out pass rule r=0 t=- s=1 i=a23456789012345"),
+              (0, 1, REPLY, "2 0 in pass default r=- t=- s=- i=b"),
+              packets={0: [1], 1: [2]}, last=[290],
+              interfaces=(Interface("a23456789012345", E, 24), Interface("b", E1, 24)),
+              ending=["filter 0 2 1 28", "total 2 2 0 0 0", f"1 17 out {UDP_KEYS} r=0 t=- {FRESH} i=a23456789012345"])
+
+
+def answers():
+    for make in (rule_rows, state_rows, error_rows, nat_rows, redirection_rows, output_rows):
+        yield from make()
 
 
 def rows():
     """Scripts, each with all lines that it is answered with. For messages these have their sizes."""
-    for make in (rule_rows, state_rows, error_rows, nat_rows, redirection_rows, output_rows):
-        yield from make()
+    for answer in answers():
+        yield from scripts_of(answer)

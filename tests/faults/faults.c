@@ -18,8 +18,8 @@
 #include <unistd.h>
 
 enum call { ALLOCATION, READ, WRITE, THREAD, CALLS };
-// EACH is that all calls fail whose number is a multiple of the one that is told
-enum deed { NOTHING, FAIL, CUT, ZERO, EACH, DEEDS };
+// EACH is that all calls fail whose number is a multiple of the one that is told, ONWARD that all fail from that one on
+enum deed { NOTHING, FAIL, CUT, ZERO, EACH, ONWARD, DEEDS };
 
 // What the script reads after the run. It lies in a mapped file, so it is there however the program ends.
 struct report {
@@ -75,7 +75,14 @@ static bool is_wanted(enum call call, uint64_t number)
 {
     if (call != wanted_call || wanted_number == 0)
         return false;
-    return wanted_deed == EACH ? number % wanted_number == 0 : number == wanted_number;
+    switch (wanted_deed) {
+    case EACH:
+        return number % wanted_number == 0;
+    case ONWARD:
+        return number >= wanted_number;
+    default:
+        return number == wanted_number;
+    }
 }
 
 // Counts a call and answers what is to happen to it.
@@ -87,7 +94,7 @@ static enum deed deed_of(enum call call, int descriptor)
     if (!is_wanted(call, number))
         return NOTHING;
     atomic_store(&report->fired, 1);
-    return wanted_deed == EACH ? FAIL : wanted_deed;
+    return wanted_deed == EACH || wanted_deed == ONWARD ? FAIL : wanted_deed;
 }
 
 static ssize_t moved(enum call call, int descriptor, ssize_t count)
@@ -286,7 +293,7 @@ static void open_report(const char *name)
 __attribute__((constructor)) static void start(void)
 {
     static const char *const calls[] = {"allocation", "read", "write", "thread"};
-    static const char *const deeds[] = {"nothing", "fail", "cut", "zero", "each"};
+    static const char *const deeds[] = {"nothing", "fail", "cut", "zero", "each", "onward"};
     const char *number = getenv("FAULT_NUMBER");
     wanted_call = (enum call)place_of("FAULT_CALL", calls, CALLS, CALLS);
     wanted_deed = (enum deed)place_of("FAULT_DEED", deeds, DEEDS, NOTHING);

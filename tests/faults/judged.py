@@ -1,17 +1,19 @@
-"""Made-up endings of a run of 600 packets: the judge of replays has to allow the right ones and refuse the others, and
-so does the judge of runs with workers.
+"""Made-up endings of a run of 600 packets, and of one with two captures: the judge of replays has to allow the right ones
+and refuse the others, and so does the judge of runs with workers.
 
 The run itself is the model's, so no program is needed.
 """
 
 import tempfile
+from pathlib import Path
 from typing import NamedTuple
 
 from captures.packets import capture_header, record, udp
 from faults import replay, workers
 from faults.trial import PEER, Counts, Fault, Seen, Unlawful
 from runs import model
-from runs.case import Case
+from runs.case import Also, Case
+from runs.comparison import also_of
 from runs.model import Files
 
 # each second one makes a state, so that six of these fill a message
@@ -25,6 +27,17 @@ HEADER = 24
 BATCH, TWO_BATCHES, COUNT = 256, 512, 600
 
 
+def flows_of(host):
+    """A capture of 300 flows of a host, one a second."""
+    packets = (udp(host, 1000 + number, "198.51.100.7", 53) for number in range(300))
+    return capture_header() + b"".join(record(second, 0, packet) for second, packet in enumerate(packets))
+
+
+# flows on two interfaces, by turns
+TWO = Case("made up, two captures", RULES, "10.0.0.0/8", flows_of("10.0.0.5"),
+           also=(Also("em1", "203.0.113.2/24", flows_of("10.0.0.6")),))
+
+
 class Ending(NamedTuple):
     name: str
     target: replay.Target
@@ -36,12 +49,13 @@ class Ending(NamedTuple):
     moved: int = 0
 
 
-def trial_of(capture, rules, form):
-    """A made-up run with its messages in a form."""
-    outcome = model.run(CASE, form)
+def trial_of(captures, rules, form, case=CASE):
+    """A made-up run of captures with its messages in a form."""
+    outcome = model.run(case, form)
     names = {model.FILE: model.OUTPUTS, model.PEER: (*model.REQUIRED, PEER), model.NONE: model.REQUIRED}[form]
-    words = ["program", "run", capture, rules, "--interface", CASE.interface, "--address", CASE.address, "--inside",
-             CASE.inside, *(word for name in names for word in (f"--{name}", name))]
+    words = ["program", "run", captures[0], rules, "--interface", case.interface, "--address", case.address, "--inside",
+             case.inside, *(word for name in names for word in (f"--{name}", name)),
+             *also_of(case, captures[1:], replay.PACKETS_NAMES[1:])]
     return replay.Known(words, replay.seen_of(words, outcome))
 
 
@@ -49,7 +63,7 @@ class Pieces:
     """What the outputs hold after some packets."""
 
     def __init__(self, trial):
-        self.whole = replay.texts_of(trial.clean.files)
+        self.whole = replay.texts_in(trial, trial.clean)
         self.told = replay.whole_of(trial)
 
     def online(self, count, **others):
@@ -64,7 +78,8 @@ NOTHING = Files(b"", b"", b"", b"", b"")
 
 
 def failing(name, output, committed, files, **more):
-    return Ending(name, replay.WRITES[output], f"write failed: {output}, committed {committed}", 3, files, **more)
+    return Ending(name, replay.WRITES[output], f"write failed: {replay.told_name(output)}, committed {committed}", 3, files,
+                  **more)
 
 
 def reading(name, committed, files, moved):
@@ -114,7 +129,7 @@ def right_messages(pieces, target):
 
 def wrong_endings(pieces):
     """Endings that aren't, each by one thing."""
-    verdicts, packets, counters, states, _ = pieces.whole
+    verdicts, packets, counters, states, *_ = pieces.whole
     behind_read = HEADER + 300 * RECORD
     two_batches = pieces.online(TWO_BATCHES)
     yield reading("counters behind a read that failed", 300, pieces.online(300, counters=counters), behind_read)
@@ -163,7 +178,7 @@ def wrong_endings(pieces):
 
 def wrong_messages(pieces, target):
     """Those where there are messages, which are written to a target."""
-    counters, states, messages = pieces.whole[2:]
+    _, _, counters, states, messages, _ = pieces.whole
     first, second = pieces.online(BATCH), pieces.online(TWO_BATCHES)
     behind_read = HEADER + 300 * RECORD
 
@@ -215,7 +230,7 @@ def right_beside_workers(pieces):
 
 def wrong_beside_workers(pieces):
     """Those of a run with workers that aren't."""
-    verdicts, packets, _, states, messages = pieces.whole
+    verdicts, packets, _, states, messages, _ = pieces.whole
     first = pieces.online(BATCH)
     for name, text in (("verdicts", verdicts), ("packets", packets), ("states", states)):
         yield refusing(f"{name} that aren't a beginning", 0, first._replace(**{name: text[1:]}))
@@ -267,7 +282,7 @@ def right_part_messages(pieces, target):
 
 def wrong_parts(pieces):
     """Those that aren't, each by one thing."""
-    verdicts, packets, counters, states, _ = pieces.whole
+    verdicts, packets, counters, states, *_ = pieces.whole
     now, then = pieces.online(BATCH), pieces.online(TWO_BATCHES)
     part = now._replace(messages=then.messages, verdicts=then.verdicts[:-10])
     yield failing("all of the header", "packets", 0, NOTHING._replace(packets=packets[:HEADER]))
@@ -311,9 +326,111 @@ def wrong_part_messages(pieces, target):
         messages=then.messages[:-1]))
 
 
+# Two captures
+
+TWO_NOTHING = NOTHING._replace(others=(b"",))
+
+
+def reading_of(name, place, committed, files, moved, interface=None):
+    """A read that fails of the capture of a place; an interface is named, that of the place if no other is."""
+    return Ending(name, replay.CAPTURES[place], f"read failed: {interface or f'em{place}'}, committed {committed}", 3, files,
+                  moved=moved)
+
+
+def right_of_two(pieces):
+    """Endings of a run with two captures that are lawful."""
+    header = pieces.whole.packets[:HEADER]
+    yield failing("the first header", "packets", 0, TWO_NOTHING)
+    yield failing("the second header", "packets1", 0, TWO_NOTHING._replace(packets=header))
+    for count, following in ((0, BATCH), (BATCH, TWO_BATCHES), (TWO_BATCHES, COUNT)):
+        now, then = pieces.online(count), pieces.online(following)
+        yield failing(f"verdicts behind {count}", "verdicts", count, now._replace(messages=then.messages))
+        yield failing(f"the first packets behind {count}", "packets", count,
+                      then._replace(packets=now.packets, others=now.others))
+        yield failing(f"the second packets behind {count}", "packets1", count, then._replace(others=now.others))
+        yield refusing(f"memory behind {count}", count, now)
+        yield refusing(f"memory between packets behind {count}", count, then._replace(others=now.others))
+    yield refusing("memory between two headers", 0, TWO_NOTHING._replace(packets=header))
+    yield refusing("memory between two files", 0, Files(b"", b"", others=(None,)))
+    yield refusing("memory before the other files", 0, Files(b"", b"", others=(b"",)))
+    yield failing("counters", "counters", COUNT, pieces.ended(counters=b"", states=b""))
+    yield failing("states", "states", COUNT, pieces.ended(states=b""))
+    for place in (0, 1):
+        # the packets of both come in turn, and a capture's next one is asked for behind its last one
+        for count in (1, 128, 200):
+            committed = 2 * count - 1 + place
+            yield reading_of(f"a read of em{place} behind {count} records", place, committed, pieces.online(committed),
+                             HEADER + count * RECORD + 20)
+        yield reading_of(f"a read of em{place} behind its header", place, 0, pieces.online(0), HEADER)
+        yield reading_of(f"a read of em{place} in its header", place, 0, TWO_NOTHING, HEADER - 1)
+
+
+def wrong_of_two(pieces):
+    """Endings of a run with two captures that aren't."""
+    header, first, second = pieces.whole.packets[:HEADER], pieces.online(BATCH), pieces.online(TWO_BATCHES)
+    behind, ended = HEADER + 100 * RECORD, pieces.whole
+    yield failing("the second header before the first", "packets", 0, TWO_NOTHING._replace(others=(header,)))
+    yield failing("the first header is missing", "packets1", 0, TWO_NOTHING)
+    yield failing("the second header, and lines", "packets1", 0, first._replace(packets=header, others=(b"",)))
+    yield failing("the second packets before the first", "packets", BATCH, second._replace(packets=first.packets))
+    yield failing("the first packets aren't there", "packets1", BATCH,
+                  second._replace(packets=first.packets, others=first.others))
+    yield failing("the second packets are told as the first", "packets", BATCH, second._replace(others=first.others))
+    yield failing("the second packets, and a batch too many", "packets1", TWO_BATCHES, second._replace(others=first.others))
+    yield failing("the second packets are there", "packets1", BATCH, second)
+    yield failing("counters without the last packets", "counters", COUNT, ended._replace(
+        counters=b"", states=b"", others=(ended.others[0][:-1],)))
+    yield refusing("memory, and packets past the next batch", 0, first._replace(others=second.others))
+    yield refusing("memory, and the second packets are missing", BATCH, first._replace(others=(header,)))
+    yield refusing("memory for the counters without the last packets", TWO_BATCHES, pieces.ended(
+        states=b"", others=second.others))
+    yield refusing("a file missing between others", 0, TWO_NOTHING._replace(others=(None,)))
+    for place, count in ((0, 199), (1, 200)):
+        files = pieces.online(count)
+        yield reading_of("another interface is named", place, count, files, behind, f"em{1 - place}")
+        yield Ending("no interface is named", replay.CAPTURES[place], f"read failed, committed {count}", 3, files,
+                     moved=behind)
+        for other in (count - 1, count + 1):
+            yield reading_of("one too few or too many", place, other, files, behind)
+            yield reading_of("a packet too few or too many", place, other, pieces.online(other), behind)
+        yield reading_of("counters behind a read", place, count, files._replace(counters=ended.counters), behind)
+        yield reading_of("headers that weren't read", place, 0, pieces.online(0), HEADER - 1)
+        yield reading_of("a header before all are read", place, 0, TWO_NOTHING._replace(packets=header), HEADER - 1)
+
+
+def parts_of_two(pieces):
+    """The right endings and the wrong ones where a write may be done in part."""
+    now, then = pieces.online(BATCH), pieces.online(TWO_BATCHES)
+    [before], [behind] = now.others, then.others
+    right = [failing(f"{most} bytes of the second packets", "packets1", BATCH, then._replace(others=(behind[:most],)))
+             for most in (len(before) + 1, len(behind) - 1)]
+    header = pieces.whole.packets[:HEADER]
+    right += [failing("a part of the second header", "packets1", 0,
+                      TWO_NOTHING._replace(packets=header, others=(header[:10],)))]
+    wrong = [failing("all of the second packets", "packets1", BATCH, then),
+             failing("a part of the second packets, and none of the first", "packets1", BATCH,
+                     then._replace(packets=now.packets, others=(behind[:-1],))),
+             failing("a part of the second packets, told as the first", "packets", BATCH,
+                     then._replace(others=(behind[:-1],)))]
+    return right, wrong
+
+
+def judged_two(trial):
+    """How many endings there are of a run with two captures, and those that are judged wrongly."""
+    pieces = Pieces(trial)
+    right, wrong = list(right_of_two(pieces)), list(wrong_of_two(pieces))
+    count, faults = judged_by(replay.judge, trial, right, wrong)
+    more, others = judged_by(workers.judge, trial, right, [])
+    in_part, of_parts = judged_by(replay.judge_part, trial, *parts_of_two(pieces))
+    return count + more + in_part, [*faults, *(f"with workers: {fault}" for fault in others),
+                                    *(f"in part: {fault}" for fault in of_parts)]
+
+
+# All endings
+
 def is_allowed(judge, trial, ending):
     err = f"pfreplay: {ending.err.replace('RULES', trial.name_of('rules'))}\n".encode() if ending.err else b""
-    files = tuple(ending.files)[:len(trial.clean.files)]
+    files = ending.files.in_order()[:len(trial.clean.files)]
     try:
         judge(trial, Fault(ending.target, "fail", 1), Counts(True, 1, ending.moved),
               Seen(ending.status, ending.out, err, files))
@@ -358,14 +475,15 @@ def judged_by(judge, trial, right, wrong):
 def compare():
     """How many endings are judged wrongly."""
     count, wrong = 0, []
-    with tempfile.NamedTemporaryFile() as capture, tempfile.NamedTemporaryFile() as rules:
-        for file, text in ((capture, CAPTURE), (rules, RULES)):
-            file.write(text)
-            file.flush()
+    with tempfile.TemporaryDirectory() as folder:
+        names = [str(Path(folder) / name) for name in ("capture", "rules", "first", "second")]
+        for name, text in zip(names, (CAPTURE, RULES, *TWO.captures())):
+            Path(name).write_bytes(text)
+        capture, rules, *two = names
         for form, target in ((model.FILE, replay.WRITES["messages"]), (model.PEER, replay.WRITES[PEER]),
                              (model.NONE, None)):
-            judged_count, faults = judged(trial_of(capture.name, rules.name, form), target)
-            count += judged_count
-            wrong += [f"{form}: {fault}" for fault in faults]
+            found = [judged(trial_of([capture], rules, form), target), judged_two(trial_of(two, rules, form, TWO))]
+            count += sum(judged_count for judged_count, _ in found)
+            wrong += [f"{form}: {fault}" for _, faults in found for fault in faults]
     print(f"{count} endings, {len(wrong)} judged wrongly", *wrong, sep="\n  ")
     return len(wrong)

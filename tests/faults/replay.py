@@ -3,6 +3,9 @@
 The words behind `run` are the capture, the ruleset and the flags, each with its value. The outputs are the files that
 the flags name, and what a peer gets. What is to stand in them is told by the run without a fault, and by the model how
 much of the messages is out behind each packet.
+
+A run may have several captures. That of the interface at place K, and its packets, are called `captureK` and
+`packetsK`, but for those of the first one.
 """
 
 import re
@@ -11,24 +14,38 @@ from itertools import accumulate
 from pathlib import Path
 from typing import NamedTuple
 
+from captures import merging
+from captures.merging import Source, source_of
 from captures.model import Refused
-from faults.trial import PEER, Seen, Target, Unlawful, lawful
+from faults.trial import PEER, Part, Seen, Target, Unlawful, lawful, name_in
 from runs import model
-from runs.case import NO_SEED, Case
+from runs.case import NO_SEED, Also, Case
+from runs.comparison import MOST_INTERFACES
 from runs.model import Files
 
 # the packets of a batch where the command says nothing of them
 BATCH = 256
 HEADER, RECORD_HEADER = 24, 16
 TRANSFER = ("fail", "cut", "zero")
+# the places of interfaces behind the first one, and the names of the captures and packets by the places of their interfaces
+LATER = range(1, MOST_INTERFACES)
+CAPTURE_NAMES, PACKETS_NAMES = (tuple([word, *(f"{word}{place}" for place in LATER)]) for word in ("capture", "packets"))
 # in the order in which they are opened; of the last two there is one at most
-OUTPUTS = (*model.OUTPUTS, PEER)
+OUTPUTS = ("verdicts", *PACKETS_NAMES, "counters", "states", "messages", PEER)
 
 MEMORY = Target("allocation", "", ("fail",))
-CAPTURE, RULES = (Target("read", "", TRANSFER, name) for name in ("capture", "rules"))
+CAPTURES = tuple(Target("read", "", TRANSFER, name) for name in CAPTURE_NAMES)
+READS = dict(zip(CAPTURE_NAMES, CAPTURES))
+CAPTURE, RULES = CAPTURES[0], Target("read", "", TRANSFER, "rules")
 WRITES = {name: Target("write", "", TRANSFER, name) for name in OUTPUTS}
 ANSWER, ERROR = (Target("write", descriptor, TRANSFER) for descriptor in ("1", "2"))
-TARGETS = (MEMORY, CAPTURE, RULES, *WRITES.values(), ANSWER, ERROR)
+TARGETS = (MEMORY, *CAPTURES, RULES, *WRITES.values(), ANSWER, ERROR)
+
+
+def told_name(name):
+    """What an output is called in what is said of it."""
+    return "packets" if name in PACKETS_NAMES else "messages" if name == PEER else name
+
 
 # in the order of the summary
 ENDINGS = ("whole", "shorter input", "read failed", "cannot open", *(f"{name} failed" for name in model.OUTPUTS),
@@ -37,16 +54,15 @@ ENDINGS = ("whole", "shorter input", "read failed", "cannot open", *(f"{name} fa
 # a cut read or write changes nothing; what an input that ends early or a lost error leaves is judged apart
 LAWFUL = {
     (MEMORY, "fail"): {"whole", "no memory"},
-    (CAPTURE, "fail"): {"read failed"},
+    **{(capture, "fail"): {"read failed"} for capture in CAPTURES},
     (RULES, "fail"): {"cannot open"},
-    **{(target, deed): {f"{'messages' if name == PEER else name} failed"} for name, target in WRITES.items()
-       for deed in ("fail", "zero")},
+    **{(target, deed): {f"{told_name(name)} failed"} for name, target in WRITES.items() for deed in ("fail", "zero")},
     **{(ANSWER, deed): {"answer failed"} for deed in ("fail", "zero")},
 }
 
 COMMITTED = rb"committed (0|[1-9][0-9]*)"
 TEXTS = (
-    ("read failed", 3, rb"read failed, " + COMMITTED),
+    ("read failed", 3, rb"read failed(?:: [^,]*)?, " + COMMITTED),
     *((f"{name} failed", 3, rb"write failed: %s, " % name.encode() + COMMITTED) for name in model.OUTPUTS),
     ("answer failed", 3, rb"write failed[^,]*"),
     ("cannot open", 3, rb"cannot open: (.*)"),
@@ -58,7 +74,10 @@ TEXTS = (
 def places(command):
     """Which words of the command name its files, and its peer."""
     first = command.index("run")
-    return {"capture": first + 1, "rules": first + 2,
+    words = [number for number, word in enumerate(command) if word == "--also"]
+    also = [(f"{name}{place}", Part(number + 1, part)) for place, number in enumerate(words, 1)
+            for name, part in (("capture", 2), ("packets", 3))]
+    return {"capture": first + 1, "rules": first + 2, **dict(also),
             **{name: command.index(f"--{name}") + 1 for name in OUTPUTS if f"--{name}" in command}}
 
 
@@ -69,7 +88,7 @@ def outputs_of(command):
 
 def seen_of(command, outcome):
     """How a run of the command ended, of which an outcome tells."""
-    return Seen(outcome.status, outcome.out, outcome.err, tuple(outcome.files)[:len(outputs_of(command))])
+    return Seen(outcome.status, outcome.out, outcome.err, outcome.files.in_order()[:len(outputs_of(command))])
 
 
 class Known(NamedTuple):
@@ -81,7 +100,7 @@ class Known(NamedTuple):
 
     def name_of(self, file):
         """The name of one of the command's files."""
-        return self.command[places(self.command)[file]]
+        return name_in(self.command, places(self.command)[file])
 
 
 # What the outputs hold
@@ -97,62 +116,97 @@ def batch_of(command):
     return int(flags_of(command).get("--batch", BATCH))
 
 
+def also_of(command):
+    """Of each interface behind the first its name, its address, its capture and its packets."""
+    return [word.split(",") for before, word in zip(command, command[1:]) if before == "--also"]
+
+
 def case_of(command):
     """The run of a command as the model has it."""
     first, flags = command.index("run"), flags_of(command)
     capture, rules = command[first + 1:first + 3]
+    also = tuple(Also(name, address, Path(file).read_bytes()) for name, address, file, _ in also_of(command))
     return Case("", Path(rules).read_bytes(), flags["--inside"], Path(capture).read_bytes(), flags["--interface"],
-                flags["--address"], flags.get("--seed", NO_SEED))
+                flags["--address"], flags.get("--seed", NO_SEED), also)
+
+
+def names_of(command):
+    """The names of the interfaces of a command, by their places."""
+    return [flags_of(command)["--interface"], *(also[0] for also in also_of(command))]
 
 
 def form_of(command):
     return model.PEER if "--peer" in command else model.FILE if "--messages" in command else model.NONE
 
 
-def texts_of(files):
-    """What stands in files, nothing in one that isn't there."""
-    return Files(*(text or b"" for text in (*files, None)[:len(Files._fields)]))
+def files_of(texts, others=0):
+    """Files in which these texts stand in the order of the outputs, with the packets of `others` other interfaces."""
+    verdicts, packets, *more = texts
+    counters, states, messages = (*more[others:], None)[:3]
+    return Files(verdicts, packets, counters, states, messages, tuple(more[:others]))
 
 
-def output_of(ending):
-    """The output that failed."""
-    return ending.removesuffix(" failed")
+def texts_of(texts, others=0):
+    """The same, but that nothing stands in a file that isn't there."""
+    files = files_of([text or b"" for text in texts], others)
+    return files._replace(messages=files.messages or b"")
+
+
+def texts_in(trial, seen):
+    """What stands in the files of a trial."""
+    return texts_of(seen.files, len(also_of(trial.command)))
+
+
+def nothing_in(files):
+    """The same files without a byte."""
+    return Files(b"", b"", b"", b"", b"", (b"",) * len(files.others))
+
+
+def with_packets(files, texts):
+    """Files with these packets, by the places of their interfaces."""
+    return files._replace(packets=texts[0], others=tuple(texts[1:]))
+
+
+def packets_in(files):
+    """The packets by the places of their interfaces."""
+    return [files.packets, *files.others]
+
+
+def text_of(files, name):
+    """What stands in the output of a name."""
+    return packets_in(files)[PACKETS_NAMES.index(name)] if name in PACKETS_NAMES else getattr(files, told_name(name))
+
+
+def with_text(files, name, text):
+    """Files with another text in the output of a name."""
+    if name not in PACKETS_NAMES:
+        return files._replace(**{told_name(name): text})
+    texts = packets_in(files)
+    texts[PACKETS_NAMES.index(name)] = text
+    return with_packets(files, texts)
 
 
 class Whole:
     """What a run without a fault leaves in the files, by the number of packets. `messages_end` says how many bytes of
-    messages are out behind each."""
+    messages are out behind each, and the names are those of its interfaces, if they are several."""
 
-    def __init__(self, files, messages_end, batch=BATCH):
+    def __init__(self, files, messages_end, batch=BATCH, names=()):
         self.batch = batch
-        self.files = texts_of(files)
+        self.files = files
         lines = self.files.verdicts.splitlines(keepends=True)
         self.count = len(lines)
         self.lines_end = list(accumulate(map(len, lines), initial=0))
-        self.packets_end = self.ends_of_packets(lines)
+        marks = [f" i={name}\n".encode() for name in names] if len(names) > 1 else [b""]
+        self.packets_ends = [ends_of_packets(packets, lines, mark) for packets, mark in zip(packets_in(files), marks)]
         self.messages_end = messages_end
         if len(messages_end) != self.count + 1:
             raise Unlawful("the model has another number of packets")
 
-    def ends_of_packets(self, lines):
-        """Where the packets' text of the first packets ends."""
-        packets = self.files.packets
-        order = "little" if packets[:1] in (b"\xd4", b"\x4d") else "big"
-        ends = [min(HEADER, len(packets))]
-        for line in lines:
-            place = ends[-1]
-            if line.split()[3] in (b"pass", b"skip"):
-                place += RECORD_HEADER + int.from_bytes(packets[place + 8:place + 12], order)
-            ends.append(place)
-        if ends[-1] != len(packets):
-            raise Unlawful("the packets aren't those of the lines even without a fault")
-        return ends
-
     def online(self, count):
         """What the files hold once `count` packets are written, and the run goes on."""
-        verdicts, packets, _, _, messages = self.files
-        return Files(verdicts[:self.lines_end[count]], packets[:self.packets_end[count]], b"", b"",
-                     messages[:self.messages_end[count]])
+        packets = [text[:ends[count]] for text, ends in zip(packets_in(self.files), self.packets_ends)]
+        return with_packets(nothing_in(self.files), packets)._replace(
+            verdicts=self.files.verdicts[:self.lines_end[count]], messages=self.files.messages[:self.messages_end[count]])
 
     def boundaries(self):
         """The numbers of packets at which a batch ends."""
@@ -160,7 +214,7 @@ class Whole:
 
     def is_held(self, count, files):
         """Whether files hold at least what belongs to `count` packets."""
-        return all(len(text) >= len(least) for text, least in zip(files, self.online(count)))
+        return all(len(text) >= len(least) for text, least in zip(files.in_order(), self.online(count).in_order()))
 
     def held(self, files):
         """The greatest boundary up to which all is there, 0 where there is none."""
@@ -176,30 +230,46 @@ class Whole:
 
     def writes(self):
         """The writes in their order: the output of each, and how many bytes it holds then. Some write nothing."""
-        yield "packets", self.packets_end[0]
+        names = PACKETS_NAMES[:len(self.packets_ends)]
+        yield from ((name, ends[0]) for name, ends in zip(names, self.packets_ends))
         for files in map(self.online, self.boundaries()):
-            yield from ((name, len(getattr(files, name))) for name in ("messages", "verdicts", "packets"))
-        yield from ((name, len(getattr(self.files, name))) for name in ("messages", "counters", "states"))
+            yield from ((name, len(text_of(files, name))) for name in ("messages", "verdicts", *names))
+        yield from ((name, len(text_of(self.files, name))) for name in ("messages", "counters", "states"))
 
-    def lacks_header(self, ending, files):
-        """Whether the write that failed is that of the capture's header, which comes before all lines."""
-        return ending == "packets failed" and not files.verdicts
+    def lacks_header(self, name, files):
+        """Whether the write to an output that failed is that of a capture's header, which comes before all lines."""
+        return name in PACKETS_NAMES and not files.verdicts
 
-    def failing(self, ending, committed, files):
-        """What is written before the write that fails."""
+    def failing(self, name, committed, files):
+        """What is written before the write to an output that fails."""
         now, following = self.online(committed), self.online(self.behind(committed))
-        if self.lacks_header(ending, files):
-            return Files(b"", b"", b"", b"", b"")
-        return {"messages failed": now, "verdicts failed": now._replace(messages=following.messages),
-                "packets failed": following._replace(packets=now.packets),
-                "counters failed": self.files._replace(counters=b"", states=b""),
-                "states failed": self.files._replace(states=b"")}[ending]
+        if name in PACKETS_NAMES:
+            # those of the interfaces before it are written
+            before = nothing_in(self.files) if self.lacks_header(name, files) else following
+            place, headers = PACKETS_NAMES.index(name), self.online(0)
+            written, left = (headers, before) if self.lacks_header(name, files) else (following, now)
+            return with_packets(before, packets_in(written)[:place] + packets_in(left)[place:])
+        return {"messages": now, "verdicts": now._replace(messages=following.messages),
+                "counters": self.files._replace(counters=b"", states=b""),
+                "states": self.files._replace(states=b"")}[told_name(name)]
 
-    def through(self, ending, committed, files):
+    def through(self, name, committed, files):
         """How many bytes the output whose write fails would hold behind it."""
-        if self.lacks_header(ending, files):
-            return self.packets_end[0]
-        return len(getattr(self.most(committed), output_of(ending)))
+        return len(text_of(self.online(0) if self.lacks_header(name, files) else self.most(committed), name))
+
+
+def ends_of_packets(packets, lines, mark):
+    """Where the text of packets ends behind each number of lines, of which those with this mark are of their interface."""
+    order = "little" if packets[:1] in (b"\xd4", b"\x4d") else "big"
+    ends = [min(HEADER, len(packets))]
+    for line in lines:
+        place = ends[-1]
+        if line.endswith(mark) and line.split()[3] in (b"pass", b"skip"):
+            place += RECORD_HEADER + int.from_bytes(packets[place + 8:place + 12], order)
+        ends.append(place)
+    if ends[-1] != len(packets):
+        raise Unlawful("the packets aren't those of the lines even without a fault")
+    return ends
 
 
 @lru_cache
@@ -213,7 +283,8 @@ def ends_of(words):
 
 def whole_of(trial):
     command = tuple(map(str, trial.command))
-    return Whole(trial.clean.files, getattr(trial, "ends", None) or ends_of(command), batch_of(command))
+    return Whole(texts_in(trial, trial.clean), getattr(trial, "ends", None) or ends_of(command), batch_of(command),
+                 names_of(command))
 
 
 def is_untouched(seen):
@@ -246,14 +317,14 @@ def judge_part(trial, fault, counts, seen):
 
 def judge_by(check_outputs, trial, fault, counts, seen):
     """The same, where a function checks what the outputs hold of the packets that are told as committed."""
-    if fault.target in (CAPTURE, RULES) and fault.deed == "zero":
+    if fault.target in (*CAPTURES, RULES) and fault.deed == "zero":
         return judge_shorter(trial, fault, counts, seen)
     check_beginnings(trial, seen)
     if fault.target == ERROR and fault.deed != "cut":
         return judge_lost(trial.clean, seen)
     ending, told = told_of(trial, seen)
     lawful(ending, fault, LAWFUL)
-    check_ending(check_outputs, trial, ending, told, counts, seen)
+    check_ending(check_outputs, trial, ending, told, fault, counts, seen)
     return ending
 
 
@@ -268,7 +339,7 @@ def told_of(trial, seen):
     raise Unlawful("no such status and standard error")
 
 
-def check_ending(check_outputs, trial, ending, told, counts, seen):
+def check_ending(check_outputs, trial, ending, told, fault, counts, seen):
     """What is told holds of the outputs; what it says of committed packets is checked by a function."""
     if ending == "whole":
         return
@@ -283,7 +354,7 @@ def check_ending(check_outputs, trial, ending, told, counts, seen):
         # the ruleset is read once before a file is opened, and once more by the run
         check(not any(seen.files), "something is written, though the ruleset wasn't read")
     else:
-        check_outputs(trial, ending, int(told), counts, seen)
+        check_outputs(trial, ending, int(told), fault, counts, seen)
 
 
 def check(holds, otherwise):
@@ -291,60 +362,66 @@ def check(holds, otherwise):
         raise Unlawful(otherwise)
 
 
-def check_committed(trial, ending, committed, counts, seen):
+def check_committed(trial, ending, committed, fault, counts, seen):
     """The outputs hold what belongs to the committed packets, and no more than may be there."""
-    whole, files = whole_of(trial), texts_of(seen.files)
+    whole, files = whole_of(trial), texts_in(trial, seen)
     if ending == "read failed":
         check(None not in seen.files, "a file isn't opened before the capture is read")
-        check_read(trial, whole, committed, counts, files)
+        check_name(trial, fault, seen)
+        check_read(trial, whole, committed, CAPTURES.index(fault.target), counts, files)
         return
     check(committed == whole.held(files), "another number of packets is committed than is there")
     if ending == "no memory":
         check_refused(whole, committed, files)
         return
     check(None not in seen.files, "a file isn't opened before the first write")
-    check(files == whole.failing(ending, committed, files),
+    check(files == whole.failing(fault.target.file, committed, files),
           "the files aren't those of the writes before the one that failed")
 
 
-def check_part(trial, ending, committed, counts, seen):
+def check_part(trial, _ending, committed, fault, _counts, seen):
     """The same where a write failed that may have written a part, as on a disk that is full. The part lacks the last
     byte of what was to be written."""
-    whole, files, name = whole_of(trial), texts_of(seen.files), output_of(ending)
+    whole, files, name = whole_of(trial), texts_in(trial, seen), fault.target.file
     check(None not in seen.files, "a file isn't opened before the first write")
     check(committed == whole.held(files), "another number of packets is committed than is there")
-    before = whole.failing(ending, committed, files)
-    check(files._replace(**{name: b""}) == before._replace(**{name: b""}),
+    before = whole.failing(name, committed, files)
+    check(with_text(files, name, b"") == with_text(before, name, b""),
           "the others aren't those of the writes before the one that failed")
-    check(len(getattr(files, name)) < whole.through(ending, committed, files), "all is there of the write that failed")
+    check(len(text_of(files, name)) < whole.through(name, committed, files), "all is there of the write that failed")
 
 
-def check_read(trial, whole, committed, counts, files):
-    """After a read that failed the outputs are just those of the records read before it."""
-    with open(trial.name_of("capture"), "rb") as file:
-        given = file.read(counts.moved)
-    count = records_in(given)
+def check_name(trial, fault, seen):
+    """What is said of a read that failed names the interface of its capture, if there are several."""
+    names = names_of(trial.command)
+    name = f": {names[CAPTURES.index(fault.target)]}" if len(names) > 1 else ""
+    check(seen.err.startswith(f"pfreplay: read failed{name}, ".encode()), "standard error names another capture")
+
+
+def check_read(trial, whole, committed, place, counts, files):
+    """After a read that failed of the capture of a place the outputs are just those of the records read before it."""
+    captures = [Path(trial.name_of(name)).read_bytes() for name in CAPTURE_NAMES[:len(whole.packets_ends)]]
+    given = captures[place][:counts.moved]
+    count = records_before(captures, place, given) if len(given) >= HEADER else 0
     check(committed == count, f"{count} whole records were read")
-    expected = whole.online(count) if len(given) >= HEADER else texts_of((b"",) * 4)
+    expected = whole.online(count) if len(given) >= HEADER else nothing_in(whole.files)
     check(files == expected, "the files aren't those of the records read before")
 
 
-def records_in(capture):
-    """How many whole records the beginning of a capture holds."""
-    order = "little" if capture[:1] in (b"\xd4", b"\x4d") else "big"
-    place, count = HEADER, 0
-    while place + RECORD_HEADER <= len(capture):
-        place += RECORD_HEADER + int.from_bytes(capture[place + 8:place + 12], order)
-        count += place <= len(capture)
-    return count
+def records_before(captures, place, given):
+    """How many records of all captures come before a read fails behind the beginning that was given of one."""
+    sources = list(map(source_of, captures))
+    sources[place] = Source(source_of(given).records, "read failed")
+    return len(merging.merged(sources).records)
 
 
 def check_refused(whole, committed, files):
     """Where memory was refused no output goes past the next boundary. Behind all the last message is written, then the
     counters, and then the states."""
     most, ended = whole.most(committed), whole.files
-    check(all(len(text) <= len(longest) for text, longest in zip(files, most)), "more is written than the next batch")
-    check(not files.counters or files[:2] == ended[:2] and files.messages == ended.messages,
+    check(all(len(text) <= len(longest) for text, longest in zip(files.in_order(), most.in_order())),
+          "more is written than the next batch")
+    check(not files.counters or files._replace(counters=b"", states=b"") == ended._replace(counters=b"", states=b""),
           "counters are written before the end")
     check(not files.states or files.counters == ended.counters, "states are written before the counters")
 

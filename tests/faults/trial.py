@@ -18,6 +18,27 @@ CALLS = ("allocation", "read", "write", "thread")
 PEER = "peer"
 
 
+class Part(NamedTuple):
+    """A part of a word of a command: the place of the word, and that of the part between commas."""
+    word: int
+    part: int
+
+
+def name_in(words, place):
+    """The name that stands at a place of a command, which is a word or a part of one."""
+    return words[place.word].split(",")[place.part] if isinstance(place, Part) else words[place]
+
+
+def put_name(words, place, name):
+    """Puts a name at a place of a command."""
+    if isinstance(place, Part):
+        parts = words[place.word].split(",")
+        parts[place.part] = name
+        words[place.word] = ",".join(parts)
+    else:
+        words[place] = name
+
+
 class Target(NamedTuple):
     """A kind of call, each of which is to meet each of the deeds.
 
@@ -44,7 +65,8 @@ class Target(NamedTuple):
 
 
 class Fault(NamedTuple):
-    """A deed at one call of a target, numbered from 1. The deed `each` fails all whose number is a multiple of that."""
+    """A deed at one call of a target, numbered from 1. The deed `each` fails all whose number is a multiple of that, and
+    `onward` all from that one on."""
     target: Target
     deed: str
     number: int
@@ -102,7 +124,7 @@ def ended(run, peer):
 class Trial:
     """A command with its standard input, and the library built for it.
 
-    `places` says by names which words of the command, the program at 0, name files or a peer. Those in `outputs` are
+    `places` says by names which words of the command, the program at 0, or parts of them name files or a peer. Those in `outputs` are
     written by the command: each run has files of its own for them, in a folder that is new and empty, and a peer of its
     own. What is to come without a fault is told by the reference: the command itself, or one with its files at the same
     places.
@@ -125,12 +147,12 @@ class Trial:
 
     def name_of(self, file):
         """The name of one of the command's files."""
-        return self.command[self.places[file]]
+        return name_in(self.command, self.places[file])
 
     def with_name(self, file, name):
         """The reference, but that one of its files has another name."""
         words = list(self.reference)
-        words[self.places[file]] = name
+        put_name(words, self.places[file], name)
         return words
 
     def without_fault(self, command=None, source=None, environment=lambda names: None):
@@ -139,8 +161,8 @@ class Trial:
               tempfile.TemporaryFile() as err, tempfile.TemporaryDirectory(dir=self.folder) as fresh, Peer() as peer):
             words = list(command or self.command)
             for name in self.outputs:
-                words[self.places[name]] = peer.name() if name == PEER else str(Path(fresh) / name)
-            names = {name: words[place] for name, place in self.places.items()}
+                put_name(words, self.places[name], peer.name() if name == PEER else str(Path(fresh) / name))
+            names = {name: name_in(words, place) for name, place in self.places.items()}
             with subprocess.Popen(words, stdin=file, stdout=out, stderr=err, env=environment(names)) as run:
                 status, taken = ended(run, peer if PEER in self.outputs else None)
             out.seek(0)

@@ -22,9 +22,9 @@ def judge(trial, fault, counts, seen):
     return replay.judge_by(check_held, trial, fault, counts, seen)
 
 
-def check_held(trial, ending, committed, counts, seen):
+def check_held(trial, _ending, committed, _fault, _counts, seen):
     """The outputs hold at least what belongs to the committed packets."""
     whole = replay.whole_of(trial)
     check(committed <= whole.count, "more packets are committed than there are")
-    check(committed == 0 or whole.is_held(committed, replay.texts_of(seen.files)),
+    check(committed == 0 or whole.is_held(committed, replay.texts_in(trial, seen)),
           "what belongs to the committed packets isn't there")

@@ -1,7 +1,7 @@
 """Runs pfreplay on each scene of `rows` with every choice of workers and batches, and compares what it leaves with what
 is worked out by hand, and with the model.
 
-In two of the scenes a call fails. The command `check` has no workers and is run once.
+In some of the scenes a call fails. The command `check` has no workers and is run once.
 """
 
 import sys
@@ -11,12 +11,12 @@ from pathlib import Path
 
 import building
 from faults import replay
-from faults.trial import Fault, Trial
+from faults.trial import Fault, Trial, put_name
 from matrix import rows
 from runs import model
 from runs.check_cases import FITTING
 from runs.comparison import Comparison
-from runs.model import Files, Outcome
+from runs.model import Outcome
 from workers.choices import Choice, run_of
 
 WORKERS, BATCHES = (0, 1, 2, 4, 8), (1, 2, 256)
@@ -56,10 +56,13 @@ def failing_run(comparison, failing, choice):
     case = failing.scene.case
     comparison.prepare(case)
     command = list(map(str, [comparison.program, *comparison.command(case), *choice.words()]))
-    trial = Trial(command, "/dev/null", comparison.folder, replay.places(command), replay.OUTPUTS)
-    target = replay.CAPTURE if failing.file == "capture" else replay.WRITES[failing.file]
-    seen, counts = trial.counted(target, Fault(target, "fail", failing.number))
-    return counts.fired, Outcome(seen.out, seen.err, seen.status, Files(*seen.files))
+    places = replay.places(command)
+    for name in replay.CAPTURE_NAMES[1:len(case.also) + 1] if failing.has_one_capture else ():
+        put_name(command, places[name], str(comparison.capture))
+    trial = Trial(command, "/dev/null", comparison.folder, places, replay.OUTPUTS)
+    target = replay.READS.get(failing.file) or replay.WRITES[failing.file]
+    seen, counts = trial.counted(target, Fault(target, failing.deed, failing.number))
+    return counts.fired, Outcome(seen.out, seen.err, seen.status, replay.files_of(seen.files, len(case.also)))
 
 
 def compare_failing(comparison):

@@ -5,7 +5,7 @@ and TCP packets no options, unless it is said otherwise.
 """
 
 from captures.packets import ACK, MORE_FRAGMENTS, SYN, TCP, UDP, ipv4, record, tcp, udp
-from matrix import room_rows
+from matrix import place_rows, room_rows
 from matrix.scene import Failing, Scene, capture_of, scene, text_of
 from messages.rows import SYN_HEADER, flow, flows, reply
 from runs.case import EMPTIED, INSIDE, Case, refused
@@ -233,12 +233,16 @@ SCENES = (no_packet, one_syn, a_syn_twice, three_flows_and_two_ports, a_connecti
           a_connection_with_window_scales, six_flows_in_one_message, seven_flows_in_two_messages, a_state_for_no_time,
           the_third_record_cut, a_fragment_and_a_rule_with_a_port, options_that_no_rule_allows,
           a_translated_datagram_and_an_error_about_it, a_sum_that_mends_to_zero, a_rule_that_is_left_out,
-          a_packet_that_is_answered, headers_that_are_refused, *room_rows.SCENES)
-FAILING_SCENES = (a_read_fails_in_the_third_record, the_second_write_of_lines_fails)
+          a_packet_that_is_answered, headers_that_are_refused, *room_rows.SCENES, *place_rows.SCENES)
+FAILING_SCENES = (a_read_fails_in_the_third_record, the_second_write_of_lines_fails, *place_rows.FAILING_SCENES)
 # the ruleset of the command `check`, and its answer
 EMPTY_RULESET = b"", b"0 filter, 0 translation, d41d8cd98f00b204e9800998ecf8427e\n"
 
 
 def named(makers):
-    """What the functions make, each with its name."""
-    return [(maker.__name__, made) for maker in makers for made in maker()]
+    """What the functions make, each with the function's name, and its own if it has one."""
+    return [(": ".join(filter(None, (maker.__name__, name_of(made)))), made) for maker in makers for made in maker()]
+
+
+def name_of(made):
+    return (made.scene if isinstance(made, Failing) else made).case.name

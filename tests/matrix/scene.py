@@ -39,12 +39,15 @@ class Scene(NamedTuple):
 
 
 class Failing(NamedTuple):
-    """A scene in which one call fails: the output of which a write fails or the capture, the number of the call, and
-    the sizes of batches with which it fails so."""
+    """A scene in which one call fails: the output of which a write fails or the capture, as the judge of faults names
+    it, the number of the call, and the sizes of batches with which it fails so. The deed tells if all later ones fail
+    too. All captures may be one file, the first one's."""
     scene: Scene
     file: str
     number: int
     batches: tuple
+    deed: str = "fail"
+    has_one_capture: bool = False
 
 
 def timed(records):

@@ -60,4 +60,4 @@ def told(run):
     job = job_of(text, run.interfaces, run.inside, run.seed)
     records = [Record(b"", *each) for each in run.placed()]
     table = StateTable(job.ruleset.options.values["states"])
-    return told_of(text, job, list(steps_of(job, run.link, records, table)))
+    return told_of(text, job, list(steps_of(job, run.link_at, records, table)))

@@ -7,8 +7,10 @@ from captures.packets import MICROSECONDS, NANOSECONDS, capture_header, record, 
 
 EXAMPLES = building.ROOT / "examples"
 # the inside networks of the examples that don't have those of most cases
+OFFICE_INSIDE = "198.51.100.64/27,192.0.2.1,203.0.113.2"
 EXAMPLE_INSIDES = {"gateway": "198.51.100.64/27,192.0.2.1", "home": "10.0.0.0/24", "server": "192.0.2.1",
-                   "router": "198.51.100.0/24,203.0.113.0/26"}
+                   "router": "198.51.100.0/24,203.0.113.0/26", "office": OFFICE_INSIDE, "office_em0": OFFICE_INSIDE,
+                   "office_em1": OFFICE_INSIDE}
 FIRST_RULES = (b"block in all\npass in quick from 198.51.100.0/24 to any no state\n"
                b"block in from 198.51.100.7 to any\n")
 INSIDE = "10.0.0.0/8"
@@ -20,6 +22,13 @@ PACKETS = [udp("198.51.100.7", 9, "192.0.2.1", 9), udp("203.0.113.9", 9, "192.0.
 FORMS = [(order, magic) for order in "<>" for magic in (MICROSECONDS, NANOSECONDS)]
 
 
+class Also(NamedTuple):
+    """One more interface of a run, with its capture."""
+    name: str
+    address: str
+    capture: bytes
+
+
 class Case(NamedTuple):
     """A run of the program: what its files and its words hold."""
     name: str
@@ -29,6 +38,15 @@ class Case(NamedTuple):
     interface: str = "em0"
     address: str = "192.0.2.1/24"
     seed: str = NO_SEED
+    also: tuple = ()
+
+    def interfaces(self):
+        """Of each interface its name, and its address with the bits behind it."""
+        return [(self.interface, self.address), *((each.name, each.address) for each in self.also)]
+
+    def captures(self):
+        """By the places of their interfaces."""
+        return [self.capture, *(each.capture for each in self.also)]
 
 
 class Line(NamedTuple):

@@ -6,7 +6,8 @@ import struct
 
 import captures.cases
 from captures.packets import capture_header, ipv4, record, udp
-from runs.case import EXAMPLE_INSIDES, EXAMPLES, FIRST_RULES, FORMS, INSIDE, NO_SEED, PACKETS, Case, capture_of
+from runs.case import (EXAMPLE_INSIDES, EXAMPLES, FIRST_RULES, FORMS, INSIDE, NO_SEED, OFFICE_INSIDE, PACKETS, Also, Case,
+                       capture_of)
 
 
 def examples():
@@ -17,6 +18,15 @@ def examples():
             for inside in sorted(insides):
                 yield Case(f"{rules.name} {inside} {capture.name}", rules.read_bytes(), inside,
                            capture.read_bytes())
+
+
+def examples_of_two():
+    """Every ruleset of the examples on the captures of two interfaces, with states bound to them or not."""
+    captures = [(EXAMPLES / f"{name}.pcap").read_bytes() for name in ("office_em0", "office_em1")]
+    for rules in sorted(EXAMPLES.glob("*.conf")):
+        for policy in (b"", b"set state-policy if-bound\n"):
+            yield Case(f"{policy.decode()}{rules.name}, two captures", policy + rules.read_bytes(), OFFICE_INSIDE, captures[0],
+                       also=(Also("em1", "203.0.113.2/24", captures[1]),))
 
 
 def edges():
@@ -160,6 +170,6 @@ def ranges():
 
 
 def all_cases():
-    for make in (examples, captures.cases.all_cases, edges, lines, ranges):
+    for make in (examples, examples_of_two, captures.cases.all_cases, edges, lines, ranges):
         yield from make()
     yield from random_cases(300)

@@ -6,15 +6,19 @@ from collections import Counter
 
 import captures.cases
 import captures.frame_cases
+import captures.merge_cases
 import steps.cases
-from runs import (cases, devices, filter_cases, filter_rows, lines, long_rulesets, message_cases, message_rows, model,
-                  random_cases, rows, same_files)
+from captures import merging
+from runs import (also_files, cases, devices, filter_cases, filter_rows, interface_rows, lines, long_rulesets,
+                  message_cases, message_rows, model, random_cases, rows, same_files)
 from runs.case import EXAMPLES, INSIDE, PACKETS, Case, capture_of
 from runs.comparison import a_line
 from runs.model import FILE, NONE, OUTPUTS, PEER, Outcome
 
 # each such case is also run with its messages sent to a peer, and each such one without messages
 PEER_STEP, NONE_STEP = 5, 9
+# the numbers of workers with which rows on several interfaces are run
+WORKERS = (0, 4)
 
 
 def written_cases():
@@ -31,6 +35,7 @@ def modelled_cases():
     yield from (rows.case_of(expected.run) for expected in steps.cases.cases())
     yield from random_cases.cases()
     yield from random_cases.translated_cases()
+    yield from random_cases.placed_cases()
 
 
 # The model beside what is written out
@@ -44,6 +49,10 @@ def compare_model(comparison):
         for form in (FILE, PEER):
             expect_facts(comparison, f"model: {case.name}, {form}", row, model.run(case, form), form)
     expect_packets(comparison, "model: messages as packets", model.run)
+    for sources in captures.merge_cases.cases():
+        comparison.expect(f"model: records of {sources}", merging.by_heads(sources), merging.merged(sources))
+    for scene in interface_rows.rows():
+        expect_scene(comparison, f"model: {scene.case.name}", scene, model.run(scene.case))
     for row in filter_rows.rows():
         for case, words in row.alone():
             line = model.run(case).files.verdicts.decode()
@@ -62,9 +71,11 @@ def compare(comparison):
         forms += [PEER] if number < written_count or number % PEER_STEP == 0 else []
         forms += [NONE] if number % NONE_STEP == 0 else []
         compare_case(comparison, case, forms, is_old=number % 3 == 0)
+    compare_scenes(comparison)
     good_lines(comparison)
     bad_lines(comparison)
     devices.compare(comparison)
+    also_files.compare(comparison)
     same_files.compare(comparison)
     example_captures(comparison)
 
@@ -75,6 +86,26 @@ def compare_case(comparison, case, forms, is_old=False):
         comparison.prepare(case, is_old)
         comparison.expect(f"{case.name} ({'old' if is_old else 'new'} files, {form})", model.run(case, form),
                           comparison.replay(case, form))
+
+
+# Several interfaces
+
+def expect_scene(comparison, name, scene, outcome):
+    """What is written by hand of a run on several interfaces."""
+    for title, wanted, seen in scene.facts(outcome):
+        comparison.expect(f"{name}: {title}", wanted, seen)
+
+
+def compare_scenes(comparison):
+    """The rows on several interfaces, without workers and with some."""
+    for number, scene in enumerate(interface_rows.rows()):
+        for workers in WORKERS:
+            comparison.prepare(scene.case, is_old=number % 3 == 0)
+            seen = comparison.execute([*comparison.command(scene.case), "--workers", workers])
+            name = f"{scene.case.name}, {workers} workers"
+            comparison.expect(name, model.run(scene.case), seen)
+            expect_scene(comparison, name, scene, seen or Outcome(b"", b"", None))
+        compare_case(comparison, scene.case, [PEER] + [NONE] * (number % PEER_STEP == 0))
 
 
 # Messages
@@ -139,7 +170,8 @@ def good_lines(comparison):
         comparison.expect(f"words {words}", model.run(case, PEER),
                           comparison.execute(["run", *named(comparison, words)], peer=comparison.peer))
     comparison.prepare()
-    for words, parts in ((["--help"], ()), (["run", "--help"], (b"--messages <FILE>", b"--peer <HOST:PORT>"))):
+    for words, parts in ((["--help"], ()), (["run", "--help"], (b"--messages <FILE>", b"--peer <HOST:PORT>",
+                                                                          b"--also <NAME,A.B.C.D/BITS,CAPTURE,PACKETS>"))):
         seen = comparison.execute(words)
         is_told = seen and seen.out and all(part in seen.out for part in parts)
         comparison.expect(f"words {words}", Outcome(seen.out if is_told else b"(some)", b"", 0), seen)

@@ -11,6 +11,8 @@ from runs.peers import Peer
 TIME_LIMIT = 60
 # longer than the text of many a run, so that what isn't emptied shows
 OLD_BYTES = b"as it was\n" * 50
+# the interfaces that a run may have
+MOST_INTERFACES = 8
 # what a fault of the command line is shown as if the program says something else
 ONE_LINE = b"pfreplay: (one line)\n"
 
@@ -24,6 +26,9 @@ class Comparison:
         self.rules = folder / "rules"
         self.capture = folder / "capture"
         self.files = Files(*(folder / name for name in OUTPUTS))
+        # of the other interfaces of a run
+        self.other_captures = [folder / f"capture{place}" for place in range(1, MOST_INTERFACES)]
+        self.other_packets = [folder / f"packets{place}" for place in range(1, MOST_INTERFACES)]
         self.peer = Peer()
         self.count = 0
         self.wrong = []
@@ -46,16 +51,19 @@ class Comparison:
     def left(self, *taken):
         """What stands in the files that a run writes, where those of messages may be what a peer has taken. One with
         its old bytes is as it was."""
-        files = self.files[:-1] if taken else self.files
-        texts = (name.read_bytes() if name.is_file() else None for name in files)
-        return Files(*(None if text == OLD_BYTES else text for text in texts), *taken)
+        verdicts, packets, counters, states, messages = map(text_in, self.files[:len(OUTPUTS)])
+        others = tuple(map(text_in, self.files.others))
+        return Files(verdicts, packets, counters, states, *(taken or [messages]), others)
 
     def prepare(self, case=None, is_old=False):
         """Writes the files that a run reads; those that it writes are gone, or hold something old."""
+        self.files = self.files._replace(others=tuple(self.other_packets[:len(case.also) if case else 0]))
         if case is not None:
             self.rules.write_bytes(case.rules)
             self.capture.write_bytes(case.capture)
-        for name in self.files:
+            for name, each in zip(self.other_captures, case.also):
+                name.write_bytes(each.capture)
+        for name in self.files.in_order():
             name.unlink(missing_ok=True)
             if is_old:
                 name.write_bytes(OLD_BYTES)
@@ -72,9 +80,10 @@ class Comparison:
 
     def command(self, case, form=FILE):
         """The words that replay a case, with the names of all files, and with its messages in a form."""
-        files = self.files if form == FILE else self.files[:-1]
+        files = self.files if form == FILE else self.files._replace(messages=None)
         peer = ["--peer", self.peer.name()] if form == PEER else []
-        return ["run", self.capture, self.rules, *flags_of(case, files), *peer]
+        also = also_of(case, self.other_captures, files.others)
+        return ["run", self.capture, self.rules, *flags_of(case, files), *also, *peer]
 
     def replay(self, case, form=FILE):
         """One run that replays a case, with its messages in a form."""
@@ -87,11 +96,24 @@ class Comparison:
 
 
 def flags_of(case, files):
-    """The flags of the command `run`, each with its value. A seed of zeros is left out, and so may the last file be."""
-    named = zip(OUTPUTS, files)
+    """The flags of the command `run` but those of other interfaces, each with its value. A seed of zeros is left out, and
+    so may the file of messages be."""
+    named = [(name, file) for name, file in zip(OUTPUTS, files) if file is not None]
     seed = [] if case.seed == NO_SEED else ["--seed", case.seed]
     return ["--interface", case.interface, "--address", case.address, "--inside", case.inside, *seed,
             *(word for name, file in named for word in (f"--{name}", file))]
+
+
+def also_of(case, captures, packets):
+    """The flags of the other interfaces, each with its value."""
+    return [word for each, *files in zip(case.also, captures, packets)
+            for word in ("--also", ",".join(map(str, (each.name, each.address, *files))))]
+
+
+def text_in(file):
+    """What stands in a file; None if it isn't there, or holds its old bytes."""
+    text = file.read_bytes() if file.is_file() else None
+    return None if text == OLD_BYTES else text
 
 
 def a_line(seen, beginning, parts=()):
@@ -105,8 +127,13 @@ def shown(outcome):
     """An outcome in few lines."""
     if not isinstance(outcome, Outcome):
         return "took too long" if outcome is None else repr(outcome)[:400]
-    files = "".join(f"\n    {name} {digest(text)}" for name, text in zip(OUTPUTS, outcome.files))
+    files = "".join(f"\n    {name} {digest(text)}" for name, text in named_texts(outcome.files))
     return f"status {outcome.status}, {outcome.out!r}, {outcome.err!r}{files}"
+
+
+def named_texts(files):
+    """The texts of files, each behind its name."""
+    return [*zip(OUTPUTS, files), *((f"packets{place}", text) for place, text in enumerate(files.others, 1))]
 
 
 def digest(text):

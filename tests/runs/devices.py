@@ -35,7 +35,7 @@ class Spoilt:
         self.rules = nowhere / "rules" if "ruleset file" in things else comparison.rules
         self.capture = nowhere / "capture" if "capture file" in things else comparison.capture
         files = Files(*(nowhere / name if name in things else file for name, file in zip(OUTPUTS, comparison.files)))
-        self.files = files[:-1] if "peer" in things else files
+        self.files = files._replace(messages=None) if "peer" in things else files
         self.peer = "%s:%d" % silent.getsockname()
         whole = capture_of(PACKETS)
         self.case = Case(f"spoilt: {', '.join(things)}", b"scrub in all" if "ruleset" in things else FIRST_RULES,
@@ -92,8 +92,11 @@ def compare(comparison):
 
 
 def with_file(words, file, other):
-    """The words with another name for a file."""
-    return [other if word == file else word for word in words]
+    """The words with another name for a file, which may be one of the parts of a word."""
+    def part_of(part):
+        return str(other) if part == str(file) else part
+
+    return [other if word == file else ",".join(map(part_of, str(word).split(","))) for word in words]
 
 
 def folders(comparison, case):

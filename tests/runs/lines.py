@@ -15,9 +15,16 @@ BATCH_FLAG, WORKERS_FLAG = ("--batch", "7"), ("--workers", "2")
 SEED_FLAG, MESSAGES_FLAG, PEER_FLAG = ("--seed", SEED), ("--messages", "messages"), ("--peer", PEER)
 # what the help and what is said of a value call its form
 FORMS = {**check_cases.FORMS, "--inside": "NETS", "--seed": "HEX", "--batch": "1..4096", "--workers": "0..64",
-         "--peer": "HOST:PORT",
+         "--peer": "HOST:PORT", "--also": "NAME,A.B.C.D/BITS,CAPTURE,PACKETS",
          **{f"--{name}": "FILE" for name in OUTPUTS}}
+# values of --also that aren't of its form, each with the part that is wrong; with other than four parts the whole is
+BAD_ALSO = {**{value: value for value in ("", ",", "em1", "em1,203.0.113.2/24", "em1,203.0.113.2/24,missing", ",,",
+                                          "em1,203.0.113.2/24,missing,more,others", "em1,203.0.113.2/24,missing,more,",
+                                          ",,,,", "em1;203.0.113.2/24;missing;more")},
+            **{f"{name},203.0.113.2/24,missing,more": name for name in BAD_INTERFACES},
+            **{f"em1,{address},missing,more": address for address in BAD_ADDRESSES}}
 BAD_VALUES = {
+    "--also": tuple(BAD_ALSO),
     "--interface": BAD_INTERFACES,
     "--address": BAD_ADDRESSES,
     "--inside": ("", ",", "10.0.0.0/8,", ",10.0.0.0/8", "10.0.0.1,,10.0.0.2", "10.0.0.0/33", "10.0.0.0/", "/8", "10.0.0.256",
@@ -33,9 +40,10 @@ BAD_VALUES = {
                "localhost:0", "127.0.0.1/9", "127.0.0.1 9", "127.0.0.1:9:"),
 }
 # of a list of networks the first part that is none is refused
-REFUSED_PARTS = {",": "", "10.0.0.0/8,": "", ",10.0.0.0/8": "", "10.0.0.1,,10.0.0.2": "",
-                 "10.0.0.0/8, 192.0.2.1": " 192.0.2.1", "10.0.0.0/8,em0": "em0",
-                 "10.0.0.1,10.0.0.0/4294967304": "10.0.0.0/4294967304"}
+REFUSED_PARTS = {"--inside": {",": "", "10.0.0.0/8,": "", ",10.0.0.0/8": "", "10.0.0.1,,10.0.0.2": "",
+                              "10.0.0.0/8, 192.0.2.1": " 192.0.2.1", "10.0.0.0/8,em0": "em0",
+                              "10.0.0.1,10.0.0.0/4294967304": "10.0.0.0/4294967304"},
+                 "--also": BAD_ALSO}
 GOOD_SEEDS = ("0" * 64, "f" * 64, "F" * 64, SEED, SEED.upper(), SEED.swapcase(), "aB" * 32)
 GOOD_INSIDES = ("10.0.0.5", "10.0.0.0/8,192.0.2.1", "0.0.0.0/0", "192.0.2.1/32,10.0.0.5/8,10.0.0.6/0", "10.0.0.5/0",
                 "010.0.0.5", "000010.0.0.0/008")
@@ -54,7 +62,7 @@ def bad_values():
     for flag, values in BAD_VALUES.items():
         others = {name: value for name, value in FLAGS.items() if name != flag}
         for value in values:
-            refused = REFUSED_PARTS.get(value, value)
+            refused = REFUSED_PARTS.get(flag, {}).get(value, value)
             said = (f"invalid value '{refused}' for '{flag} <{FORMS[flag]}>'".encode(),)
             yield Line(run_line(others, f"{flag}={value}"), said)
             if not value.startswith("-"):
@@ -66,7 +74,7 @@ def missing_words():
         others = {name: value for name, value in FLAGS.items() if name != flag}
         yield Line(run_line(others))
         yield Line(run_line(others, flag))
-    for flag in ("--seed", "--batch", "--workers", "--messages", "--peer"):
+    for flag in ("--seed", "--batch", "--workers", "--messages", "--peer", "--also"):
         yield Line(run_line(FLAGS, flag))
     yield Line(("run", *spelled(FLAGS)))
     yield Line(("run", CAPTURE, *spelled(FLAGS)))
@@ -99,9 +107,30 @@ def surplus_words():
     yield Line((CAPTURE, RULES, *spelled(FLAGS)))
 
 
+def also(*names):
+    """The words of interfaces besides the first one. Their files aren't there."""
+    return tuple(word for place, name in enumerate(names, 1)
+                 for word in ("--also", f"{name},203.0.113.{place}/24,missing,packets{place}"))
+
+
+def interfaces():
+    """Interfaces that are named twice, or too many, and one whose second value isn't of its form."""
+    for twice, names in (("em0", ("em0",)), ("em1", ("em1", "em1")), ("em0", ("em1", "em2", "em0")),
+                         ("em2", ("em1", "em2", "em3", "em2"))):
+        yield Line(run_line(FLAGS, *also(*names)), (f"interface twice: {twice}\n".encode(),))
+    names = [f"em{place}" for place in range(1, 9)]
+    for many in (names, [*names, *(f"igb{place}" for place in range(50))]):
+        yield Line(run_line(FLAGS, *also(*many)), (b"more than 8 interfaces\n",))
+    yield Line(run_line(FLAGS, *also("em1"), "--also", "em2,203.0.113.9,missing,more"),
+               (b"invalid value '203.0.113.9' for '--also <NAME,A.B.C.D/BITS,CAPTURE,PACKETS>'",))
+    for command in ("check", "adapt"):
+        yield Line((command, RULES, "--interface", "em0", "--address", "192.0.2.1/24", *also("em1")))
+
+
 def bad():
     """Lines that don't fit. The files that they name have faults too, which aren't to be met."""
     yield from bad_values()
+    yield from interfaces()
     yield from missing_words()
     yield from surplus_words()
 

@@ -9,12 +9,14 @@ from functools import lru_cache
 from itertools import accumulate
 from typing import NamedTuple
 
+from captures.merging import ENDED
 from captures.model import Refused
 from expansions.hosts import interface_of
 from messages.run import Told, told_of
 from messages.spelling import bare, in_file
 from rulesets.tree import Network
-from steps.replay import Replay, job_of, replay_of, ruleset_of
+from steps.marks import verdict_line
+from steps.replay import Replay, job_of, packets_by_place, replay_all, ruleset_of
 
 # what each run writes, in the order in which the files are opened; messages are written if that is requested
 REQUIRED = ("verdicts", "packets", "counters", "states")
@@ -25,12 +27,17 @@ FILE, PEER, NONE = "a file of messages", "a peer", "no messages"
 
 class Files(NamedTuple):
     """The bytes of the outputs, None if a file isn't there, or is left as it was. Those of the messages may be what a
-    peer got, None if it wasn't called."""
+    peer got, None if it wasn't called. The others are the packets of the other interfaces, by their places."""
     verdicts: bytes | None = None
     packets: bytes | None = None
     counters: bytes | None = None
     states: bytes | None = None
     messages: bytes | None = None
+    others: tuple = ()
+
+    def in_order(self):
+        """All of them in the order in which they are opened."""
+        return (self.verdicts, self.packets, *self.others, self.counters, self.states, self.messages)
 
 
 UNTOUCHED, EMPTY = Files(), Files(b"", b"", b"", b"", b"")
@@ -72,7 +79,7 @@ def network_of(word):
 
 def job_of_case(case):
     networks = tuple(map(network_of, case.inside.split(",")))
-    interfaces = (interface_of(case.interface, case.address),)
+    interfaces = tuple(interface_of(name, address) for name, address in case.interfaces())
     return job_of(case.rules, interfaces, networks, bytes.fromhex(case.seed))
 
 
@@ -87,9 +94,9 @@ class Done(NamedTuple):
 def done_of(case):
     """What a Case comes to whose ruleset has no fault."""
     job = job_of_case(case)
-    replay = replay_of(job, case.capture)
+    replay = replay_all(job, case.captures())
     told = told_of(case.rules, job, replay.steps)
-    return Done(replay, told, told.out(replay.tail in ("clean", "cut")))
+    return Done(replay, told, told.out(replay.tail in ENDED))
 
 
 def spelled(messages, form, address):
@@ -99,9 +106,15 @@ def spelled(messages, form, address):
     return b"".join(in_file(each, address.partition("/")[0]) if form == FILE else bare(each) for each in messages)
 
 
-def opened(form):
-    """What is left if all files were opened, and no more."""
-    return EMPTY._replace(messages=None) if form == NONE else EMPTY
+def opened(form, others=0):
+    """What is left if all files were opened, and no more; with the packets of `others` other interfaces."""
+    files = EMPTY._replace(others=(b"",) * others)
+    return files._replace(messages=None) if form == NONE else files
+
+
+def untouched(case):
+    """What is left if no file was opened."""
+    return UNTOUCHED._replace(others=(None,) * len(case.also))
 
 
 def files_of(case, form):
@@ -109,7 +122,7 @@ def files_of(case, form):
     done = done_of(case)
     texts = done.replay.texts
     return Files(texts.verdicts.encode(), texts.packets, (texts.counters or "").encode(), (texts.states or "").encode(),
-                 spelled(done.messages, form, case.address))
+                 spelled(done.messages, form, case.address), texts.others)
 
 
 def run(case, form=FILE):
@@ -117,17 +130,17 @@ def run(case, form=FILE):
     try:
         job_of_case(case)
     except Refused as why:
-        return refused(f"rules {why}")
+        return refused(f"rules {why}", untouched(case))
     try:
         replay = done_of(case).replay
     except Refused as why:
-        return refused(why, opened(form))
+        return refused(why, opened(form, len(case.also)))
     files, committed = files_of(case, form), f"committed {len(replay.steps)}"
     if replay.tail == "clean":
         return Outcome(f"{committed}\n".encode(), b"", 0, files)
     if replay.tail == "cut":
         return Outcome(f"{committed}, cut\n".encode(), b"", 2, files)
-    return refused(f"capture: {replay.tail}, {committed}", files)
+    return refused(f"{replay.tail}, {committed}", files)
 
 
 def message_ends(case, form):
@@ -138,11 +151,12 @@ def message_ends(case, form):
 
 def online(case, count, form=FILE):
     """What stands in the files after `count` packets, while the run goes on."""
-    done = done_of(case)
+    done, interfaces = done_of(case), job_of_case(case).interfaces()
     written = done.replay.steps[:count]
     messages = spelled(done.told.online(count), form, case.address)
-    return Files("".join(each.verdict_line() + "\n" for each in written).encode(),
-                 case.capture[:24] + b"".join(each.text() for each in written), b"", b"", messages)
+    first, *others = packets_by_place(case.captures(), written)
+    return Files("".join(verdict_line(interfaces, each) + "\n" for each in written).encode(), first, b"", b"", messages,
+                 tuple(others))
 
 
 def check(text, interface, address):

@@ -1,7 +1,7 @@
 """The lines of the states that a run has left, as a standby is to print them that took its messages.
 
-A standby doesn't know the translation rule, the clocks and the counts, and prints the code of the timeout. The code
-follows from a line of the run: the first timeout holds until a second packet counts, and then the ends tell it. States
+A standby doesn't know the translation rule, the clocks and the counts, nor the interface to which a state is bound, and
+prints the code of the timeout. The code follows from a line of the run: the first timeout holds until a second packet counts, and then the ends tell it. States
 of rules with `no-sync` aren't held.
 """
 
@@ -41,8 +41,8 @@ def held_line(fields):
 
 
 def fields_of(states):
-    """The fields of each line of the text of the states that a run has left."""
-    return [line.split(" ") for line in states.decode().splitlines()]
+    """The fields of each line of the text of the states that a run has left, but for the interface."""
+    return [line.partition(" i=")[0].split(" ") for line in states.decode().splitlines()]
 
 
 def held_lines(states, ruleset):

@@ -25,7 +25,7 @@ def followed(run):
     kinds, place_kinds = Kinds(job, run.link, table), PlaceKinds(job, run.link, table)
     records = [Record(b"", *each) for each in run.placed()]
     lines, counts, faults = [], Counter(), []
-    for step in steps_of(job, run.link, records, table):
+    for step in steps_of(job, run.link_at, records, table):
         lines.append(step_line(step))
         counts.update((step.outcome.verdict, step.outcome.reason, *kinds.of(step), *rooms_of(step.outcome)))
         counts.update(place_kinds.of(step) if run.places else ())

@@ -50,6 +50,9 @@ class Job(NamedTuple):
     inside: list
     seed: bytes
 
+    def interfaces(self):
+        return self.ruleset.hosts.run.interfaces
+
     def is_skipped(self, place):
         return self.ruleset.hosts.run.name_at(place) in self.ruleset.options.skipped
 

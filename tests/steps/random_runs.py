@@ -270,7 +270,7 @@ def with_packets(draw, run, packets, count):
     except Refused:
         return run
     table = StateTable(job.ruleset.options.values["states"])
-    steps = steps_of(job, run.link, packets(draw, run.link, table, run.interfaces).records(count), table)
+    steps = steps_of(job, run.link_at, packets(draw, run.link, table, run.interfaces).records(count), table)
     records = [step.record for step in steps]
     return run._replace(records=[(each.seconds, each.frame) for each in records],
                         places=tuple(each.place for each in records) if len(run.interfaces) > 1 else ())

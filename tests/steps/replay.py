@@ -1,33 +1,36 @@
-"""A model of the serial run with states and translation: a ruleset's text, interfaces, inside networks, a seed and a
-capture to what each packet comes to and to the texts that the run leaves. Its messages stand in messages.run.
+"""A model of the serial run with states and translation: a ruleset's text, interfaces, inside networks, a seed and
+captures to what each packet comes to and to the texts that the run leaves. Its messages stand in messages.run.
 
 It is written from the description of the formats alone. What one packet comes to is in model.py; here is what goes
 round it:
 
-- Packets are numbered from 1, and each record is one. The clock is the greatest seconds value so far. Before a packet the
-  states go whose deadline is at most the clock; behind the last packet none goes.
+- Packets are numbered from 1, and each record is one. Those of several captures, one for each interface, are taken in
+  the order of captures.merging. The clock is the greatest seconds value so far. Before a packet the states go whose
+  deadline is at most the clock; behind the last packet none goes.
 - The verdicts hold a line for each packet, `N CLOCK DIR VERDICT REASON r=R t=T s=S`. What stands behind it, and behind
   the line of a state, in a run on several interfaces is in marks.py.
 - The packets are the capture's header and the records of the packets that pass or are skipped. They are as read, but
-  for what a translation writes into a packet.
+  for what a translation writes into a packet. Each capture has packets of its own.
 - The counters hold a line for each filter rule, `filter N EVALUATIONS PACKETS BYTES`, then one for each rule of
   translation, `translation N EVALUATIONS PACKETS BYTES`, and `total RECORDS PASS BLOCK RETURN SKIP`. A rule is
   evaluated by each packet that visits it, whatever becomes of the packet then. Packets and bytes (IP total lengths)
   count for the rules on the packet's line where the reason is `rule`, `nat-pass`, `state` or `state-error`.
 - The states hold a line for each that is left, by number.
 
-Counters and states are written only where the run comes to the capture's end, cut or not.
+Counters and states are written only where the run comes to the end of all captures, cut or not.
 """
 
 from functools import lru_cache
 from itertools import repeat
 from typing import NamedTuple
 
+from captures import merging
 from captures.frames import Packet, datagram_of, view
-from captures.model import Refused, read_header, records_of
+from captures.model import HEADER, Refused, read_header, records_of
 from expansions.model import Ruleset, expand
 from expansions.values import TOO_MANY
 from rulesets.model import worded
+from steps.marks import name_at, state_line, verdict_line
 from steps.model import Job, Outcome, step
 from steps.picks import ZERO_SEED
 from steps.rewriting import rewritten
@@ -76,11 +79,13 @@ class Texts(NamedTuple):
     # None where the run was stopped
     counters: str | None
     states: str | None
+    # the packets of the captures behind the first one
+    others: tuple = ()
 
 
 class Replay(NamedTuple):
-    """A whole run: its packets, its texts, how the capture ends: `clean`, `cut` or what it is refused by; and the states
-    that are left."""
+    """A whole run: its packets, its texts, how it ends: `clean`, `cut` or what a capture is refused by, with the word for
+    that one; and the states that are left."""
     steps: list
     texts: Texts
     tail: str
@@ -124,12 +129,13 @@ def step_of(job, number, clock, link, record, table):
     return Step(number, clock, purged, outcome, length, record, frame)
 
 
-def steps_of(job, link, records, table):
-    """The packets of a run one by one; the table is as the packet leaves it when the next is asked for."""
+def steps_of(job, link_at, records, table):
+    """The packets of a run one by one; the table is as the packet leaves it when the next is asked for. A function tells
+    the type of the packets of an interface by its place."""
     clock = 0
     for number, record in enumerate(records, 1):
         clock = max(clock, record.seconds)
-        done = step_of(job, number, clock, link, record, table)
+        done = step_of(job, number, clock, link_at(record.place), record, table)
         yield done
         table.apply(done.outcome.change)
 
@@ -166,23 +172,70 @@ def counters(ruleset, steps):
             + f"total {len(steps)} {' '.join(map(str, totals.values()))}\n")
 
 
+def done_of(job, link_at, records, tail, interfaces=()):
+    """The run of a job over records, but for its packets' texts. Lines name some of these interfaces, if there are
+    several."""
+    table = StateTable(job.ruleset.options.values["states"])
+    steps = list(steps_of(job, link_at, records, table))
+    texts = Texts("".join(verdict_line(interfaces, each) + "\n" for each in steps), b"", None, None)
+    if tail in merging.ENDED:
+        texts = texts._replace(counters=counters(job.ruleset, steps), states="".join(
+            state_line(interfaces, entry) + "\n" for entry in table.by_number()))
+    return Replay(steps, texts, tail, table.by_number())
+
+
+def packets_of(capture, steps):
+    """The packets that some steps add to a capture's header."""
+    return capture[:HEADER] + b"".join(each.text() for each in steps)
+
+
 def replay_of(job, capture, places=()):
     """The whole run of a job over a capture's bytes. The places are those of the records, and 0 for each if there are
-    none."""
+    none. Lines name no interfaces."""
     header = read_header(capture)
     captured, tail = records_of(capture, header.order)
     records = [Record(*each, place) for each, place in zip(captured, places or repeat(0))]
-    table = StateTable(job.ruleset.options.values["states"])
-    steps = list(steps_of(job, header.link, records, table))
-    packets = capture[:24] + b"".join(each.text() for each in steps)
-    texts = Texts("".join(each.verdict_line() + "\n" for each in steps), packets, None, None)
-    if tail in ("clean", "cut"):
-        texts = texts._replace(counters=counters(job.ruleset, steps),
-                               states="".join(entry.text() + "\n" for entry in table.by_number()))
-    return Replay(steps, texts, tail, table.by_number())
+    done = done_of(job, lambda _: header.link, records, tail)
+    return done._replace(texts=done.texts._replace(packets=packets_of(capture, done.steps)))
 
 
 def replay(text, interfaces, inside, capture, seed=ZERO_SEED, places=()):
     """The whole run: the ruleset's text as bytes, the interfaces, the inside networks, the capture as bytes, the seed,
     and the places of the records."""
     return replay_of(job_of(text, interfaces, inside, seed), capture, places)
+
+
+# Runs over several captures
+
+def word_for(job, place):
+    """The word for the capture of a place in what is said of it: a run over several tells the interface."""
+    interfaces = job.interfaces()
+    return f"capture {name_at(interfaces, place)}" if len(interfaces) > 1 else "capture"
+
+
+def headers_of(job, captures):
+    """The headers of captures, which are read one after the other; the first that isn't accepted is refused."""
+    headers = []
+    for place, capture in enumerate(captures):
+        try:
+            headers.append(read_header(capture))
+        except Refused as why:
+            raise Refused(f"{word_for(job, place)}: {why}") from None
+    return headers
+
+
+def replay_all(job, captures):
+    """The whole run of a job over the bytes of captures, one for each interface."""
+    headers = headers_of(job, captures)
+    merged = merging.merged(list(map(merging.source_of, captures)))
+    tail = merged.tail if merged.refused is None else f"{word_for(job, merged.refused)}: {merged.tail}"
+    records = [Record(*each.record, each.place) for each in merged.records]
+    done = done_of(job, lambda place: headers[place].link, records, tail, job.interfaces())
+    first, *others = packets_by_place(captures, done.steps)
+    return done._replace(texts=done.texts._replace(packets=first, others=tuple(others)))
+
+
+def packets_by_place(captures, steps):
+    """The packets of each capture."""
+    return [packets_of(capture, [each for each in steps if each.record.place == place])
+            for place, capture in enumerate(captures)]

@@ -22,7 +22,7 @@ def seed_of(byte):
 class Run(NamedTuple):
     """A ruleset, and records: the second and the captured bytes of each. The places are those of the interfaces on which
     they were captured, and 0 for each if there are none; the links are the types of these interfaces, if they differ.
-    Only pfreplay takes a seed whose bytes differ, and takes just one interface."""
+    Only pfreplay takes a seed whose bytes differ."""
     name: str
     rules: str
     records: list

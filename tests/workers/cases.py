@@ -2,7 +2,8 @@
 
 Workers evaluate the packets of a batch on the table as it was before. So the cases are such that packets often change
 what one close behind them meets. Most are those of other comparisons: few connections with their packets close
-together, tables of a few states, ranges of a few ports, states that run out on the way. Here come runs that fill a
+together, tables of a few states, ranges of a few ports, states that run out on the way, several interfaces with a
+capture each. Here come runs that fill a
 range of ports again and again, runs whose rules are for about as many states as there are flows, runs that are so long that
 workers rest in them, limits of states, and packets that come twice.
 """
@@ -10,12 +11,13 @@ workers rest in them, limits of states, and packets that come twice.
 import random
 
 import messages.random_runs
+import steps.place_runs
 import steps.random_runs
 import steps.translation_runs
 from captures.packets import MORE_FRAGMENTS, UDP, ipv4, udp
 from runs import message_cases
 from runs.message_cases import LAST_SECOND
-from runs.random_cases import some_capture
+from runs.random_cases import placed_case, some_capture
 from runs.rows import case_of
 from steps.rows import HERE, OTHER, H, P
 from steps.run import Run
@@ -59,6 +61,12 @@ def resting_run(draw, number):
 def translated_run(draw, number):
     count = draw.randint(*draw.choice(LENGTHS))
     return steps.translation_runs.some_run(draw, number, count, draw.randbytes(32), (count, count))
+
+
+def placed_run(draw, number):
+    """A run on several interfaces."""
+    count = draw.randint(*draw.choice(LENGTHS))
+    return limited(draw, steps.place_runs.some_run(draw, number, count, (count, count)))
 
 
 def telling_run(draw, number):
@@ -115,17 +123,18 @@ def limited(draw, run):
     return run
 
 
-def with_some_again(draw, records):
-    """The records, of which some come once more, right behind themselves or some places later."""
-    made = list(records)
+def with_some_again(draw, run):
+    """The run, of whose records some come once more, right behind themselves or some places later."""
+    made = run.placed()
     for place in reversed(range(len(made))):
         if draw.random() < AGAIN:
             made.insert(place + draw.choice(PLACES), made[place])
-    return made
+    places = tuple(place for _, _, place in made) if run.places else ()
+    return run._replace(records=[(second, frame) for second, frame, _ in made], places=places)
 
 
-KINDS = (plain_run, translated_run, telling_run, full_run, moving_run, room_run, translated_run, message_cases.together_run,
-         resting_run)
+KINDS = (plain_run, translated_run, placed_run, telling_run, full_run, moving_run, room_run, translated_run, placed_run,
+         message_cases.together_run, resting_run)
 
 
 def is_fit(run):
@@ -139,5 +148,5 @@ def case_at(number):
     run = KINDS[number % len(KINDS)](draw, number)
     while not is_fit(run):
         run = KINDS[number % len(KINDS)](draw, number)
-    run = run._replace(records=with_some_again(draw, run.records))
-    return case_of(run)._replace(capture=some_capture(draw, run))
+    run = with_some_again(draw, run)
+    return placed_case(draw, run) if run.places else case_of(run)._replace(capture=some_capture(draw, run))

@@ -22,9 +22,9 @@ from typing import NamedTuple
 
 import building
 from runs.case import Case
-from runs.comparison import Comparison, shown
-from runs.model import OUTPUTS, Outcome, job_of_case
-from steps.replay import replay_of
+from runs.comparison import Comparison, named_texts, shown
+from runs.model import Outcome, job_of_case
+from steps.replay import replay_all
 from workers import endings
 from workers.cases import SEED, case_at
 from workers.choices import Choice, run_of
@@ -85,7 +85,7 @@ def running_on(core):
 def counts_of(expected):
     """How many packets come to each reason, and how many states that were made are gone at the end."""
     lines = [line.split() for line in (expected.files.verdicts or b"").decode().splitlines()]
-    made = sum(line[-1] == f"s={line[0]}" for line in lines)
+    made = sum(f"s={line[0]}" in line for line in lines)
     left = (expected.files.states or b"").count(b"\n")
     # there is no list of those that are left where the capture has a fault
     gone = made - left if expected.status in (0, 2) else 0
@@ -94,9 +94,9 @@ def counts_of(expected):
 
 def visits_without_room(case):
     """How many packets visit rules that would hold and have no room, by the model. Of a long run none is counted."""
-    if len(case.capture) > MODELLED:
+    if sum(map(len, case.captures())) > MODELLED:
         return 0
-    return sum(step.outcome.lacks_room() for step in replay_of(job_of_case(case), case.capture).steps)
+    return sum(step.outcome.lacks_room() for step in replay_all(job_of_case(case), case.captures()).steps)
 
 
 def compared(program, number):
@@ -124,7 +124,7 @@ def keep(difference, program):
     folder = Path(tempfile.mkdtemp(prefix="workers-"))
     for name, outcome in (("expected", difference.expected), ("seen", difference.seen)):
         (folder / name).mkdir()
-        for output, text in zip(OUTPUTS, outcome.files if outcome else ()):
+        for output, text in named_texts(outcome.files) if outcome else ():
             if text is not None:
                 (folder / name / output).write_bytes(text)
     comparison = Comparison(program, folder)

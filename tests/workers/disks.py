@@ -38,7 +38,7 @@ def limits(whole, longest):
     own = lengths.pop(longest)
     others = max(lengths.values())
     middle = whole.boundaries()[len(whole.boundaries()) // 2]
-    batch_end = max(map(len, whole.online(middle)))
+    batch_end = max(map(len, whole.online(middle).in_order()))
     return sorted({10, replay.HEADER, batch_end, others, (others + own) // 2, own - 1, own})
 
 

@@ -8,10 +8,11 @@ import sys
 from typing import NamedTuple
 
 import building
+from captures.model import HEADER, records_of
 from captures.packets import capture_header, record, udp
 from messages.rows import flow, flows
 from runs import model
-from runs.case import INSIDE, PACKETS, Case
+from runs.case import INSIDE, PACKETS, Also, Case
 from runs.model import FILE, NONE
 
 # behind the tests, as some benches have the names of modules there
@@ -92,6 +93,23 @@ def given_up(count):
 def ahead(count):
     """A run in which workers evaluate ahead all the time."""
     return kind("many rules", "block in\npass out no state", (PACKETS * count)[:count], MANY)
+
+
+def by_turns(made):
+    """A run whose packets come on two interfaces, by turns."""
+    case = made.case
+    pieces = [given.header + given.frame for given in records_of(case.capture, "<")[0]]
+    first, second = (case.capture[:HEADER] + b"".join(pieces[place::2]) for place in (0, 1))
+    also = (Also("em1", "203.0.113.2/24", second),)
+    return made._replace(case=case._replace(name=f"{case.name}, on two interfaces", capture=first, also=also))
+
+
+def resting_on_two(count):
+    return by_turns(resting(count))
+
+
+def ahead_on_two(count):
+    return by_turns(ahead(count))
 
 
 def uneven(count):

@@ -47,7 +47,7 @@ def written(known, name, outcome, taken):
     said = re.fullmatch(rb"pfreplay: write failed: %s, committed ([0-9]+)\n" % name.encode(), outcome.err)
     if not said or int(said[1]) not in (0, *whole.boundaries()):
         return taken.text
-    before = whole.failing(f"{name} failed", int(said[1]), replay.texts_of(outcome.files))
+    before = whole.failing(name, int(said[1]), replay.texts_of(outcome.files))
     return max(taken.text, getattr(before, name), key=len)
 
 
