@@ -1,11 +1,11 @@
 -- How the captures of several sources are opened, one after the other.
-use Rattle.std.specs.Prelude.{◌≡◌, ◌≢◌, ◌<◌, ◌+◌, ℕ, List, [], ◌∷◌, length, take, Some, None, slice_get, Err, ⊤}
+use Rattle.std.specs.Prelude.{◌≡◌, ◌≢◌, ◌<◌, ◌+◌, ℕ, Bool, List, [], ◌∷◌, length, take, Some, None, slice_get, Err, ⊤}
 use Rattle.pfr_capture.specs.declared.capture.CaptureError.{CaptureError}
 use Rattle.pfr_capture.specs.declared.capture.CaptureError.TheVariants.{Memory, Read, RecordTooLong}
 use Rattle.pfr_capture.specs.Device.{Rose}
 use Rattle.pfr_capture.specs.Header.{opening_of}
 use Rattle.pfr_capture.specs.Reading.{Opens, Reading}
-use Rattle.pfr_merge.specs.MergeReading.{HasMerged, MayFollowAll, Waiting, joined}
+use Rattle.pfr_merge.specs.MergeReading.{AllTold, HasMerged, MayFollowAll, Waiting, joined}
 use Rattle.pfr_merge.specs.MergedCaptures.{AreOpened}
 
 -- readers have given no record yet
@@ -18,6 +18,10 @@ abbrev pub HaveOpened : List Reading → (befores lefts : List (List ℕ)) → T
 HaveOpened [] befores lefts = befores ≡ lefts
 HaveOpened (reading ∷ readings) (before ∷ befores) (left ∷ lefts) = Opens before left reading × HaveOpened readings befores lefts
 HaveOpened _ _ _ = ⊥
+
+-- the same, if all sources tell their bytes
+abbrev pub OpensEach : List Bool → (befores lefts : List (List ℕ)) → List Reading → Type 0
+OpensEach told befores lefts readings = AllTold told → HaveOpened readings befores lefts
 
 -- a merge was opened on sources, and has given no record
 pub record MergeOpens (befores lefts : List (List ℕ)) (ws : List Waiting) : Type 0 where

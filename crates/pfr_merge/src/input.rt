@@ -14,6 +14,11 @@ use std::marker::Model;
 pub struct Input {
     capture: Capture,
     head: Option<Record>,
+    /// Whether its end was read. Then nothing of it is waited for.
+    has_ended: bool,
+    /// How many bytes its records had taken where the last batch began, and the most that they took in a batch before.
+    begun: usize,
+    most: usize,
 }
 
 impl Model for Input {
@@ -37,6 +42,9 @@ impl Input {
         Input {
             capture,
             head: None,
+            has_ended: false,
+            begun: 0,
+            most: 0,
         }
     }
 
@@ -61,6 +69,7 @@ impl Input {
         }
         match self.capture.next(source) {
             Ok(found) => {
+                self.has_ended = found.is_none();
                 self.head = found;
                 Ok(())
             }
@@ -80,6 +89,25 @@ impl Input {
         ensures { self.new ≡ self.old }
     {
         self.capture.give_back(packet);
+    }
+
+    /// How many bytes its records have taken with their headers since the last batch began, modulo 2^64.
+    fn taken(&self) -> usize {
+        self.capture.taken().wrapping_sub(self.begun)
+    }
+
+    /// Notes that a batch begins.
+    pub fn begin_batch(&mut self)
+        ensures { self.new ≡ self.old }
+    {
+        self.most = self.most.max(self.taken());
+        self.begun = self.capture.taken();
+    }
+
+    /// Whether who reads its records of the next batch may have to wait for its source, if they take no more bytes than those of the
+    /// largest batch so far.
+    pub fn may_wait(&self) -> bool {
+        !self.has_ended && self.capture.may_wait(self.most.max(self.taken()))
     }
 
     /// How the capture ends, as far as it was read.

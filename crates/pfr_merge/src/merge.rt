@@ -5,7 +5,7 @@ ghost use Rattle.pfr_merge.specs.MergeReading.{AllRefilled, AllTold, Answer, Are
 ghost use Rattle.pfr_capture.specs.declared.capture.Form.{Form};
 ghost use Rattle.pfr_capture.specs.Reading.{FieldsOf, bytes_of};
 ghost use Rattle.pfr_merge.specs.MergeStepping.{HaveNone, LeastSo, TakesNext};
-ghost use Rattle.pfr_merge.specs.Opening.{AreFresh, HaveOpened, MergeOpens, OpeningFails, OpeningStops};
+ghost use Rattle.pfr_merge.specs.Opening.{AreFresh, MergeOpens, OpeningFails, OpeningStops, OpensEach};
 ghost use Rattle.pfr_merge.specs.declared.time.Time.{Time};
 
 use crate::input::Input;
@@ -40,7 +40,7 @@ fn open_each<S: Source>(
 ) -> Result<Vec<Capture>, (usize, CaptureError)>
     ensures told { map S.told sources.new ≡ map S.told sources.old }
     ensures fresh { IfOk result (λ captures. AreFresh captures.items × (length captures.items ≡ length sources.old)) }
-    ensures opens { IfOk result (λ captures. AllTold (map S.told sources.old) → HaveOpened captures.items (map S.unread sources.old) (map S.unread sources.new)) }
+    ensures opens { IfOk result (λ captures. OpensEach (map S.told sources.old) (map S.unread sources.old) (map S.unread sources.new) captures.items) }
     ensures ok { OnOk result (map S.failures sources.new ≡ map S.failures sources.old) }
     ensures stops { IfErr result (λ stop. AllTold (map S.told sources.old) → OpeningStops (map S.unread sources.old) (map S.unread sources.new) stop) }
     ensures failed { IfErr result (OpeningFails (map S.failures sources.old) (map S.failures sources.new)) }
@@ -148,20 +148,19 @@ impl Merge {
         self.inputs[place].capture()
     }
 
-    /// Whether a source may have to be waited for when that many bytes more are read of each capture.
-    pub fn may_wait(&self, bytes: usize) -> bool {
-        self.inputs
-            .iter()
-            .any(|input| input.capture().may_wait(bytes))
+    /// Notes that a batch of its records begins.
+    pub fn begin_batch(&mut self)
+        ensures { self.new ≡ self.old }
+    {
+        for place in 0..self.inputs.len() {
+            self.inputs[place].begin_batch();
+        }
     }
 
-    /// How many bytes its records so far have taken with their headers, those that wait among them, modulo 2^64.
-    pub fn taken(&self) -> usize {
-        let mut taken = 0_usize;
-        for input in self.inputs.as_slice() {
-            taken = taken.wrapping_add(input.capture().taken());
-        }
-        taken
+    /// Whether who reads the next batch may have to wait for a source, if it has of no capture more bytes than the largest one so far.
+    /// Nothing rests on it: a source may have more by now, or have ended.
+    pub fn may_wait(&self) -> bool {
+        self.inputs.iter().any(|input| input.may_wait())
     }
 
     /// Takes a record of the capture at a place back that isn't needed any more. Its buffer may serve for one that is

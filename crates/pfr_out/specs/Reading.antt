@@ -1,10 +1,10 @@
 -- A batch of records on its way from the sources.
-use Rattle.std.specs.Prelude.{◌≡◌, ℕ, Bool, true, false, List, length, map, Option, Some, None, Ok, Err}
+use Rattle.std.specs.Prelude.{◌≡◌, ◌≤◌, ◌+◌, ℕ, Bool, true, false, List, length, map, Option, Some, None, Ok, Err}
 use Rattle.pfr_capture.specs.declared.capture.CaptureError.TheVariants as capture
 use Rattle.pfr_capture.specs.declared.capture.Record.{Record}
 use Rattle.pfr_commit.specs.Emissions.{frame_of}
 use Rattle.pfr_merge.specs.Arrivals.{Arrived}
-use Rattle.pfr_merge.specs.MergeReading.{AllTold, AreOver, LacksRecordAt, MergesOn, StopsAt, Waiting, joined, merged_tail}
+use Rattle.pfr_merge.specs.MergeReading.{AllTold, AreOver, HasPassedOn, LacksRecordAt, MergesOn, NoneRefused, StopsAt, Waiting, header_in, joined, merged_tail}
 use Rattle.pfr_merge.specs.Opening.{ReadingFails}
 use Rattle.pfr_out.specs.Captures.{End, frame_in}
 
@@ -43,3 +43,16 @@ wants_memory end = false
 abbrev pub BatchFails : Option End → (olds news : List ℕ) → Type 0
 BatchFails (Some (Err stop)) olds news = ReadingFails olds news stop
 BatchFails end olds news = news ≡ olds
+
+-- a batch of at most so many records was read of the captures of sources, and ended so
+pub record ReadsBatch {R : Type 0} (tells : R → Bool) (unread : R → List ℕ) (failed : R → ℕ)
+    (old new : List Waiting) (sources sources' : List R) (most : ℕ) (records : List Record) (end : Option End) : Type 0 where
+  pub told : map tells sources' ≡ map tells sources
+  pub captures : (length sources' ≡ length sources) × (length new ≡ length old)
+  pub headers : map header_in new ≡ map header_in old
+  pub at_most : length records ≤ most
+  pub full : end ≡ None → length records ≡ most
+  pub goes_on : end ≡ None → NoneRefused new
+  pub counted : (count : ℕ) → HasPassedOn count old → HasPassedOn (count + length records) new
+  pub says : SaysIn tells unread old new sources sources' records end
+  pub failures : BatchFails end (map failed sources) (map failed sources')

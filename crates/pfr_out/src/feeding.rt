@@ -40,9 +40,8 @@ pub(crate) struct Feeding<'a, R, S> {
     /// The captures, each with the source at its place.
     pub(crate) merge: &'a mut Merge,
     pub(crate) sources: &'a mut Sources<R>,
-    /// The most records of a batch, and the bytes of the largest one so far.
+    /// The most records of a batch.
     pub(crate) most: usize,
-    pub(crate) bytes: usize,
     pub(crate) channel: &'a mut Channel,
     /// The address from which messages come.
     pub(crate) address: Ipv4Address,
@@ -113,10 +112,7 @@ impl<R: Source, S: Sink> Feed for Feeding<'_, R, S> {
         let mut records = Vec::new(self.alloc);
         // if room is refused here, so is the room of a record
         let _ = records.reserve(self.most);
-        let before = self.merge.taken();
         self.end = self.sources.read_batch(self.merge, self.most, &mut records);
-        let bytes = self.merge.taken().wrapping_sub(before);
-        self.bytes = self.bytes.max(bytes);
         if records.is_empty() {
             return None;
         }
@@ -145,7 +141,7 @@ impl<R: Source, S: Sink> Feed for Feeding<'_, R, S> {
     }
 
     fn may_wait(&self) -> bool {
-        self.merge.may_wait(self.bytes)
+        self.merge.may_wait()
     }
 
     fn tells(&self) -> bool {

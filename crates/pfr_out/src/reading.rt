@@ -1,7 +1,7 @@
 //! Records from captures, a batch at a time.
-ghost use Rattle.std.specs.Prelude.{◌≡◌, ◌≤◌, ◌+◌, ℕ, [], None, length, map};
-ghost use Rattle.pfr_merge.specs.MergeReading.{HasPassedOn, NoneRefused, header_in};
-ghost use Rattle.pfr_out.specs.Reading.{BatchFails, SaysIn, wants_memory};
+ghost use Rattle.std.specs.Prelude.{◌≡◌, ◌≤◌, [], length};
+ghost use Rattle.pfr_merge.specs.MergeReading.{NoneRefused};
+ghost use Rattle.pfr_out.specs.Reading.{ReadsBatch, wants_memory};
 
 use pfr_capture::{CaptureError, Record, Source, Tail};
 use pfr_headers::View;
@@ -28,16 +28,9 @@ pub(crate) fn read_batch<R: Source>(
     requires captures { (length sources.old ≡ length merge.old) × (length merge.old ≤ 8) }
     requires most { 1 ≤ most }
     requires none { records.old.items ≡ [] }
-    ensures told { map R.told sources.new ≡ map R.told sources.old }
-    ensures captures { (length sources.new ≡ length sources.old) × (length merge.new ≡ length merge.old) }
-    ensures headers { map header_in merge.new ≡ map header_in merge.old }
-    ensures at_most { length records.new.items ≤ most }
-    ensures full { result ≡ None → length records.new.items ≡ most }
-    ensures goes_on { result ≡ None → NoneRefused merge.new }
-    ensures counted { (count : ℕ) → HasPassedOn count merge.old → HasPassedOn (count + length records.new.items) merge.new }
-    ensures says { SaysIn R.told R.unread merge.old merge.new sources.old sources.new records.new.items result }
-    ensures failures { BatchFails result (map R.failures sources.old) (map R.failures sources.new) }
+    ensures { ReadsBatch R.told R.unread R.failures merge.old merge.new sources.old sources.new most records.new.items result }
 {
+    merge.begin_batch();
     while records.len() < most {
         match merge.next(sources) {
             Ok(Some((_place, given))) => match records.push(given) {

@@ -73,7 +73,6 @@ fn replay_captures<H: AllocGlobal + Threads + Wait + Sync, R: Source, S: Sink, G
         merge: &mut merge,
         sources,
         most: settings.batch,
-        bytes: 0,
         channel: &mut channel,
         address,
         sinks,

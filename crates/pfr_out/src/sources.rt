@@ -1,9 +1,9 @@
 //! Where the captures come from.
-ghost use Rattle.std.specs.Prelude.{◌≡◌, ◌≤◌, ◌+◌, ℕ, [], None, IfErr, IfOk, OnOk, length, map};
+ghost use Rattle.std.specs.Prelude.{◌≡◌, ◌≤◌, [], IfErr, IfOk, OnOk, length, map};
 ghost use Rattle.std.specs.List.{list_all};
-ghost use Rattle.pfr_merge.specs.MergeReading.{AllTold, HasPassedOn, NoneRefused, header_in};
+ghost use Rattle.pfr_merge.specs.MergeReading.{AllTold, HasPassedOn, NoneRefused};
 ghost use Rattle.pfr_merge.specs.Opening.{MergeOpens, OpeningFails, OpeningStops};
-ghost use Rattle.pfr_out.specs.Reading.{BatchFails, SaysIn};
+ghost use Rattle.pfr_out.specs.Reading.{ReadsBatch};
 
 use crate::reading::read_batch;
 use pfr_capture::{CaptureError, Record, Source, Tail};
@@ -73,15 +73,7 @@ impl<R: Source> Sources<R> {
         requires captures { (length self.old ≡ length merge.old) × (length merge.old ≤ 8) }
         requires most { 1 ≤ most }
         requires none { records.old.items ≡ [] }
-        ensures told { map R.told self.new ≡ map R.told self.old }
-        ensures captures { (length self.new ≡ length self.old) × (length merge.new ≡ length merge.old) }
-        ensures headers { map header_in merge.new ≡ map header_in merge.old }
-        ensures at_most { length records.new.items ≤ most }
-        ensures full { result ≡ None → length records.new.items ≡ most }
-        ensures goes_on { result ≡ None → NoneRefused merge.new }
-        ensures counted { (count : ℕ) → HasPassedOn count merge.old → HasPassedOn (count + length records.new.items) merge.new }
-        ensures says { SaysIn R.told R.unread merge.old merge.new self.old self.new records.new.items result }
-        ensures failures { BatchFails result (map R.failures self.old) (map R.failures self.new) }
+        ensures { ReadsBatch R.told R.unread R.failures merge.old merge.new self.old self.new most records.new.items result }
     {
         read_batch(merge, self.sources.as_mut_slice(), most, records)
     }

@@ -127,3 +127,36 @@ fn a_capture_is_read_only_for_its_next_record(rt: HostRuntime) -> Result<(), Fai
     assert!(rt; gives(alloc, first, second, &order, Some((0, CaptureError::Read)))?);
     Ok(())
 }
+
+/// Whether a source may have to be waited for after each of five batches of two records of these captures. Nothing if one of them can't be
+/// opened.
+fn waits(alloc: Global, mut sources: [Mem; 2]) -> Result<Option<Vec<bool>>, AllocError> {
+    let Ok(mut merge) = Merge::open(alloc, &mut sources) else {
+        return Ok(None);
+    };
+    let mut waits = Vec::new(alloc);
+    for _batch in 0..5 {
+        merge.begin_batch();
+        let _ = merge.next(&mut sources);
+        let _ = merge.next(&mut sources);
+        waits.push(merge.may_wait())?;
+    }
+    Ok(Some(waits))
+}
+
+/// The first capture has one record. Once its end was read the second one alone may have to be waited for, where less of it has come than a
+/// batch took of it.
+#[test]
+fn an_ended_capture_is_not_waited_for(rt: HostRuntime) -> Result<(), Fail> {
+    let alloc = rt.alloc();
+    let times = [(1, 0), (2, 0), (3, 0), (4, 0), (5, 0), (6, 0), (7, 0)];
+    let first = Mem::new(capture(alloc, &MICROSECONDS, &[(0, 0)])?);
+    let second = Mem::new(capture(alloc, &MICROSECONDS, &times)?);
+    match waits(alloc, [first, second])? {
+        Some(found) => assert!(rt;
+            found.as_slice() == [false, false, false, true, false].as_slice()
+        ),
+        None => assert!(rt; false),
+    }
+    Ok(())
+}

@@ -10,7 +10,7 @@ use Rattle.pfr_out.proofs.ReadingLemmas.{batch_refused, gave_of, gives_no_more, 
 use Rattle.pfr_out.proofs.reading.read_batch.Goals as goal
 
 pub loop-merge-init : goal.loop-merge-init
-loop-merge-init g c = record {
+loop-merge-init g c = rw c.begin_batch.ensures (record {
   reading = c.requires.reading;
   lengths = (refl, refl);
   told = refl;
@@ -21,7 +21,7 @@ loop-merge-init g c = record {
       rw same passed;
   at_most = rw c.requires.none (omega arith);
   on = λ told. rw c.requires.none (gives_none _ _ (merges_none _ _ _ _ (all_refilled_none g.R.Source.unread c.args.merge.now c.args.sources.now c.requires.captures.0)));
-}
+})
 
 pub loop-merge-preserved : goal.loop-merge-preserved
 loop-merge-preserved g c =
@@ -50,67 +50,83 @@ loop-merge-preserved g c =
           rw done (gives_twice _ _ _ _ _ _ _ _ (i.on told) (gives_one _ _ _ _ c.in-Ok-Some._place c.in-Ok-Some.given short (rw c.in-Ok-Some.field-0-is at e.form) (rw c.in-Ok-Some.field-0-is at (e.reads mid))));
     }
 
-pub returns-in-Err-push-clause-counted : goal.returns-in-Err-push-clause-counted
-returns-in-Err-push-clause-counted g c =
-    λ count passed.
-    let i = c.loop-merge.invariant in
-    let after = c.in-Ok-Some.ensures.counted (count + length c.loop-merge.records.items) (i.counted count passed) in
-    rw c.in-Err-push.ensures.items (passes_fewer _ _ _ (omega arith) after)
-
-pub returns-in-Err-push-clause-says : goal.returns-in-Err-push-clause-says
-returns-in-Err-push-clause-says g c =
-    λ told.
+pub returns-in-Err-push : goal.returns-in-Err-push
+returns-in-Err-push g c =
     let i = c.loop-merge.invariant in
     let e = c.in-Ok-Some.ensures in
-    let mid : AllTold (map g.R.Source.told c.loop-merge.sources) = rw i.told told in
+    let sources_long = length-map c.next.new.sources g.R.Source.unread ∙ c.next.auto.sources ∙ i.lengths.0 ∙ sym (length-map c.args.sources.now g.R.Source.unread) in
     let most = i.lengths.1 in
     let few = c.requires.captures.1 in
     let short : length c.loop-merge.merge ≤ 8 = omega (arith, most, few) in
-    gave_of _ _ _ _ _ (gives_twice _ _ _ _ _ _ _ _ (i.on told) (gives_one _ _ _ _ c.in-Ok-Some._place c.in-Ok-Some.given short (rw c.in-Ok-Some.field-0-is at e.form) (rw c.in-Ok-Some.field-0-is at (e.reads mid))))
-    (length-map c.next.new.sources g.R.Source.unread ∙ c.next.auto.sources ∙ i.lengths.0 ∙ sym (length-map c.args.sources.now g.R.Source.unread))
+    record {
+      told = e.told ∙ i.told;
+      captures = (c.next.auto.sources ∙ i.lengths.0, e.length ∙ i.lengths.1);
+      headers = e.headers ∙ i.headers;
+      at_most = rw c.in-Err-push.ensures.items i.at_most;
+      full = λ is. absurd (cc);
+      goes_on = λ is. absurd (cc);
+      counted = λ count passed.
+          let after = e.counted (count + length c.loop-merge.records.items) (i.counted count passed) in
+          rw c.in-Err-push.ensures.items (passes_fewer _ _ _ (omega arith) after);
+      says = λ told.
+          let mid : AllTold (map g.R.Source.told c.loop-merge.sources) = rw i.told told in
+          gave_of _ _ _ _ _ (gives_twice _ _ _ _ _ _ _ _ (i.on told) (gives_one _ _ _ _ c.in-Ok-Some._place c.in-Ok-Some.given short (rw c.in-Ok-Some.field-0-is at e.form) (rw c.in-Ok-Some.field-0-is at (e.reads mid)))) sources_long;
+      failures = e.ok ∙ i.failures;
+    }
 
-pub returns-in-Ok-None-clause-counted : goal.returns-in-Ok-None-clause-counted
-returns-in-Ok-None-clause-counted g c =
-    λ count passed.
-    let after = c.in-Ok-None.ensures.counted (count + length c.loop-merge.records.items) (c.loop-merge.invariant.counted count passed) in
-    passes_fewer _ _ _ (omega arith) after
-
-pub returns-in-Ok-None-clause-says : goal.returns-in-Ok-None-clause-says
-returns-in-Ok-None-clause-says g c =
-    λ told.
+pub returns-in-Ok-None : goal.returns-in-Ok-None
+returns-in-Ok-None g c =
     let i = c.loop-merge.invariant in
     let e = c.in-Ok-None.ensures in
-    let mid : AllTold (map g.R.Source.told c.loop-merge.sources) = rw i.told told in
-    (gives_no_more _ _ _ _ _ _ _ (i.on told) (rw c.in-Ok-None.field-0-is at (e.reads mid)), rw c.in-Ok-None.field-0-is at e.end, c.tail.ensures)
+    record {
+      told = e.told ∙ i.told;
+      captures = (c.next.auto.sources ∙ i.lengths.0, e.length ∙ i.lengths.1);
+      headers = e.headers ∙ i.headers;
+      at_most = i.at_most;
+      full = λ is. absurd (cc);
+      goes_on = λ is. absurd (cc);
+      counted = λ count passed. passes_fewer _ _ _ (omega arith) (e.counted (count + length c.loop-merge.records.items) (i.counted count passed));
+      says = λ told.
+          let mid : AllTold (map g.R.Source.told c.loop-merge.sources) = rw i.told told in
+          (gives_no_more _ _ _ _ _ _ _ (i.on told) (rw c.in-Ok-None.field-0-is at (e.reads mid)), rw c.in-Ok-None.field-0-is at e.end, c.tail.ensures);
+      failures = e.ok ∙ i.failures;
+    }
 
-pub returns-in-Err-clause-counted : goal.returns-in-Err-clause-counted
-returns-in-Err-clause-counted g c =
-    λ count passed.
-    let after = c.in-Err.ensures.counted (count + length c.loop-merge.records.items) (c.loop-merge.invariant.counted count passed) in
-    passes_fewer _ _ _ (omega arith) after
-
-pub returns-in-Err-clause-failures : goal.returns-in-Err-clause-failures
-returns-in-Err-clause-failures g c =
+pub returns-in-Err : goal.returns-in-Err
+returns-in-Err g c =
     let i = c.loop-merge.invariant in
     let e = c.in-Err.ensures in
     let olds = length-map c.loop-merge.sources g.R.Source.failures in
     let news = length-map c.next.new.sources g.R.Source.failures in
     let same = c.next.auto.sources in
-    subst (λ (counts : List ℕ). ReadingFails counts (map g.R.Source.failures c.next.new.sources) c.in-Err.refusal) i.failures
-    (reading_fails c.next.new.self _ _ c.in-Err.refusal.0 c.in-Err.refusal.1 e.refused (olds ∙ i.lengths.0 ∙ c.requires.captures.0 ∙ sym i.lengths.1 ∙ sym e.length) (news ∙ same ∙ sym olds) (e.failed i.reading))
+    let fails = reading_fails c.next.new.self _ _ c.in-Err.refusal.0 c.in-Err.refusal.1 e.refused (olds ∙ i.lengths.0 ∙ c.requires.captures.0 ∙ sym i.lengths.1 ∙ sym e.length) (news ∙ same ∙ sym olds) (e.failed i.reading) in
+    let sources_long = length-map c.next.new.sources g.R.Source.unread ∙ same ∙ i.lengths.0 ∙ sym (length-map c.args.sources.now g.R.Source.unread) in
+    record {
+      told = e.told ∙ i.told;
+      captures = (same ∙ i.lengths.0, e.length ∙ i.lengths.1);
+      headers = e.headers ∙ i.headers;
+      at_most = i.at_most;
+      full = λ is. absurd (cc);
+      goes_on = λ is. absurd (cc);
+      counted = λ count passed. passes_fewer _ _ _ (omega arith) (e.counted (count + length c.loop-merge.records.items) (i.counted count passed));
+      says = λ told.
+          let mid : AllTold (map g.R.Source.told c.loop-merge.sources) = rw i.told told in
+          batch_refused _ _ _ _ _ _ _ _ _ c.in-Err.refusal.0 c.in-Err.refusal.1 (i.on told) (e.reads mid) e.refused (e.lacks i.reading) sources_long fails;
+      failures = subst (λ (counts : List ℕ). ReadingFails counts (map g.R.Source.failures c.next.new.sources) c.in-Err.refusal) i.failures fails;
+    }
 
-pub returns-in-Err-clause-says : goal.returns-in-Err-clause-says
-returns-in-Err-clause-says g c =
-    λ told.
+pub returns : goal.returns
+returns g c =
     let i = c.loop-merge.invariant in
-    let e = c.in-Err.ensures in
-    let mid : AllTold (map g.R.Source.told c.loop-merge.sources) = rw i.told told in
-    let olds = length-map c.loop-merge.sources g.R.Source.failures in
-    let news = length-map c.next.new.sources g.R.Source.failures in
-    let same = c.next.auto.sources in
-    batch_refused _ _ _ _ _ _ _ _ _ c.in-Err.refusal.0 c.in-Err.refusal.1 (i.on told) (e.reads mid) e.refused (e.lacks i.reading)
-    (length-map c.next.new.sources g.R.Source.unread ∙ same ∙ i.lengths.0 ∙ sym (length-map c.args.sources.now g.R.Source.unread))
-    (reading_fails c.next.new.self _ _ c.in-Err.refusal.0 c.in-Err.refusal.1 e.refused (olds ∙ i.lengths.0 ∙ c.requires.captures.0 ∙ sym i.lengths.1 ∙ sym e.length) (news ∙ same ∙ sym olds) (e.failed i.reading))
-
-pub returns-clause-counted : goal.returns-clause-counted
-returns-clause-counted g c = λ count passed. c.loop-merge.invariant.counted count passed
+    let most = i.at_most in
+    record {
+      told = i.told;
+      captures = i.lengths;
+      headers = i.headers;
+      at_most = most;
+      full = λ is. omega (arith, most);
+      goes_on = λ is. i.reading;
+      counted = i.counted;
+      says = i.on;
+      failures = i.failures;
+    }
