@@ -10,7 +10,7 @@ import captures.merge_cases
 import steps.cases
 from captures import merging
 from runs import (also_files, cases, devices, filter_cases, filter_rows, interface_rows, lines, long_rulesets,
-                  message_cases, message_rows, model, random_cases, rows, same_files)
+                  message_cases, message_rows, model, random_cases, rows, same_files, standard_streams)
 from runs.case import EXAMPLES, INSIDE, PACKETS, Case, capture_of
 from runs.comparison import a_line
 from runs.model import FILE, NONE, OUTPUTS, PEER, Outcome
@@ -77,6 +77,7 @@ def compare(comparison):
     devices.compare(comparison)
     also_files.compare(comparison)
     same_files.compare(comparison)
+    standard_streams.compare(comparison)
     example_captures(comparison)
 
 

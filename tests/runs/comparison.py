@@ -34,10 +34,11 @@ class Comparison:
         self.wrong = []
 
     def execute(self, words, out=subprocess.PIPE, peer=None, err=subprocess.PIPE, before=None, home=None,
-                variables=None):
-        """One run of the program, with the peer to which it may send, what its process does before, and its folder and
-        environment if they aren't those of this process; None if it takes too long."""
-        with subprocess.Popen([self.program, *map(str, words)], stdin=subprocess.DEVNULL, stdout=out, stderr=err,
+                variables=None, given=subprocess.DEVNULL):
+        """One run of the program, with the peer to which it may send, what its process does before, its folder and
+        environment if they aren't those of this process, and the file of its standard input; None if it takes too
+        long."""
+        with subprocess.Popen([self.program, *map(str, words)], stdin=given, stdout=out, stderr=err,
                               preexec_fn=before, cwd=home, env=variables) as run:
             try:
                 # what is printed is a line or two, which nobody has to read before the program ends

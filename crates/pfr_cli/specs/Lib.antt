@@ -1,2 +1,3 @@
 pub mod Destinations
 pub mod Outputs
+pub mod Standard

@@ -4,15 +4,18 @@ ghost use Rattle.std.specs.Prelude.{◌≡◌, IfOk, length};
 use crate::destination::Destination;
 use crate::failure::{CUT, DONE, Failure};
 use crate::files::{created, opened};
+use crate::origin::Origin;
+use crate::output_names::names_of;
 use crate::peer::{Connection, connected};
 use crate::same_file::repeated_output;
+use crate::standard::{has_standard, is_standard, repeated_input};
 use pfr_capture::{ReaderSource, Tail, WriterSink};
 use pfr_command::{CaptureWords, Messages, RunWords};
 use pfr_out::{Form, Gate, PacketSinks, Report, RunSettings, Sinks, Sources, replay_job};
 use pfr_packet::Job;
 use pfr_prepare::prepared_text;
 use std::alloc::{AllocError, AllocGlobal};
-use std::io::Write;
+use std::io::{Read, Write};
 use std::net::Net;
 use std::rt::Files;
 use std::sync::Wait;
@@ -29,30 +32,55 @@ impl Gate for Unwatched {
     fn ran_again(&self, _number: u64) {}
 }
 
-/// What takes an output, by the files and the network of a runtime.
-type OutputSink<R> = WriterSink<Destination<<R as Files>::File, Connection<<R as Net>::Stream>>>;
+/// What takes an output, by the files and the network of a runtime, and by standard output.
+type OutputSink<R, O> = WriterSink<
+    Destination<<R as Files>::File, O, Connection<<R as Net>::Stream>>,
+>;
 
-/// Replays captures through a ruleset, prints how many packets were committed, and answers the status.
-pub fn replay<'a, R: Files + Net + AllocGlobal + Threads + Wait + Sync, O: Write, E: Write>(
-    rt: &R,
-    asked: &RunWords<'a>,
-    out: &mut O,
-    err: &mut E,
-) -> Result<u8, Failure<'a>> {
-    if let Some(name) = repeated_output(rt, asked)? {
+/// Where a capture comes from, by the files of a runtime, and by standard input.
+type CaptureSource<R, I> = ReaderSource<Origin<<R as Files>::File, I>>;
+
+/// Replays captures through a ruleset, prints how many packets were committed, and answers the status. If standard output takes an
+/// output of the run, that line goes to `err`.
+pub fn replay<
+    'a,
+    R: Files + Net + AllocGlobal + Threads + Wait + Sync,
+    I: Read + Drop,
+    O: Write + Copy,
+    E: Write,
+>(rt: &R, asked: &RunWords<'a>, input: I, out: &mut O, err: &mut E) -> Result<u8, Failure<'a>> {
+    let outputs = names_of(rt.alloc(), asked)?;
+    if let Some(name) = repeated_input(asked.captures.as_slice()) {
+        return Err(Failure::SameFile(name));
+    }
+    if let Some(name) = repeated_output(rt, asked, outputs.as_slice())? {
         return Err(Failure::SameFile(name));
     }
     // A fault of the ruleset is reported before any other file is touched.
     let job = job_of(rt, asked, err)?;
-    let mut sources = sources(rt, asked.captures.as_slice())?;
-    let mut sinks = sinks(rt, asked)?;
+    let report = replayed(rt, asked, job, input, *out)?;
+    if has_standard(outputs.as_slice()) {
+        return finish(&report, err);
+    }
+    finish(&report, out)
+}
+
+/// Replays captures by a job, and writes the outputs.
+fn replayed<
+    'a,
+    R: Files + Net + AllocGlobal + Threads + Wait + Sync,
+    I: Read + Drop,
+    O: Write + Copy,
+>(rt: &R, asked: &RunWords<'a>, job: Job, input: I, out: O) -> Result<Report, Failure<'a>> {
+    let mut sources = sources(rt, asked.captures.as_slice(), input)?;
+    let mut sinks = sinks(rt, asked, out)?;
     let settings = RunSettings {
         batch: asked.batch,
         workers: asked.workers,
         form: form_of(&asked.outputs.messages),
     };
     match replay_job(rt, &mut sources, job, settings, &mut sinks, &Unwatched) {
-        Ok(report) => finish(&report, out),
+        Ok(report) => Ok(report),
         Err(stop) => Err(Failure::of_run(stop, asked.captures.as_slice())),
     }
 }
@@ -86,67 +114,94 @@ fn form_of(messages: &Messages<'_>) -> Form {
     }
 }
 
-/// Opens the captures, by the places of their interfaces.
-fn sources<'a, R: Files + AllocGlobal>(
+/// Opens the captures, by the places of their interfaces. One at most comes from standard input.
+fn sources<'a, R: Files + AllocGlobal, I: Read + Drop>(
     rt: &R,
     captures: &[CaptureWords<'a>],
-) -> Result<Sources<ReaderSource<R::File>>, Failure<'a>>
+    input: I,
+) -> Result<Sources<CaptureSource<R, I>>, Failure<'a>>
     ensures { IfOk result (λ sources. length sources ≡ length captures.now) }
 {
+    let mut input = Some(input);
     let mut sources = Vec::with_capacity(rt.alloc(), captures.len())?;
     for words in captures {
-        let file = opened(rt, words.capture)?;
+        let origin = origin(rt, words.capture, &mut input)?;
         sources
-            .push(ReaderSource::new(file))
+            .push(ReaderSource::new(origin))
             .map_err(AllocError::from)?;
     }
     Ok(Sources::new(sources))
 }
 
-/// Creates the files of the outputs, in this order, and behind them the connection to a peer.
-fn sinks<'a, R: Files + Net + AllocGlobal>(
+/// Opens a capture. Standard input is taken once.
+fn origin<'a, R: Files, I: Read>(
+    rt: &R,
+    name: &'a str,
+    input: &mut Option<I>,
+) -> Result<Origin<R::File, I>, Failure<'a>> {
+    if !is_standard(name) {
+        return Ok(Origin::File(opened(rt, name)?));
+    }
+    match input.take() {
+        Some(input) => Ok(Origin::Standard(input)),
+        None => Err(Failure::SameFile(name)),
+    }
+}
+
+/// Creates the files of the outputs, in this order, and behind them the connection to a peer. One at most is standard output.
+fn sinks<'a, R: Files + Net + AllocGlobal, O: Write + Copy>(
     rt: &R,
     asked: &RunWords<'a>,
-) -> Result<Sinks<OutputSink<R>>, Failure<'a>> {
+    out: O,
+) -> Result<Sinks<OutputSink<R, O>>, Failure<'a>> {
+    let mut out = Some(out);
     let names = &asked.outputs;
     Ok(Sinks {
-        verdicts: file_sink(rt, names.verdicts)?,
-        packets: packet_sinks(rt, asked.captures.as_slice())?,
-        counters: file_sink(rt, names.counters)?,
-        states: file_sink(rt, names.states)?,
-        messages: messages_sink(rt, &names.messages)?,
+        verdicts: sink(rt, names.verdicts, &mut out)?,
+        packets: packet_sinks(rt, asked.captures.as_slice(), &mut out)?,
+        counters: sink(rt, names.counters, &mut out)?,
+        states: sink(rt, names.states, &mut out)?,
+        messages: messages_sink(rt, &names.messages, &mut out)?,
     })
 }
 
 /// Creates the files of the packets, by the places of their captures.
-fn packet_sinks<'a, R: Files + Net + AllocGlobal>(
+fn packet_sinks<'a, R: Files + Net + AllocGlobal, O: Write + Copy>(
     rt: &R,
     captures: &[CaptureWords<'a>],
-) -> Result<PacketSinks<OutputSink<R>>, Failure<'a>> {
+    out: &mut Option<O>,
+) -> Result<PacketSinks<OutputSink<R, O>>, Failure<'a>> {
     let mut sinks = Vec::with_capacity(rt.alloc(), captures.len())?;
     for words in captures {
-        let sink = file_sink(rt, words.packets)?;
+        let sink = sink(rt, words.packets, out)?;
         sinks.push(sink).map_err(AllocError::from)?;
     }
     Ok(PacketSinks::new(sinks))
 }
 
-/// Creates the file of an output.
-fn file_sink<'a, R: Files, S: Write + Drop>(
+/// Creates the file of an output. Standard output is taken once.
+fn sink<'a, R: Files, O: Write + Copy, S: Write + Drop>(
     rt: &R,
     name: &'a str,
-) -> Result<WriterSink<Destination<R::File, S>>, Failure<'a>> {
-    let file = created(rt, name)?;
-    Ok(WriterSink::new(Destination::File(file)))
+    out: &mut Option<O>,
+) -> Result<WriterSink<Destination<R::File, O, S>>, Failure<'a>> {
+    if !is_standard(name) {
+        return Ok(WriterSink::new(Destination::File(created(rt, name)?)));
+    }
+    match out.take() {
+        Some(out) => Ok(WriterSink::new(Destination::Standard(out))),
+        None => Err(Failure::SameFile(name)),
+    }
 }
 
 /// Creates the file of the messages, or connects to the peer that they go to.
-fn messages_sink<'a, R: Files + Net>(
+fn messages_sink<'a, R: Files + Net, O: Write + Copy>(
     rt: &R,
     messages: &Messages<'a>,
-) -> Result<OutputSink<R>, Failure<'a>> {
+    out: &mut Option<O>,
+) -> Result<OutputSink<R, O>, Failure<'a>> {
     match messages {
-        Messages::File(name) => file_sink(rt, name),
+        Messages::File(name) => sink(rt, name, out),
         Messages::Peer(peer) => {
             let connection = connected(rt, peer)?;
             Ok(WriterSink::new(Destination::Stream(connection)))

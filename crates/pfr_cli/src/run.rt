@@ -7,7 +7,7 @@ use pfr_command::{Asked, parse};
 use pfr_out::{StandbyStop, Stop};
 use pfr_prepare::{Prepared, Refusal, Request, prepared_text, say_faults};
 use std::alloc::Global;
-use std::io::Write;
+use std::io::{Read, Write};
 use std::net::Net;
 use std::rt::Files;
 use std::sync::Wait;
@@ -15,13 +15,13 @@ use std::thread::Threads;
 
 /// Does what the words ask, the program's name first among them, and answers the status to end with. What
 /// is wrong goes to `err`, in one line.
-pub fn run<R: Files + Net + AllocGlobal + Threads + Wait + Sync, O: Write, E: Write>(
-    rt: &R,
-    words: &[String],
-    out: &mut O,
-    err: &mut E,
-) -> u8 {
-    match work(rt, words, out, err) {
+pub fn run<
+    R: Files + Net + AllocGlobal + Threads + Wait + Sync,
+    I: Read + Drop,
+    O: Write + Copy,
+    E: Write,
+>(rt: &R, words: &[String], input: I, out: &mut O, err: &mut E) -> u8 {
+    match work(rt, words, input, out, err) {
         Ok(status) => status,
         Err(
             Failure::Stopped {
@@ -43,18 +43,19 @@ fn ask_for_standby(words: &[String]) -> bool {
     }
 }
 
-fn work<'a, R: Files + Net + AllocGlobal + Threads + Wait + Sync, O: Write, E: Write>(
-    rt: &R,
-    words: &'a [String],
-    out: &mut O,
-    err: &mut E,
-) -> Result<u8, Failure<'a>> {
+fn work<
+    'a,
+    R: Files + Net + AllocGlobal + Threads + Wait + Sync,
+    I: Read + Drop,
+    O: Write + Copy,
+    E: Write,
+>(rt: &R, words: &'a [String], input: I, out: &mut O, err: &mut E) -> Result<u8, Failure<'a>> {
     match parse(rt.alloc(), words)? {
         Asked::Text(text) => print(out, text.as_bytes()),
         Asked::Check(rules) => check(rt, &rules, out, err),
         Asked::Adapt(rules) => adapt(rt, &rules, out, err),
-        Asked::Run(asked) => replay(rt, &asked, out, err),
-        Asked::Standby(stream) => stand_by(rt, &stream, out),
+        Asked::Run(asked) => replay(rt, &asked, input, out, err),
+        Asked::Standby(stream) => stand_by(rt, &stream, input, out),
     }
 }
 

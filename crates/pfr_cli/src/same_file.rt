@@ -1,14 +1,14 @@
 //! Finds an output of a run that is another of its files.
 //!
 //! A run empties its outputs before it reads its captures. So a run is refused before it opens a file if an output is a
-//! capture, the ruleset, a file that a flag names for it, or another output, by whatever name.
-ghost use Rattle.std.specs.Prelude.{◌≡◌, [], ◌∷◌, ◌++◌, Contains, IfOk, IfSome, OnOk, if◌then◌else◌};
-ghost use Rattle.pfr_cli.specs.Outputs.{file_names, messages_names, packets_names};
+//! capture, the ruleset, a file that a flag names for it, or another output, by whatever name. Standard output may stand for
+//! one output.
+ghost use Rattle.std.specs.Prelude.{◌≡◌, [], ◌∷◌, ◌++◌, Contains, IfOk, IfSome, if◌then◌else◌};
 
-use pfr_command::{CaptureWords, Messages, RunWords};
-use pfr_items::Items;
+use crate::standard::is_standard;
+use pfr_command::{CaptureWords, RunWords};
 use pfr_prepare::{Flag, Request};
-use std::alloc::{AllocError, Global};
+use std::alloc::AllocError;
 use std::fs::Metadata;
 use std::io::ErrorKind;
 use std::os::unix::fs::MetadataExt;
@@ -19,9 +19,11 @@ use std::{fs, io};
 /// How many symbolic links Linux follows in one path.
 const MOST_LINKS: u32 = 40;
 
-/// Identifies a regular file.
+/// Identifies a regular file, or standard output.
 #[derive(Drop, PartialEq)]
 enum FileIdentity {
+    /// Standard output, whatever it is.
+    StandardOutput,
     /// A file that exists.
     Existing(Location),
     /// A file that doesn't exist yet: the folder in which it would be made, and its name there.
@@ -37,16 +39,17 @@ enum Location {
     Path(PathBuf),
 }
 
-/// The name of the first output that is a capture, the ruleset, a file that a flag names for it, or an output before it. Only
-/// regular files are compared, and files that don't exist yet. A file that can't be looked at equals none.
+/// The name of the first of a run's outputs that is a capture, the ruleset, a file that a flag names for it, or an output before it.
+/// Only regular files are compared, and files that don't exist yet. A file that can't be looked at equals none.
 pub fn repeated_output<'a, R: Files + AllocGlobal>(
     rt: &R,
     asked: &RunWords<'a>,
+    outputs: &[&'a str],
 ) -> Result<Option<&'a str>, AllocError>
-    ensures { IfOk result (λ repeated. IfSome repeated (Contains (file_names asked.now.captures asked.now.outputs))) }
+    ensures { IfOk result (λ repeated. IfSome repeated (Contains outputs.now)) }
 {
     let mut files = Vec::new(rt.alloc());
-    repeated_among(rt, &mut files, asked)
+    repeated_among(rt, &mut files, asked, outputs)
 }
 
 /// The same, with an empty list that is filled with the files of the run.
@@ -54,49 +57,13 @@ fn repeated_among<'a, R: Files + AllocGlobal>(
     rt: &R,
     files: &mut Vec<FileIdentity>,
     asked: &RunWords<'a>,
+    outputs: &[&'a str],
 ) -> Result<Option<&'a str>, AllocError>
-    ensures { IfOk result (λ repeated. IfSome repeated (Contains (file_names asked.now.captures asked.now.outputs))) }
+    ensures { IfOk result (λ repeated. IfSome repeated (Contains outputs.now)) }
 {
     add_captures(rt, files, asked.captures.as_slice())?;
     add_ruleset(rt, files, &asked.rules)?;
-    let names = names_of(rt.alloc(), asked)?;
-    first_repeated(rt, files, names.as_slice())
-}
-
-/// The names of the files of a run's outputs, in the order in which they are made.
-fn names_of<'a>(alloc: Global, asked: &RunWords<'a>) -> Result<Items<&'a str>, AllocError>
-    ensures { IfOk result (λ names. names ≡ file_names asked.now.captures asked.now.outputs) }
-{
-    let outputs = &asked.outputs;
-    let mut names = Items::new(alloc);
-    names.push(outputs.verdicts)?;
-    add_packets(&mut names, asked.captures.as_slice())?;
-    names.push(outputs.counters)?;
-    names.push(outputs.states)?;
-    add_messages(&mut names, &outputs.messages).and(Ok(names))
-}
-
-/// Adds the names of the files of packets, by the places of their captures.
-fn add_packets<'a>(
-    names: &mut Items<&'a str>,
-    captures: &[CaptureWords<'a>],
-) -> Result<(), AllocError>
-    ensures { OnOk result (names.new ≡ names.old ++ packets_names captures.now) }
-{
-    for words in captures {
-        names.push(words.packets)?;
-    }
-    Ok(())
-}
-
-/// Adds the name of the file of messages, if they go into one.
-fn add_messages<'a>(names: &mut Items<&'a str>, messages: &Messages<'a>) -> Result<(), AllocError>
-    ensures { OnOk result (names.new ≡ names.old ++ messages_names messages.now) }
-{
-    match messages {
-        Messages::File(name) => names.push(*name),
-        Messages::Peer(_) | Messages::Nowhere => Ok(()),
-    }
+    first_repeated(rt, files, outputs)
 }
 
 /// The name of the first output that is one of these files or an output before it. The outputs before it are added to the
@@ -122,7 +89,7 @@ fn is_repeated<R: Files + AllocGlobal>(
     files: &mut Vec<FileIdentity>,
     name: &str,
 ) -> Result<bool, AllocError> {
-    match identity_of(rt, name)? {
+    match output_identity(rt, name)? {
         Some(file) => is_among(files, file),
         None => Ok(false),
     }
@@ -139,14 +106,16 @@ fn is_among(files: &mut Vec<FileIdentity>, file: FileIdentity) -> Result<bool, A
     Ok(false)
 }
 
-/// Adds the files of captures, if they exist.
+/// Adds the files of captures, if they exist. Standard input is none of them.
 fn add_captures<R: Files + AllocGlobal>(
     rt: &R,
     files: &mut Vec<FileIdentity>,
     captures: &[CaptureWords<'_>],
 ) -> Result<(), AllocError> {
     for words in captures {
-        add_input(rt, files, words.capture)?;
+        if !is_standard(words.capture) {
+            add_input(rt, files, words.capture)?;
+        }
     }
     Ok(())
 }
@@ -189,6 +158,17 @@ fn add_input<R: Files + AllocGlobal>(
         files.push(file)?;
     }
     Ok(())
+}
+
+/// The identity of what an output is written to, if it can be looked at.
+fn output_identity<R: Files + AllocGlobal>(
+    rt: &R,
+    name: &str,
+) -> Result<Option<FileIdentity>, AllocError> {
+    if is_standard(name) {
+        return Ok(Some(FileIdentity::StandardOutput));
+    }
+    identity_of(rt, name)
 }
 
 /// The identity of the file that would be written at a path, if it can be looked at.

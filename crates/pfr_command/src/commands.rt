@@ -10,9 +10,14 @@ const RUN_EXAMPLE: &str = "Examples:
       --inside 10.0.0.0/8,192.0.2.1 --verdicts verdicts.txt --packets passed.pcap \\
       --counters counters.txt --states states.txt
   pfreplay run em0.pcap /etc/pf.conf --interface em0 --address 192.0.2.1/24 \\
-      --also em1,10.0.0.1/8,em1.pcap,passed1.pcap --inside 10.0.0.0/8 \\
+      --also em1,203.0.113.2/24,em1.pcap,passed1.pcap --inside 10.0.0.0/8 \\
       --verdicts verdicts.txt --packets passed0.pcap \\
-      --counters counters.txt --states states.txt";
+      --counters counters.txt --states states.txt
+  zcat office.pcap.gz | pfreplay run - /etc/pf.conf --interface em0 --address 192.0.2.1/24 \\
+      --inside 10.0.0.0/8 --verdicts - --packets passed.pcap \\
+      --counters counters.txt --states states.txt
+
+In the place of a capture - is standard input, and in the place of an output standard output.";
 
 const CHECK_EXAMPLE: &str = "Example:
   pfreplay check /etc/pf.conf --interface em0 --address 192.0.2.1/24";
@@ -37,7 +42,9 @@ TIMEOUT: 0 to 5 tcp.first, tcp.opening, tcp.established, tcp.closing, tcp.finwai
   icmp.error; 11 to 13 other.first, other.single, other.multiple.
 
 Example:
-  pfreplay standby --messages messages.bin";
+  pfreplay standby --messages messages.bin
+
+In the place of the file - is standard input.";
 
 /// The flags that say which interface a ruleset is for: their names, what the help calls their values, and their help.
 const INTERFACE_FLAGS: [(&str, &str, &str); 2] = [
