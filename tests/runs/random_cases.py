@@ -109,10 +109,10 @@ def placed_case(draw, run):
     return case_of(run._replace(interfaces=run.interfaces[:1]))._replace(capture=first, also=also)
 
 
-def placed_cases():
-    """Those on several interfaces."""
-    draw = random.Random(SEED)
-    for number in range(PLACED_RUNS):
+def placed_cases(seed=SEED, runs=PLACED_RUNS):
+    """Those on several interfaces, of so many drawn runs."""
+    draw = random.Random(seed)
+    for number in range(runs):
         count = some_count(draw)
         run = steps.place_runs.some_run(draw, number, count, (count, count))
         if run.records:

@@ -147,19 +147,20 @@ def endings(comparison):
     for behind in (cut(1), too_long()):
         case = CASE._replace(also=(second._replace(capture=second.capture + behind),))
         for name in WRITTEN:
-            comparison.expect(f"{name} printed of a capture with {len(behind)} bytes more", printed(model.run(case), name),
-                              piped(comparison, case, {CAPTURE: STANDARD, name: STANDARD}, case.also[0].capture))
+            seen = piped(comparison, case, {CAPTURE: STANDARD, name: STANDARD}, case.also[0].capture)
+            comparison.expect(f"{name} printed, {len(behind)} bytes more", printed(model.run(case), name), seen)
     with open("/dev/full", "wb") as full:
         seen = execute(comparison, CASE, {"verdicts": STANDARD}, out=full)
-    comparison.expect("verdicts to a full device", b"pfreplay: write failed: verdicts, committed 0\n", seen and seen.err)
+    said = b"pfreplay: write failed: verdicts, committed 0\n"
+    comparison.expect("verdicts to a full device", said, seen and seen.err)
     comparison.expect("verdicts to a full device: the status", 3, seen and seen.status)
 
 
 def lines_as_they_come(comparison):
     """While standard input pauses, the lines of all whole batches that came are there."""
     packets = [record(0, number, udp("10.0.0.5", 1000 + number, "198.51.100.7", 9)) for number in range(3 * BATCH)]
-    case = case_of("a capture that pauses", "pass out", [capture_header() + b"".join(packets)] + [CASE.also[0].capture[:24]],
-                   THREE[:2])
+    captured = [capture_header() + b"".join(packets), capture_header()]
+    case = case_of("a capture that pauses", "pass out", captured, THREE[:2])
     expected = model.run(case).files.verdicts.splitlines(keepends=True)
     for workers in (0, 4):
         comparison.prepare(case)
@@ -173,7 +174,7 @@ def lines_as_they_come(comparison):
                 given = b""
                 seen.append(lines_of(run, BATCH))
             rest, said = run.communicate(timeout=TIME_LIMIT)
-        comparison.expect(f"lines as they come, {workers} workers", expected, [line for lines in seen for line in lines])
+        comparison.expect(f"lines as they come, {workers} workers", expected, list(itertools.chain.from_iterable(seen)))
         comparison.expect(f"nothing behind them, {workers} workers", (b"", b"committed %d\n" % len(packets), 0),
                           (rest, said, run.returncode))
 
