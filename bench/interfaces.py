@@ -7,7 +7,7 @@ The packets are those of flows.py, of many flows at once. Each flow is on one in
 the same in all runs, with states that are met on all interfaces and with states that are bound to one. Runs are of one,
 two and eight captures. With --instructions it counts instructions (by valgrind) in the place of seconds.
 
-With --workers it prints another table instead, of two captures of which the second ends early: with so many workers and
+With --workers it prints another table instead, of two captures of which the second ends early: with N workers and
 without, beside one capture with the same packets.
 """
 
@@ -36,7 +36,7 @@ PACKETS = 10**6
 CAPTURES = (1, 2, 8)
 # of the time of one capture, by the number of captures
 GOALS = {2: 1.15, 8: 1.3}
-# so many rules of ranges of ports, by which none is passed over, so that workers have something to do
+# how many rules of ranges of ports there are: none of them is passed over, so workers have something to do
 MANY = 1000
 
 
@@ -50,13 +50,13 @@ def records_of(capture):
 
 
 def interface_of(record, count):
-    """Which of so many interfaces a record's flow is on, the same for both of its directions."""
+    """Which of `count` interfaces a record's flow is on, the same for both of its directions."""
     addresses = record[RECORD:][ADDRESSES]
     return zlib.crc32(b"".join(sorted((addresses[:4], addresses[4:])))) % count
 
 
 def split(capture, count, place_of):
-    """As many captures, of which each has the records of its interface."""
+    """`count` captures, each with the records that `place_of` gives its place."""
     files = [bytearray(capture[:HEADER]) for _ in range(count)]
     for number, record in enumerate(records_of(capture)):
         files[place_of(number, record)] += record
@@ -75,7 +75,7 @@ class Contest:
         self.count = count_records(self.capture)
 
     def captures(self, count, place_of):
-        """The files of so many captures."""
+        """The files of `count` captures, each with the records that `place_of` gives its place."""
         paths = [self.folder / f"{count} {place}.pcap" for place in range(count)]
         for path, capture in zip(paths, split(self.capture, count, place_of)):
             path.write_bytes(capture)

@@ -110,7 +110,7 @@ def placed_case(draw, run):
 
 
 def placed_cases(seed=SEED, runs=PLACED_RUNS):
-    """Those on several interfaces, of so many drawn runs."""
+    """Those on several interfaces, of `runs` runs that are drawn by `seed`."""
     draw = random.Random(seed)
     for number in range(runs):
         count = some_count(draw)

@@ -180,7 +180,7 @@ def lines_as_they_come(comparison):
 
 
 def lines_of(run, count):
-    """So many lines that a run prints; fewer if it prints no more within the limit."""
+    """The next `count` lines that a run prints; fewer if it prints no more within the limit."""
     lines = []
     reader = Thread(target=lambda: lines.extend(run.stdout.readline() for _ in range(count)), daemon=True)
     reader.start()
