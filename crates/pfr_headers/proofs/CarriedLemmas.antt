@@ -75,7 +75,7 @@ frame_unsummed link place bytes change u is kind none =
     rw (rewritten_alone link place bytes change is (embedded_of_udp change.packet.transport u kind)) (no_checksum d change.packet change.end change.to u there kind none)
 
 -- by the message
-message_verifies : (d : List ℕ) (change : Change) (i : IcmpHeader) (m : IcmpMessage) → packet_of d ≡ Some change.packet → change.packet.transport ≡ Icmp i → i.message ≡ m → AreBytes d → change.to.address.0 < 4294967296 → change.to.port.0 < 65536 → CarriesEmbedded change.packet m
+message_verifies : (d : List ℕ) (change : Change) (i : IcmpHeader) (m : IcmpMessage) → packet_of change.packet.sender d ≡ Some change.packet → change.packet.transport ≡ Icmp i → i.message ≡ m → AreBytes d → change.to.address.0 < 4294967296 → change.to.port.0 < 65536 → CarriesEmbedded change.packet m
     → Verifies (message_sum d change.packet) → 0 < message_sum (with_words (words_of d change) d) change.packet → Verifies (message_sum (with_words (words_of d change) d) change.packet)
 unfolding packet_words
 message_verifies d change i (message.Echo identifier) there kind is are address port carries before some =

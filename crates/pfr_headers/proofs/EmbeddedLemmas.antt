@@ -18,8 +18,9 @@ use Rattle.pfr_headers.specs.Transport.{IsInner}
 use Rattle.pfr_headers.specs.View.{header_length_of, total_length_of}
 use Rattle.pfr_headers.proofs.CarriedLemmas.{datagram_at}
 use Rattle.pfr_headers.proofs.ChecksumLemmas.{none_stays}
-use Rattle.pfr_headers.proofs.ErrorBytesLemmas.{Agree, IsErrorIn, embedded_first_stay, embeds, error_room, front_lies, number_same, own_checksum, span_length, written, written_is}
+use Rattle.pfr_headers.proofs.ErrorBytesLemmas.{IsErrorIn, embedded_first_stay, embeds, error_room, front_lies, own_checksum, span_length, written, written_is}
 use Rattle.pfr_headers.proofs.FieldLemmas.{datagram_length}
+use Rattle.pfr_headers.proofs.FrontLemmas.{Agree, number_same}
 use Rattle.pfr_headers.proofs.RewritingLemmas.{address_least, address_most, echo_span, embedded_span, header_span, inner_there, packet_there, port_most, udp_span}
 use Rattle.pfr_headers.proofs.SegmentLemmas.{SameFrom, echo_verifies}
 use Rattle.pfr_headers.proofs.SumLemmas.{Covers, Moves, address_moves, covers, covers_first, covers_second, covers_with, least, mending, mending_udp, moves_past, moves_then, moves_word, part_sum, passes_before, passes_behind, passes_both, passes_with, sum_before, sum_behind}

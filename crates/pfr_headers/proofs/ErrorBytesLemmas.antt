@@ -19,31 +19,10 @@ use Rattle.pfr_headers.specs.Laws.{IsIn, IsOfEmbedded, IsOfEnd, IsOfHeader, IsOf
 use Rattle.pfr_headers.specs.Rewriting.{address_place, address_words, embedded_in, embedded_words, end_address, error_words, header_words, inner_words, other_end, outer_words, words_of}
 use Rattle.pfr_headers.specs.View.{packet_of}
 use Rattle.pfr_headers.proofs.FieldLemmas.{datagram_byte}
+use Rattle.pfr_headers.proofs.FrontLemmas.{Agree, agree_behind}
 use Rattle.pfr_headers.proofs.RewritingLemmas.{address_least, address_most, header_room, header_span, inner_room}
 use Rattle.pfr_headers.proofs.VerifyingLemmas.{all_within, read_at}
 use Rattle.pfr_headers.proofs.WordLemmas.{Spans, kept_before, kept_behind, length_with, length_with_all, spans_wider, with_append}
-
--- ---- what is read where bytes are the same
-
--- the bytes from one place to another are the same
-abbrev pub Agree : ℕ → ℕ → List ℕ → List ℕ → Type 0
-Agree low high now old = (byte : ℕ) → low ≤ byte → byte < high → slice_index now byte ≡ slice_index old byte
-
-number_from : (n from place low high : ℕ) (now old : List ℕ) → Agree low high now old → low ≤ place + from → place + from + n ≤ high → big_from from n (drop place now) ≡ big_from from n (drop place old)
-number_from zero from place low high now old same least most = refl
-number_from (suc n) from place low high now old same least most =
-    let byte = get_or-drop place now from 0 ∙ same (place + from) least (omega arith) ∙ sym (get_or-drop place old from 0) in
-    let rest = number_from n (suc from) place low high now old same (omega arith) (omega arith) in
-    rw (byte, rest) refl
-
--- so a number among them is the same
-pub number_same : (n place low high : ℕ) (now old : List ℕ) → Agree low high now old → low ≤ place → place + n ≤ high → big_number n (drop place now) ≡ big_number n (drop place old)
-number_same n place low high now old same least most = number_from n 0 place low high now old same (omega arith) (omega arith)
-
--- the same behind a place
-pub agree_behind : (from low high : ℕ) (now old : List ℕ) → Agree (from + low) (from + high) now old → Agree low high (drop from now) (drop from old)
-agree_behind from low high now old same =
-    λ byte least most. get_or-drop from now byte 0 ∙ same (from + byte) (omega arith) (omega arith) ∙ sym (get_or-drop from old byte 0)
 
 -- an address is its two words
 pub number_words : (place : ℕ) (bytes : List ℕ) → big_number 4 (drop place bytes) ≡ 65536 * word_at bytes place + word_at bytes (place + 2)
@@ -56,7 +35,7 @@ number_words place bytes =
 
 -- a datagram that is translated is an error that embeds a packet
 pub record IsErrorIn (d : List ℕ) (change : Change) (icmp : IcmpHeader) (inner : Inner) : Type 0 where
-  pub there : packet_of d ≡ Some change.packet
+  pub there : packet_of change.packet.sender d ≡ Some change.packet
   pub is_icmp : change.packet.transport ≡ Icmp icmp
   pub is_error : icmp.message ≡ message.Error inner
 

@@ -24,9 +24,10 @@ use Rattle.pfr_headers.specs.Rewriting.{address_place, address_words, echo_words
 use Rattle.pfr_headers.specs.Transport.{InnerPorts, IsIcmp, IsInner, IsMessage, IsTransport}
 use Rattle.pfr_headers.specs.View.{HoldsIpv4, IsPacket, header_length_of, is_fragment, place_of, total_length_of, view_of}
 use Rattle.pfr_headers.proofs.CarriedLemmas.{datagram_at}
-use Rattle.pfr_headers.proofs.ErrorBytesLemmas.{Agree, IsErrorIn, agree_behind, apart, embedded_behind, embedded_first_stay, embedded_header, ends_most, error_room, first_stay, front_lies, header_read, kind_stays, not_behind, not_echo_kind, not_embedded, not_own, not_port, number_same, number_words, other_side, own_checksum, span_length, unwritten, written, written_is}
+use Rattle.pfr_headers.proofs.ErrorBytesLemmas.{IsErrorIn, apart, embedded_behind, embedded_first_stay, embedded_header, ends_most, error_room, first_stay, front_lies, header_read, kind_stays, not_behind, not_echo_kind, not_embedded, not_own, not_port, number_words, other_side, own_checksum, span_length, unwritten, written, written_is}
 use Rattle.pfr_headers.proofs.FieldLemmas.{datagram_length, frame_byte, frame_length}
-use Rattle.pfr_headers.proofs.RewritingLemmas.{address_most, embedded_span, header_span, packet_there, port_most}
+use Rattle.pfr_headers.proofs.FrontLemmas.{Agree, agree_behind, holds_same, number_same, sender_same}
+use Rattle.pfr_headers.proofs.RewritingLemmas.{address_most, embedded_span, header_span, packet_there, port_most, sender_there}
 use Rattle.pfr_headers.proofs.StandingLemmas.{word_behind}
 use Rattle.pfr_headers.proofs.VerifyingLemmas.{read_at}
 use Rattle.pfr_headers.proofs.ViewLemmas.{packet_by, place_by, view_is}
@@ -379,36 +380,9 @@ datagram_translated d p Destination to icmp inner e small_address small_port =
 
 -- ---- in the frame
 
--- a frame whose bytes before its datagram stay, and the datagram's first one, holds it at the same place
-holds_same : (link : ℕ) (now bytes : List ℕ) (place : ℕ) → length now ≡ length bytes → Agree 0 place now bytes → slice_index now place ≡ slice_index bytes place → HoldsIpv4 link bytes place → HoldsIpv4 link now place
-holds_same link now bytes place size front first (inl r) =
-    let zeroth = subst (λ (n : ℕ). slice_index now n ≡ slice_index bytes n) r.place_is first in
-    inl (record { link_is = r.link_is; some = rw size r.some; version = rw zeroth r.version; place_is = r.place_is })
-holds_same link now bytes place size front first (inr (inl l)) =
-    let at = l.place_is in
-    inr (inl (record {
-      link_is = l.link_is;
-      whole = rw size l.whole;
-      family = rw (front 0 (omega arith) (omega arith), front 1 (omega arith) (omega arith), front 2 (omega arith) (omega arith), front 3 (omega arith) (omega arith)) l.family;
-      place_is = at;
-    }))
-holds_same link now bytes place size front first (inr (inr (inl e))) =
-    let at = e.place_is in
-    inr (inr (inl (record {
-      link_is = e.link_is;
-      whole = rw size e.whole;
-      kind = number_same 2 12 0 place now bytes front (omega arith) (omega arith) ∙ e.kind;
-      place_is = at;
-    })))
-holds_same link now bytes place size front first (inr (inr (inr t))) =
-    let at = t.place_is in
-    inr (inr (inr (record {
-      link_is = t.link_is;
-      whole = rw size t.whole;
-      tag = number_same 2 12 0 place now bytes front (omega arith) (omega arith) ∙ t.tag;
-      kind = number_same 2 16 0 place now bytes front (omega arith) (omega arith) ∙ t.kind;
-      place_is = at;
-    })))
+error_sender : (end : End) (to : Endpoint) (p : Packet) (icmp : IcmpHeader) (inner : Inner) → (translated_error end to p icmp inner).sender ≡ p.sender
+error_sender Source to p icmp inner = refl
+error_sender Destination to p icmp inner = refl
 
 frame_error_at : (link : ℕ) (bytes : List ℕ) (change : Change) (icmp : IcmpHeader) (inner : Inner) (found : Option ℕ) → place_of link bytes ≡ found → view_of link bytes ≡ Ipv4 change.packet → change.packet.transport ≡ Icmp icmp → icmp.message ≡ message.Error inner → change.to.address.0 < 4294967296 → change.to.port.0 < 65536
     → view_of link (rewritten link change bytes) ≡ Ipv4 (translated_error change.end change.to change.packet icmp inner)
@@ -427,7 +401,8 @@ frame_error_at link bytes change icmp inner (Some place) at is is_icmp is_error 
     (sym (get_or-drop place now 0 0) ∙ ap (λ (t : List ℕ). slice_index t 0) after ∙ first_stay d change icmp inner e 0 (omega arith) (omega arith) ∙ get_or-drop place bytes 0 0) in
     let holds = holds_same link now bytes place (frame_length link bytes change is) front first (place_by link bytes place at) in
     let packet : IsPacket (drop place now) (translated_error change.end change.to change.packet icmp inner) = rw after (datagram_translated d change.packet change.end change.to icmp inner e small_address small_port) in
-    sym (view_is link now (Ipv4 (translated_error change.end change.to change.packet icmp inner)) (place, holds, packet))
+    let sender = error_sender change.end change.to change.packet icmp inner ∙ sender_there link place bytes change.packet at is ∙ sym (sender_same link now bytes place (frame_length link bytes change is) front (place_by link bytes place at)) in
+    sym (view_is link now (Ipv4 (translated_error change.end change.to change.packet icmp inner)) (place, holds, packet, sender))
 
 pub frame_error : (link : ℕ) (bytes : List ℕ) (change : Change) (icmp : IcmpHeader) (inner : Inner) → view_of link bytes ≡ Ipv4 change.packet → change.packet.transport ≡ Icmp icmp → icmp.message ≡ message.Error inner → change.to.address.0 < 4294967296 → change.to.port.0 < 65536
     → view_of link (rewritten link change bytes) ≡ Ipv4 (translated_error change.end change.to change.packet icmp inner)

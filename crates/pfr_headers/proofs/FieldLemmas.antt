@@ -210,7 +210,7 @@ unfolding outer_words
 outer_lies size d p inner end to true e room = rw e (header_lies size d 0 end to.address room)
 outer_lies size d p inner end to false e room = rw e (record {})
 
-pub words_lie : (d : List ℕ) (change : Change) (embedded : Option Inner) → embedded_in change.packet.transport ≡ embedded → packet_of d ≡ Some change.packet → AllWithin (length d) (words_for d change embedded)
+pub words_lie : (d : List ℕ) (change : Change) (embedded : Option Inner) → embedded_in change.packet.transport ≡ embedded → packet_of change.packet.sender d ≡ Some change.packet → AllWithin (length d) (words_for d change embedded)
 unfolding error_words packet_words
 words_lie d change None is there =
     let room = header_room d change.packet there in
@@ -237,18 +237,18 @@ known_by protocol s source destination (inr r) = inr (inr r.0)
 known_inner : (e : List ℕ) (inner : Inner) → IsInner e inner → Known inner.protocol.0
 known_inner e inner i = subst Known (sym i.protocol) (known_by (slice_index e 9) (drop (4 * (slice_index e 0 % 16)) e) inner.source_port.0 inner.destination_port.0 i.ports)
 
-pub inner_known : (d : List ℕ) (p : Packet) (inner : Inner) → packet_of d ≡ Some p → embedded_in p.transport ≡ Some inner → Known inner.protocol.0
+pub inner_known : (d : List ℕ) (p : Packet) (inner : Inner) → packet_of p.sender d ≡ Some p → embedded_in p.transport ≡ Some inner → Known inner.protocol.0
 inner_known d p inner there embedded = known_inner (drop 8 (drop (header_length_of d) d)) inner (inner_there d p inner there embedded)
 
-words_of_end : (d : List ℕ) (change : Change) (embedded : Option Inner) → embedded_in change.packet.transport ≡ embedded → packet_of d ≡ Some change.packet → AllOf (IsOfEnd change.packet change.end) (words_for d change embedded)
+words_of_end : (d : List ℕ) (change : Change) (embedded : Option Inner) → embedded_in change.packet.transport ≡ embedded → packet_of change.packet.sender d ≡ Some change.packet → AllOf (IsOfEnd change.packet change.end) (words_for d change embedded)
 words_of_end d change None is there = packet_of_end d change.packet change.end change.to is
 words_of_end d change (Some inner) is there = error_of d change.packet inner change.end change.to is (inner_known d change.packet inner there is)
 
-pub datagram_length : (d : List ℕ) (change : Change) → packet_of d ≡ Some change.packet → length (with_words (words_of d change) d) ≡ length d
+pub datagram_length : (d : List ℕ) (change : Change) → packet_of change.packet.sender d ≡ Some change.packet → length (with_words (words_of d change) d) ≡ length d
 unfolding words_of
 datagram_length d change there = length_with_all _ d (words_lie d change _ refl there)
 
-pub datagram_byte : (d : List ℕ) (change : Change) (byte : ℕ) → packet_of d ≡ Some change.packet → (IsOfEnd change.packet change.end byte → ⊥) → slice_index (with_words (words_of d change) d) byte ≡ slice_index d byte
+pub datagram_byte : (d : List ℕ) (change : Change) (byte : ℕ) → packet_of change.packet.sender d ≡ Some change.packet → (IsOfEnd change.packet change.end byte → ⊥) → slice_index (with_words (words_of d change) d) byte ≡ slice_index d byte
 unfolding words_of
 datagram_byte d change byte there none = all_aside (IsOfEnd change.packet change.end) _ d byte (words_lie d change _ refl there) (words_of_end d change _ refl there) none
 

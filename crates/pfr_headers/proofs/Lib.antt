@@ -4,6 +4,7 @@ pub mod EmbeddedLemmas
 pub mod ErrorBytesLemmas
 pub mod ErrorLemmas
 pub mod FieldLemmas
+pub mod FrontLemmas
 pub mod MessageLemmas
 pub mod OptionLemmas
 pub mod RewritingLemmas

@@ -7,6 +7,7 @@ use Rattle.pfr_net.specs.declared.endpoint.Endpoint.{Endpoint}
 use Rattle.pfr_net.specs.declared.port.Port.{Port}
 use Rattle.pfr_headers.specs.declared.change.End.{End}
 use Rattle.pfr_headers.specs.declared.change.End.TheVariants.{Source, Destination}
+use Rattle.pfr_headers.specs.declared.ethernet.EthernetAddress.{EthernetAddress}
 use Rattle.pfr_headers.specs.declared.icmp.Inner.{Inner}
 use Rattle.pfr_headers.specs.declared.icmp.IcmpMessage.{IcmpMessage}
 use Rattle.pfr_headers.specs.declared.icmp.IcmpMessage.TheVariants as message
@@ -18,9 +19,9 @@ use Rattle.pfr_headers.specs.Rewriting.{address_place, address_words, behind_wor
 use Rattle.pfr_headers.specs.declared.change.Change.{Change}
 use Rattle.pfr_headers.specs.declared.packet.View.TheVariants.{Ipv4}
 use Rattle.pfr_headers.specs.Transport.{IsInner, IsMessage, IsTransport}
-use Rattle.pfr_headers.specs.View.{IsHeader, header_length_of, is_fragment, packet_of, place_of, seen, total_length_of, view_of}
+use Rattle.pfr_headers.specs.View.{IsHeader, header_length_of, is_fragment, packet_of, place_of, seen, sender_of, total_length_of, view_of}
 use Rattle.pfr_headers.proofs.TransportLemmas.{none_some, same_some}
-use Rattle.pfr_headers.proofs.ViewLemmas.{packet_by}
+use Rattle.pfr_headers.proofs.ViewLemmas.{packet_by, sent_by}
 use Rattle.pfr_headers.specs.Room.{BehindFits, InnerFits}
 use Rattle.pfr_headers.proofs.WordLemmas.{Spans, difference_append, difference_same, outside, spans_append, spans_wider, with_append}
 
@@ -207,7 +208,7 @@ behind_room d p (Icmp i) h is =
     omega (arith, length-drop (header_length_of d) d)
 behind_room d p Other h is = record {}
 
-pub header_room : (d : List ℕ) (p : Packet) → packet_of d ≡ Some p → (20 ≤ p.header_length) × (p.header_length ≤ length d)
+pub header_room : (d : List ℕ) (p : Packet) → packet_of p.sender d ≡ Some p → (20 ≤ p.header_length) × (p.header_length ≤ length d)
 header_room d p is =
     let h = (packet_by d p is).header in
     let same = h.header_length in
@@ -215,7 +216,7 @@ header_room d p is =
     let there = h.captured in
     (omega arith, omega arith)
 
-pub transport_room : (d : List ℕ) (p : Packet) → packet_of d ≡ Some p → BehindFits (length d) p.header_length p.transport
+pub transport_room : (d : List ℕ) (p : Packet) → packet_of p.sender d ≡ Some p → BehindFits (length d) p.header_length p.transport
 transport_room d p is = let all = packet_by d p is in behind_room d p p.transport all.header all.transport
 
 embedded_message : (e : List ℕ) (kind : ℕ) (s : List ℕ) (m : IcmpMessage) (inner : Inner) → IsMessage kind s m → embedded_by m ≡ Some inner → IsInner (drop 8 s) inner
@@ -231,10 +232,10 @@ embedded_transport protocol fragment whole s (Icmp i) inner is embedded = embedd
 embedded_transport protocol fragment whole s Other inner is embedded = none_some inner (embedded_in Other) embedded refl
 
 -- the packet that an error embeds is there
-pub inner_there : (d : List ℕ) (p : Packet) (inner : Inner) → packet_of d ≡ Some p → embedded_in p.transport ≡ Some inner → IsInner (drop 8 (drop (header_length_of d) d)) inner
+pub inner_there : (d : List ℕ) (p : Packet) (inner : Inner) → packet_of p.sender d ≡ Some p → embedded_in p.transport ≡ Some inner → IsInner (drop 8 (drop (header_length_of d) d)) inner
 inner_there d p inner is embedded = embedded_transport (slice_index d 9) (is_fragment d) (total_length_of d - header_length_of d) (drop (header_length_of d) d) p.transport inner (packet_by d p is).transport embedded
 
-pub inner_room : (d : List ℕ) (p : Packet) (inner : Inner) → packet_of d ≡ Some p → embedded_in p.transport ≡ Some inner → InnerFits (length d) (p.header_length + 8) inner
+pub inner_room : (d : List ℕ) (p : Packet) (inner : Inner) → packet_of p.sender d ≡ Some p → embedded_in p.transport ≡ Some inner → InnerFits (length d) (p.header_length + 8) inner
 inner_room d p inner is embedded =
     let all = packet_by d p is in
     let i = inner_there d p inner is embedded in
@@ -256,9 +257,18 @@ of_seen : (found : Option Packet) (p : Packet) → seen found ≡ Ipv4 p → fou
 of_seen None p e = absurd (cc)
 of_seen (Some q) p e = cc
 
-pub packet_there : (link place : ℕ) (bytes : List ℕ) (p : Packet) → place_of link bytes ≡ Some place → view_of link bytes ≡ Ipv4 p → packet_of (drop place bytes) ≡ Some p
+packet_sent : (link place : ℕ) (bytes : List ℕ) (p : Packet) → place_of link bytes ≡ Some place → view_of link bytes ≡ Ipv4 p → packet_of (sender_of link bytes) (drop place bytes) ≡ Some p
 unfolding view_of
-packet_there link place bytes p at is = of_seen (packet_of (drop place bytes)) p (rw at at is)
+packet_sent link place bytes p at is = of_seen (packet_of (sender_of link bytes) (drop place bytes)) p (rw at at is)
+
+pub packet_there : (link place : ℕ) (bytes : List ℕ) (p : Packet) → place_of link bytes ≡ Some place → view_of link bytes ≡ Ipv4 p → packet_of p.sender (drop place bytes) ≡ Some p
+packet_there link place bytes p at is =
+    let there = packet_sent link place bytes p at is in
+    subst (λ (sender : Option EthernetAddress). packet_of sender (drop place bytes) ≡ Some p) (sym (sent_by (sender_of link bytes) (drop place bytes) p there)) there
+
+-- its sender is the frame's
+pub sender_there : (link place : ℕ) (bytes : List ℕ) (p : Packet) → place_of link bytes ≡ Some place → view_of link bytes ≡ Ipv4 p → p.sender ≡ sender_of link bytes
+sender_there link place bytes p at is = sent_by (sender_of link bytes) (drop place bytes) p (packet_sent link place bytes p at is)
 
 pub nowhere : (link : ℕ) (bytes : List ℕ) (change : Change) → place_of link bytes ≡ None → bytes ≡ rewritten link change bytes
 unfolding rewritten

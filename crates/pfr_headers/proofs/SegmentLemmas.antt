@@ -116,7 +116,7 @@ port_covered from n more size Destination over within room = carried_covered fro
 -- ---- a TCP or UDP packet, and an echo
 
 -- what a packet's view says of the length of what it carries
-tcp_room : (d : List ℕ) (p : Packet) (t : TcpHeader) → packet_of d ≡ Some p → p.transport ≡ Tcp t → (20 ≤ p.total_length - p.header_length) × (p.protocol.0 ≡ 6)
+tcp_room : (d : List ℕ) (p : Packet) (t : TcpHeader) → packet_of p.sender d ≡ Some p → p.transport ≡ Tcp t → (20 ≤ p.total_length - p.header_length) × (p.protocol.0 ≡ 6)
 tcp_room d p t there is =
     let all = packet_by d p there in
     let tcp = subst (λ (x : Transport). IsTransport (slice_index d 9) (is_fragment d) (total_length_of d - header_length_of d) (drop (header_length_of d) d) x) is all.transport in
@@ -126,7 +126,7 @@ tcp_room d p t there is =
     let most = tcp.2.within_total in
     (omega arith, all.header.protocol ∙ tcp.1)
 
-udp_room : (d : List ℕ) (p : Packet) (u : UdpHeader) → packet_of d ≡ Some p → p.transport ≡ Udp u → 8 ≤ p.total_length - p.header_length
+udp_room : (d : List ℕ) (p : Packet) (u : UdpHeader) → packet_of p.sender d ≡ Some p → p.transport ≡ Udp u → 8 ≤ p.total_length - p.header_length
 udp_room d p u there is =
     let all = packet_by d p there in
     let udp = subst (λ (x : Transport). IsTransport (slice_index d 9) (is_fragment d) (total_length_of d - header_length_of d) (drop (header_length_of d) d) x) is all.transport in
@@ -135,7 +135,7 @@ udp_room d p u there is =
     let most = udp.2.within_total in
     omega arith
 
-pub icmp_room : (d : List ℕ) (p : Packet) (i : IcmpHeader) → packet_of d ≡ Some p → p.transport ≡ Icmp i → 8 ≤ p.total_length - p.header_length
+pub icmp_room : (d : List ℕ) (p : Packet) (i : IcmpHeader) → packet_of p.sender d ≡ Some p → p.transport ≡ Icmp i → 8 ≤ p.total_length - p.header_length
 icmp_room d p i there is =
     let all = packet_by d p there in
     let icmp = subst (λ (x : Transport). IsTransport (slice_index d 9) (is_fragment d) (total_length_of d - header_length_of d) (drop (header_length_of d) d) x) is all.transport in
@@ -154,7 +154,7 @@ segment_moves d end address from n more are over room small =
     subst (λ (m : ℕ). Moves (segment from n more) d (with_words (header_words d 0 end address) d) (difference_of d (address_words m address))) place
     (header_moves (segment from n more) d 0 end address are (omega arith) small (address_covered from n more (length d) end over room) (low_covered from n more (length d) end over room) (checksum_passes from n more (length d) over room))
 
-pub tcp_datagram : (d : List ℕ) (p : Packet) (end : End) (to : Endpoint) (t : TcpHeader) → packet_of d ≡ Some p → p.transport ≡ Tcp t → AreBytes d → to.address.0 < 4294967296 → to.port.0 < 65536 → Verifies (segment_sum d p) → Verifies (segment_sum (with_words (packet_words d p end to) d) p)
+pub tcp_datagram : (d : List ℕ) (p : Packet) (end : End) (to : Endpoint) (t : TcpHeader) → packet_of p.sender d ≡ Some p → p.transport ≡ Tcp t → AreBytes d → to.address.0 < 4294967296 → to.port.0 < 65536 → Verifies (segment_sum d p) → Verifies (segment_sum (with_words (packet_words d p end to) d) p)
 unfolding packet_words
 tcp_datagram d p end to t there is are address port before =
     let from = p.header_length in
@@ -173,7 +173,7 @@ tcp_datagram d p end to t there is are address port before =
     (port_covered from n (p.protocol.0 + n) (length d) end long (omega arith) (omega (arith, fits))) (carried_covered from n (p.protocol.0 + n) (length d) 8 (from + 16) long (omega arith) (omega arith) (omega (arith, fits))) before (omega arith) in
     rw (is, with_append header (tcp_words d from end (difference_of d (address_words (address_place end) to.address)) to.port) d) v
 
-pub udp_datagram : (d : List ℕ) (p : Packet) (end : End) (to : Endpoint) (u : UdpHeader) → packet_of d ≡ Some p → p.transport ≡ Udp u → AreBytes d → to.address.0 < 4294967296 → to.port.0 < 65536 → 0 < word_at d (p.header_length + 6) → Verifies (segment_sum d p) → Verifies (segment_sum (with_words (packet_words d p end to) d) p)
+pub udp_datagram : (d : List ℕ) (p : Packet) (end : End) (to : Endpoint) (u : UdpHeader) → packet_of p.sender d ≡ Some p → p.transport ≡ Udp u → AreBytes d → to.address.0 < 4294967296 → to.port.0 < 65536 → 0 < word_at d (p.header_length + 6) → Verifies (segment_sum d p) → Verifies (segment_sum (with_words (packet_words d p end to) d) p)
 unfolding packet_words
 udp_datagram d p end to u there is are address port some before =
     let from = p.header_length in
@@ -191,7 +191,7 @@ udp_datagram d p end to u there is are address port some before =
     rw (is, with_append header (udp_words d from end (difference_of d (address_words (address_place end) to.address)) to.port) d) v
 
 -- where there is no UDP checksum there is none afterwards
-pub no_checksum : (d : List ℕ) (p : Packet) (end : End) (to : Endpoint) (u : UdpHeader) → packet_of d ≡ Some p → p.transport ≡ Udp u → word_at d (p.header_length + 6) ≡ 0 → word_at (with_words (packet_words d p end to) d) (p.header_length + 6) ≡ 0
+pub no_checksum : (d : List ℕ) (p : Packet) (end : End) (to : Endpoint) (u : UdpHeader) → packet_of p.sender d ≡ Some p → p.transport ≡ Udp u → word_at d (p.header_length + 6) ≡ 0 → word_at (with_words (packet_words d p end to) d) (p.header_length + 6) ≡ 0
 unfolding packet_words udp_words
 no_checksum d p end to u there is none =
     let from = p.header_length in

@@ -156,12 +156,12 @@ address_at bytes at Destination source destination address is first second = ap 
 
 -- ---- a packet that embeds no other
 
-own_header : (d : List ℕ) (p : Packet) (end : End) (address : Ipv4Address) → packet_of d ≡ Some p → AreBytes d → address ≡ of_end end p.source p.destination → AllStand d (header_words d 0 end address)
+own_header : (d : List ℕ) (p : Packet) (end : End) (address : Ipv4Address) → packet_of p.sender d ≡ Some p → AreBytes d → address ≡ of_end end p.source p.destination → AllStand d (header_words d 0 end address)
 own_header d p end address there are is =
     let h = (packet_by d p there).header in
     header_stands d 0 end address are (address_at d 0 end p.source p.destination address is h.source h.destination)
 
-own_addresses : (d : List ℕ) (p : Packet) (end : End) (address : Ipv4Address) → packet_of d ≡ Some p → AreBytes d → address ≡ of_end end p.source p.destination → difference_of d (address_words (address_place end) address) ≡ 0
+own_addresses : (d : List ℕ) (p : Packet) (end : End) (address : Ipv4Address) → packet_of p.sender d ≡ Some p → AreBytes d → address ≡ of_end end p.source p.destination → difference_of d (address_words (address_place end) address) ≡ 0
 own_addresses d p end address there are is =
     let h = (packet_by d p there).header in
     let place : 0 + address_place end ≡ address_place end = omega arith in
@@ -203,7 +203,7 @@ own_address p end to (Udp u) none stands = ap (λ (e : Endpoint). e.address) sta
 own_address p end to (Icmp i) none stands = own_message p end to i.message none stands
 own_address p end to Other none stands = stands
 
-packet_stands : (d : List ℕ) (p : Packet) (end : End) (to : Endpoint) → packet_of d ≡ Some p → AreBytes d → embedded_in p.transport ≡ None → StandsIn p end to p.transport → AllStand d (packet_words d p end to)
+packet_stands : (d : List ℕ) (p : Packet) (end : End) (to : Endpoint) → packet_of p.sender d ≡ Some p → AreBytes d → embedded_in p.transport ≡ None → StandsIn p end to p.transport → AllStand d (packet_words d p end to)
 unfolding packet_words
 packet_stands d p end to there are none stands =
     let all = packet_by d p there in
@@ -260,13 +260,13 @@ inner_stands d at inner end to are is address port =
     stand_append d (header_words d at end to.address) _ (header_stands d at end to.address are own)
     (embedded_stands d (at + inner.header_length) end _ to.port inner.protocol.0 inner.source_port.0 inner.destination_port.0 are nothing ports (ap (λ (p : Port). p.0) port ∙ number_at end inner.source_port inner.destination_port))
 
-outer_stands : (d : List ℕ) (p : Packet) (inner : Inner) (end : End) (to : Endpoint) (same : Bool) → eqb (end_address end p.source p.destination).0 (end_address (other_end end) inner.source inner.destination).0 ≡ same → packet_of d ≡ Some p → AreBytes d → to.address ≡ of_other end inner.source inner.destination → AllStand d (outer_words d p inner end to)
+outer_stands : (d : List ℕ) (p : Packet) (inner : Inner) (end : End) (to : Endpoint) (same : Bool) → eqb (end_address end p.source p.destination).0 (end_address (other_end end) inner.source inner.destination).0 ≡ same → packet_of p.sender d ≡ Some p → AreBytes d → to.address ≡ of_other end inner.source inner.destination → AllStand d (outer_words d p inner end to)
 unfolding outer_words
 outer_stands d p inner end to true e there are address =
     rw e (own_header d p end to.address there are (address ∙ outer_address end p.source p.destination inner.source inner.destination (eqb-true _ _ e)))
 outer_stands d p inner end to false e there are address = rw e (record {})
 
-error_stands : (d : List ℕ) (p : Packet) (inner : Inner) (end : End) (to : Endpoint) → packet_of d ≡ Some p → AreBytes d → embedded_in p.transport ≡ Some inner → to.address ≡ of_other end inner.source inner.destination → to.port ≡ of_other end inner.source_port inner.destination_port → AllStand d (error_words d p inner end to)
+error_stands : (d : List ℕ) (p : Packet) (inner : Inner) (end : End) (to : Endpoint) → packet_of p.sender d ≡ Some p → AreBytes d → embedded_in p.transport ≡ Some inner → to.address ≡ of_other end inner.source inner.destination → to.port ≡ of_other end inner.source_port inner.destination_port → AllStand d (error_words d p inner end to)
 unfolding error_words
 error_stands d p inner end to there are embedded address port =
     let h = (packet_by d p there).header in
@@ -291,13 +291,13 @@ in_transport p end to (Udp u) inner embedded stands = absurd (cc)
 in_transport p end to (Icmp i) inner embedded stands = in_message p end to i.message inner embedded stands
 in_transport p end to Other inner embedded stands = absurd (cc)
 
-words_stand : (d : List ℕ) (change : Change) (embedded : Option Inner) → embedded_in change.packet.transport ≡ embedded → packet_of d ≡ Some change.packet → AreBytes d → StandsIn change.packet change.end change.to change.packet.transport → AllStand d (words_for d change embedded)
+words_stand : (d : List ℕ) (change : Change) (embedded : Option Inner) → embedded_in change.packet.transport ≡ embedded → packet_of change.packet.sender d ≡ Some change.packet → AreBytes d → StandsIn change.packet change.end change.to change.packet.transport → AllStand d (words_for d change embedded)
 words_stand d change None is there are stands = packet_stands d change.packet change.end change.to there are is stands
 words_stand d change (Some inner) is there are stands =
     let same = in_transport change.packet change.end change.to change.packet.transport inner is stands in
     error_stands d change.packet inner change.end change.to there are is (ap (λ (e : Endpoint). e.address) same) (ap (λ (e : Endpoint). e.port) same)
 
-datagram_same : (d : List ℕ) (change : Change) → packet_of d ≡ Some change.packet → AreBytes d → StandsIn change.packet change.end change.to change.packet.transport → with_words (words_of d change) d ≡ d
+datagram_same : (d : List ℕ) (change : Change) → packet_of change.packet.sender d ≡ Some change.packet → AreBytes d → StandsIn change.packet change.end change.to change.packet.transport → with_words (words_of d change) d ≡ d
 unfolding words_of
 datagram_same d change there are stands = words_same _ d are (words_lie d change _ refl there) (words_stand d change _ refl there are stands)
 

@@ -26,62 +26,15 @@ use Rattle.pfr_headers.specs.Rewriting.{address_place, address_words, behind_wor
 use Rattle.pfr_headers.specs.Room.{BehindFits}
 use Rattle.pfr_headers.specs.Translated.{message_with, tcp_with, translated, transport_with, udp_with}
 use Rattle.pfr_headers.specs.Transport.{IsIcmp, IsMessage, IsTcp, IsTransport, IsUdp}
-use Rattle.pfr_headers.specs.View.{HoldsIpv4, IsPacket, header_length_of, is_fragment, packet_of, place_of, total_length_of, view_of}
+use Rattle.pfr_headers.specs.View.{HoldsIpv4, IsPacket, header_length_of, is_fragment, packet_of, place_of, sender_of, total_length_of, view_of}
 use Rattle.pfr_headers.proofs.CarriedLemmas.{alone, datagram_at}
 use Rattle.pfr_headers.proofs.FieldLemmas.{datagram_byte, datagram_length, frame_byte, frame_length}
-use Rattle.pfr_headers.proofs.RewritingLemmas.{address_least, address_most, echo_span, header_room, packet_there, port_most, transport_room, udp_span}
+use Rattle.pfr_headers.proofs.FrontLemmas.{Agree, holds_same, number_same, sender_same}
+use Rattle.pfr_headers.proofs.RewritingLemmas.{address_least, address_most, echo_span, header_room, packet_there, port_most, sender_there, transport_room, udp_span}
 use Rattle.pfr_headers.proofs.StandingLemmas.{word_behind}
 use Rattle.pfr_headers.proofs.VerifyingLemmas.{header_within, read_at, tcp_span}
 use Rattle.pfr_headers.proofs.ViewLemmas.{packet_by, place_by, view_is}
 use Rattle.pfr_headers.proofs.WordLemmas.{Beside, kept, kept_before, kept_behind, length_with, outside, with_append}
-
--- ---- what is read where bytes are the same
-
--- the bytes from one place to another are the same
-abbrev Agree : ℕ → ℕ → List ℕ → List ℕ → Type 0
-Agree low high now old = (byte : ℕ) → low ≤ byte → byte < high → slice_index now byte ≡ slice_index old byte
-
--- so a number among them is the same
-number_from : (n from place low high : ℕ) (now old : List ℕ) → Agree low high now old → low ≤ place + from → place + from + n ≤ high → big_from from n (drop place now) ≡ big_from from n (drop place old)
-number_from zero from place low high now old same least most = refl
-number_from (suc n) from place low high now old same least most =
-    let byte = get_or-drop place now from 0 ∙ same (place + from) least (omega arith) ∙ sym (get_or-drop place old from 0) in
-    let rest = number_from n (suc from) place low high now old same (omega arith) (omega arith) in
-    rw (byte, rest) refl
-
-number_same : (n place low high : ℕ) (now old : List ℕ) → Agree low high now old → low ≤ place → place + n ≤ high → big_number n (drop place now) ≡ big_number n (drop place old)
-number_same n place low high now old same least most = number_from n 0 place low high now old same (omega arith) (omega arith)
-
--- a frame whose bytes before its datagram stay, and the datagram's first one, holds it at the same place
-holds_same : (link : ℕ) (now bytes : List ℕ) (place : ℕ) → length now ≡ length bytes → Agree 0 place now bytes → slice_index now place ≡ slice_index bytes place → HoldsIpv4 link bytes place → HoldsIpv4 link now place
-holds_same link now bytes place size front first (inl r) =
-    let zeroth = subst (λ (n : ℕ). slice_index now n ≡ slice_index bytes n) r.place_is first in
-    inl (record { link_is = r.link_is; some = rw size r.some; version = rw zeroth r.version; place_is = r.place_is })
-holds_same link now bytes place size front first (inr (inl l)) =
-    let at = l.place_is in
-    inr (inl (record {
-      link_is = l.link_is;
-      whole = rw size l.whole;
-      family = rw (front 0 (omega arith) (omega arith), front 1 (omega arith) (omega arith), front 2 (omega arith) (omega arith), front 3 (omega arith) (omega arith)) l.family;
-      place_is = at;
-    }))
-holds_same link now bytes place size front first (inr (inr (inl e))) =
-    let at = e.place_is in
-    inr (inr (inl (record {
-      link_is = e.link_is;
-      whole = rw size e.whole;
-      kind = number_same 2 12 0 place now bytes front (omega arith) (omega arith) ∙ e.kind;
-      place_is = at;
-    })))
-holds_same link now bytes place size front first (inr (inr (inr t))) =
-    let at = t.place_is in
-    inr (inr (inr (record {
-      link_is = t.link_is;
-      whole = rw size t.whole;
-      tag = number_same 2 12 0 place now bytes front (omega arith) (omega arith) ∙ t.tag;
-      kind = number_same 2 16 0 place now bytes front (omega arith) (omega arith) ∙ t.kind;
-      place_is = at;
-    })))
 
 -- ---- where a packet's bytes may be written
 
@@ -389,7 +342,7 @@ address_read d bytes at end addresses to t is room long fits small =
 
 -- ---- the frame
 
-datagram_translated : (d : List ℕ) (change : Change) → packet_of d ≡ Some change.packet → embedded_in change.packet.transport ≡ None → change.to.address.0 < 4294967296 → change.to.port.0 < 65536 → IsPacket (with_words (words_of d change) d) (translated change.end change.to change.packet)
+datagram_translated : (d : List ℕ) (change : Change) → packet_of change.packet.sender d ≡ Some change.packet → embedded_in change.packet.transport ≡ None → change.to.address.0 < 4294967296 → change.to.port.0 < 65536 → IsPacket (with_words (words_of d change) d) (translated change.end change.to change.packet)
 unfolding packet_words
 datagram_translated d change there none small_address small_port =
     let p = change.packet in
@@ -409,6 +362,10 @@ datagram_translated d change there none small_address small_port =
     (rw joined (address_read d bytes p.header_length end addresses to p.transport refl (omega arith) long fits small_address))
     (rw joined (port_read d bytes p.header_length end addresses to.port p.transport small_port fits)) (packet_by d p there)
 
+kept_sender : (end : End) (to : Endpoint) (p : Packet) → (translated end to p).sender ≡ p.sender
+kept_sender Source to p = refl
+kept_sender Destination to p = refl
+
 frame_translated_at : (link : ℕ) (bytes : List ℕ) (change : Change) (found : Option ℕ) → place_of link bytes ≡ found → view_of link bytes ≡ Ipv4 change.packet → embedded_in change.packet.transport ≡ None → change.to.address.0 < 4294967296 → change.to.port.0 < 65536 → view_of link (rewritten link change bytes) ≡ Ipv4 (translated change.end change.to change.packet)
 unfolding view_of
 frame_translated_at link bytes change None at is none small_address small_port =
@@ -423,7 +380,8 @@ frame_translated_at link bytes change (Some place) at is none small_address smal
     let first = frame_byte link bytes change place place is at (λ behind. in_header p end (place - place) none (omega arith) (in_front end (place - place) (omega arith))) in
     let holds = holds_same link now bytes place (frame_length link bytes change is) front first (place_by link bytes place at) in
     let packet : IsPacket (drop place now) (translated end change.to p) = rw (datagram_at link place bytes change is at) (datagram_translated (drop place bytes) change there none small_address small_port) in
-    sym (view_is link now (Ipv4 (translated end change.to p)) (place, holds, packet))
+    let sender : (translated end change.to p).sender ≡ sender_of link now = kept_sender end change.to p ∙ sender_there link place bytes p at is ∙ sym (sender_same link now bytes place (frame_length link bytes change is) front (place_by link bytes place at)) in
+    sym (view_is link now (Ipv4 (translated end change.to p)) (place, holds, packet, sender))
 
 pub frame_translated : (link : ℕ) (bytes : List ℕ) (change : Change) → view_of link bytes ≡ Ipv4 change.packet → embedded_in change.packet.transport ≡ None → change.to.address.0 < 4294967296 → change.to.port.0 < 65536 → view_of link (rewritten link change bytes) ≡ Ipv4 (translated change.end change.to change.packet)
 frame_translated link bytes change is none small_address small_port = frame_translated_at link bytes change _ refl is none small_address small_port

@@ -143,14 +143,14 @@ error_verifies count d p inner end to are words long fits small some before =
     rw (sym (append_assoc carried (checksum ∷ []) (outer_words d p inner end to)), with_append first (outer_words d p inner end to) d, sym same) after
 
 -- all words of a change
-words_verify : (count : ℕ) (d : List ℕ) (change : Change) (embedded : Option Inner) → embedded_in change.packet.transport ≡ embedded → packet_of d ≡ Some change.packet → AreSmall d → 2 * count ≡ change.packet.header_length → change.to.address.0 < 4294967296 → 0 < word_at d 2 → Verifies (sum_of_words count d) → Verifies (sum_of_words count (with_words (words_for d change embedded) d))
+words_verify : (count : ℕ) (d : List ℕ) (change : Change) (embedded : Option Inner) → embedded_in change.packet.transport ≡ embedded → packet_of change.packet.sender d ≡ Some change.packet → AreSmall d → 2 * count ≡ change.packet.header_length → change.to.address.0 < 4294967296 → 0 < word_at d 2 → Verifies (sum_of_words count d) → Verifies (sum_of_words count (with_words (words_for d change embedded) d))
 words_verify count d change None is there are words small some before =
     let room = header_room d change.packet there in
     packet_verifies count d change.packet change.end change.to are words room.0 room.1 (transport_room d change.packet there) small some before
 words_verify count d change (Some inner) is there are words small some before =
     error_verifies count d change.packet inner change.end change.to are words (header_room d change.packet there).0 (inner_room d change.packet inner there is) small some before
 
-pub datagram_verifies : (count : ℕ) (d : List ℕ) (change : Change) → packet_of d ≡ Some change.packet → AreBytes d → 2 * count ≡ change.packet.header_length → change.to.address.0 < 4294967296 → Verifies (sum_of_words count d) → Verifies (sum_of_words count (with_words (words_of d change) d))
+pub datagram_verifies : (count : ℕ) (d : List ℕ) (change : Change) → packet_of change.packet.sender d ≡ Some change.packet → AreBytes d → 2 * count ≡ change.packet.header_length → change.to.address.0 < 4294967296 → Verifies (sum_of_words count d) → Verifies (sum_of_words count (with_words (words_of d change) d))
 unfolding words_of
 datagram_verifies count d change there are words small before =
     let h = (packet_by d change.packet there).header in

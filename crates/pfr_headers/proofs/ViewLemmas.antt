@@ -2,11 +2,12 @@
 use Rattle.std.proofs.Common.{◌≡◌, ◌⊎◌, inl, inr, ◌-◌, ◌||◌, ℕ, Bool, true, false, not, eqb, ltb, List, length, drop, slice_index, Option, None, Some, refl, sym, ◌∙◌, ap, subst, cond, arith}
 use Rattle.std.proofs.lemmas.Bool.{and_parts, or_parts, eqb-true, ltb-true, ltb-false, lt-ltb, le-ltb}
 use Rattle.byteorder.specs.Endian.{big_number, little_number}
+use Rattle.pfr_headers.specs.declared.ethernet.EthernetAddress.{EthernetAddress}
 use Rattle.pfr_headers.specs.declared.packet.Packet.{Packet}
 use Rattle.pfr_headers.specs.declared.packet.View.{View}
 use Rattle.pfr_headers.specs.declared.packet.View.TheVariants.{Ipv4, Skip, Short}
 use Rattle.pfr_headers.specs.declared.transport.Transport.{Transport}
-use Rattle.pfr_headers.specs.View.{HoldsIpv4, IsHeader, IsLoopback, IsPacket, IsTagged, IsView, fields_of, has_header, header_length_of, is_ethernet, is_fragment, is_loopback, is_raw, is_tagged, packet_of, place_of, seen, seen_at, total_length_of, transport_behind, version_of, view_of, with_transport}
+use Rattle.pfr_headers.specs.View.{HoldsIpv4, IsHeader, IsLoopback, IsPacket, IsTagged, IsView, fields_of, has_header, header_length_of, is_ethernet, is_fragment, is_loopback, is_raw, is_tagged, packet_of, place_of, seen, seen_at, sender_of, total_length_of, transport_behind, version_of, view_of, with_transport}
 use Rattle.pfr_headers.proofs.TransportLemmas.{none_some, not_false, not_true, same_some, transport_by, transport_is}
 
 -- the header
@@ -22,9 +23,9 @@ header_tests d p h =
     let f = le-ltb (total_length_of d) (header_length_of d) h.within_total in
     rw (a, b, c, e, f) refl
 
-header_from : (d : List ℕ) (t : Transport) → has_header d ≡ true → IsHeader d (fields_of d t)
+header_from : (sender : Option EthernetAddress) (d : List ℕ) (t : Transport) → has_header d ≡ true → IsHeader d (fields_of sender d t)
 unfolding fields_of
-header_from d t e =
+header_from sender d t e =
     let one = or_parts (ltb (length d) 20) _ (not_true _ e) in
     let two = or_parts (not (eqb (version_of d) 4)) _ one.1 in
     let three = or_parts (ltb (header_length_of d) 20) _ two.1 in
@@ -41,8 +42,9 @@ header_from d t e =
       destination = refl;
     }
 
-of_fields : (header_length total_length protocol source destination : ℕ) → Transport → Packet
-of_fields header_length total_length protocol source destination transport = record {
+of_fields : (sender : Option EthernetAddress) (header_length total_length protocol source destination : ℕ) → Transport → Packet
+of_fields sender header_length total_length protocol source destination transport = record {
+  sender = sender;
   header_length = header_length;
   total_length = total_length;
   protocol = record { 0 = protocol };
@@ -51,35 +53,49 @@ of_fields header_length total_length protocol source destination transport = rec
   transport = transport;
 }
 
-fields_are : (d : List ℕ) (p : Packet) → IsHeader d p → p ≡ fields_of d p.transport
+fields_are : (d : List ℕ) (p : Packet) → IsHeader d p → p ≡ fields_of p.sender d p.transport
 unfolding of_fields fields_of
 fields_are d p h =
-    let all : p ≡ of_fields p.header_length p.total_length p.protocol.0 p.source.0 p.destination.0 p.transport = refl in
+    let all : p ≡ of_fields p.sender p.header_length p.total_length p.protocol.0 p.source.0 p.destination.0 p.transport = refl in
     all ∙ (rw (h.header_length, h.total_length, h.protocol, h.source, h.destination) refl)
 
-pub packet_is : (d : List ℕ) (p : Packet) → IsPacket d p → packet_of d ≡ Some p
+pub packet_is : (d : List ℕ) (p : Packet) → IsPacket d p → packet_of p.sender d ≡ Some p
 unfolding packet_of transport_behind
 packet_is d p h =
     rw (header_tests d p h.header, transport_is (slice_index d 9) (is_fragment d) (total_length_of d - header_length_of d) (drop (header_length_of d) d) p.transport h.transport)
     (ap (λ (q : Packet). Some q) (sym (fields_are d p h.header)))
 
-packet_from : (d : List ℕ) (p : Packet) (found : Option Transport) → has_header d ≡ true → transport_behind d ≡ found → with_transport d found ≡ Some p → IsPacket d p
-unfolding transport_behind fields_of
-packet_from d p None there is e = none_some p (with_transport d None) e refl
-packet_from d p (Some t) there is e =
-    subst (λ (q : Packet). IsPacket d q) (same_some (fields_of d t) p e)
-    (record {
-      header = header_from d t there;
-      transport = transport_by (slice_index d 9) (is_fragment d) (total_length_of d - header_length_of d) (drop (header_length_of d) d) t is;
-    })
+-- a packet of a datagram with a sender has this sender
+IsOf : Option EthernetAddress → List ℕ → Packet → Type 0
+IsOf sender d p = IsPacket d p × (p.sender ≡ sender)
 
-packet_there : (d : List ℕ) (p : Packet) (there : Bool) → has_header d ≡ there → packet_of d ≡ Some p → IsPacket d p
+packet_from : (sender : Option EthernetAddress) (d : List ℕ) (p : Packet) (found : Option Transport) → has_header d ≡ true → transport_behind d ≡ found → with_transport sender d found ≡ Some p → IsOf sender d p
+unfolding transport_behind fields_of IsOf
+packet_from sender d p None there is e = none_some p (with_transport sender d None) e refl
+packet_from sender d p (Some t) there is e =
+    subst (λ (q : Packet). IsOf sender d q) (same_some (fields_of sender d t) p e) (
+      record {
+        header = header_from sender d t there;
+        transport = transport_by (slice_index d 9) (is_fragment d) (total_length_of d - header_length_of d) (drop (header_length_of d) d) t is;
+      },
+      refl,
+    )
+
+packet_there : (sender : Option EthernetAddress) (d : List ℕ) (p : Packet) (there : Bool) → has_header d ≡ there → packet_of sender d ≡ Some p → IsOf sender d p
 unfolding packet_of
-packet_there d p true is e = packet_from d p (transport_behind d) is refl (rw is at e)
-packet_there d p false is e = none_some p (packet_of d) e (rw is refl)
+packet_there sender d p true is e = packet_from sender d p (transport_behind d) is refl (rw is at e)
+packet_there sender d p false is e = none_some p (packet_of sender d) e (rw is refl)
 
-pub packet_by : (d : List ℕ) (p : Packet) → packet_of d ≡ Some p → IsPacket d p
-packet_by d p e = packet_there d p _ refl e
+pub sent_by : (sender : Option EthernetAddress) (d : List ℕ) (p : Packet) → packet_of sender d ≡ Some p → p.sender ≡ sender
+unfolding IsOf
+sent_by sender d p e = (packet_there sender d p _ refl e).1
+
+packet_by_any : (sender : Option EthernetAddress) (d : List ℕ) (p : Packet) → packet_of sender d ≡ Some p → IsPacket d p
+unfolding IsOf
+packet_by_any sender d p e = (packet_there sender d p _ refl e).0
+
+pub packet_by : (d : List ℕ) (p : Packet) → packet_of p.sender d ≡ Some p → IsPacket d p
+packet_by d p e = packet_by_any p.sender d p e
 
 -- the link
 
@@ -143,27 +159,39 @@ place_by link bytes place e = by_link link bytes place _ _ _ refl refl refl e
 
 -- the view is the one that the function computes
 
-skipped : (link : ℕ) (bytes : List ℕ) (found : Option ℕ) → place_of link bytes ≡ found → ((place : ℕ) → HoldsIpv4 link bytes place → ⊥) → Skip ≡ seen_at bytes found
+skipped : (link : ℕ) (bytes : List ℕ) (found : Option ℕ) → place_of link bytes ≡ found → ((place : ℕ) → HoldsIpv4 link bytes place → ⊥) → Skip ≡ seen_at link bytes found
 skipped link bytes None is none = refl
 skipped link bytes (Some place) is none = absurd (none place (place_by link bytes place is))
 
-too_short : (d : List ℕ) (found : Option Packet) → packet_of d ≡ found → ((p : Packet) → IsPacket d p → ⊥) → Short ≡ seen found
-too_short d None is none = refl
-too_short d (Some p) is none = absurd (none p (packet_by d p is))
+too_short : (sender : Option EthernetAddress) (d : List ℕ) (found : Option Packet) → packet_of sender d ≡ found → ((p : Packet) → IsPacket d p → ⊥) → Short ≡ seen found
+too_short sender d None is none = refl
+too_short sender d (Some p) is none = absurd (none p (packet_by_any sender d p is))
 
 pub view_is : (link : ℕ) (bytes : List ℕ) (v : View) → IsView link bytes v → v ≡ view_of link bytes
 unfolding view_of
-view_is link bytes (Ipv4 p) is = rw (place_is link bytes is.0 is.1, packet_is (drop is.0 bytes) p is.2) refl
-view_is link bytes Short is = rw (place_is link bytes is.0 is.1) (too_short (drop is.0 bytes) (packet_of (drop is.0 bytes)) refl is.2)
+view_is link bytes (Ipv4 p) is =
+    let there : packet_of (sender_of link bytes) (drop is.0 bytes) ≡ Some p = subst (λ (sender : Option EthernetAddress). packet_of sender (drop is.0 bytes) ≡ Some p) is.3 (packet_is (drop is.0 bytes) p is.2) in
+    rw (place_is link bytes is.0 is.1, there) refl
+view_is link bytes Short is = rw (place_is link bytes is.0 is.1) (too_short (sender_of link bytes) (drop is.0 bytes) (packet_of (sender_of link bytes) (drop is.0 bytes)) refl is.2)
 view_is link bytes Skip is = skipped link bytes (place_of link bytes) refl is
 
-view_at : (link : ℕ) (bytes : List ℕ) (place : ℕ) (found : Option Packet) → place_of link bytes ≡ Some place → packet_of (drop place bytes) ≡ found → IsView link bytes (seen found)
-view_at link bytes place None at is = (place, place_by link bytes place at, λ p h. none_some p (packet_of (drop place bytes)) (packet_is (drop place bytes) p h) is)
-view_at link bytes place (Some p) at is = (place, place_by link bytes place at, packet_by (drop place bytes) p is)
+-- where none is found with one sender, there is none with another
+none_there : (sender other : Option EthernetAddress) (d : List ℕ) (found : Option Transport) → with_transport sender d found ≡ None → with_transport other d found ≡ None
+none_there sender other d None e = refl
+none_there sender other d (Some t) e = none_some (fields_of sender d t) (Some (fields_of sender d t)) refl e
 
-view_by : (link : ℕ) (bytes : List ℕ) (found : Option ℕ) → place_of link bytes ≡ found → IsView link bytes (seen_at bytes found)
+none_of : (sender other : Option EthernetAddress) (d : List ℕ) (there : Bool) → has_header d ≡ there → packet_of sender d ≡ None → packet_of other d ≡ None
+unfolding packet_of
+none_of sender other d true is e = rw is (none_there sender other d (transport_behind d) (rw is at e))
+none_of sender other d false is e = rw is refl
+
+view_at : (link : ℕ) (bytes : List ℕ) (place : ℕ) (found : Option Packet) → place_of link bytes ≡ Some place → packet_of (sender_of link bytes) (drop place bytes) ≡ found → IsView link bytes (seen found)
+view_at link bytes place None at is = (place, place_by link bytes place at, λ p h. none_some p (packet_of p.sender (drop place bytes)) (packet_is (drop place bytes) p h) (none_of (sender_of link bytes) p.sender (drop place bytes) _ refl is))
+view_at link bytes place (Some p) at is = (place, place_by link bytes place at, packet_by_any (sender_of link bytes) (drop place bytes) p is, sent_by (sender_of link bytes) (drop place bytes) p is)
+
+view_by : (link : ℕ) (bytes : List ℕ) (found : Option ℕ) → place_of link bytes ≡ found → IsView link bytes (seen_at link bytes found)
 view_by link bytes None is = λ place h. none_some place (place_of link bytes) (place_is link bytes place h) is
-view_by link bytes (Some place) is = view_at link bytes place (packet_of (drop place bytes)) is refl
+view_by link bytes (Some place) is = view_at link bytes place (packet_of (sender_of link bytes) (drop place bytes)) is refl
 
 -- and that one is a view
 pub is_view : (link : ℕ) (bytes : List ℕ) → IsView link bytes (view_of link bytes)
@@ -174,8 +202,8 @@ is_view link bytes = view_by link bytes (place_of link bytes) refl
 pub skip_at : (link : ℕ) (bytes : List ℕ) → place_of link bytes ≡ None → IsView link bytes Skip
 skip_at link bytes e = view_by link bytes None e
 
-pub short_at : (link : ℕ) (bytes : List ℕ) (place : ℕ) → place_of link bytes ≡ Some place → packet_of (drop place bytes) ≡ None → IsView link bytes Short
+pub short_at : (link : ℕ) (bytes : List ℕ) (place : ℕ) → place_of link bytes ≡ Some place → packet_of (sender_of link bytes) (drop place bytes) ≡ None → IsView link bytes Short
 short_at link bytes place e f = view_at link bytes place None e f
 
-pub ipv4_at : (link : ℕ) (bytes : List ℕ) (place : ℕ) (p : Packet) → place_of link bytes ≡ Some place → packet_of (drop place bytes) ≡ Some p → IsView link bytes (Ipv4 p)
+pub ipv4_at : (link : ℕ) (bytes : List ℕ) (place : ℕ) (p : Packet) → place_of link bytes ≡ Some place → packet_of (sender_of link bytes) (drop place bytes) ≡ Some p → IsView link bytes (Ipv4 p)
 ipv4_at link bytes place p e f = view_at link bytes place (Some p) e f

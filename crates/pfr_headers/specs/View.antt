@@ -10,6 +10,7 @@
 -- All numbers are big-endian.
 use Rattle.std.specs.Prelude.{◌≡◌, ◌⊎◌, ℕ, ◌*◌, ◌/◌, ◌%◌, ◌-◌, ◌<◌, ◌≤◌, Bool, not, ◌==◌, ◌&&◌, ◌||◌, nat_lt, if◌then◌else◌, List, length, drop, slice_index, Option, Some, None}
 use Rattle.byteorder.specs.Endian.{big_number, little_number}
+use Rattle.pfr_headers.specs.declared.ethernet.EthernetAddress.{EthernetAddress}
 use Rattle.pfr_headers.specs.declared.packet.Packet.{Packet}
 use Rattle.pfr_headers.specs.declared.packet.View.{View}
 use Rattle.pfr_headers.specs.declared.packet.View.TheVariants.{Ipv4, Skip, Short}
@@ -88,10 +89,15 @@ pub record IsTagged (link : ℕ) (bytes : List ℕ) (place : ℕ) : Type 0 where
 abbrev pub HoldsIpv4 : ℕ → List ℕ → ℕ → Type 0
 HoldsIpv4 link bytes place = IsRaw link bytes place ⊎ IsLoopback link bytes place ⊎ IsEthernet link bytes place ⊎ IsTagged link bytes place
 
--- What a frame is: a packet, by the headers of its datagram; one whose headers are not there as they should
+-- The address from which a frame was sent: bytes 6 to 11 of an Ethernet frame (IEEE 802.3, clause 3.2). Frames of other links have
+-- none.
+unfoldable pub sender_of : ℕ → List ℕ → Option EthernetAddress
+sender_of link bytes = if link == 1 && not (nat_lt (length bytes) 12) then Some (record { 0 = big_number 6 (drop 6 bytes) }) else None
+
+-- What a frame is: a packet, by its sender and the headers of its datagram; one whose headers are not there as they should
 -- be; or no IPv4 packet.
 abbrev pub IsView : ℕ → List ℕ → View → Type 0
-IsView link bytes (Ipv4 p) = (place : ℕ) × HoldsIpv4 link bytes place × IsPacket (drop place bytes) p
+IsView link bytes (Ipv4 p) = (place : ℕ) × HoldsIpv4 link bytes place × IsPacket (drop place bytes) p × (p.sender ≡ sender_of link bytes)
 IsView link bytes Short = (place : ℕ) × HoldsIpv4 link bytes place × ((p : Packet) → IsPacket (drop place bytes) p → ⊥)
 IsView link bytes Skip = (place : ℕ) → HoldsIpv4 link bytes place → ⊥
 
@@ -118,8 +124,10 @@ place_of link bytes =
 abbrev pub has_header : List ℕ → Bool
 has_header d = not (nat_lt (length d) 20 || (not (version_of d == 4) || (nat_lt (header_length_of d) 20 || (nat_lt (length d) (header_length_of d) || nat_lt (total_length_of d) (header_length_of d)))))
 
-unfoldable pub fields_of : List ℕ → Transport → Packet
-fields_of d transport = record {
+-- a datagram's packet, and its fields, with the sender of its frame
+unfoldable pub fields_of : Option EthernetAddress → List ℕ → Transport → Packet
+fields_of sender d transport = record {
+  sender = sender;
   header_length = header_length_of d;
   total_length = total_length_of d;
   protocol = record { 0 = slice_index d 9 };
@@ -131,20 +139,20 @@ fields_of d transport = record {
 unfoldable pub transport_behind : List ℕ → Option Transport
 transport_behind d = transport_of (slice_index d 9) (is_fragment d) (total_length_of d - header_length_of d) (drop (header_length_of d) d)
 
-abbrev pub with_transport : List ℕ → Option Transport → Option Packet
-with_transport d None = None
-with_transport d (Some transport) = Some (fields_of d transport)
+abbrev pub with_transport : Option EthernetAddress → List ℕ → Option Transport → Option Packet
+with_transport sender d None = None
+with_transport sender d (Some transport) = Some (fields_of sender d transport)
 
-unfoldable pub packet_of : List ℕ → Option Packet
-packet_of d = if has_header d then with_transport d (transport_behind d) else None
+unfoldable pub packet_of : Option EthernetAddress → List ℕ → Option Packet
+packet_of sender d = if has_header d then with_transport sender d (transport_behind d) else None
 
 abbrev pub seen : Option Packet → View
 seen None = Short
 seen (Some p) = Ipv4 p
 
-abbrev pub seen_at : List ℕ → Option ℕ → View
-seen_at bytes None = Skip
-seen_at bytes (Some place) = seen (packet_of (drop place bytes))
+abbrev pub seen_at : ℕ → List ℕ → Option ℕ → View
+seen_at link bytes None = Skip
+seen_at link bytes (Some place) = seen (packet_of (sender_of link bytes) (drop place bytes))
 
 unfoldable pub view_of : ℕ → List ℕ → View
-view_of link bytes = seen_at bytes (place_of link bytes)
+view_of link bytes = seen_at link bytes (place_of link bytes)

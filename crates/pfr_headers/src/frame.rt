@@ -1,7 +1,8 @@
-//! Where the datagram begins in a frame.
+//! Where the datagram begins in a frame, and who sent the frame.
 ghost use Rattle.std.specs.Prelude.{◌≡◌, ◌≤◌, length, IfSome};
-ghost use Rattle.pfr_headers.specs.View.{is_ethernet, is_loopback, is_raw, is_tagged, place_of};
+ghost use Rattle.pfr_headers.specs.View.{is_ethernet, is_loopback, is_raw, is_tagged, place_of, sender_of};
 
+use crate::ethernet::EthernetAddress;
 use byteorder::{BigEndian, ByteOrder, LittleEndian};
 
 /// Where the IPv4 datagram begins in a frame, if it holds one.
@@ -17,6 +18,19 @@ pub fn datagram_place(link: u16, bytes: &[u8]) -> Option<usize>
         1 if is_ethernet(bytes) => Some(14),
         1 if is_tagged(bytes) => Some(18),
         _ => None,
+    }
+}
+
+/// The address from which a frame was sent, if it is an Ethernet frame whose addresses were captured.
+#[inline]
+#[tactic(auto, unfolding(crate::specs::View::sender_of))]
+pub fn sender(link: u16, bytes: &[u8]) -> Option<EthernetAddress>
+    ensures { result ≡ sender_of link bytes.now }
+{
+    if link == 1 && bytes.len() >= 12 {
+        Some(EthernetAddress(BigEndian::read_u48(&bytes[6..])))
+    } else {
+        None
     }
 }
 

@@ -1,11 +1,13 @@
 //! The headers of captured packets, as data.
 //!
 //! [`view`] says what a frame of a capture is: an IPv4 packet, by the fields of its headers, one that is
-//! too short, or something else. [`direction_of`] says which way a packet goes, by the inside networks.
+//! too short, or something else. [`direction_of`] says which way a packet goes by the inside networks, [`direction_from`] by the
+//! sender of its frame.
 #![tactic(auto)]
 
 pub mod change;
 mod checksum;
+pub mod ethernet;
 mod frame;
 pub mod icmp;
 pub mod laws;
@@ -14,6 +16,7 @@ pub mod packet;
 mod reading;
 mod rewriting;
 mod segment;
+pub mod tap;
 pub mod tcp;
 mod tcp_options;
 mod translated;
@@ -22,12 +25,14 @@ pub mod udp;
 mod way;
 
 pub use change::{Change, End};
+pub use ethernet::EthernetAddress;
 pub use icmp::{IcmpHeader, IcmpMessage, IcmpType, Inner};
 pub use packet::{Packet, View};
 pub use pfr_net::{Direction, Endpoint, Ipv4Address, Net, Port, Protocol};
 pub use reading::view;
 pub use rewriting::rewrite;
+pub use tap::Tap;
 pub use tcp::{TcpFlags, TcpHeader};
 pub use transport::Transport;
 pub use udp::UdpHeader;
-pub use way::direction_of;
+pub use way::{direction_from, direction_of};

@@ -2,6 +2,7 @@
 ghost use Rattle.std.specs.Prelude.{◌≡◌};
 ghost use Rattle.pfr_headers.specs.View.{has_options};
 
+use crate::ethernet::EthernetAddress;
 use crate::transport::Transport;
 use pfr_net::{Ipv4Address, Protocol};
 
@@ -11,6 +12,8 @@ pub(crate) const LEAST_HEADER: usize = 20;
 /// An IPv4 packet, by its headers (RFC 791, section 3.1).
 #[derive(Clone, Copy, PartialEq, Eq)]
 pub struct Packet {
+    /// The address from which its frame was sent, if it was captured in an Ethernet frame.
+    pub sender: Option<EthernetAddress>,
     /// The header's length in bytes, options included: 20 to 60.
     pub header_length: u8,
     /// The length of header and payload in bytes, as the header says.

@@ -1,8 +1,9 @@
 //! From the bytes of a frame to its view.
 ghost use Rattle.std.specs.Prelude.{◌≡◌, ◌≤◌, true, length};
-ghost use Rattle.pfr_headers.specs.View.{IsView, fields_of, has_header, is_fragment, packet_of, transport_behind, view_of};
+ghost use Rattle.pfr_headers.specs.View.{IsView, fields_of, has_header, is_fragment, packet_of, sender_of, transport_behind, view_of};
 
-use crate::frame::datagram_place;
+use crate::ethernet::EthernetAddress;
+use crate::frame::{datagram_place, sender};
 use crate::packet::{LEAST_HEADER, Packet, View};
 use crate::segment::transport;
 use crate::transport::Transport;
@@ -19,24 +20,24 @@ pub fn view(link: u16, bytes: &[u8]) -> View
 {
     match datagram_place(link, bytes) {
         None => View::Skip,
-        Some(place) => match packet(&bytes[place..]) {
+        Some(place) => match packet(sender(link, bytes), &bytes[place..]) {
             None => View::Short,
             Some(packet) => View::Ipv4(packet),
         },
     }
 }
 
-/// The packet whose headers stand at the front of a datagram.
+/// The packet whose headers stand at the front of a datagram, from the sender of its frame.
 #[inline]
 #[tactic(auto, unfolding(crate::specs::View::packet_of))]
-fn packet(datagram: &[u8]) -> Option<Packet>
-    ensures { result ≡ packet_of datagram.now }
+fn packet(sender: Option<EthernetAddress>, datagram: &[u8]) -> Option<Packet>
+    ensures { result ≡ packet_of sender datagram.now }
 {
     if !has_header(datagram) {
         return None;
     }
     let transport = transport_behind(datagram)?;
-    Some(with_fields(datagram, transport))
+    Some(with_fields(sender, datagram, transport))
 }
 
 /// What stands behind the IPv4 header at the front of a datagram.
@@ -58,14 +59,15 @@ fn transport_behind(datagram: &[u8]) -> Option<Transport>
     )
 }
 
-/// The packet with this transport, and with the fields of the IPv4 header at the front of a datagram.
+/// The packet with this sender and this transport, and with the fields of the IPv4 header at the front of a datagram.
 #[inline]
 #[tactic(auto, unfolding(crate::specs::View::fields_of))]
-fn with_fields(datagram: &[u8], transport: Transport) -> Packet
+fn with_fields(sender: Option<EthernetAddress>, datagram: &[u8], transport: Transport) -> Packet
     requires { has_header datagram.now ≡ true }
-    ensures { result ≡ fields_of datagram.now transport }
+    ensures { result ≡ fields_of sender datagram.now transport }
 {
     Packet {
+        sender,
         header_length: 4 * (datagram[0] % 16),
         total_length: BigEndian::read_u16(&datagram[2..]),
         protocol: Protocol(datagram[9]),

@@ -250,7 +250,7 @@ fn embedded_in(transport: &Transport) -> Option<Inner>
 #[inline]
 #[tactic(auto, unfolding(crate::specs::Rewriting::words_of))]
 fn rewrite_datagram(bytes: &mut [u8], change: &Change)
-    requires { packet_of bytes.old ≡ Some change.now.packet }
+    requires { packet_of change.now.packet.sender bytes.old ≡ Some change.now.packet }
     ensures { bytes.new ≡ with_words (words_of bytes.old change.now) bytes.old }
 {
     match embedded_in(&change.packet.transport) {

@@ -4,6 +4,7 @@ ghost use Rattle.std.specs.List.{list_any};
 ghost use Rattle.pfr_net.specs.Networks.{holds};
 ghost use Rattle.pfr_headers.specs.Ways as spec;
 
+use crate::ethernet::EthernetAddress;
 use crate::packet::Packet;
 use pfr_net::{Direction, Ipv4Address, Net};
 
@@ -23,5 +24,16 @@ pub fn direction_of(packet: &Packet, inside: &[Net]) -> Direction
         Direction::Out
     } else {
         Direction::In
+    }
+}
+
+/// A packet of a frame that was sent from this address goes out, every other comes in.
+#[inline]
+pub fn direction_from(packet: &Packet, address: EthernetAddress) -> Direction
+    ensures { result ≡ spec.direction_from address packet.now }
+{
+    match packet.sender {
+        Some(sender) if sender == address => Direction::Out,
+        _ => Direction::In,
     }
 }

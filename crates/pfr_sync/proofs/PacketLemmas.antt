@@ -1,8 +1,8 @@
 -- The packet of a message in a file.
-use Rattle.std.proofs.Common.{◌≤◌, ◌<◌, ℕ, List, ◌++◌, length, refl, sym, inl, arith}
+use Rattle.std.proofs.Common.{◌≡◌, ◌≤◌, ◌<◌, ℕ, List, ◌++◌, length, None, refl, sym, inl, arith}
 use Rattle.pfr_net.specs.declared.address.Ipv4Address.{Ipv4Address}
 use Rattle.pfr_headers.specs.declared.packet.View.TheVariants.{Ipv4}
-use Rattle.pfr_headers.specs.View.{IsHeader, IsPacket, IsRaw}
+use Rattle.pfr_headers.specs.View.{IsHeader, IsPacket, IsRaw, sender_of}
 use Rattle.pfr_headers.proofs.ViewLemmas.{view_is}
 use Rattle.pfr_sync.specs.Files.{checksum_of, header_with}
 use Rattle.pfr_sync.specs.Laws.{FileMessageIsAPacket, packet_of_message}
@@ -34,8 +34,13 @@ is_raw : (checksum : ℕ) (source : Ipv4Address) (text : List ℕ) → IsRaw 101
 unfolding header_with
 is_raw checksum source text = record { link_is = refl; some = omega arith; version = refl; place_is = refl }
 
+-- raw IP has no frame, and no sender of one
+no_sender : (text : List ℕ) → None ≡ sender_of 101 text
+unfolding sender_of
+no_sender text = refl
+
 pub file_message_is_a_packet : FileMessageIsAPacket
 file_message_is_a_packet source text address short =
     let checksum = checksum_of source (length text) in
     sym (view_is 101 (header_with checksum source (length text) ++ text) (Ipv4 (packet_of_message source (length text)))
-    (0, inl (is_raw checksum source text), is_packet checksum source text address short))
+    (0, inl (is_raw checksum source text), is_packet checksum source text address short, no_sender (header_with checksum source (length text) ++ text)))

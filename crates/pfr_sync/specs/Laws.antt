@@ -51,6 +51,7 @@ FileHeaderVerifies = (source : Ipv4Address) (len : ℕ) → source.0 < 2 ^ 32 �
 -- the packet of a message of `len` bytes: protocol 240, from a source to 224.0.0.240, with no options
 abbrev pub packet_of_message : Ipv4Address → ℕ → Packet
 packet_of_message source len = record {
+  sender = None;
   header_length = 20;
   total_length = len + 20;
   protocol = record { 0 = 240 };
