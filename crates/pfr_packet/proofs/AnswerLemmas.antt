@@ -44,7 +44,7 @@ with_ends packet from to first second one other goes =
     (subst (λ (e : Endpoint). HasEndIn packet Source e packet.transport) one goes.0, subst (λ (e : Endpoint). HasEndIn packet Destination e packet.transport) other goes.1)
 
 -- what goes back from where a packet by a key was sent to goes by that key the other way
-answer_by : (direction : Direction) (sent answer : Packet) (key : Key) (from to : Endpoint) → GoesBy direction sent key → GoesFrom sent from to → GoesFrom answer to from → GoesBy (opposite direction) answer key
+pub answer_by : (direction : Direction) (sent answer : Packet) (key : Key) (from to : Endpoint) → GoesBy direction sent key → GoesFrom sent from to → GoesFrom answer to from → GoesBy (opposite direction) answer key
 answer_by In sent answer key from to by goes back =
     let ends = same_ends sent from to key.outside key.inside goes by in with_ends answer to from key.inside key.outside ends.1 ends.0 back
 answer_by Out sent answer key from to by goes back =
@@ -129,7 +129,7 @@ covers_met : (bound : Binding) (place : InterfacePlace) → meets bound (To plac
 covers_met All place met = refl
 covers_met (To other) place met = met
 
-found_by : (table : StateTable) (side : Side) (state : State) (place : InterfacePlace) → IsTable table → Contains table.states state → meets state.rules.binding (To place) ≡ true → found_in table side (key_on side state) (To place) ≡ Some state
+pub found_by : (table : StateTable) (side : Side) (state : State) (place : InterfacePlace) → IsTable table → Contains table.states state → meets state.rules.binding (To place) ≡ true → found_in table side (key_on side state) (To place) ≡ Some state
 unfolding found_in
 found_by table side state place is_table is_there met =
     let key = key_on side state in

@@ -8,7 +8,6 @@ use Rattle.pfr_headers.specs.declared.change.Change.{Change}
 use Rattle.pfr_headers.specs.declared.packet.Packet.{Packet}
 use Rattle.pfr_headers.specs.declared.packet.View.{View}
 use Rattle.pfr_headers.specs.declared.packet.View.TheVariants.{Ipv4, Skip, Short}
-use Rattle.pfr_headers.specs.Ways.{direction_of}
 use Rattle.pfr_headers.specs.View.{has_options}
 use Rattle.pfr_track.specs.declared.key.Key.{Key}
 use Rattle.pfr_track.specs.declared.outcome.Touch.{Touch}
@@ -29,8 +28,8 @@ use Rattle.pfr_packet.specs.declared.verdict.Reason.{Reason}
 use Rattle.pfr_packet.specs.declared.verdict.Reason.TheVariants as reason
 use Rattle.pfr_packet.specs.Filtering.{conduct_of, decided, filtered}
 use Rattle.pfr_packet.specs.Found.{passed, tracked}
-use Rattle.pfr_packet.specs.Job.{RunJob, is_skipped, name_in, timeouts_of}
-use Rattle.pfr_packet.specs.Keys.{side_of, subject_of, written_by}
+use Rattle.pfr_packet.specs.Job.{RunJob, direction_of, is_skipped, name_in, timeouts_of}
+use Rattle.pfr_packet.specs.Keys.{subject_of, written_by}
 use Rattle.pfr_packet.specs.Making.{making, with_keys, with_room}
 use Rattle.pfr_packet.specs.Outcomes.{blocked, without_leave}
 use Rattle.pfr_packet.specs.Passages.{judged, judged_kept}
@@ -40,6 +39,8 @@ use Rattle.pfr_packet.specs.Steps.{answer_for, by_connection, by_embedded, opene
 use Rattle.pfr_packet.specs.Verdicts.{lets_pass}
 use Rattle.pfr_packet.proofs.ChangeLemmas.{passing}
 use Rattle.pfr_packet.proofs.OpeningLemmas.{going_way, judged_writes_nothing, opening_way}
+use Rattle.pfr_packet.specs.Taps.{looked_up_on}
+use Rattle.pfr_packet.proofs.ShownLemmas.{shown_either}
 
 -- what is written is of this packet
 abbrev IsOf : Packet → Option Change → Type 0
@@ -110,18 +111,18 @@ opening_writes job number clock place table packet direction key = opening_way j
 
 by_embedded_writes : (job : RunJob) (place : InterfacePlace) (table : StateTable) (packet : Packet) (direction : Direction) (found : Option State) → Writes packet (outcome_of table (by_embedded job place packet direction found))
 by_embedded_writes job place table packet direction None = filtered_writes job.rules (filter_answer job.rules (name_in job place) table packet direction) packet direction
-by_embedded_writes job place table packet direction (Some state) = passed_writes direction packet state reason.StateError None
+by_embedded_writes job place table packet direction (Some state) = shown_either (Writes packet) job.tap direction _ (passed_writes direction packet state reason.StateError None) tt
 
 by_connection_writes : (job : RunJob) (number : ℕ) (clock : Clock) (place : InterfacePlace) (table : StateTable) (packet : Packet) (direction : Direction) (key : Key) (found : Option State)
     → Writes packet (outcome_of table (by_connection job number clock place packet direction key found))
 by_connection_writes job number clock place table packet direction key None = opening_writes job number clock place table packet direction key
-by_connection_writes job number clock place table packet direction key (Some state) = tracked_writes direction packet state (touched state packet direction clock (timeouts_of job))
+by_connection_writes job number clock place table packet direction key (Some state) = shown_either (Writes packet) job.tap direction _ (tracked_writes direction packet state (touched state packet direction clock (timeouts_of job))) tt
 
 subject_writes : (job : RunJob) (number : ℕ) (clock : Clock) (place : InterfacePlace) (table : StateTable) (packet : Packet) (direction : Direction) (subject : Subject)
     → Writes packet (outcome_of table (subject_plan job number clock place packet direction subject))
 subject_writes job number clock place table packet direction Alone = filtered_writes job.rules (filter_answer job.rules (name_in job place) table packet direction) packet direction
-subject_writes job number clock place table packet direction (Embedded key) = by_embedded_writes job place table packet direction (found_in table (side_of direction) key (binding.To place))
-subject_writes job number clock place table packet direction (Connection key) = by_connection_writes job number clock place table packet direction key (found_in table (side_of direction) key (binding.To place))
+subject_writes job number clock place table packet direction (Embedded key) = by_embedded_writes job place table packet direction (found_in table (looked_up_on job.tap direction) key (binding.To place))
+subject_writes job number clock place table packet direction (Connection key) = by_connection_writes job number clock place table packet direction key (found_in table (looked_up_on job.tap direction) key (binding.To place))
 
 packet_writes : (job : RunJob) (number : ℕ) (clock : Clock) (place : InterfacePlace) (table : StateTable) (packet : Packet) (direction : Direction)
     → Writes packet (outcome_of table (packet_plan job number clock place packet direction))
@@ -152,8 +153,8 @@ unfolding plan
 plan_writes job number clock place table Skip = tt
 plan_writes job number clock place table Short = short_writes table (is_skipped job place) _ refl
 plan_writes job number clock place table (Ipv4 packet) =
-    of_packet packet _ (skipped_writes table packet (is_skipped job place) (packet_plan job number clock place packet (direction_of job.inside packet))
-    (packet_writes job number clock place table packet (direction_of job.inside packet)))
+    of_packet packet _ (skipped_writes table packet (is_skipped job place) (packet_plan job number clock place packet (direction_of job place packet))
+    (packet_writes job number clock place table packet (direction_of job place packet)))
 
 of_view : (view : View) (is : Option Change) (change : Change) → is ≡ Some change → IsOfView view is → view ≡ Ipv4 change.packet
 of_view view None change same h = absurd (cc same)

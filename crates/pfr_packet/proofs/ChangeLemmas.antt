@@ -10,7 +10,6 @@ use Rattle.pfr_ruleset.specs.declared.ruleset.Ruleset.{Ruleset}
 use Rattle.pfr_headers.specs.declared.packet.Packet.{Packet}
 use Rattle.pfr_headers.specs.declared.packet.View.{View}
 use Rattle.pfr_headers.specs.declared.packet.View.TheVariants.{Ipv4, Skip, Short}
-use Rattle.pfr_headers.specs.Ways.{direction_of}
 use Rattle.pfr_headers.specs.View.{has_options}
 use Rattle.pfr_track.specs.declared.key.Key.{Key}
 use Rattle.pfr_track.specs.declared.outcome.Touch.{Touch}
@@ -35,8 +34,8 @@ use Rattle.pfr_packet.specs.declared.verdict.Verdict.{Verdict}
 use Rattle.pfr_packet.specs.declared.verdict.Verdict.TheVariants as verdict
 use Rattle.pfr_packet.specs.Filtering.{conduct_of, decided, filtered}
 use Rattle.pfr_packet.specs.Found.{passed, embedded, tracked}
-use Rattle.pfr_packet.specs.Job.{RunJob, is_skipped, name_in, timeouts_of}
-use Rattle.pfr_packet.specs.Keys.{side_of, subject_of, written_by}
+use Rattle.pfr_packet.specs.Job.{RunJob, direction_of, is_skipped, name_in, timeouts_of}
+use Rattle.pfr_packet.specs.Keys.{subject_of, written_by}
 use Rattle.pfr_packet.specs.Laws.{IsOwnChange, only_removes}
 use Rattle.pfr_packet.specs.Making.{making, with_keys, with_room}
 use Rattle.pfr_packet.specs.Outcomes.{blocked, by_state, without_leave}
@@ -48,6 +47,9 @@ use Rattle.pfr_packet.specs.Verdicts.{lets_pass}
 use Rattle.pfr_packet.proofs.FreeLemmas.{AreApart, made_free, removed_free, touched_free}
 use Rattle.pfr_packet.proofs.Members.{found_there, from_filter}
 use Rattle.pfr_packet.proofs.OpeningLemmas.{going_way, judged_changes_nothing, opening_way}
+use Rattle.pfr_packet.specs.Taps.{as_shown, looked_up_on}
+use Rattle.pfr_packet.proofs.ShownLemmas.{shown_either}
+use Rattle.pfr_headers.specs.declared.tap.Tap.{Tap}
 
 -- both keys of a state are free, and there is room for it
 pub record IsFree (table : StateTable) (state : State) : Type 0 where
@@ -189,25 +191,51 @@ opening_stands job number clock place table packet direction key = opening_way j
   has_no_port = λ rule visits. tt;
 }) key
 
+-- nothing is written into a packet that is shown behind its translation
+unwritten_comes : (number : ℕ) (clock : Clock) (place : InterfacePlace) (table : StateTable) (outcome : Outcome) (change : Option TableChange) → Comes number clock place table outcome change → Comes number clock place table (record outcome { bytes = None }) change
+unwritten_comes number clock place table outcome None h = tt
+unwritten_comes number clock place table outcome (Some (Made state)) h = (record { number_is = h.0.number_is; made_is = h.0.made_is; interface_is = h.0.interface_is; passes = h.0.passes; named = h.0.named }, h.1)
+unwritten_comes number clock place table outcome (Some (Touched state)) h = (
+  record {
+    before = h.0.before;
+    is_there = h.0.is_there;
+    number_is = h.0.number_is;
+    wire_is = h.0.wire_is;
+    stack_is = h.0.stack_is;
+    rules_are = h.0.rules_are;
+    direction_is = h.0.direction_is;
+    interface_is = h.0.interface_is;
+    made_is = h.0.made_is;
+    passes = h.0.passes;
+    named = h.0.named;
+  },
+  tt,
+)
+unwritten_comes number clock place table outcome (Some (Removed old)) h = (record { before = h.0.before; is_there = h.0.is_there; number_is = h.0.number_is; stops = h.0.stops; named = h.0.named }, tt)
+
+shown_stands : (number : ℕ) (clock : Clock) (place : InterfacePlace) (table : StateTable) (tap : Tap) (direction : Direction) (outcome : Outcome) → Stands number clock place table outcome → Stands number clock place table (as_shown tap direction outcome)
+shown_stands number clock place table tap direction outcome h = shown_either (Stands number clock place table) tap direction outcome h (unwritten_comes number clock place table outcome outcome.change h)
+
 -- ---- a packet
 
 by_embedded_stands : (job : RunJob) (number : ℕ) (clock : Clock) (place : InterfacePlace) (table : StateTable) (packet : Packet) (direction : Direction) (found : Option State) → Stands number clock place table (outcome_of table (by_embedded job place packet direction found))
 by_embedded_stands job number clock place table packet direction None = filtered_stands number clock place table job.rules (filter_answer job.rules (name_in job place) table packet direction) packet direction
-by_embedded_stands job number clock place table packet direction (Some state) = embedded_stands number clock place table direction packet state
+by_embedded_stands job number clock place table packet direction (Some state) = shown_stands number clock place table job.tap direction (embedded direction packet state) (embedded_stands number clock place table direction packet state)
 
 by_connection_stands : Leaves → (job : RunJob) (number : ℕ) (clock : Clock) (place : InterfacePlace) (table : StateTable) (packet : Packet) (direction : Direction) (key : Key)
-    → (found : Option State) → found_in table (side_of direction) key (binding.To place) ≡ found → Stands number clock place table (outcome_of table (by_connection job number clock place packet direction key found))
+    → (found : Option State) → found_in table (looked_up_on job.tap direction) key (binding.To place) ≡ found → Stands number clock place table (outcome_of table (by_connection job number clock place packet direction key found))
 by_connection_stands leaves job number clock place table packet direction key None is = opening_stands job number clock place table packet direction key
 by_connection_stands leaves job number clock place table packet direction key (Some state) is =
-    tracked_stands leaves number clock place table packet direction (timeouts_of job) state (found_in_states table (side_of direction) key (binding.To place) state is)
-    (touched state packet direction clock (timeouts_of job)) refl
+    let t = touched state packet direction clock (timeouts_of job) in
+    shown_stands number clock place table job.tap direction (tracked direction packet state t)
+    (tracked_stands leaves number clock place table packet direction (timeouts_of job) state (found_in_states table (looked_up_on job.tap direction) key (binding.To place) state is) t refl)
 
 subject_stands : Leaves → (job : RunJob) (number : ℕ) (clock : Clock) (place : InterfacePlace) (table : StateTable) (packet : Packet) (direction : Direction) (subject : Subject)
     → Stands number clock place table (outcome_of table (subject_plan job number clock place packet direction subject))
 subject_stands leaves job number clock place table packet direction Alone = filtered_stands number clock place table job.rules (filter_answer job.rules (name_in job place) table packet direction) packet direction
-subject_stands leaves job number clock place table packet direction (Embedded key) = by_embedded_stands job number clock place table packet direction (found_in table (side_of direction) key (binding.To place))
+subject_stands leaves job number clock place table packet direction (Embedded key) = by_embedded_stands job number clock place table packet direction (found_in table (looked_up_on job.tap direction) key (binding.To place))
 subject_stands leaves job number clock place table packet direction (Connection key) =
-    by_connection_stands leaves job number clock place table packet direction key (found_in table (side_of direction) key (binding.To place)) refl
+    by_connection_stands leaves job number clock place table packet direction key (found_in table (looked_up_on job.tap direction) key (binding.To place)) refl
 
 packet_stands : Leaves → (job : RunJob) (number : ℕ) (clock : Clock) (place : InterfacePlace) (table : StateTable) (packet : Packet) (direction : Direction)
     → Stands number clock place table (outcome_of table (packet_plan job number clock place packet direction))
@@ -227,8 +255,8 @@ unfolding plan
 plan_stands leaves job number clock place table Skip = tt
 plan_stands leaves job number clock place table Short = skipped_stands number clock place table (is_skipped job place) _ tt
 plan_stands leaves job number clock place table (Ipv4 packet) =
-    skipped_stands number clock place table (is_skipped job place) (packet_plan job number clock place packet (direction_of job.inside packet))
-    (packet_stands leaves job number clock place table packet (direction_of job.inside packet))
+    skipped_stands number clock place table (is_skipped job place) (packet_plan job number clock place packet (direction_of job place packet))
+    (packet_stands leaves job number clock place table packet (direction_of job place packet))
 
 -- ---- the laws
 

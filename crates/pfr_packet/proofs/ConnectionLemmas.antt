@@ -20,7 +20,6 @@ use Rattle.pfr_headers.specs.declared.packet.Packet.{Packet}
 use Rattle.pfr_headers.specs.declared.packet.View.TheVariants.{Ipv4}
 use Rattle.pfr_headers.specs.declared.transport.Transport.{Transport}
 use Rattle.pfr_headers.specs.declared.transport.Transport.TheVariants as transport
-use Rattle.pfr_headers.specs.Ways.{direction_of}
 use Rattle.pfr_rules.specs.declared.hit.Hit.{Hit}
 use Rattle.pfr_rules.specs.declared.hit.NewEnd.{NewEnd}
 use Rattle.pfr_rules.specs.declared.hit.NewEnd.TheVariants.{Mapped, Picked}
@@ -49,17 +48,19 @@ use Rattle.pfr_packet.specs.declared.verdict.Verdict.TheVariants as verdict
 use Rattle.pfr_packet.specs.Connections.{GoesBy}
 use Rattle.pfr_packet.specs.Filtering.{filtered}
 use Rattle.pfr_packet.specs.Found.{passed, tracked}
-use Rattle.pfr_packet.specs.Job.{RunJob, is_skipped, name_in, timeouts_of}
-use Rattle.pfr_packet.specs.Keys.{side_of, subject_of, written_by}
+use Rattle.pfr_packet.specs.Job.{RunJob, direction_of, is_skipped, name_in, timeouts_of}
+use Rattle.pfr_packet.specs.Keys.{subject_of, written_by}
 use Rattle.pfr_packet.specs.Making.{making, with_keys, with_room}
 use Rattle.pfr_packet.specs.Outcomes.{by_state}
 use Rattle.pfr_packet.specs.Passages.{judged, judged_kept, mapped_end, mapped_passage, picked_passage, untranslated}
 use Rattle.pfr_packet.specs.Picks.{picking, ports_for, tries, wire_with, word_of}
 use Rattle.pfr_packet.specs.Plan.{FilterAnswer, Plan, done, filter_answer, outcome_of}
-use Rattle.pfr_packet.specs.Steps.{answer_for, by_connection, by_embedded, by_end, by_hit, by_pick, going, opened, opening, packet_plan, passed_over, plan, step_of, subject_plan}
+use Rattle.pfr_packet.specs.Steps.{answer_for, by_connection, by_embedded, by_end, by_hit, by_pick, going, opened, opening, packet_plan, passed_over, plan, step_of, subject_plan, translation_hit, translations_asked}
 use Rattle.pfr_packet.specs.Verdicts.{lets_pass}
 use Rattle.pfr_packet.proofs.OpeningLemmas.{either_blocked, filtered_way, going_way, judged_changes_nothing, lacks_leave}
 use Rattle.pfr_packet.proofs.PassageLemmas.{AreKeys, FitKey, FitsTry, IsKeyOf, fits, key_of_subject, mapped_stack, mapped_wire, one_key, own_of, picked_keys}
+use Rattle.pfr_packet.specs.Taps.{is_translated, looked_up_on}
+use Rattle.pfr_packet.proofs.ShownLemmas.{shown_either}
 
 -- ---- the keys that a packet goes through by
 
@@ -266,7 +267,11 @@ hit_keyed job number clock place table packet direction visits key is (Some hit)
 opening_keyed : (job : RunJob) (number : ℕ) (clock : Clock) (place : InterfacePlace) (table : StateTable) (packet : Packet) (direction : Direction) (key : Key) → IsKeyOf direction packet key
     → Keyed direction packet (outcome_of table (opening job number clock place packet direction key))
 opening_keyed job number clock place table packet direction key is =
-    hit_keyed job number clock place table packet direction (translations_visited job.rules (name_in job place) packet direction) key is (hit_of job.rules (name_in job place) packet direction) (hit_for job.rules (name_in job place) packet direction)
+    hit_keyed job number clock place table packet direction (translations_asked job place packet direction) key is (translation_hit job place packet direction) (asked_for (is_translated job.tap direction))
+  where
+    asked_for : (test : Bool) → IsHitFor direction (cond test None (hit_of job.rules (name_in job place) packet direction))
+    asked_for true = tt
+    asked_for false = hit_for job.rules (name_in job place) packet direction
 
 -- ---- along the plan
 
@@ -284,21 +289,35 @@ tracked_keyed direction packet state (touch.Touched next) = passed_keyed directi
 tracked_keyed direction packet state touch.Mismatch = tt
 tracked_keyed direction packet state touch.Removed = tt
 
+-- the same with nothing written
+unwritten_keyed : (direction : Direction) (packet : Packet) (state : State) (why : Reason) (change : Option TableChange) → KeyedIf direction packet None change
+    → Keyed direction packet (record (passed direction packet state why change) { bytes = None })
+unwritten_keyed direction packet state why change keyed =
+    let outcome : Outcome = record (by_state direction state verdict.Pass why) { bytes = written_by direction packet state.wire state.stack; change = change } in
+    either_blocked (λ o. Keyed direction packet (record o { bytes = None })) (lacks_leave outcome packet state.rules.allows_options) reason.IpOption outcome (λ free. keyed) tt
+
+unwritten_tracked : (direction : Direction) (packet : Packet) (state : State) (t : Touch) → Keyed direction packet (record (tracked direction packet state t) { bytes = None })
+unwritten_tracked direction packet state (touch.Touched next) = unwritten_keyed direction packet state reason.State (Some (Touched next)) tt
+unwritten_tracked direction packet state touch.Mismatch = tt
+unwritten_tracked direction packet state touch.Removed = tt
+
 by_embedded_keyed : (job : RunJob) (place : InterfacePlace) (table : StateTable) (packet : Packet) (direction : Direction) (found : Option State) → Keyed direction packet (outcome_of table (by_embedded job place packet direction found))
 by_embedded_keyed job place table packet direction None = filtered_keyed job.rules (filter_answer job.rules (name_in job place) table packet direction) packet direction
-by_embedded_keyed job place table packet direction (Some state) = passed_keyed direction packet state reason.StateError None (λ bytes. tt)
+by_embedded_keyed job place table packet direction (Some state) =
+    shown_either (Keyed direction packet) job.tap direction _ (passed_keyed direction packet state reason.StateError None (λ bytes. tt)) (unwritten_keyed direction packet state reason.StateError None tt)
 
 by_connection_keyed : (job : RunJob) (number : ℕ) (clock : Clock) (place : InterfacePlace) (table : StateTable) (packet : Packet) (direction : Direction) (key : Key) → IsKeyOf direction packet key
     → (found : Option State) → Keyed direction packet (outcome_of table (by_connection job number clock place packet direction key found))
 by_connection_keyed job number clock place table packet direction key is None = opening_keyed job number clock place table packet direction key is
-by_connection_keyed job number clock place table packet direction key is (Some state) = tracked_keyed direction packet state (touched state packet direction clock (timeouts_of job))
+by_connection_keyed job number clock place table packet direction key is (Some state) =
+    (let t = touched state packet direction clock (timeouts_of job) in shown_either (Keyed direction packet) job.tap direction _ (tracked_keyed direction packet state t) (unwritten_tracked direction packet state t))
 
 subject_keyed : (job : RunJob) (number : ℕ) (clock : Clock) (place : InterfacePlace) (table : StateTable) (packet : Packet) (direction : Direction) (subject : Subject) → subject_of direction packet ≡ subject
     → Keyed direction packet (outcome_of table (subject_plan job number clock place packet direction subject))
 subject_keyed job number clock place table packet direction Alone is = filtered_keyed job.rules (filter_answer job.rules (name_in job place) table packet direction) packet direction
-subject_keyed job number clock place table packet direction (Embedded key) is = by_embedded_keyed job place table packet direction (found_in table (side_of direction) key (binding.To place))
+subject_keyed job number clock place table packet direction (Embedded key) is = by_embedded_keyed job place table packet direction (found_in table (looked_up_on job.tap direction) key (binding.To place))
 subject_keyed job number clock place table packet direction (Connection key) is =
-    by_connection_keyed job number clock place table packet direction key (key_of_subject direction packet key is) (found_in table (side_of direction) key (binding.To place))
+    by_connection_keyed job number clock place table packet direction key (key_of_subject direction packet key is) (found_in table (looked_up_on job.tap direction) key (binding.To place))
 
 packet_keyed : (job : RunJob) (number : ℕ) (clock : Clock) (place : InterfacePlace) (table : StateTable) (packet : Packet) (direction : Direction) → Keyed direction packet (outcome_of table (packet_plan job number clock place packet direction))
 unfolding packet_plan
@@ -309,10 +328,10 @@ skipped_keyed : (direction : Direction) (packet : Packet) (table : StateTable) (
 skipped_keyed direction packet table true other keyed = tt
 skipped_keyed direction packet table false other keyed = keyed
 
-plan_keyed : (job : RunJob) (number : ℕ) (clock : Clock) (place : InterfacePlace) (table : StateTable) (packet : Packet) → Keyed (direction_of job.inside packet) packet (outcome_of table (plan job number clock place (Ipv4 packet)))
+plan_keyed : (job : RunJob) (number : ℕ) (clock : Clock) (place : InterfacePlace) (table : StateTable) (packet : Packet) → Keyed (direction_of job place packet) packet (outcome_of table (plan job number clock place (Ipv4 packet)))
 unfolding plan
 plan_keyed job number clock place table packet =
-    let direction = direction_of job.inside packet in
+    let direction = direction_of job place packet in
     skipped_keyed direction packet table (is_skipped job place) (packet_plan job number clock place packet direction) (packet_keyed job number clock place table packet direction)
 
 made_keyed : (direction : Direction) (packet : Packet) (bytes : Option Change) (state : State) (change : Option TableChange) → change ≡ Some (Made state) → KeyedIf direction packet bytes change
@@ -321,7 +340,7 @@ made_keyed direction packet bytes state change is keyed = subst (λ (c : Option 
 
 -- the state that a packet makes
 pub keyed_of : (job : RunJob) (number : ℕ) (clock : Clock) (place : InterfacePlace) (packet : Packet) (table : StateTable) (state : State) → (step_of job number clock place (Ipv4 packet) table).change ≡ Some (Made state)
-    → IsKeyed (direction_of job.inside packet) packet (step_of job number clock place (Ipv4 packet) table).bytes state
+    → IsKeyed (direction_of job place packet) packet (step_of job number clock place (Ipv4 packet) table).bytes state
 unfolding step_of
 keyed_of job number clock place packet table state is =
-    made_keyed (direction_of job.inside packet) packet (step_of job number clock place (Ipv4 packet) table).bytes state (step_of job number clock place (Ipv4 packet) table).change is (plan_keyed job number clock place (purged_at clock table) packet)
+    made_keyed (direction_of job place packet) packet (step_of job number clock place (Ipv4 packet) table).bytes state (step_of job number clock place (Ipv4 packet) table).change is (plan_keyed job number clock place (purged_at clock table) packet)

@@ -13,6 +13,8 @@ pub mod PassageLemmas
 pub mod PickLemmas
 pub mod RuleLemmas
 pub mod SameLemmas
+pub mod SettingLemmas
+pub mod ShownLemmas
 pub mod TryLemmas
 pub mod VisitLemmas
 pub mod WayLemmas

@@ -19,7 +19,6 @@ use Rattle.pfr_headers.specs.declared.packet.View.TheVariants.{Ipv4, Skip, Short
 use Rattle.pfr_headers.specs.declared.transport.Transport.{Transport}
 use Rattle.pfr_headers.specs.declared.transport.Transport.TheVariants as transport
 use Rattle.pfr_headers.specs.Translated.{message_with, transport_with}
-use Rattle.pfr_headers.specs.Ways.{direction_of}
 use Rattle.pfr_criteria.specs.Transports.{message_opens, opens_connection}
 use Rattle.pfr_rules.specs.Filter.{deciding, decision_by, most_of, rooms_in}
 use Rattle.pfr_rules.proofs.RoomLemmas.{decides_with_room}
@@ -39,7 +38,7 @@ use Rattle.pfr_packet.specs.declared.verdict.Reason.TheVariants as reason
 use Rattle.pfr_packet.specs.declared.verdict.Verdict.TheVariants as verdict
 use Rattle.pfr_packet.specs.Filtering.{filtered}
 use Rattle.pfr_packet.specs.Found.{tracked}
-use Rattle.pfr_packet.specs.Job.{RunJob, is_skipped, name_in}
+use Rattle.pfr_packet.specs.Job.{RunJob, direction_of, is_skipped, name_in}
 use Rattle.pfr_packet.specs.Keys.{message_subject, subject_by, translated_end}
 use Rattle.pfr_packet.specs.Outcomes.{unseen}
 use Rattle.pfr_packet.specs.Passages.{behind, by_way, judged, nat_passed, unfiltered}
@@ -49,6 +48,7 @@ use Rattle.pfr_packet.proofs.ChangeLemmas.{passing}
 use Rattle.pfr_packet.proofs.OpeningLemmas.{either_blocked, filtered_way, judged_changes_nothing, lacks_leave}
 use Rattle.pfr_packet.proofs.RuleLemmas.{filtered_rule, judged_says}
 use Rattle.pfr_packet.proofs.WayLemmas.{IsFirst, judged_in, kept_in, step_way}
+use Rattle.pfr_packet.proofs.ShownLemmas.{shown_either}
 
 -- ---- packets that open connections
 
@@ -146,7 +146,7 @@ tracked_room rules table direction packet state (touch.Touched next) = either_bl
 tracked_room rules table direction packet state touch.Mismatch = tt
 tracked_room rules table direction packet state touch.Removed = tt
 
-made_room : (job : RunJob) (place : InterfacePlace) (table : StateTable) (packet : Packet) (direction : Direction) (passage : Passage) (visits : List ℕ) (state : State) → IsFirst place table packet direction → kept_in job place table packet direction passage ≡ Some state.rules
+made_room : (job : RunJob) (place : InterfacePlace) (table : StateTable) (packet : Packet) (direction : Direction) (passage : Passage) (visits : List ℕ) (state : State) → IsFirst job.tap place table packet direction → kept_in job place table packet direction passage ≡ Some state.rules
     → RoomIf job.rules table (Some (Made state))
 made_room job place table packet direction passage visits state first kept by rule most filter_is at most_is =
     let answer = answer_for job.rules (name_in job place) table direction packet passage in
@@ -163,12 +163,12 @@ unfolding step_of plan
 view_room job number clock place Skip table = tt
 view_room job number clock place Short table = short_room job.rules (purged_at clock table) (is_skipped job place)
 view_room job number clock place (Ipv4 packet) table =
-    let direction = direction_of job.inside packet in
+    let direction = direction_of job place packet in
     let now = purged_at clock table in
     step_way job number clock place table packet (HasRoom job.rules now) tt (record {
       by_rules = λ none. filtered_way job.rules (filter_answer job.rules (name_in job place) now packet direction) packet direction (HasRoom job.rules now) (λ free. tt) tt;
-      by_error = λ key state is found. either_blocked (HasRoom job.rules now) _ reason.IpOption (passing direction packet state reason.StateError None) (λ free. tt) tt;
-      by_state = λ key state t is found. tracked_room job.rules now direction packet state t;
+      by_error = λ key state is found. (let room = either_blocked (HasRoom job.rules now) _ reason.IpOption (passing direction packet state reason.StateError None) (λ free. tt) tt in shown_either (HasRoom job.rules now) job.tap direction _ room room);
+      by_state = λ key state t is found. shown_either (HasRoom job.rules now) job.tap direction _ (tracked_room job.rules now direction packet state t) (tracked_room job.rules now direction packet state t);
       goes = λ passage visits first. unchanged job.rules now (judged_in job place now packet direction passage visits) (judged_changes_nothing job.rules (answer_for job.rules (name_in job place) now direction packet passage) direction packet passage visits);
       makes = λ passage visits state first passes kept. made_room job place now packet direction passage visits state first kept;
       has_no_place = λ passage visits first. tt;

@@ -29,7 +29,7 @@ use Rattle.pfr_packet.specs.Passages.{behind, by_way, exhausted, judged, mapped_
 use Rattle.pfr_packet.specs.Picks.{picking, ports_for, tries, wire_with, word_of}
 use Rattle.pfr_states.specs.Answers.{found_in}
 use Rattle.pfr_packet.specs.Plan.{FilterAnswer, Plan, filter_answer, no_answer, outcome_of}
-use Rattle.pfr_packet.specs.Steps.{answer_for, by_end, by_hit, by_pick, going, going_on, opening, unless_passed}
+use Rattle.pfr_packet.specs.Steps.{answer_for, by_end, by_hit, by_pick, going, going_on, opening, translation_hit, translations_asked, unless_passed}
 use Rattle.pfr_packet.specs.Verdicts.{lets_pass}
 
 -- ---- what the filter makes of a packet
@@ -136,7 +136,7 @@ hit_way job number clock place table packet direction P o visits key (Some hit) 
 pub opening_way : (job : RunJob) (number : ℕ) (clock : Clock) (place : InterfacePlace) (table : StateTable) (packet : Packet) (direction : Direction) (P : Outcome → Type 0) → Opening job number clock place table packet direction P
     → (key : Key) → P (outcome_of table (opening job number clock place packet direction key))
 opening_way job number clock place table packet direction P o key =
-    hit_way job number clock place table packet direction P o (translations_visited job.rules (name_in job place) packet direction) key (hit_of job.rules (name_in job place) packet direction)
+    hit_way job number clock place table packet direction P o (translations_asked job place packet direction) key (translation_hit job place packet direction)
 
 -- ---- the packet that is judged
 

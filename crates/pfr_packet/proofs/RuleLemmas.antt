@@ -11,7 +11,6 @@ use Rattle.pfr_ruleset.specs.declared.ruleset.Ruleset.{Ruleset}
 use Rattle.pfr_headers.specs.declared.packet.Packet.{Packet}
 use Rattle.pfr_headers.specs.declared.packet.View.{View}
 use Rattle.pfr_headers.specs.declared.packet.View.TheVariants.{Ipv4, Skip, Short}
-use Rattle.pfr_headers.specs.Ways.{direction_of}
 use Rattle.pfr_track.specs.declared.key.Key.{Key}
 use Rattle.pfr_track.specs.declared.outcome.Touch.{Touch}
 use Rattle.pfr_track.specs.declared.outcome.Touch.TheVariants as touch
@@ -31,9 +30,9 @@ use Rattle.pfr_packet.specs.declared.verdict.Reason.{Reason}
 use Rattle.pfr_packet.specs.declared.verdict.Reason.TheVariants as reason
 use Rattle.pfr_packet.specs.declared.verdict.Verdict.TheVariants as verdict
 use Rattle.pfr_packet.specs.Filtering.{allows_options, conduct_at, conduct_of, filtered, kept}
-use Rattle.pfr_packet.specs.Found.{passed, tracked}
-use Rattle.pfr_packet.specs.Job.{RunJob, is_skipped, name_in, timeouts_of}
-use Rattle.pfr_packet.specs.Keys.{side_of, subject_of, written_by}
+use Rattle.pfr_packet.specs.Found.{embedded, passed, tracked}
+use Rattle.pfr_packet.specs.Job.{RunJob, direction_of, is_skipped, name_in, timeouts_of}
+use Rattle.pfr_packet.specs.Keys.{subject_of, written_by}
 use Rattle.pfr_packet.specs.Laws.{AreRulesOf, SaysAsItsRule, policy_for, policy_of, says_no_sync}
 use Rattle.pfr_packet.specs.Making.{making, with_keys, with_room}
 use Rattle.pfr_packet.specs.Outcomes.{by_state}
@@ -43,6 +42,9 @@ use Rattle.pfr_packet.specs.Plan.{FilterAnswer, Plan, done, filter_answer, outco
 use Rattle.pfr_packet.specs.Steps.{answer_for, by_connection, by_embedded, opened, opening, packet_plan, passed_over, plan, step_of, subject_plan}
 use Rattle.pfr_packet.specs.Verdicts.{lets_pass}
 use Rattle.pfr_packet.proofs.OpeningLemmas.{either_blocked, going_way, filtered_way, judged_changes_nothing, lacks_leave, opening_way}
+use Rattle.pfr_packet.specs.Taps.{as_shown, looked_up_on}
+use Rattle.pfr_packet.proofs.ShownLemmas.{shown_either}
+use Rattle.pfr_headers.specs.declared.tap.Tap.{Tap}
 
 -- ---- what a rule keeps
 
@@ -190,20 +192,30 @@ tracked_told rules place direction packet state (touch.Touched next) = passed_to
 tracked_told rules place direction packet state touch.Mismatch = tt
 tracked_told rules place direction packet state touch.Removed = tt
 
+unwritten_told : (rules : Ruleset) (place : InterfacePlace) (outcome : Outcome) (change : Option TableChange) → ToldIf rules place outcome change → ToldIf rules place (record outcome { bytes = None }) change
+unwritten_told rules place outcome None told = tt
+unwritten_told rules place outcome (Some (Made state)) told = record { filter = told.filter; translation = told.translation; conduct = told.conduct; binding = told.binding }
+unwritten_told rules place outcome (Some (Touched state)) told = tt
+unwritten_told rules place outcome (Some (Removed number)) told = tt
+
+shown_told : (rules : Ruleset) (place : InterfacePlace) (tap : Tap) (direction : Direction) (outcome : Outcome) → Told rules place outcome → Told rules place (as_shown tap direction outcome)
+shown_told rules place tap direction outcome told = shown_either (Told rules place) tap direction outcome told (unwritten_told rules place outcome outcome.change told)
+
 by_embedded_told : (job : RunJob) (place : InterfacePlace) (table : StateTable) (packet : Packet) (direction : Direction) (found : Option State) → Told job.rules place (outcome_of table (by_embedded job place packet direction found))
 by_embedded_told job place table packet direction None = filtered_told job.rules place job.rules (filter_answer job.rules (name_in job place) table packet direction) packet direction
-by_embedded_told job place table packet direction (Some state) = passed_told job.rules place direction packet state reason.StateError None (λ outcome. tt)
+by_embedded_told job place table packet direction (Some state) = shown_told job.rules place job.tap direction (embedded direction packet state) (passed_told job.rules place direction packet state reason.StateError None (λ outcome. tt))
 
 by_connection_told : (job : RunJob) (number : ℕ) (clock : Clock) (place : InterfacePlace) (table : StateTable) (packet : Packet) (direction : Direction) (key : Key) (found : Option State)
     → Told job.rules place (outcome_of table (by_connection job number clock place packet direction key found))
 by_connection_told job number clock place table packet direction key None = opening_told job number clock place table packet direction key
-by_connection_told job number clock place table packet direction key (Some state) = tracked_told job.rules place direction packet state (touched state packet direction clock (timeouts_of job))
+by_connection_told job number clock place table packet direction key (Some state) =
+    (let t = touched state packet direction clock (timeouts_of job) in shown_told job.rules place job.tap direction (tracked direction packet state t) (tracked_told job.rules place direction packet state t))
 
 subject_told : (job : RunJob) (number : ℕ) (clock : Clock) (place : InterfacePlace) (table : StateTable) (packet : Packet) (direction : Direction) (subject : Subject)
     → Told job.rules place (outcome_of table (subject_plan job number clock place packet direction subject))
 subject_told job number clock place table packet direction Alone = filtered_told job.rules place job.rules (filter_answer job.rules (name_in job place) table packet direction) packet direction
-subject_told job number clock place table packet direction (Embedded key) = by_embedded_told job place table packet direction (found_in table (side_of direction) key (binding.To place))
-subject_told job number clock place table packet direction (Connection key) = by_connection_told job number clock place table packet direction key (found_in table (side_of direction) key (binding.To place))
+subject_told job number clock place table packet direction (Embedded key) = by_embedded_told job place table packet direction (found_in table (looked_up_on job.tap direction) key (binding.To place))
+subject_told job number clock place table packet direction (Connection key) = by_connection_told job number clock place table packet direction key (found_in table (looked_up_on job.tap direction) key (binding.To place))
 
 packet_told : (job : RunJob) (number : ℕ) (clock : Clock) (place : InterfacePlace) (table : StateTable) (packet : Packet) (direction : Direction) → Told job.rules place (outcome_of table (packet_plan job number clock place packet direction))
 unfolding packet_plan
@@ -218,8 +230,8 @@ unfolding plan
 plan_told job number clock place table Skip = tt
 plan_told job number clock place table Short = skipped_told job.rules place table (is_skipped job place) _ tt
 plan_told job number clock place table (Ipv4 packet) =
-    skipped_told job.rules place table (is_skipped job place) (packet_plan job number clock place packet (direction_of job.inside packet))
-    (packet_told job number clock place table packet (direction_of job.inside packet))
+    skipped_told job.rules place table (is_skipped job place) (packet_plan job number clock place packet (direction_of job place packet))
+    (packet_told job number clock place table packet (direction_of job place packet))
 
 made_told : (rules : Ruleset) (place : InterfacePlace) (outcome : Outcome) (state : State) (change : Option TableChange) → change ≡ Some (Made state) → ToldIf rules place outcome change → AreRulesOf rules place outcome state.rules
 made_told rules place outcome state change is told = subst (λ (c : Option TableChange). ToldIf rules place outcome c) is told

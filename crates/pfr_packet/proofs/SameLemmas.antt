@@ -1,9 +1,12 @@
--- Lists of networks and of interfaces that are compared one by one.
-use Rattle.std.proofs.Common.{rules, ◌≡◌, true, List, [], ◌∷◌, refl, ap, ◌∙◌}
+-- Lists of networks, of interfaces and of link-level addresses that are compared one by one.
+use Rattle.std.proofs.Common.{rules, ◌≡◌, true, List, [], ◌∷◌, Option, Some, None, refl, ap, ◌∙◌}
+use Rattle.std.specs.Option.{option_eq}
 use Rattle.std.proofs.lemmas.Bool.{and_parts, and_from}
 use lib.Pointwise.{pointwise}
 use Rattle.pfr_net.specs.declared.network.Net.{Net}
 use Rattle.pfr_net.specs.contracts.network.NetPartialEq.TheImpl.{ghosts}
+use Rattle.pfr_headers.specs.declared.ethernet.EthernetAddress.{EthernetAddress}
+use Rattle.pfr_headers.specs.contracts.ethernet.EthernetAddressPartialEq.TheImpl.{ghosts as address_ghosts}
 use Rattle.pfr_ruleset.specs.declared.interface.Interface.{Interface}
 use Rattle.pfr_ruleset.specs.contracts.interface.InterfacePartialEq.TheImpl.{ghosts as interface_ghosts}
 
@@ -46,3 +49,33 @@ same_interfaces (x ∷ xs) (y ∷ ys) h =
 pub interfaces_same : (xs : List Interface) → pointwise interface_ghosts.eq xs xs ≡ true
 interfaces_same [] = refl
 interfaces_same (x ∷ xs) = and_from (interface_ghosts.eq x x) (pointwise interface_ghosts.eq xs xs) (interface_same x) (interfaces_same xs)
+
+-- ---- link-level addresses, where they are known
+
+same_value : (x y : EthernetAddress) → address_ghosts.eq x y ≡ true → x ≡ y
+same_value x y h = Prim.search rules
+
+value_same : (x : EthernetAddress) → address_ghosts.eq x x ≡ true
+value_same x = Prim.search rules
+
+same_address : (x y : Option EthernetAddress) → option_eq address_ghosts.eq x y ≡ true → x ≡ y
+same_address None None h = refl
+same_address None (Some y) h = absurd (cc h)
+same_address (Some x) None h = absurd (cc h)
+same_address (Some x) (Some y) h = ap (λ (a : EthernetAddress). Some a) (same_value x y h)
+
+address_same : (x : Option EthernetAddress) → option_eq address_ghosts.eq x x ≡ true
+address_same None = refl
+address_same (Some x) = value_same x
+
+pub same_addresses : (xs ys : List (Option EthernetAddress)) → pointwise (option_eq address_ghosts.eq) xs ys ≡ true → xs ≡ ys
+same_addresses [] [] h = refl
+same_addresses [] (y ∷ ys) h = absurd (cc h)
+same_addresses (x ∷ xs) [] h = absurd (cc h)
+same_addresses (x ∷ xs) (y ∷ ys) h =
+    let parts = and_parts (option_eq address_ghosts.eq x y) (pointwise (option_eq address_ghosts.eq) xs ys) h in
+    ap (λ z. z ∷ xs) (same_address x y parts.0) ∙ ap (λ zs. y ∷ zs) (same_addresses xs ys parts.1)
+
+pub addresses_same : (xs : List (Option EthernetAddress)) → pointwise (option_eq address_ghosts.eq) xs xs ≡ true
+addresses_same [] = refl
+addresses_same (x ∷ xs) = and_from (option_eq address_ghosts.eq x x) (pointwise (option_eq address_ghosts.eq) xs xs) (address_same x) (addresses_same xs)

@@ -10,7 +10,6 @@ use Rattle.pfr_ruleset.specs.Translations.{HaveOwnNumbers}
 use Rattle.pfr_headers.specs.declared.packet.Packet.{Packet}
 use Rattle.pfr_headers.specs.declared.packet.View.{View}
 use Rattle.pfr_headers.specs.declared.packet.View.TheVariants.{Ipv4, Skip, Short}
-use Rattle.pfr_headers.specs.Ways.{direction_of}
 use Rattle.pfr_rules.specs.declared.hit.Hit.{Hit}
 use Rattle.pfr_rules.specs.declared.hit.NewEnd.{NewEnd}
 use Rattle.pfr_rules.specs.declared.hit.NewEnd.TheVariants.{Mapped, Picked}
@@ -38,18 +37,20 @@ use Rattle.pfr_packet.specs.declared.verdict.Reason.{Reason}
 use Rattle.pfr_packet.specs.declared.verdict.Reason.TheVariants as reason
 use Rattle.pfr_packet.specs.Filtering.{filtered}
 use Rattle.pfr_packet.specs.Found.{passed, tracked}
-use Rattle.pfr_packet.specs.Job.{RunJob, is_skipped, name_in, timeouts_of}
-use Rattle.pfr_packet.specs.Keys.{side_of, subject_of}
+use Rattle.pfr_packet.specs.Job.{RunJob, direction_of, is_skipped, name_in, timeouts_of}
+use Rattle.pfr_packet.specs.Keys.{subject_of}
 use Rattle.pfr_packet.specs.Laws.{AtMostOnce}
 use Rattle.pfr_packet.specs.Making.{making, with_keys, with_room}
 use Rattle.pfr_packet.specs.Passages.{behind, judged, judged_kept, mapped_end, mapped_passage, picked_passage, untranslated}
 use Rattle.pfr_packet.specs.Picks.{picked, ports_for, tries, wire_with, word_of}
 use Rattle.pfr_packet.specs.Plan.{FilterAnswer, Plan, done, filter_answer, no_answer, outcome_of}
-use Rattle.pfr_packet.specs.Steps.{answer_for, by_connection, by_embedded, by_end, by_hit, by_pick, going, opened, opening, packet_plan, passed_over, plan, step_of, subject_plan}
+use Rattle.pfr_packet.specs.Steps.{answer_for, by_connection, by_embedded, by_end, by_hit, by_pick, going, opened, opening, packet_plan, passed_over, plan, step_of, subject_plan, translation_hit, translations_asked}
 use Rattle.pfr_packet.specs.Verdicts.{lets_pass}
 use Rattle.pfr_packet.proofs.ChangeLemmas.{passing}
 use Rattle.pfr_packet.proofs.OpeningLemmas.{either_blocked, filtered_way, going_way, judged_way}
 use Rattle.pfr_packet.proofs.TryLemmas.{picks_first}
+use Rattle.pfr_packet.specs.Taps.{is_translated, looked_up_on}
+use Rattle.pfr_packet.proofs.ShownLemmas.{shown_either}
 
 -- each rule of either kind was visited at most once
 abbrev EachOnce : VisitedRules → Type 0
@@ -148,8 +149,11 @@ hit_once job number clock place table packet direction visits once key (Some hit
 opening_once : (job : RunJob) (number : ℕ) (clock : Clock) (place : InterfacePlace) (table : StateTable) (packet : Packet) (direction : Direction) → HaveOwnNumbers job.rules.translations → (key : Key)
     → VisitsOnce (outcome_of table (opening job number clock place packet direction key))
 opening_once job number clock place table packet direction own key =
-    let once : AtMostOnce (translations_visited job.rules (name_in job place) packet direction) = λ rule. translation_visited_once job.rules (name_in job place) packet direction rule own in
-    hit_once job number clock place table packet direction (translations_visited job.rules (name_in job place) packet direction) once key (hit_of job.rules (name_in job place) packet direction)
+    hit_once job number clock place table packet direction (translations_asked job place packet direction) (asked_once (is_translated job.tap direction)) key (translation_hit job place packet direction)
+  where
+    asked_once : (test : Bool) → AtMostOnce (cond test [] (translations_visited job.rules (name_in job place) packet direction))
+    asked_once true = none_once
+    asked_once false = λ rule. translation_visited_once job.rules (name_in job place) packet direction rule own
 
 -- ---- a packet whose state is found
 
@@ -165,18 +169,18 @@ tracked_once direction packet state touch.Removed = (none_once, none_once)
 
 embedded_once : (job : RunJob) (place : InterfacePlace) (table : StateTable) (packet : Packet) (direction : Direction) (found : Option State) → VisitsOnce (outcome_of table (by_embedded job place packet direction found))
 embedded_once job place table packet direction None = filtered_once job.rules (name_in job place) table packet direction
-embedded_once job place table packet direction (Some state) = passed_once direction packet state reason.StateError None
+embedded_once job place table packet direction (Some state) = (let once = passed_once direction packet state reason.StateError None in shown_either VisitsOnce job.tap direction _ once once)
 
 connection_once : (job : RunJob) (number : ℕ) (clock : Clock) (place : InterfacePlace) (table : StateTable) (packet : Packet) (direction : Direction) → HaveOwnNumbers job.rules.translations → (key : Key) (found : Option State)
     → VisitsOnce (outcome_of table (by_connection job number clock place packet direction key found))
 connection_once job number clock place table packet direction own key None = opening_once job number clock place table packet direction own key
-connection_once job number clock place table packet direction own key (Some state) = tracked_once direction packet state (touched state packet direction clock (timeouts_of job))
+connection_once job number clock place table packet direction own key (Some state) = (let once = tracked_once direction packet state (touched state packet direction clock (timeouts_of job)) in shown_either VisitsOnce job.tap direction _ once once)
 
 subject_once : (job : RunJob) (number : ℕ) (clock : Clock) (place : InterfacePlace) (table : StateTable) (packet : Packet) (direction : Direction) → HaveOwnNumbers job.rules.translations → (subject : Subject)
     → VisitsOnce (outcome_of table (subject_plan job number clock place packet direction subject))
 subject_once job number clock place table packet direction own Alone = filtered_once job.rules (name_in job place) table packet direction
-subject_once job number clock place table packet direction own (Embedded key) = embedded_once job place table packet direction (found_in table (side_of direction) key (binding.To place))
-subject_once job number clock place table packet direction own (Connection key) = connection_once job number clock place table packet direction own key (found_in table (side_of direction) key (binding.To place))
+subject_once job number clock place table packet direction own (Embedded key) = embedded_once job place table packet direction (found_in table (looked_up_on job.tap direction) key (binding.To place))
+subject_once job number clock place table packet direction own (Connection key) = connection_once job number clock place table packet direction own key (found_in table (looked_up_on job.tap direction) key (binding.To place))
 
 packet_once : (job : RunJob) (number : ℕ) (clock : Clock) (place : InterfacePlace) (table : StateTable) (packet : Packet) (direction : Direction) → HaveOwnNumbers job.rules.translations
     → VisitsOnce (outcome_of table (packet_plan job number clock place packet direction))
@@ -192,7 +196,7 @@ unfolding plan
 plan_once job number clock place table own Skip = (none_once, none_once)
 plan_once job number clock place table own Short = skipped_once table (is_skipped job place) _ (none_once, none_once)
 plan_once job number clock place table own (Ipv4 packet) =
-    skipped_once table (is_skipped job place) (packet_plan job number clock place packet (direction_of job.inside packet)) (packet_once job number clock place table packet (direction_of job.inside packet) own)
+    skipped_once table (is_skipped job place) (packet_plan job number clock place packet (direction_of job place packet)) (packet_once job number clock place table packet (direction_of job place packet) own)
 
 pub visits_once : (job : RunJob) (number : ℕ) (clock : Clock) (place : InterfacePlace) (view : View) (table : StateTable) → HaveOwnNumbers job.rules.translations → VisitsOnce (step_of job number clock place view table)
 unfolding step_of

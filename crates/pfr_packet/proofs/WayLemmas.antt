@@ -14,7 +14,6 @@ use Rattle.pfr_headers.specs.declared.icmp.IcmpMessage.{IcmpMessage}
 use Rattle.pfr_headers.specs.declared.icmp.IcmpMessage.TheVariants as message
 use Rattle.pfr_headers.specs.declared.transport.Transport.{Transport}
 use Rattle.pfr_headers.specs.declared.transport.Transport.TheVariants as transport
-use Rattle.pfr_headers.specs.Ways.{direction_of}
 use Rattle.pfr_headers.specs.View.{has_options}
 use Rattle.pfr_criteria.specs.Transports.{message_opens, opens_connection}
 use Rattle.pfr_rules.specs.declared.decision.Decision.{Decision}
@@ -37,8 +36,8 @@ use Rattle.pfr_packet.specs.declared.verdict.Reason.{Reason}
 use Rattle.pfr_packet.specs.declared.verdict.Reason.TheVariants as reason
 use Rattle.pfr_packet.specs.Filtering.{conduct_at, conduct_of, filtered, reason_of}
 use Rattle.pfr_packet.specs.Found.{embedded, tracked}
-use Rattle.pfr_packet.specs.Job.{RunJob, is_skipped, name_in, timeouts_of}
-use Rattle.pfr_packet.specs.Keys.{message_subject, side_of, subject_by, subject_of}
+use Rattle.pfr_packet.specs.Job.{RunJob, direction_of, is_skipped, name_in, timeouts_of}
+use Rattle.pfr_packet.specs.Keys.{message_subject, subject_by, subject_of}
 use Rattle.pfr_packet.specs.Laws.{HasLeave, IsUntouched}
 use Rattle.pfr_packet.specs.Making.{making, with_keys, with_made, with_room}
 use Rattle.pfr_packet.specs.Outcomes.{blocked, none_visited, without_leave}
@@ -49,10 +48,13 @@ use Rattle.pfr_packet.specs.Steps.{answer_for, asked_of, by_connection, by_embed
 use Rattle.pfr_packet.specs.Verdicts.{lets_pass}
 use Rattle.pfr_packet.proofs.ChangeLemmas.{found_in_states, passing}
 use Rattle.pfr_packet.proofs.OpeningLemmas.{behind_options, either_blocked, filtered_way, going_way, judged_way, judged_writes_nothing, opening_way}
+use Rattle.pfr_packet.specs.Taps.{as_shown, looked_up_on}
+use Rattle.pfr_packet.proofs.ShownLemmas.{shown_either}
+use Rattle.pfr_headers.specs.declared.tap.Tap.{Tap}
 
 -- no state is found for the packet
-abbrev pub NoneFound : InterfacePlace → StateTable → Packet → Direction → Type 0
-NoneFound place table packet direction = (key : Key) → ((subject_of direction packet ≡ Embedded key) ⊎ (subject_of direction packet ≡ Connection key)) → found_in table (side_of direction) key (binding.To place) ≡ None
+abbrev pub NoneFound : Tap → InterfacePlace → StateTable → Packet → Direction → Type 0
+NoneFound tap place table packet direction = (key : Key) → ((subject_of direction packet ≡ Embedded key) ⊎ (subject_of direction packet ≡ Connection key)) → found_in table (looked_up_on tap direction) key (binding.To place) ≡ None
 
 -- what becomes of the first packet of a connection behind a passage
 abbrev pub judged_in : RunJob → InterfacePlace → StateTable → Packet → Direction → Passage → List ℕ → Outcome
@@ -63,52 +65,52 @@ abbrev pub kept_in : RunJob → InterfacePlace → StateTable → Packet → Dir
 kept_in job place table packet direction passage = judged_kept place job.rules (answer_for job.rules (name_in job place) table direction packet passage) direction packet passage
 
 -- it is the first packet of its connection
-pub record IsFirst (place : InterfacePlace) (table : StateTable) (packet : Packet) (direction : Direction) : Type 0 where
+pub record IsFirst (tap : Tap) (place : InterfacePlace) (table : StateTable) (packet : Packet) (direction : Direction) : Type 0 where
   pub key : Key
   pub subject_is : subject_of direction packet ≡ Connection key
-  pub none_found : NoneFound place table packet direction
+  pub none_found : NoneFound tap place table packet direction
 
 -- what holds of the outcome, whichever way the packet goes
 pub record Ways (job : RunJob) (place : InterfacePlace) (table : StateTable) (packet : Packet) (direction : Direction) (P : Outcome → Type 0) : Type 0 where
-  pub by_rules : NoneFound place table packet direction → P (filtered job.rules (filter_answer job.rules (name_in job place) table packet direction) packet direction)
-  pub by_error : (key : Key) (state : State) → subject_of direction packet ≡ Embedded key → found_in table (side_of direction) key (binding.To place) ≡ Some state → P (embedded direction packet state)
-  pub by_state : (key : Key) (state : State) (t : Touch) → subject_of direction packet ≡ Connection key → found_in table (side_of direction) key (binding.To place) ≡ Some state → P (tracked direction packet state t)
-  pub goes : (passage : Passage) (visits : List ℕ) → IsFirst place table packet direction → P (judged_in job place table packet direction passage visits)
-  pub makes : (passage : Passage) (visits : List ℕ) (state : State) → IsFirst place table packet direction → lets_pass (judged_in job place table packet direction passage visits).verdict ≡ true
+  pub by_rules : NoneFound job.tap place table packet direction → P (filtered job.rules (filter_answer job.rules (name_in job place) table packet direction) packet direction)
+  pub by_error : (key : Key) (state : State) → subject_of direction packet ≡ Embedded key → found_in table (looked_up_on job.tap direction) key (binding.To place) ≡ Some state → P (as_shown job.tap direction (embedded direction packet state))
+  pub by_state : (key : Key) (state : State) (t : Touch) → subject_of direction packet ≡ Connection key → found_in table (looked_up_on job.tap direction) key (binding.To place) ≡ Some state → P (as_shown job.tap direction (tracked direction packet state t))
+  pub goes : (passage : Passage) (visits : List ℕ) → IsFirst job.tap place table packet direction → P (judged_in job place table packet direction passage visits)
+  pub makes : (passage : Passage) (visits : List ℕ) (state : State) → IsFirst job.tap place table packet direction → lets_pass (judged_in job place table packet direction passage visits).verdict ≡ true
       → kept_in job place table packet direction passage ≡ Some state.rules → P (with_made packet state (judged_in job place table packet direction passage visits))
-  pub has_no_place : (passage : Passage) (visits : List ℕ) → IsFirst place table packet direction → P (blocked reason.StateInsert (judged_in job place table packet direction passage visits))
-  pub has_no_room : (passage : Passage) (visits : List ℕ) → IsFirst place table packet direction → has_room_in table ≡ false → P (blocked reason.StateLimit (judged_in job place table packet direction passage visits))
-  pub has_no_port : (rule : RuleNumber) (visits : List ℕ) → IsFirst place table packet direction → P (exhausted direction rule visits)
+  pub has_no_place : (passage : Passage) (visits : List ℕ) → IsFirst job.tap place table packet direction → P (blocked reason.StateInsert (judged_in job place table packet direction passage visits))
+  pub has_no_room : (passage : Passage) (visits : List ℕ) → IsFirst job.tap place table packet direction → has_room_in table ≡ false → P (blocked reason.StateLimit (judged_in job place table packet direction passage visits))
+  pub has_no_port : (rule : RuleNumber) (visits : List ℕ) → IsFirst job.tap place table packet direction → P (exhausted direction rule visits)
 
 room_way : (job : RunJob) (place : InterfacePlace) (table : StateTable) (packet : Packet) (direction : Direction) (P : Outcome → Type 0) → Ways job place table packet direction P → (passage : Passage) (visits : List ℕ) (state : State)
-    → IsFirst place table packet direction → lets_pass (judged_in job place table packet direction passage visits).verdict ≡ true → kept_in job place table packet direction passage ≡ Some state.rules → (room : Bool) → has_room_in table ≡ room
+    → IsFirst job.tap place table packet direction → lets_pass (judged_in job place table packet direction passage visits).verdict ≡ true → kept_in job place table packet direction passage ≡ Some state.rules → (room : Bool) → has_room_in table ≡ room
     → P (outcome_of table (with_room packet state (judged_in job place table packet direction passage visits) room))
 room_way job place table packet direction P w passage visits state first passes kept true room = w.makes passage visits state first passes kept
 room_way job place table packet direction P w passage visits state first passes kept false room = w.has_no_room passage visits first room
 
 keys_way : (job : RunJob) (place : InterfacePlace) (table : StateTable) (packet : Packet) (direction : Direction) (P : Outcome → Type 0) → Ways job place table packet direction P → (passage : Passage) (visits : List ℕ) (state : State)
-    → IsFirst place table packet direction → lets_pass (judged_in job place table packet direction passage visits).verdict ≡ true → kept_in job place table packet direction passage ≡ Some state.rules → (wire stack : Option State)
+    → IsFirst job.tap place table packet direction → lets_pass (judged_in job place table packet direction passage visits).verdict ≡ true → kept_in job place table packet direction passage ≡ Some state.rules → (wire stack : Option State)
     → P (outcome_of table (with_keys packet state (judged_in job place table packet direction passage visits) wire stack))
 keys_way job place table packet direction P w passage visits state first passes kept None None = room_way job place table packet direction P w passage visits state first passes kept (has_room_in table) refl
 keys_way job place table packet direction P w passage visits state first passes kept None (Some other) = w.has_no_place passage visits first
 keys_way job place table packet direction P w passage visits state first passes kept (Some other) _ = w.has_no_place passage visits first
 
 passing_way : (job : RunJob) (place : InterfacePlace) (table : StateTable) (packet : Packet) (direction : Direction) (P : Outcome → Type 0) → Ways job place table packet direction P → (passage : Passage) (visits : List ℕ) (state : State)
-    → IsFirst place table packet direction → kept_in job place table packet direction passage ≡ Some state.rules → (test : Bool) → lets_pass (judged_in job place table packet direction passage visits).verdict ≡ test
+    → IsFirst job.tap place table packet direction → kept_in job place table packet direction passage ≡ Some state.rules → (test : Bool) → lets_pass (judged_in job place table packet direction passage visits).verdict ≡ test
     → P (outcome_of table (cond test (making packet state (judged_in job place table packet direction passage visits)) (done (judged_in job place table packet direction passage visits))))
 passing_way job place table packet direction P w passage visits state first kept true passes = keys_way job place table packet direction P w passage visits state first passes kept (found_in table Wire state.wire state.rules.binding) (found_in table Stack state.stack state.rules.binding)
 passing_way job place table packet direction P w passage visits state first kept false passes = w.goes passage visits first
 
 opened_way : (job : RunJob) (number : ℕ) (clock : Clock) (place : InterfacePlace) (table : StateTable) (packet : Packet) (direction : Direction) (passage : Passage) (visits : List ℕ) (P : Outcome → Type 0) → Ways job place table packet direction P
-    → IsFirst place table packet direction → (kept : Option StateRules) → kept_in job place table packet direction passage ≡ kept → P (outcome_of table (opened job number clock place packet direction passage (judged_in job place table packet direction passage visits) kept))
+    → IsFirst job.tap place table packet direction → (kept : Option StateRules) → kept_in job place table packet direction passage ≡ kept → P (outcome_of table (opened job number clock place packet direction passage (judged_in job place table packet direction passage visits) kept))
 opened_way job number clock place table packet direction passage visits P w first None is = w.goes passage visits first
 opened_way job number clock place table packet direction passage visits P w first (Some rules) is =
     passing_way job place table packet direction P w passage visits (made (record { 0 = number }) packet direction place passage.wire passage.stack rules clock (timeouts_of job)) first is (lets_pass (judged_in job place table packet direction passage visits).verdict) refl
 
 -- the subject of a packet is one
-none_at : (place : InterfacePlace) (table : StateTable) (packet : Packet) (direction : Direction) (subject : Subject) (key : Key) → subject_of direction packet ≡ subject → (subject ≡ Embedded key) ⊎ (subject ≡ Connection key)
-    → found_in table (side_of direction) key (binding.To place) ≡ None → NoneFound place table packet direction
-none_at place table packet direction subject key is one none = λ other at. rw (same_key other (elim at [ inl embedded ↦ inl (sym is ∙ embedded) | inr own ↦ inr (sym is ∙ own) ]) one) none
+none_at : (tap : Tap) (place : InterfacePlace) (table : StateTable) (packet : Packet) (direction : Direction) (subject : Subject) (key : Key) → subject_of direction packet ≡ subject → (subject ≡ Embedded key) ⊎ (subject ≡ Connection key)
+    → found_in table (looked_up_on tap direction) key (binding.To place) ≡ None → NoneFound tap place table packet direction
+none_at tap place table packet direction subject key is one none = λ other at. rw (same_key other (elim at [ inl embedded ↦ inl (sym is ∙ embedded) | inr own ↦ inr (sym is ∙ own) ]) one) none
   where
     same_key : (other : Key) → (subject ≡ Embedded other) ⊎ (subject ≡ Connection other) → (subject ≡ Embedded key) ⊎ (subject ≡ Connection key) → other ≡ key
     same_key other (inl a) (inl b) = (let e : Embedded other ≡ Embedded key = sym a ∙ b in cc e)
@@ -117,14 +119,14 @@ none_at place table packet direction subject key is one none = λ other at. rw (
     same_key other (inr a) (inr b) = (let e : Connection other ≡ Connection key = sym a ∙ b in cc e)
 
 embedded_way : (job : RunJob) (place : InterfacePlace) (table : StateTable) (packet : Packet) (direction : Direction) (P : Outcome → Type 0) → Ways job place table packet direction P → (key : Key) → subject_of direction packet ≡ Embedded key
-    → (found : Option State) → found_in table (side_of direction) key (binding.To place) ≡ found → P (outcome_of table (by_embedded job place packet direction found))
-embedded_way job place table packet direction P w key is None none = w.by_rules (none_at place table packet direction (Embedded key) key is (inl refl) none)
+    → (found : Option State) → found_in table (looked_up_on job.tap direction) key (binding.To place) ≡ found → P (outcome_of table (by_embedded job place packet direction found))
+embedded_way job place table packet direction P w key is None none = w.by_rules (none_at job.tap place table packet direction (Embedded key) key is (inl refl) none)
 embedded_way job place table packet direction P w key is (Some state) found = w.by_error key state is found
 
 connection_way : (job : RunJob) (number : ℕ) (clock : Clock) (place : InterfacePlace) (table : StateTable) (packet : Packet) (direction : Direction) (P : Outcome → Type 0) → Ways job place table packet direction P → (key : Key) → subject_of direction packet ≡ Connection key
-    → (found : Option State) → found_in table (side_of direction) key (binding.To place) ≡ found → P (outcome_of table (by_connection job number clock place packet direction key found))
+    → (found : Option State) → found_in table (looked_up_on job.tap direction) key (binding.To place) ≡ found → P (outcome_of table (by_connection job number clock place packet direction key found))
 connection_way job number clock place table packet direction P w key is None none =
-    let first : IsFirst place table packet direction = record { key = key; subject_is = is; none_found = none_at place table packet direction (Connection key) key is (inr refl) none } in
+    let first : IsFirst job.tap place table packet direction = record { key = key; subject_is = is; none_found = none_at job.tap place table packet direction (Connection key) key is (inr refl) none } in
     opening_way job number clock place table packet direction P (record {
       goes = λ visits passage. going_way job number clock place table packet direction P visits passage (opened_way job number clock place table packet direction passage visits P w first (kept_in job place table packet direction passage) refl);
       has_no_port = λ rule visits. w.has_no_port rule visits first;
@@ -137,8 +139,8 @@ subject_way job number clock place table packet direction P w Alone is = w.by_ru
   | inl embedded ↦ (let e : Alone ≡ Embedded key = sym is ∙ embedded in absurd (cc e))
   | inr own ↦ (let e : Alone ≡ Connection key = sym is ∙ own in absurd (cc e))
 ])
-subject_way job number clock place table packet direction P w (Embedded key) is = embedded_way job place table packet direction P w key is (found_in table (side_of direction) key (binding.To place)) refl
-subject_way job number clock place table packet direction P w (Connection key) is = connection_way job number clock place table packet direction P w key is (found_in table (side_of direction) key (binding.To place)) refl
+subject_way job number clock place table packet direction P w (Embedded key) is = embedded_way job place table packet direction P w key is (found_in table (looked_up_on job.tap direction) key (binding.To place)) refl
+subject_way job number clock place table packet direction P w (Connection key) is = connection_way job number clock place table packet direction P w key is (found_in table (looked_up_on job.tap direction) key (binding.To place)) refl
 
 pub packet_way : (job : RunJob) (number : ℕ) (clock : Clock) (place : InterfacePlace) (table : StateTable) (packet : Packet) (direction : Direction) (P : Outcome → Type 0) → Ways job place table packet direction P
     → P (outcome_of table (packet_plan job number clock place packet direction))
@@ -150,12 +152,12 @@ skipped_way table P true other over h = over
 skipped_way table P false other over h = h
 
 -- the outcome of an IPv4 packet, over the table once the states are gone whose deadline has come
-pub step_way : (job : RunJob) (number : ℕ) (clock : Clock) (place : InterfacePlace) (table : StateTable) (packet : Packet) (P : Outcome → Type 0) → P passed_over → Ways job place (purged_at clock table) packet (direction_of job.inside packet) P
+pub step_way : (job : RunJob) (number : ℕ) (clock : Clock) (place : InterfacePlace) (table : StateTable) (packet : Packet) (P : Outcome → Type 0) → P passed_over → Ways job place (purged_at clock table) packet (direction_of job place packet) P
     → P (step_of job number clock place (Ipv4 packet) table)
 unfolding step_of plan
 step_way job number clock place table packet P over w =
-    skipped_way (purged_at clock table) P (is_skipped job place) (packet_plan job number clock place packet (direction_of job.inside packet)) over
-    (packet_way job number clock place (purged_at clock table) packet (direction_of job.inside packet) P w)
+    skipped_way (purged_at clock table) P (is_skipped job place) (packet_plan job number clock place packet (direction_of job place packet)) over
+    (packet_way job number clock place (purged_at clock table) packet (direction_of job place packet) P w)
 
 -- ---- what holds of every outcome
 
@@ -174,12 +176,12 @@ subject_opens direction packet transport.Other key opens is = cc opens
 
 pub no_state_of : (job : RunJob) (number : ℕ) (clock : Clock) (place : InterfacePlace) (packet : Packet) (table : StateTable) → opens_connection packet.transport ≡ false → (step_of job number clock place (Ipv4 packet) table).change ≡ None
 no_state_of job number clock place packet table opens =
-    let direction = direction_of job.inside packet in
+    let direction = direction_of job place packet in
     let answer = filter_answer job.rules (name_in job place) (purged_at clock table) packet direction in
     let by_rules : (filtered job.rules answer packet direction).change ≡ None = filtered_way job.rules answer packet direction (λ o. o.change ≡ None) (λ free. refl) refl in
     step_way job number clock place table packet (λ o. o.change ≡ None) refl (record {
       by_rules = λ none. by_rules;
-      by_error = λ key state is found. either_blocked (λ o. o.change ≡ None) _ reason.IpOption (passing direction packet state reason.StateError None) (λ free. refl) refl;
+      by_error = λ key state is found. (let none = either_blocked (λ o. o.change ≡ None) _ reason.IpOption (passing direction packet state reason.StateError None) (λ free. refl) refl in shown_either (λ o. o.change ≡ None) job.tap direction _ none none);
       by_state = λ key state t is found. absurd (subject_opens direction packet packet.transport key opens is);
       goes = λ passage visits first. absurd (subject_opens direction packet packet.transport first.key opens first.subject_is);
       makes = λ passage visits state first passes kept. absurd (subject_opens direction packet packet.transport first.key opens first.subject_is);
@@ -190,16 +192,16 @@ no_state_of job number clock place packet table opens =
 
 -- where a state is found no rule is visited
 pub none_visited_of : (job : RunJob) (number : ℕ) (clock : Clock) (place : InterfacePlace) (packet : Packet) (table : StateTable) (key : Key) (state : State)
-    → (subject_of (direction_of job.inside packet) packet ≡ Embedded key) ⊎ (subject_of (direction_of job.inside packet) packet ≡ Connection key)
-    → found_in (purged_at clock table) (side_of (direction_of job.inside packet)) key (binding.To place) ≡ Some state → (step_of job number clock place (Ipv4 packet) table).visited ≡ none_visited
+    → (subject_of (direction_of job place packet) packet ≡ Embedded key) ⊎ (subject_of (direction_of job place packet) packet ≡ Connection key)
+    → found_in (purged_at clock table) (looked_up_on job.tap (direction_of job place packet)) key (binding.To place) ≡ Some state → (step_of job number clock place (Ipv4 packet) table).visited ≡ none_visited
 none_visited_of job number clock place packet table key state subject found =
-    let direction = direction_of job.inside packet in
+    let direction = direction_of job place packet in
     let P : Outcome → Type 0 = λ o. o.visited ≡ none_visited in
-    let contradicts : NoneFound place (purged_at clock table) packet direction → ⊥ = λ none. (let both : None ≡ Some state = sym (none key subject) ∙ found in cc both) in
+    let contradicts : NoneFound job.tap place (purged_at clock table) packet direction → ⊥ = λ none. (let both : None ≡ Some state = sym (none key subject) ∙ found in cc both) in
     step_way job number clock place table packet P refl (record {
       by_rules = λ none. absurd (contradicts none);
-      by_error = λ key state is found. either_blocked P _ reason.IpOption (passing direction packet state reason.StateError None) (λ free. refl) refl;
-      by_state = λ key state t is found. tracked_visits direction packet state t;
+      by_error = λ key state is found. (let none = either_blocked P _ reason.IpOption (passing direction packet state reason.StateError None) (λ free. refl) refl in shown_either P job.tap direction _ none none);
+      by_state = λ key state t is found. shown_either P job.tap direction _ (tracked_visits direction packet state t) (tracked_visits direction packet state t);
       goes = λ passage visits first. absurd (contradicts first.none_found);
       makes = λ passage visits state first passes kept. absurd (contradicts first.none_found);
       has_no_place = λ passage visits first. absurd (contradicts first.none_found);
@@ -243,12 +245,12 @@ tracked_lacks table direction packet state touch.Removed = λ is. absurd (cc is)
 
 pub limit_of : (job : RunJob) (number : ℕ) (clock : Clock) (place : InterfacePlace) (packet : Packet) (table : StateTable) → LacksRoom (purged_at clock table) (step_of job number clock place (Ipv4 packet) table)
 limit_of job number clock place packet table =
-    let direction = direction_of job.inside packet in
+    let direction = direction_of job place packet in
     let now = purged_at clock table in
     step_way job number clock place table packet (LacksRoom now) (λ is. absurd (cc is)) (record {
       by_rules = λ none. filtered_lacks job place now packet direction;
-      by_error = λ key state is found. either_blocked (LacksRoom now) _ reason.IpOption (passing direction packet state reason.StateError None) (λ free is. absurd (cc is)) (λ is. absurd (cc is));
-      by_state = λ key state t is found. tracked_lacks now direction packet state t;
+      by_error = λ key state is found. (let lacks = either_blocked (LacksRoom now) _ reason.IpOption (passing direction packet state reason.StateError None) (λ free is. absurd (cc is)) (λ is. absurd (cc is)) in shown_either (LacksRoom now) job.tap direction _ lacks lacks);
+      by_state = λ key state t is found. shown_either (LacksRoom now) job.tap direction _ (tracked_lacks now direction packet state t) (tracked_lacks now direction packet state t);
       goes = λ passage visits first. judged_lacks job place now packet direction passage visits;
       makes = λ passage visits state first passes kept. judged_lacks job place now packet direction passage visits;
       has_no_place = λ passage visits first is. absurd (cc is);
@@ -267,11 +269,11 @@ tracked_unwritten direction packet state touch.Removed = λ stops. refl
 
 pub unwritten_of : (job : RunJob) (number : ℕ) (clock : Clock) (place : InterfacePlace) (packet : Packet) (table : StateTable) → Unwritten (step_of job number clock place (Ipv4 packet) table)
 unwritten_of job number clock place packet table =
-    let direction = direction_of job.inside packet in
+    let direction = direction_of job place packet in
     step_way job number clock place table packet Unwritten (λ stops. absurd (cc stops)) (record {
       by_rules = λ none. filtered_way job.rules (filter_answer job.rules (name_in job place) (purged_at clock table) packet direction) packet direction Unwritten (λ free stops. refl) (λ stops. refl);
-      by_error = λ key state is found. either_blocked Unwritten _ reason.IpOption (passing direction packet state reason.StateError None) (λ free stops. absurd (cc stops)) (λ stops. refl);
-      by_state = λ key state t is found. tracked_unwritten direction packet state t;
+      by_error = λ key state is found. shown_either Unwritten job.tap direction _ (either_blocked Unwritten _ reason.IpOption (passing direction packet state reason.StateError None) (λ free stops. absurd (cc stops)) (λ stops. refl)) (λ stops. refl);
+      by_state = λ key state t is found. shown_either Unwritten job.tap direction _ (tracked_unwritten direction packet state t) (λ stops. refl);
       goes = λ passage visits first stops. judged_writes_nothing job.rules (answer_for job.rules (name_in job place) (purged_at clock table) direction packet passage) direction packet passage visits;
       makes = λ passage visits state first passes kept stops. (let both : true ≡ false = sym passes ∙ stops in absurd (cc both));
       has_no_place = λ passage visits first stops. refl;
@@ -335,13 +337,13 @@ judged_rule job place table packet direction passage visits options lets =
 
 pub leave_of : (job : RunJob) (number : ℕ) (clock : Clock) (place : InterfacePlace) (packet : Packet) (table : StateTable) → ByLeave job.rules.filter.rules (purged_at clock table).states packet (step_of job number clock place (Ipv4 packet) table)
 leave_of job number clock place packet table =
-    let direction = direction_of job.inside packet in
+    let direction = direction_of job place packet in
     let now = purged_at clock table in
     let rules = job.rules.filter.rules in
     step_way job number clock place table packet (ByLeave rules now.states packet) (λ options passes skipped. absurd (skipped refl)) (record {
       by_rules = λ none. filtered_leave job (filter_answer job.rules (name_in job place) now packet direction) now.states packet direction;
-      by_error = λ key state is found. state_leave now rules direction packet state reason.StateError None (found_in_states now (side_of direction) key (binding.To place) state found);
-      by_state = λ key state t is found. tracked_leave now rules direction packet state t (found_in_states now (side_of direction) key (binding.To place) state found);
+      by_error = λ key state is found. (let leave = state_leave now rules direction packet state reason.StateError None (found_in_states now (looked_up_on job.tap direction) key (binding.To place) state found) in shown_either (ByLeave rules now.states packet) job.tap direction _ leave leave);
+      by_state = λ key state t is found. (let leave = tracked_leave now rules direction packet state t (found_in_states now (looked_up_on job.tap direction) key (binding.To place) state found) in shown_either (ByLeave rules now.states packet) job.tap direction _ leave leave);
       goes = λ passage visits first options passes skipped. inl (judged_rule job place now packet direction passage visits options passes);
       makes = λ passage visits state first lets kept options passes skipped. inl (judged_rule job place now packet direction passage visits options lets);
       has_no_place = λ passage visits first options passes skipped. absurd (cc passes);

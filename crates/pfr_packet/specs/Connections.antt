@@ -1,6 +1,6 @@
 -- Words of the laws on connections: where a packet comes from and where it goes, which keys the state has that it makes, and what
 -- becomes of an answer to it (pf.conf(5), "Translation": packets of a state's connection are translated as its first one).
-use Rattle.std.specs.Prelude.{◌≡◌, ℕ, true, Option, Some, None, ⊤}
+use Rattle.std.specs.Prelude.{◌≡◌, ℕ, true, false, Option, Some, None, ⊤}
 use Rattle.std.specs.List.{Contains}
 use Rattle.pfr_net.specs.declared.direction.Direction.{Direction}
 use Rattle.pfr_net.specs.declared.direction.Direction.TheVariants.{In, Out}
@@ -19,7 +19,6 @@ use Rattle.pfr_headers.specs.declared.transport.Transport.{Transport}
 use Rattle.pfr_headers.specs.declared.transport.Transport.TheVariants as transport
 use Rattle.pfr_headers.specs.Laws.{of_end}
 use Rattle.pfr_headers.specs.Translated.{translated}
-use Rattle.pfr_headers.specs.Ways.{direction_of}
 use Rattle.pfr_track.specs.declared.key.Key.{Key}
 use Rattle.pfr_track.specs.declared.state.State.{State}
 use Rattle.pfr_track.specs.declared.time.Clock.{Clock}
@@ -28,9 +27,10 @@ use Rattle.pfr_states.specs.Answers.{found_in}
 use Rattle.pfr_states.specs.States.{IsTable, StateTable, lives}
 use Rattle.pfr_packet.specs.declared.keys.Subject.TheVariants.{Connection}
 use Rattle.pfr_packet.specs.declared.outcome.Outcome.{Outcome}
-use Rattle.pfr_packet.specs.Job.{RunJob, is_skipped}
+use Rattle.pfr_packet.specs.Job.{RunJob, direction_of, is_skipped}
 use Rattle.pfr_packet.specs.Keys.{opposite, side_of, subject_of, written_by}
 use Rattle.pfr_packet.specs.Steps.{step_of}
+use Rattle.pfr_packet.specs.Taps.{is_translated}
 use Rattle.pfr_packet.specs.Verdicts.{lets_pass}
 
 -- ---- the ends of a packet
@@ -131,7 +131,7 @@ abbrev pub StateKnowsBothSides : Type 0
 StateKnowsBothSides =
     (job : RunJob) (number : ℕ) (clock : Clock) (place : InterfacePlace) (packet : Packet) (table : StateTable) (state : State)
     → (step_of job number clock place (Ipv4 packet) table).change ≡ Some (Made state)
-    → KnowsBothSides (direction_of job.inside packet) packet (sent_on packet (step_of job number clock place (Ipv4 packet) table).bytes) state
+    → KnowsBothSides (direction_of job place packet) packet (sent_on packet (step_of job number clock place (Ipv4 packet) table).bytes) state
 
 -- an answer to what was sent on finds the state, and goes back to the first sender
 abbrev pub AnswersGoBack : Type 0
@@ -139,16 +139,17 @@ AnswersGoBack =
     (job : RunJob) (number : ℕ) (clock : Clock) (place : InterfacePlace) (packet answer : Packet) (table : StateTable) (state : State)
     → (step_of job number clock place (Ipv4 packet) table).change ≡ Some (Made state)
     → IsAnswerTo (sent_on packet (step_of job number clock place (Ipv4 packet) table).bytes) answer
-    → GoesBack (direction_of job.inside packet) packet answer state
+    → GoesBack (direction_of job place packet) packet answer state
 
 -- and so it is evaluated on each interface to which the state is bound and which is filtered as the packet's own is, over each
--- later table in which the state still lives
+-- later table in which the state still lives, if it isn't shown behind its translation
 abbrev pub AnswersAreBroughtBack : Type 0
 AnswersAreBroughtBack =
     (job : RunJob) (number next : ℕ) (clock now : Clock) (place back : InterfacePlace) (packet answer : Packet) (table after : StateTable) (state later : State)
     → (step_of job number clock place (Ipv4 packet) table).change ≡ Some (Made state)
     → IsAnswerTo (sent_on packet (step_of job number clock place (Ipv4 packet) table).bytes) answer
-    → direction_of job.inside answer ≡ opposite (direction_of job.inside packet)
+    → direction_of job back answer ≡ opposite (direction_of job place packet)
+    → is_translated job.tap (direction_of job back answer) ≡ false
     → IsTable after
     → Contains after.states later
     → lives now later ≡ true

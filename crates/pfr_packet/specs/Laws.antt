@@ -13,7 +13,6 @@ use Rattle.pfr_headers.specs.declared.packet.View.{View}
 use Rattle.pfr_headers.specs.declared.change.Change.{Change}
 use Rattle.pfr_headers.specs.declared.packet.View.TheVariants.{Ipv4, Skip}
 use Rattle.pfr_headers.specs.declared.packet.Packet.{Packet}
-use Rattle.pfr_headers.specs.Ways.{direction_of}
 use Rattle.pfr_headers.specs.View.{has_options}
 use Rattle.pfr_criteria.specs.Transports.{opens_connection}
 use Rattle.pfr_rules.specs.Filter.{most_of}
@@ -30,14 +29,15 @@ use Rattle.pfr_states.specs.States.{StateTable, IsTable, count_of_rule, purged, 
 use Rattle.pfr_states.specs.declared.question.Question.TheVariants.{At}
 use Rattle.pfr_packet.specs.declared.outcome.Outcome.{Outcome}
 use Rattle.pfr_packet.specs.declared.verdict.Verdict.TheVariants.{Pass, Block, Skip}
-use Rattle.pfr_packet.specs.Job.{RunJob, is_skipped}
+use Rattle.pfr_packet.specs.Job.{RunJob, direction_of, is_skipped}
 use Rattle.pfr_packet.specs.Picks.{is_free_in, picked, picking, try_list}
 use Rattle.pfr_states.specs.Answers.{SameAnswer, purged_at, found_in, has_room_in}
 use Rattle.pfr_packet.specs.Plan.{Plan, outcome_of, questions_of}
 use Rattle.pfr_packet.specs.Steps.{asked_of, step_of}
 use Rattle.pfr_packet.specs.Verdicts.{lets_pass}
 use Rattle.pfr_packet.specs.declared.keys.Subject.TheVariants.{Connection, Embedded}
-use Rattle.pfr_packet.specs.Keys.{side_of, subject_of}
+use Rattle.pfr_packet.specs.Keys.{subject_of}
+use Rattle.pfr_packet.specs.Taps.{looked_up_on}
 use Rattle.pfr_packet.specs.Outcomes.{none_visited}
 use Rattle.pfr_packet.specs.declared.verdict.Reason.TheVariants.{StateLimit, SkipOn}
 
@@ -234,8 +234,8 @@ OpensNoConnection =
 abbrev pub NoRuleBehindAState : Type 0
 NoRuleBehindAState =
     (job : RunJob) (number : ℕ) (clock : Clock) (place : InterfacePlace) (packet : Packet) (table : StateTable) (key : Key) (state : State)
-    → (subject_of (direction_of job.inside packet) packet ≡ Embedded key) ⊎ (subject_of (direction_of job.inside packet) packet ≡ Connection key)
-    → found_in (purged_at clock table) (side_of (direction_of job.inside packet)) key (binding.To place) ≡ Some state
+    → (subject_of (direction_of job place packet) packet ≡ Embedded key) ⊎ (subject_of (direction_of job place packet) packet ≡ Connection key)
+    → found_in (purged_at clock table) (looked_up_on job.tap (direction_of job place packet)) key (binding.To place) ≡ Some state
     → (step_of job number clock place (Ipv4 packet) table).visited ≡ none_visited
 
 -- a packet visits each filter rule and each translation rule at most once, if the translation rules have numbers of their own

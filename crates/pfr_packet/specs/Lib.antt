@@ -9,5 +9,7 @@ pub mod Outcomes
 pub mod Passages
 pub mod Picks
 pub mod Plan
+pub mod Settings
 pub mod Steps
+pub mod Taps
 pub mod Verdicts

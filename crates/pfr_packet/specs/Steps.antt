@@ -22,7 +22,6 @@ use Rattle.pfr_ruleset.specs.declared.ruleset.Ruleset.{Ruleset}
 use Rattle.pfr_headers.specs.declared.packet.Packet.{Packet}
 use Rattle.pfr_headers.specs.declared.packet.View.{View}
 use Rattle.pfr_headers.specs.declared.packet.View.TheVariants.{Ipv4, Skip, Short}
-use Rattle.pfr_headers.specs.Ways.{direction_of}
 use Rattle.pfr_rules.specs.declared.hit.Hit.{Hit}
 use Rattle.pfr_rules.specs.declared.hit.NewEnd.{NewEnd}
 use Rattle.pfr_rules.specs.declared.hit.NewEnd.TheVariants.{Mapped, Picked}
@@ -45,13 +44,14 @@ use Rattle.pfr_packet.specs.declared.verdict.Reason.TheVariants as reason
 use Rattle.pfr_packet.specs.declared.verdict.Verdict.TheVariants as verdict
 use Rattle.pfr_packet.specs.Filtering.{filtered, filtered_over, kept_over, leave_over}
 use Rattle.pfr_packet.specs.Found.{embedded, tracked}
-use Rattle.pfr_packet.specs.Job.{RunJob, is_skipped, name_in, timeouts_of}
-use Rattle.pfr_packet.specs.Keys.{side_of, subject_of}
+use Rattle.pfr_packet.specs.Job.{RunJob, direction_of, is_skipped, name_in, timeouts_of}
+use Rattle.pfr_packet.specs.Keys.{subject_of}
 use Rattle.pfr_packet.specs.Making.{making}
 use Rattle.pfr_packet.specs.Outcomes.{unseen}
 use Rattle.pfr_packet.specs.Passages.{behind, exhausted, judged, judged_kept, mapped_end, mapped_passage, picked_passage, untranslated}
 use Rattle.pfr_packet.specs.Picks.{picking, ports_for, tries, wire_with, word_of}
 use Rattle.pfr_packet.specs.Plan.{FilterAnswer, Plan, done, ask_at, ask_filter, filter_answer, no_answer, outcome_of, questions_of}
+use Rattle.pfr_packet.specs.Taps.{as_shown, is_translated, looked_up_on}
 use Rattle.pfr_packet.specs.Verdicts.{lets_pass}
 
 -- ---- filtered without a state
@@ -64,16 +64,16 @@ alone job place packet direction =
 
 abbrev pub by_embedded : RunJob → InterfacePlace → Packet → Direction → Option State → Plan
 by_embedded job place packet direction None = alone job place packet direction
-by_embedded job place packet direction (Some state) = done (embedded direction packet state)
+by_embedded job place packet direction (Some state) = done (as_shown job.tap direction (embedded direction packet state))
 
 abbrev pub asking_embedded : RunJob → InterfacePlace → Packet → Direction → Key → Plan
-asking_embedded job place packet direction key = ask_at (side_of direction) key (To place) (by_embedded job place packet direction)
+asking_embedded job place packet direction key = ask_at (looked_up_on job.tap direction) key (To place) (by_embedded job place packet direction)
 
 -- ---- a packet of a connection
 
 -- one that is not the first is tracked
 abbrev pub following : RunJob → Clock → Packet → Direction → State → Outcome
-following job clock packet direction state = tracked direction packet state (touched state packet direction clock (timeouts_of job))
+following job clock packet direction state = as_shown job.tap direction (tracked direction packet state (touched state packet direction clock (timeouts_of job)))
 
 -- the first one makes a state, where it passes so far and a rule keeps one
 abbrev pub opened : RunJob → ℕ → Clock → InterfacePlace → Packet → Direction → Passage → Outcome → Option StateRules → Plan
@@ -122,17 +122,24 @@ abbrev pub by_hit : RunJob → ℕ → Clock → InterfacePlace → Packet → D
 by_hit job number clock place packet direction visits key None = going job number clock place packet direction visits (untranslated key)
 by_hit job number clock place packet direction visits key (Some hit) = by_end job number clock place packet direction visits key hit hit.new_end
 
+-- no translation rule is asked for a packet that is shown behind its translation
+abbrev pub translations_asked : RunJob → InterfacePlace → Packet → Direction → List ℕ
+translations_asked job place packet direction =
+    if is_translated job.tap direction then [] else translations_visited job.rules (name_in job place) packet direction
+
+abbrev pub translation_hit : RunJob → InterfacePlace → Packet → Direction → Option Hit
+translation_hit job place packet direction = if is_translated job.tap direction then None else hit_of job.rules (name_in job place) packet direction
+
 abbrev pub opening : RunJob → ℕ → Clock → InterfacePlace → Packet → Direction → Key → Plan
 opening job number clock place packet direction key =
-    by_hit job number clock place packet direction
-    (translations_visited job.rules (name_in job place) packet direction) key (hit_of job.rules (name_in job place) packet direction)
+    by_hit job number clock place packet direction (translations_asked job place packet direction) key (translation_hit job place packet direction)
 
 abbrev pub by_connection : RunJob → ℕ → Clock → InterfacePlace → Packet → Direction → Key → Option State → Plan
 by_connection job number clock place packet direction key None = opening job number clock place packet direction key
 by_connection job number clock place packet direction key (Some state) = done (following job clock packet direction state)
 
 abbrev pub asking_connection : RunJob → ℕ → Clock → InterfacePlace → Packet → Direction → Key → Plan
-asking_connection job number clock place packet direction key = ask_at (side_of direction) key (To place) (by_connection job number clock place packet direction key)
+asking_connection job number clock place packet direction key = ask_at (looked_up_on job.tap direction) key (To place) (by_connection job number clock place packet direction key)
 
 -- ---- an IPv4 packet
 
@@ -215,7 +222,7 @@ unfoldable pub plan : RunJob → ℕ → Clock → InterfacePlace → View → P
 plan job number clock place Skip = done (unseen verdict.Skip reason.NotIp)
 plan job number clock place Short = if is_skipped job place then done passed_over else done (unseen verdict.Block reason.Short)
 plan job number clock place (Ipv4 packet) =
-    if is_skipped job place then done passed_over else packet_plan job number clock place packet (direction_of job.inside packet)
+    if is_skipped job place then done passed_over else packet_plan job number clock place packet (direction_of job place packet)
 
 -- ---- over a table
 

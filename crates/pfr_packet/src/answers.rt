@@ -5,8 +5,9 @@ ghost use Rattle.pfr_states.specs.declared.question.Question.{Question};
 ghost use Rattle.pfr_states.specs.declared.question.Question.TheVariants.{At, Room};
 
 use crate::job::Job;
-use crate::keys::{Subject, side_of, subject_of};
-use pfr_headers::{View, direction_of};
+use crate::keys::{Subject, subject_of};
+use crate::taps::looked_up_on;
+use pfr_headers::View;
 use pfr_net::RuleNumber;
 use pfr_rules::RuleRoom;
 use pfr_states::{Lookup, Place, Side, Table};
@@ -83,11 +84,12 @@ pub fn lookup_of(job: &Job, place: InterfacePlace, view: &View) -> Option<Lookup
     let View::Ipv4(packet) = view else {
         return None;
     };
-    let direction = direction_of(packet, job.inside());
+    let direction = job.direction_of(place, packet);
     match subject_of(direction, packet) {
         Subject::Alone => None,
         Subject::Embedded(key) | Subject::Connection(key) => {
-            Some((side_of(direction), key, Binding::To(place)))
+            let side = looked_up_on(job.tap(), direction);
+            Some((side, key, Binding::To(place)))
         }
     }
 }

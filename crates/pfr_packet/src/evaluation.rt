@@ -11,13 +11,14 @@ use crate::answers::Answers;
 use crate::filtering::{Conduct, filter_into};
 use crate::found::{embed, track};
 use crate::job::Job;
-use crate::keys::{Subject, side_of, subject_of};
+use crate::keys::{Subject, subject_of};
 use crate::making::make_state;
 use crate::outcome::Outcome;
 use crate::passage::{Passage, mapped_end};
 use crate::picks::{Pick, ports_for};
+use crate::taps::{is_translated, looked_up_on, show};
 use crate::verdict::{Reason, Verdict};
-use pfr_headers::{Packet, View, direction_of};
+use pfr_headers::{Packet, View};
 use pfr_net::{Binding, Direction, InterfacePlace};
 use pfr_rules::{Hit, NewEnd, Visits, translate};
 use pfr_ruleset::NatAddress;
@@ -88,9 +89,11 @@ impl Arrival<'_> {
         ensures goes { OnOk result (Goes (A.seen answers.old) (spec.embedded_plan self.now key.now) outcome.new (A.asked answers.new)) }
         ensures kept { (question : Question) → A.asked answers.old question → A.asked answers.new question }
     {
-        match answers.at(side_of(self.direction), key, Binding::To(self.place))? {
+        let side = looked_up_on(self.job.tap(), self.direction);
+        match answers.at(side, key, Binding::To(self.place))? {
             Some(state) => {
                 embed(outcome, self.direction, self.packet, &state);
+                show(self.job.tap(), self.direction, outcome);
                 Ok(())
             }
             None => self.write_filtered(answers, outcome),
@@ -114,6 +117,7 @@ impl Arrival<'_> {
             self.clock,
             timeouts,
         );
+        show(self.job.tap(), self.direction, outcome);
     }
 
     /// What becomes of it behind a passage, before a state is made for it. These translation rules were visited. It answers what the
@@ -301,6 +305,24 @@ impl Arrival<'_> {
         }
     }
 
+    /// The translation rule that translates it, if one does, and those that are visited for it.
+    fn translated(&self) -> Result<(Option<Hit>, Visits), AllocError>
+        ensures hit { IfOk result (λ found. found.0 ≡ spec.translation_hit self.now.job.now self.now.place self.now.packet.now self.now.direction) }
+        ensures visits { IfOk result (λ found. found.1 ≡ spec.translations_asked self.now.job.now self.now.place self.now.packet.now self.now.direction) }
+    {
+        if is_translated(self.job.tap(), self.direction) {
+            return Ok((None, Visits::new(self.alloc)));
+        }
+        let name = self.job.name_in(self.place);
+        translate(
+            self.alloc,
+            self.job.rules(),
+            &name,
+            self.packet,
+            self.direction,
+        )
+    }
+
     /// What it comes to as the first packet of a connection.
     #[inline(never)]
     fn write_opened<A: Answers>(
@@ -314,14 +336,7 @@ impl Arrival<'_> {
         ensures goes { OnOk result (Goes (A.seen answers.old) (spec.opening_plan self.now key.now) outcome.new (A.asked answers.new)) }
         ensures kept { (question : Question) → A.asked answers.old question → A.asked answers.new question }
     {
-        let name = self.job.name_in(self.place);
-        let (hit, visits) = translate(
-            self.alloc,
-            self.job.rules(),
-            &name,
-            self.packet,
-            self.direction,
-        )?;
+        let (hit, visits) = self.translated()?;
         self.by_hit(key, hit, visits, answers, outcome)
     }
 }
@@ -388,7 +403,7 @@ pub fn step_into<A: Answers>(
             return Ok(());
         }
     };
-    let direction = direction_of(packet, job.inside());
+    let direction = job.direction_of(place, packet);
     let arrival = Arrival {
         alloc,
         job,
@@ -403,7 +418,8 @@ pub fn step_into<A: Answers>(
         Subject::Embedded(key) => return arrival.write_embedded(&key, answers, outcome),
         Subject::Connection(key) => key,
     };
-    let Some(mut state) = answers.at(side_of(direction), &key, Binding::To(place))? else {
+    let side = looked_up_on(job.tap(), direction);
+    let Some(mut state) = answers.at(side, &key, Binding::To(place))? else {
         return arrival.write_opened(&key, answers, outcome);
     };
     arrival.by_state(&mut state, outcome);

@@ -1,5 +1,7 @@
 //! What packets are evaluated by.
-ghost use Rattle.std.specs.Prelude.{◌≡◌, ◌↔◌, IfOk, IfErr, Ok, Err, IsTrue};
+ghost use Rattle.std.specs.Prelude.{◌≡◌, ◌↔◌, ◌&&◌, nat_lt, IfOk, IfErr, Ok, Err, IsTrue};
+ghost use Rattle.std.specs.List.{list_any};
+ghost use Rattle.pfr_net.specs.Networks.{holds};
 ghost use Rattle.pfr_terms.specs.declared.error.ConfErrorKind.TheVariants.{Memory};
 ghost use Rattle.pfr_terms.specs.Input.{Gives};
 ghost use Rattle.pfr_expand.specs.Texts.{ruleset_of};
@@ -8,19 +10,23 @@ ghost use Rattle.pfr_packet.specs.Job as spec;
 use pfr_conf::{ConfError, ConfErrorKind};
 use pfr_criteria::is_named;
 use pfr_expand::ruleset_of;
+use pfr_headers::{Direction, EthernetAddress, Packet, Tap, direction_from, direction_of};
 use pfr_items::Items;
-use pfr_net::{IfName, InterfacePlace, Net, Timeouts};
+use pfr_net::{IfName, InterfacePlace, Ipv4Address, Net, Timeouts};
 use pfr_ruleset::{Interface, Ruleset};
-use std::alloc::Global;
+use std::alloc::{AllocError, Global};
 use std::marker::Model;
 
-/// What every packet of a run is evaluated by: the ruleset's text, the interfaces, the inside networks and the seed, and
-/// the ruleset that the text means for the interfaces. Two jobs are one where the first four are.
+/// What every packet of a run is evaluated by: the ruleset's text, the interfaces, what says which way packets go, where they were
+/// captured and the seed, and the ruleset that the text means for the interfaces. Two jobs are one if all but the last are.
 #[derive(Drop)]
 pub struct Job {
     text: Items<u8>,
     interfaces: Items<Interface>,
     inside: Items<Net>,
+    excepted: Items<Net>,
+    link_addresses: Items<Option<EthernetAddress>>,
+    tap: Tap,
     seed: [u8; 32],
     rules: Ruleset,
 }
@@ -32,14 +38,14 @@ impl Model for Job {
 
     ghost Value = { RunJob };
 
-    ghost view = { λ j. record { text = j.text; interfaces = j.interfaces; inside = j.inside; seed = j.seed; rules = j.rules } };
+    ghost view = { λ j. record { text = j.text; interfaces = j.interfaces; inside = j.inside; excepted = j.excepted; link_addresses = j.link_addresses; tap = j.tap; seed = j.seed; rules = j.rules } };
 
     ghost invariant = { λ j. ruleset_of j.text j.interfaces ≡ Ok j.rules };
 }
 
 impl Job {
     /// A job by its inputs, or the first fault of the ruleset's text. A text of more than one MiB is refused before it is
-    /// read.
+    /// read. No network is excepted, no link-level address is known, and packets were captured on the side of the stack.
     pub fn new(
         alloc: Global,
         text: &[u8],
@@ -48,6 +54,7 @@ impl Job {
         seed: [u8; 32],
     ) -> Result<Job, ConfError>
         ensures inputs { IfOk result (λ j. (j.text ≡ text.now) × (j.interfaces ≡ interfaces.now) × (j.inside ≡ inside.now) × (j.seed ≡ seed)) }
+        ensures settings { IfOk result spec.HasDefaults }
         ensures meaning { IfOk result (λ job. ruleset_of text.now interfaces.now ≡ Ok job.rules) }
         ensures fault { IfErr result (λ fault. Gives (ruleset_of text.now interfaces.now) (Err fault)) }
         ensures memory { IfErr result (λ fault. fault.kind ≡ Memory → fault.line ≡ 0) }
@@ -67,6 +74,7 @@ impl Job {
     ) -> Result<Job, ConfError>
         requires { ruleset_of text.now interfaces.now ≡ Ok rules }
         ensures inputs { IfOk result (λ j. (j.text ≡ text.now) × (j.interfaces ≡ interfaces.now) × (j.inside ≡ inside.now) × (j.seed ≡ seed)) }
+        ensures settings { IfOk result spec.HasDefaults }
         ensures meaning { IfOk result (λ job. job.rules ≡ rules) }
         ensures memory { IfErr result (λ fault. (fault.kind ≡ Memory) × (fault.line ≡ 0)) }
     {
@@ -86,8 +94,43 @@ impl Job {
             text,
             interfaces,
             inside,
+            excepted: Items::new(alloc),
+            link_addresses: Items::new(alloc),
+            tap: Tap::Stack,
             seed,
             rules,
+        })
+    }
+
+    /// The job for packets that were captured on this side of their translation.
+    pub fn with_tap(self, tap: Tap) -> Job
+        ensures { result ≡ record self { tap = tap } }
+    {
+        Job { tap, ..self }
+    }
+
+    /// The job with networks whose packets come in, though an inside network with a shorter prefix holds their source. Of an inside
+    /// and an excepted network that are the same the excepted one counts.
+    pub fn with_excepted(self, alloc: Global, networks: &[Net]) -> Result<Job, AllocError>
+        ensures { IfOk result (λ job. job ≡ record self { excepted = networks.now }) }
+    {
+        let excepted = Items::copied(alloc, networks)?;
+        Ok(Job { excepted, ..self })
+    }
+
+    /// The job with the link-level addresses of the interfaces, by their places, where they are known. On an interface whose address
+    /// is known the packets go out whose frames were sent from it, and all others come in.
+    pub fn with_link_addresses(
+        self,
+        alloc: Global,
+        addresses: &[Option<EthernetAddress>],
+    ) -> Result<Job, AllocError>
+        ensures { IfOk result (λ job. job ≡ record self { link_addresses = addresses.now }) }
+    {
+        let link_addresses = Items::copied(alloc, addresses)?;
+        Ok(Job {
+            link_addresses,
+            ..self
         })
     }
 
@@ -97,8 +140,21 @@ impl Job {
     {
         are_same_interfaces(self.interfaces.as_slice(), other.interfaces.as_slice())
             && is_same_bytes(&self.seed, &other.seed)
-            && are_same_networks(self.inside.as_slice(), other.inside.as_slice())
+            && self.has_same_settings(other)
             && is_same_bytes(self.text.as_slice(), other.text.as_slice())
+    }
+
+    /// Whether they say the same of which way packets go, and of where they were captured.
+    fn has_same_settings(&self, other: &Job) -> bool
+        ensures { IsTrue result ↔ spec.HaveSameSettings self.now other.now }
+    {
+        are_same_networks(self.inside.as_slice(), other.inside.as_slice())
+            && are_same_networks(self.excepted.as_slice(), other.excepted.as_slice())
+            && are_same_addresses(
+                self.link_addresses.as_slice(),
+                other.link_addresses.as_slice(),
+            )
+            && is_same_tap(self.tap, other.tap)
     }
 
     /// The ruleset's text.
@@ -131,6 +187,57 @@ impl Job {
         ensures { result.now ≡ self.now.inside }
     {
         self.inside.as_slice()
+    }
+
+    /// Where packets were captured that go out.
+    #[inline]
+    pub fn tap(&self) -> Tap
+        ensures { result ≡ self.now.tap }
+    {
+        self.tap
+    }
+
+    /// The way of a packet of the interface at a place.
+    #[inline]
+    pub fn direction_of(&self, place: InterfacePlace, packet: &Packet) -> Direction
+        ensures { result ≡ spec.direction_of self.now place packet.now }
+    {
+        match self.link_address_at(place) {
+            Some(address) => direction_from(packet, address),
+            None => self.direction_in(packet),
+        }
+    }
+
+    /// The way of a packet by its source.
+    #[inline]
+    fn direction_in(&self, packet: &Packet) -> Direction
+        ensures { result ≡ spec.direction_in self.now packet.now }
+    {
+        if self.is_excepted(packet.source) {
+            return Direction::In;
+        }
+        direction_of(packet, self.inside.as_slice())
+    }
+
+    /// Whether an excepted network holds an address, and no inside network with a longer prefix does.
+    #[inline]
+    fn is_excepted(&self, address: Ipv4Address) -> bool
+        ensures { result ≡ spec.is_excepted self.now address }
+    {
+        let inside = self.inside.as_slice();
+        self.excepted.as_slice().iter().any(|other| other.holds(address)
+            && !is_held_longer(inside, other.bits, address))
+    }
+
+    /// The link-level address of the interface at a place, if it is known.
+    #[inline]
+    fn link_address_at(&self, place: InterfacePlace) -> Option<EthernetAddress>
+        ensures { result ≡ spec.link_address_at self.now place }
+    {
+        match self.link_addresses.as_slice().get(usize::from(place.0)) {
+            Some(address) => *address,
+            None => None,
+        }
     }
 
     /// The seed of the ports that are picked.
@@ -168,6 +275,15 @@ impl Job {
     }
 }
 
+/// Whether a network with a longer prefix than this holds an address.
+fn is_held_longer(networks: &[Net], bits: u8, address: Ipv4Address) -> bool
+    ensures { result ≡ list_any (λ net. nat_lt bits net.bits && holds net address) networks.now }
+{
+    networks
+        .iter()
+        .any(|net| bits < net.bits && net.holds(address))
+}
+
 fn is_same_bytes(first: &[u8], second: &[u8]) -> bool
     ensures { IsTrue result ↔ (first.now ≡ second.now) }
 {
@@ -182,6 +298,18 @@ fn are_same_networks(first: &[Net], second: &[Net]) -> bool
 
 fn are_same_interfaces(first: &[Interface], second: &[Interface]) -> bool
     ensures { IsTrue result ↔ (first.now ≡ second.now) }
+{
+    first == second
+}
+
+fn are_same_addresses(first: &[Option<EthernetAddress>], second: &[Option<EthernetAddress>]) -> bool
+    ensures { IsTrue result ↔ (first.now ≡ second.now) }
+{
+    first == second
+}
+
+fn is_same_tap(first: Tap, second: Tap) -> bool
+    ensures { IsTrue result ↔ (first ≡ second) }
 {
     first == second
 }

@@ -1,6 +1,7 @@
 //! Laws of the definitions, each the contract of a function that does nothing.
 ghost use Rattle.pfr_packet.specs.Connections.{AnswersAreBroughtBack, AnswersGoBack, StateKnowsBothSides};
 ghost use Rattle.pfr_packet.specs.Laws.{BlockedIsNotWritten, BlockedOnlyRemoves, ChangesAreOfTheNamed, EachPortOnce, FirstFreeIsPicked, LimitBlocksWhereReached, MadeByTheRulesNamed, MadeWhereItsRuleHasRoom, NoChangeIsRefused, NoRuleBehindAState, NoneWhereAllAreTaken, OpensNoConnection, OptionsPassByLeave, PassedOverChangesNothing, SameAnswersGiveTheSame, VisitsRulesOnce, WrittenIsOfThePacket};
+ghost use Rattle.pfr_packet.specs.Settings.{AnswersOnTheWireAreFollowed, GoesBySourceByDefault, GoesOutByItsSender, MadeUntranslated, TapChangesNothing};
 ghost use Rattle.pfr_packet.specs.Steps.{asked_of, step_of};
 
 use pfr_states::laws::one_state_answers_a_key;
@@ -61,8 +62,34 @@ pub fn answers_go_back()
 
 /// Such an answer is evaluated by that state, as long as it lives, on an interface to which it is bound and which is filtered
 /// as the packet's own is: it names the state, and if it passes it is sent on from where the packet was going to where the packet came from.
+/// Such an answer must not be shown behind its translation.
 pub fn answers_are_brought_back()
     ensures { AnswersAreBroughtBack }
+{}
+
+/// On an interface whose link-level address is known a packet goes out just if its frame was sent from that address: its direction
+/// depends on the sender of its frame alone.
+pub fn a_packet_goes_out_by_its_sender()
+    ensures { GoesOutByItsSender }
+{}
+
+/// If a job says nothing of networks that are excepted, of link-level addresses and of the tap, a packet's direction depends on its
+/// source and the inside networks alone, and no packet is shown behind its translation.
+pub fn a_packet_goes_by_its_source_by_default()
+    ensures { GoesBySourceByDefault }
+{}
+
+/// Without translation rules a packet comes to the same wherever it was captured, and so does each one after it: the states that are
+/// made there have one key on both sides.
+pub fn the_tap_changes_nothing_without_translation()
+    ensures same { TapChangesNothing }
+    ensures made { MadeUntranslated }
+{}
+
+/// Of captures on the wire, an answer to a packet that came in finds the state that the packet made, also behind a translation, and
+/// nothing is written into it.
+pub fn answers_on_the_wire_are_followed()
+    ensures { AnswersOnTheWireAreFollowed }
 {}
 
 /// What is written into a packet's bytes is made for that packet.

@@ -16,6 +16,7 @@ pub mod making;
 pub mod outcome;
 pub mod passage;
 pub mod picks;
+mod taps;
 pub mod verdict;
 
 pub use answers::{Answers, Direct, lookup_of};

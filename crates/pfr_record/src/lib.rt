@@ -9,6 +9,7 @@ mod lookups;
 mod recorder;
 mod speculating;
 pub mod speculation;
+mod views;
 
 pub use answer::Answer;
 pub use speculating::speculate;

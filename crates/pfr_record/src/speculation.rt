@@ -6,6 +6,7 @@ ghost use Rattle.pfr_packet.specs.Steps.{step_of};
 ghost use Rattle.pfr_record.specs.Record.{Agrees, IsSound};
 
 use crate::lookups::Lookups;
+use crate::views::is_same_view;
 use pfr_headers::View;
 use pfr_packet::{Job, Outcome};
 use pfr_states::{Place, Table};
@@ -25,12 +26,6 @@ pub struct Speculation {
     pub(crate) outcome: Outcome,
     pub(crate) answers: Lookups,
     ghost sound: { IsSound (arc_value job) number clock place view outcome answers },
-}
-
-fn is_same_view(first: &View, second: &View) -> bool
-    ensures { IsTrue result ↔ (first.now ≡ second.now) }
-{
-    first == second
 }
 
 impl Speculation {
