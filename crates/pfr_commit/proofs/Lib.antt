@@ -14,5 +14,6 @@ pub mod ScopeLemmas
 pub mod StandLemmas
 pub mod StandbyLemmas
 pub mod TableLemmas
+pub mod TapLemmas
 pub mod VisitLemmas
 pub mod WorldLemmas

@@ -10,7 +10,9 @@ use Rattle.pfr_rules.specs.Filter.{most_of}
 use Rattle.pfr_ruleset.specs.Translations.{HaveOwnNumbers}
 use Rattle.pfr_track.specs.declared.state.State.{State}
 use Rattle.pfr_states.specs.States.{count_of_rule, table_of}
+use Rattle.pfr_headers.specs.declared.tap.Tap.{Tap}
 use Rattle.pfr_packet.specs.Job.{RunJob}
+use Rattle.pfr_packet.specs.Settings.{HasNoTranslations}
 use Rattle.pfr_packet.specs.declared.verdict.Verdict.{Verdict}
 use Rattle.pfr_commit.specs.declared.counters.Totals.{Totals}
 use Rattle.pfr_sync.specs.Laws.{has, held_after}
@@ -19,6 +21,13 @@ use Rattle.pfr_telling.specs.Standby.{is_told_of}
 use Rattle.pfr_commit.specs.World.{Frame, Texts, World, joined, last_message, online, only_at, origin_of, world_after, world_of}
 use Rattle.pfr_commit.specs.Endings.{states_text}
 use Rattle.pfr_commit.specs.Runs.{line_of, plain_line, plain_record, plain_state, record_at, taken_in, capped, comes_to, total_of, counts_for, bytes_for, counters_of, is_visited, number_of, visits_to, IsMadeAmong, RuleKind}
+
+-- without translation rules a run comes to the same wherever its packets were captured
+abbrev pub TapChangesNoRun : Type 0
+TapChangesNoRun =
+    (job : RunJob) (other : Tap) (frames : List Frame)
+    → HasNoTranslations job.rules
+    → world_of (record job { tap = other }) frames ≡ world_of job frames
 
 -- packets that are taken in two parts leave what they leave together
 abbrev pub TwoPartsAreTheWhole : Type 0

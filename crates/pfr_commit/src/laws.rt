@@ -4,7 +4,7 @@ ghost use Rattle.std.specs.List.{All, range_with_len};
 ghost use Rattle.pfr_states.specs.States.{IsTable};
 ghost use Rattle.pfr_packet.specs.Job.{RunJob};
 ghost use Rattle.pfr_commit.specs.Holding.{AStandbyHoldsEachState};
-ghost use Rattle.pfr_commit.specs.Laws.{AStandbyHoldsTheStates, BytesOfARule, ChangesMakeTheTable, ClockIsOfARecord, EachHasItsLine, EachHasItsRecord, EvaluationsArePackets, EvaluationsOfARule, OneCaptureHasNoMarks, OneCaptureHasOneScope, PacketsOfARule, RulesKeepToTheirMax, StatesAreOfPackets, TotalsAreTheCount, TheLastMessageIsTheRest, TotalsCountVerdicts, TwoPartsAreTheWhole, WhatIsWrittenStays};
+ghost use Rattle.pfr_commit.specs.Laws.{AStandbyHoldsTheStates, BytesOfARule, ChangesMakeTheTable, ClockIsOfARecord, EachHasItsLine, EachHasItsRecord, EvaluationsArePackets, EvaluationsOfARule, OneCaptureHasNoMarks, OneCaptureHasOneScope, PacketsOfARule, RulesKeepToTheirMax, StatesAreOfPackets, TapChangesNoRun, TotalsAreTheCount, TheLastMessageIsTheRest, TotalsCountVerdicts, TwoPartsAreTheWhole, WhatIsWrittenStays};
 ghost use Rattle.pfr_commit.specs.Machine.{EveryRun};
 ghost use Rattle.pfr_commit.specs.Runs.{taken_in};
 ghost use Rattle.pfr_commit.specs.World.{Frame, world_of};
@@ -12,6 +12,7 @@ ghost use Rattle.pfr_commit.specs.World.{Frame, world_of};
 use pfr_packet::laws::{
     a_packet_visits_a_rule_once, every_change_is_of_the_named_state, no_change_is_refused,
     states_are_made_by_the_rules_named, states_are_made_where_their_rule_has_room,
+    the_tap_changes_nothing_without_translation,
 };
 use pfr_states::laws::a_purge_goes_state_by_state;
 
@@ -47,6 +48,15 @@ pub fn one_capture_has_one_scope()
 {
     every_change_is_of_the_named_state();
     states_are_made_by_the_rules_named();
+}
+
+/// Without translation rules a run comes to the same wherever its packets were captured.
+pub fn the_tap_changes_no_run_without_translation()
+    ensures { TapChangesNoRun }
+{
+    // a state that is touched keeps its keys
+    every_change_is_of_the_named_state();
+    the_tap_changes_nothing_without_translation();
 }
 
 /// The clock is the greatest second of the records.

@@ -4,7 +4,7 @@ use Rattle.pfr_terms.specs.declared.error.ConfError.{ConfError}
 use Rattle.pfr_terms.specs.declared.error.ConfErrorKind.TheVariants.{Memory as NoMemory}
 use Rattle.pfr_terms.specs.Input.{Gives}
 use Rattle.pfr_expand.specs.Texts.{ruleset_of}
-use Rattle.pfr_packet.specs.Job.{RunJob}
+use Rattle.pfr_packet.specs.Job.{HasDefaults, RunJob}
 use Rattle.pfr_capture.specs.declared.capture.CaptureError.{CaptureError}
 use Rattle.pfr_capture.specs.declared.capture.CaptureError.TheVariants as capture
 use Rattle.pfr_capture.specs.declared.capture.Tail.{Tail}
@@ -241,6 +241,7 @@ pub record IsJob (text seed : List ℕ) (settings : Settings) (job : RunJob) : T
   pub interfaces_are : job.interfaces ≡ settings.interfaces.now
   pub inside_is : job.inside ≡ settings.inside.now
   pub seed_is : job.seed ≡ seed
+  pub nothing_more : HasDefaults job
   -- the ruleset that the text means
   pub rules_are : ruleset_of text settings.interfaces.now ≡ Ok job.rules
 
