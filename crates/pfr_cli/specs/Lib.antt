@@ -1,3 +1,3 @@
 pub mod Destinations
-pub mod Outputs
+pub mod Heads
 pub mod Standard

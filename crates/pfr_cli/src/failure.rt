@@ -25,6 +25,11 @@ pub enum Failure<'a> {
     Words(Refused<'a>),
     /// The output of this name is a capture, the ruleset or another output.
     SameFile(&'a str),
+    /// The capture of an interface that has a link-level address is of this link type, which isn't Ethernet's.
+    NotEthernet {
+        interface: &'a str,
+        link: u16,
+    },
     /// A file can't be opened or created, a ruleset's not be read, or a peer not be reached.
     CannotOpen(&'a str),
     /// The ruleset was refused, or the run was stopped.
@@ -111,7 +116,7 @@ impl<'a> Failure<'a> {
     /// The status that the program ends with.
     pub fn status(&self) -> u8 {
         match self {
-            Failure::Words(_) | Failure::SameFile(_) => REFUSED,
+            Failure::Words(_) | Failure::SameFile(_) | Failure::NotEthernet { .. } => REFUSED,
             Failure::CannotOpen(_) | Failure::PrintFailed => DEVICE,
             Failure::Stopped { stop, .. } => status_of(stop),
             Failure::StandbyStopped(stop) => standby_status_of(stop),
@@ -188,6 +193,9 @@ impl fmt::Display for Failure<'_> {
         match self {
             Failure::Words(refused) => write!(f, "{refused}"),
             Failure::SameFile(name) => write!(f, "same file: {name}"),
+            Failure::NotEthernet { interface, link } => {
+                write!(f, "--mac {interface}: capture of link type {link}")
+            }
             Failure::CannotOpen(name) => write!(f, "cannot open: {name}"),
             Failure::Stopped { stop, interface } => write_stop(stop, *interface, f),
             Failure::StandbyStopped(stop) => write_standby_stop(stop, f),

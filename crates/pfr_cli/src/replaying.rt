@@ -4,18 +4,18 @@ ghost use Rattle.std.specs.Prelude.{◌≡◌, IfOk, length};
 use crate::destination::Destination;
 use crate::failure::{CUT, DONE, Failure};
 use crate::files::{created, opened};
+use crate::head::Head;
 use crate::origin::Origin;
-use crate::output_names::names_of;
 use crate::peer::{Connection, connected};
 use crate::same_file::repeated_output;
-use crate::standard::{has_standard, is_standard, repeated_input};
-use pfr_capture::{ReaderSource, Tail, WriterSink};
-use pfr_command::{CaptureWords, Messages, RunWords};
-use pfr_out::{Form, Gate, PacketSinks, Report, RunSettings, Sinks, Sources, replay_job};
+use crate::standard::{STANDARD, has_standard, is_standard, repeats_input};
+use pfr_capture::{CaptureError, ReaderSource, Tail, WriterSink};
+use pfr_command::{CaptureWords, Messages, RunWords, names_of};
+use pfr_out::{Form, Gate, PacketSinks, Report, RunSettings, Sinks, Sources, Stop, replay_job};
 use pfr_packet::Job;
 use pfr_prepare::prepared_text;
-use std::alloc::{AllocError, AllocGlobal};
-use std::io::{Read, Write};
+use std::alloc::{AllocError, AllocGlobal, Global};
+use std::io::{Chain, Read, Write};
 use std::net::Net;
 use std::rt::Files;
 use std::sync::Wait;
@@ -37,8 +37,11 @@ type OutputSink<R, O> = WriterSink<
     Destination<<R as Files>::File, O, Connection<<R as Net>::Stream>>,
 >;
 
-/// Where a capture comes from, by the files of a runtime, and by standard input.
-type CaptureSource<R, I> = ReaderSource<Origin<<R as Files>::File, I>>;
+/// Where a capture comes from, by the files of a runtime, and by standard input: what was read ahead of it, and the rest.
+type CaptureSource<R, I> = ReaderSource<Chain<Head, Origin<<R as Files>::File, I>>>;
+
+/// The link type of Ethernet.
+const ETHERNET: u16 = 1;
 
 /// Replays captures through a ruleset, prints how many packets were committed, and answers the status. If standard output takes an
 /// output of the run, that line goes to `err`.
@@ -50,8 +53,8 @@ pub fn replay<
     E: Write,
 >(rt: &R, asked: &RunWords<'a>, input: I, out: &mut O, err: &mut E) -> Result<u8, Failure<'a>> {
     let outputs = names_of(rt.alloc(), asked)?;
-    if let Some(name) = repeated_input(asked.captures.as_slice()) {
-        return Err(Failure::SameFile(name));
+    if repeats_input(asked.captures.as_slice()) {
+        return Err(Failure::SameFile(STANDARD));
     }
     if let Some(name) = repeated_output(rt, asked, outputs.as_slice())? {
         return Err(Failure::SameFile(name));
@@ -72,7 +75,7 @@ fn replayed<
     I: Read + Drop,
     O: Write + Copy,
 >(rt: &R, asked: &RunWords<'a>, job: Job, input: I, out: O) -> Result<Report, Failure<'a>> {
-    let mut sources = sources(rt, asked.captures.as_slice(), input)?;
+    let mut sources = sources(rt, asked, input)?;
     let mut sinks = sinks(rt, asked, out)?;
     let settings = RunSettings {
         batch: asked.batch,
@@ -100,9 +103,17 @@ fn job_of<'a, R: Files + AllocGlobal, E: Write>(
         asked.seed,
     );
     match job {
-        Ok(job) => Ok(job),
+        Ok(job) => with_ways(rt.alloc(), job, asked),
         Err(fault) => Err(Failure::from(fault).in_file(&text)),
     }
+}
+
+/// A job with what the words say of the ways that packets go, besides the inside networks.
+fn with_ways<'a>(alloc: Global, job: Job, asked: &RunWords<'a>) -> Result<Job, Failure<'a>> {
+    let job = job
+        .with_tap(asked.tap)
+        .with_excepted(alloc, asked.excepted.as_slice())?;
+    Ok(job.with_link_addresses(alloc, asked.link_addresses.as_slice())?)
 }
 
 /// The form in which messages are written.
@@ -117,23 +128,54 @@ fn form_of(messages: &Messages<'_>) -> Form {
 /// Opens the captures, by the places of their interfaces. One at most comes from standard input.
 fn sources<'a, R: Files + AllocGlobal, I: Read + Drop>(
     rt: &R,
-    captures: &[CaptureWords<'a>],
+    asked: &RunWords<'a>,
     input: I,
 ) -> Result<Sources<CaptureSource<R, I>>, Failure<'a>>
-    ensures { IfOk result (λ sources. length sources ≡ length captures.now) }
+    ensures { IfOk result (λ sources. length sources ≡ length asked.now.captures) }
 {
+    let captures = asked.captures.as_slice();
+    let addresses = asked.link_addresses.as_slice();
     let mut input = Some(input);
     let mut sources = Vec::with_capacity(rt.alloc(), captures.len())?;
-    for words in captures {
-        let origin = origin(rt, words.capture, &mut input)?;
-        sources
-            .push(ReaderSource::new(origin))
-            .map_err(AllocError::from)?;
+    for place in 0..captures.len() {
+        let source = source(rt, &captures[place], addresses[place].is_some(), &mut input)?;
+        sources.push(source).map_err(AllocError::from)?;
     }
     Ok(Sources::new(sources))
 }
 
-/// Opens a capture. Standard input is taken once.
+/// Opens the capture of an interface. If that has a link-level address, the capture has to be one of Ethernet.
+fn source<'a, R: Files + AllocGlobal, I: Read + Drop>(
+    rt: &R,
+    words: &CaptureWords<'a>,
+    has_address: bool,
+    input: &mut Option<I>,
+) -> Result<CaptureSource<R, I>, Failure<'a>> {
+    let mut origin = origin(rt, words.capture, input)?;
+    let head = if has_address {
+        ethernet_head(rt.alloc(), words.interface, &mut origin)?
+    } else {
+        Head::none(rt.alloc())
+    };
+    Ok(ReaderSource::new(head.chain(origin)))
+}
+
+/// Reads the header of an interface's capture, which has to be one of Ethernet. What is no header is refused by who reads on.
+fn ethernet_head<'a, R: Read>(
+    alloc: Global,
+    interface: &'a str,
+    capture: &mut R,
+) -> Result<Head, Failure<'a>> {
+    let head = Head::of(alloc, capture)?;
+    match head.link(alloc) {
+        Ok(Some(link)) if link != ETHERNET => Err(Failure::NotEthernet { interface, link }),
+        Ok(_) => Ok(head),
+        Err(CaptureError::Memory) => Err(Failure::from(AllocError)),
+        Err(_) => Err(Failure::from(Stop::Read(0, 0))),
+    }
+}
+
+/// Opens a file or takes standard input, which is taken once.
 fn origin<'a, R: Files, I: Read>(
     rt: &R,
     name: &'a str,
@@ -154,14 +196,13 @@ fn sinks<'a, R: Files + Net + AllocGlobal, O: Write + Copy>(
     asked: &RunWords<'a>,
     out: O,
 ) -> Result<Sinks<OutputSink<R, O>>, Failure<'a>> {
-    let mut out = Some(out);
     let names = &asked.outputs;
     Ok(Sinks {
-        verdicts: sink(rt, names.verdicts, &mut out)?,
-        packets: packet_sinks(rt, asked.captures.as_slice(), &mut out)?,
-        counters: sink(rt, names.counters, &mut out)?,
-        states: sink(rt, names.states, &mut out)?,
-        messages: messages_sink(rt, &names.messages, &mut out)?,
+        verdicts: sink(rt, names.verdicts, out)?,
+        packets: packet_sinks(rt, asked.captures.as_slice(), out)?,
+        counters: sink(rt, names.counters, out)?,
+        states: sink(rt, names.states, out)?,
+        messages: messages_sink(rt, &names.messages, out)?,
     })
 }
 
@@ -169,7 +210,7 @@ fn sinks<'a, R: Files + Net + AllocGlobal, O: Write + Copy>(
 fn packet_sinks<'a, R: Files + Net + AllocGlobal, O: Write + Copy>(
     rt: &R,
     captures: &[CaptureWords<'a>],
-    out: &mut Option<O>,
+    out: O,
 ) -> Result<PacketSinks<OutputSink<R, O>>, Failure<'a>> {
     let mut sinks = Vec::with_capacity(rt.alloc(), captures.len())?;
     for words in captures {
@@ -179,26 +220,23 @@ fn packet_sinks<'a, R: Files + Net + AllocGlobal, O: Write + Copy>(
     Ok(PacketSinks::new(sinks))
 }
 
-/// Creates the file of an output. Standard output is taken once.
+/// Creates the file of an output, or takes standard output.
 fn sink<'a, R: Files, O: Write + Copy, S: Write + Drop>(
     rt: &R,
     name: &'a str,
-    out: &mut Option<O>,
+    out: O,
 ) -> Result<WriterSink<Destination<R::File, O, S>>, Failure<'a>> {
-    if !is_standard(name) {
-        return Ok(WriterSink::new(Destination::File(created(rt, name)?)));
+    if is_standard(name) {
+        return Ok(WriterSink::new(Destination::Standard(out)));
     }
-    match out.take() {
-        Some(out) => Ok(WriterSink::new(Destination::Standard(out))),
-        None => Err(Failure::SameFile(name)),
-    }
+    Ok(WriterSink::new(Destination::File(created(rt, name)?)))
 }
 
 /// Creates the file of the messages, or connects to the peer that they go to.
 fn messages_sink<'a, R: Files + Net, O: Write + Copy>(
     rt: &R,
     messages: &Messages<'a>,
-    out: &mut Option<O>,
+    out: O,
 ) -> Result<OutputSink<R, O>, Failure<'a>> {
     match messages {
         Messages::File(name) => sink(rt, name, out),

@@ -4,6 +4,7 @@
 //! capture, the ruleset, a file that a flag names for it, or another output, by whatever name. Standard output may stand for
 //! one output.
 ghost use Rattle.std.specs.Prelude.{◌≡◌, [], ◌∷◌, ◌++◌, Contains, IfOk, IfSome, if◌then◌else◌};
+ghost use Rattle.pfr_command.specs.Outputs.{file_names};
 
 use crate::standard::is_standard;
 use pfr_command::{CaptureWords, RunWords};
@@ -39,14 +40,16 @@ enum Location {
     Path(PathBuf),
 }
 
-/// The name of the first of a run's outputs that is a capture, the ruleset, a file that a flag names for it, or an output before it.
-/// Only regular files are compared, and files that don't exist yet. A file that can't be looked at equals none.
+/// The name of the first of a run's outputs that is a capture, the ruleset, a file that a flag names for it, or an output before it. The
+/// names of the outputs are those that [`names_of`](pfr_command::names_of) gives. Only regular files are compared, and files that don't
+/// exist yet. A file that can't be looked at equals none.
 pub fn repeated_output<'a, R: Files + AllocGlobal>(
     rt: &R,
     asked: &RunWords<'a>,
     outputs: &[&'a str],
 ) -> Result<Option<&'a str>, AllocError>
-    ensures { IfOk result (λ repeated. IfSome repeated (Contains outputs.now)) }
+    requires { outputs.now ≡ file_names asked.now.captures asked.now.outputs }
+    ensures { IfOk result (λ repeated. IfSome repeated (Contains (file_names asked.now.captures asked.now.outputs))) }
 {
     let mut files = Vec::new(rt.alloc());
     repeated_among(rt, &mut files, asked, outputs)

@@ -1,16 +1,19 @@
 //! The standard streams, which a word may name in the place of a file.
-ghost use Rattle.std.specs.Prelude.{◌≡◌, is_some, nat_lt};
+ghost use Rattle.std.specs.Prelude.{◌≡◌, nat_lt};
 ghost use Rattle.std.specs.List.{list_any};
 ghost use Rattle.pfr_cli.specs.Standard.{is_standard, standard_inputs};
 
 use pfr_command::CaptureWords;
 
-/// Whether a word in the place of a file's name stands for a standard stream: `-`, which is the input where a file would be read and the
-/// output where one would be written.
+/// The word that stands for a standard stream in the place of a file's name: for the input where a file would be read, and for the output
+/// where one would be written.
+pub const STANDARD: &str = "-";
+
+/// Whether a word in the place of a file's name stands for a standard stream.
 pub fn is_standard(name: &str) -> bool
     ensures { result ≡ is_standard name.now }
 {
-    name == "-"
+    name == STANDARD
 }
 
 /// Whether one of these names stands for a standard stream.
@@ -25,18 +28,18 @@ pub fn has_standard(names: &[&str]) -> bool
     false
 }
 
-/// The word for standard input, if more than one of these captures comes from there.
-pub fn repeated_input<'a>(captures: &[CaptureWords<'a>]) -> Option<&'a str>
-    ensures { is_some result ≡ nat_lt 1 (standard_inputs captures.now) }
+/// Whether more than one of these captures comes from standard input.
+pub fn repeats_input(captures: &[CaptureWords<'_>]) -> bool
+    ensures { result ≡ nat_lt 1 (standard_inputs captures.now) }
 {
     let mut is_taken = false;
     for words in captures {
         if is_standard(words.capture) {
             if is_taken {
-                return Some(words.capture);
+                return true;
             }
             is_taken = true;
         }
     }
-    None
+    false
 }

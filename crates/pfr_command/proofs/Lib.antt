@@ -1,2 +1,4 @@
+mod InsideLemmas
+mod MacLemmas
 mod PeerLemmas
 mod PlaceLemmas

@@ -20,7 +20,7 @@ all_behind name other [] all differs = (differs, tt)
 all_behind name other (first ∷ names) all differs = (all.0, all_behind name other names all.1 differs)
 
 -- a name behind others from which it differs
-distinct_behind : (names : List (List ℕ)) (name : List ℕ) → IsDistinct bytes_eq names → list_any (λ other. bytes_eq other name) names ≡ false
+pub distinct_behind : (names : List (List ℕ)) (name : List ℕ) → IsDistinct bytes_eq names → list_any (λ other. bytes_eq other name) names ≡ false
     → IsDistinct bytes_eq (names ++ name ∷ [])
 unfolding IsDistinct
 distinct_behind [] name distinct none = (tt, tt)

@@ -1,3 +1,7 @@
+pub mod Insides
+pub mod Macs
+pub mod Outputs
 pub mod Peers
 pub mod Places
 pub mod Seeds
+pub mod Taps

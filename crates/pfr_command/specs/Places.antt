@@ -69,9 +69,13 @@ abbrev pub given_words : Option (List (List ℕ)) → List (List ℕ)
 given_words None = []
 given_words (Some words) = words
 
+-- the words behind a flag that may come more than once
+abbrev pub words_of : (flag : List ℕ) → ArgMatches → List (List ℕ)
+words_of flag matches = given_words (option_map raw_values (matched_of (found_of matches) flag))
+
 -- the words behind `--also`
 abbrev pub words_behind : ArgMatches → List (List ℕ)
-words_behind matches = given_words (option_map raw_values (matched_of (found_of matches) (codes "also")))
+words_behind matches = words_of (codes "also") matches
 
 -- the names of interfaces, by their places
 abbrev pub names_of : List CaptureWords → List (List ℕ)

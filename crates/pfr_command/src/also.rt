@@ -109,7 +109,7 @@ fn interface<'a>(parts: &AlsoWords<'a>) -> Result<Interface, Refused<'a>>
 }
 
 /// Whether one of the interfaces of a run has this name.
-fn is_named(captures: &[CaptureWords<'_>], name: &str) -> bool
+pub(crate) fn is_named(captures: &[CaptureWords<'_>], name: &str) -> bool
     ensures { result ≡ list_any (λ other. bytes_eq other name.now) (spec.names_of captures.now) }
 {
     for words in captures {

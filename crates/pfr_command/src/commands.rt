@@ -1,7 +1,8 @@
 //! The commands of the program, with their words, flags and help.
 use crate::also::also_arg;
 use crate::around::surrounding_args;
-use crate::values::{ADDRESS, BATCH, FILE, INSIDE, INTERFACE, PEER, SEED, WORKERS};
+use crate::mac::mac_arg;
+use crate::values::{ADDRESS, BATCH, FILE, INSIDE, INTERFACE, PEER, SEED, TAP, WORKERS};
 use clap::{Arg, ArgAction, Command};
 use std::alloc::{AllocError, Global};
 
@@ -15,6 +16,10 @@ const RUN_EXAMPLE: &str = "Examples:
       --counters counters.txt --states states.txt
   zcat office.pcap.gz | pfreplay run - /etc/pf.conf --interface em0 --address 192.0.2.1/24 \\
       --inside 10.0.0.0/8 --verdicts - --packets passed.pcap \\
+      --counters counters.txt --states states.txt
+  tcpdump -i em0 -c 1000 -w - | pfreplay run - /etc/pf.conf --interface em0 \\
+      --address 192.0.2.1/24 --tap wire --mac em0=00:00:5e:00:53:01 \\
+      --verdicts verdicts.txt --packets passed.pcap \\
       --counters counters.txt --states states.txt
 
 In the place of a capture - is standard input, and in the place of an output standard output.";
@@ -60,13 +65,8 @@ const INTERFACE_FLAGS: [(&str, &str, &str); 2] = [
     ),
 ];
 
-/// The flags that say which packets go out, and where the outputs go.
-const RUN_FLAGS: [(&str, &str, &str); 5] = [
-    (
-        "inside",
-        INSIDE,
-        "The networks whose packets go out, A.B.C.D/BITS or A.B.C.D, separated by commas",
-    ),
+/// The flags that say where the outputs go.
+const OUTPUT_FLAGS: [(&str, &str, &str); 4] = [
     ("verdicts", FILE, "The file for a line on each packet"),
     ("packets", FILE, "The file for the packets that go on"),
     ("counters", FILE, "The file for the counters of the rules"),
@@ -113,11 +113,24 @@ fn run_command<'a>(alloc: Global) -> Result<Command<'a>, AllocError> {
 /// A command with the flags that say how a capture is replayed.
 fn with_choices<'a>(alloc: Global, command: Command<'a>) -> Result<Command<'a>, AllocError> {
     let seed = "What random choices begin with, 64 hexadecimal digits [default: 64 zeros]";
-    let command = with_flags(alloc, command, &RUN_FLAGS)?;
+    let command = with_ways(alloc, command)?;
+    let command = with_flags(alloc, command, &OUTPUT_FLAGS)?;
     let command = command.arg(also_arg(alloc))?;
     let command = command.arg(flag(alloc, "seed", SEED, seed).required(false))?;
     let command = with_sizes(alloc, command)?;
     with_messages(alloc, command)
+}
+
+/// A command with the flags that say which way packets go, and where they were captured.
+fn with_ways<'a>(alloc: Global, command: Command<'a>) -> Result<Command<'a>, AllocError> {
+    let inside =
+        "The networks whose packets go out, A.B.C.D/BITS or A.B.C.D, separated by commas; packets of those with ! come in";
+    let tap =
+        "Where packets that go out were captured, before or behind their translation [default: stack]";
+    let inside = flag(alloc, "inside", INSIDE, inside).required(false);
+    let command = command.arg(inside.required_unless_present("mac")?)?;
+    let command = command.arg(mac_arg(alloc))?;
+    command.arg(flag(alloc, "tap", TAP, tap).required(false))
 }
 
 /// A command with the flags that say how the work is shared.

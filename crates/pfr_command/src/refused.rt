@@ -1,5 +1,6 @@
 //! What is wrong with the words of a command line.
 use crate::also::MOST_INTERFACES;
+use crate::values::INSIDE;
 use std::alloc::AllocError;
 use std::fmt;
 
@@ -21,8 +22,14 @@ pub enum Refused<'a> {
         /// The word behind the flag, or the part of it that is wrong.
         word: &'a str,
     },
-    /// Two interfaces of a run have this name.
+    /// Two interfaces of a run have this name, or one is given two link-level addresses.
     InterfaceTwice(&'a str),
+    /// The run has no interface of this name.
+    NoSuchInterface(&'a str),
+    /// This network is listed with `!` and without.
+    NetworkTwice(&'a str),
+    /// No inside networks are given, and not every interface has a link-level address.
+    NoInside,
     /// A run is for more interfaces than it may be.
     TooManyInterfaces,
     /// Memory was refused.
@@ -45,6 +52,13 @@ impl fmt::Display for Refused<'_> {
                 write!(f, "invalid value '{word}' for '{flag} <{form}>'")
             }
             Refused::InterfaceTwice(name) => write!(f, "interface twice: {name}"),
+            Refused::NoSuchInterface(name) => write!(f, "no such interface: {name}"),
+            Refused::NetworkTwice(word) => write!(f, "network twice: {word}"),
+            // as it is said if no flag at all says which way packets go
+            Refused::NoInside => write!(
+                f,
+                "the following required arguments were not provided: --inside <{INSIDE}>"
+            ),
             Refused::TooManyInterfaces => write!(f, "more than {MOST_INTERFACES} interfaces"),
             Refused::Memory => write!(f, "no memory"),
         }

@@ -7,15 +7,16 @@ ghost use Rattle.pfr_prepare.specs.Flags as flags;
 ghost use Rattle.pfr_command.specs.Peers.{Names, NamesNone, WritesNone, WritesPort};
 ghost use Rattle.pfr_command.specs.Places.{interface_of, name_of};
 ghost use Rattle.pfr_command.specs.Seeds.{byte_at};
+ghost use Rattle.pfr_command.specs.Taps.{tap_of};
 
 use crate::peer::Peer;
 use crate::refused::Refused;
+use pfr_headers::Tap;
 use pfr_net::interface::LONGEST_NAME;
 use pfr_net::notation::number;
 use pfr_net::{IfName, Net, Port};
 use pfr_prepare::network_of;
 use pfr_ruleset::Interface;
-use std::alloc::{AllocError, Global};
 
 /// The form of the value behind `--interface`.
 pub(crate) const INTERFACE: &str = "NAME";
@@ -23,6 +24,8 @@ pub(crate) const INTERFACE: &str = "NAME";
 pub(crate) const ADDRESS: &str = "A.B.C.D/BITS";
 /// The form of the value behind `--inside`.
 pub(crate) const INSIDE: &str = "NETS";
+/// The form of the value behind `--tap`.
+pub(crate) const TAP: &str = "stack|wire";
 /// The form of the value behind `--seed`.
 pub(crate) const SEED: &str = "HEX";
 /// The form of the value behind `--batch`.
@@ -81,24 +84,6 @@ pub(crate) fn interface<'a>(name: &'a str, address: &'a str) -> Result<Interface
     })
 }
 
-/// The networks that a word lists, one or more, separated by commas; one without a prefix is a single address.
-pub(crate) fn networks<'a>(alloc: Global, word: &'a str) -> Result<Vec<Net>, Refused<'a>> {
-    let mut networks = Vec::new(alloc);
-    for part in word.split(',') {
-        match Net::parse(part.as_bytes()) {
-            Some(network) => networks.push(network).map_err(AllocError::from)?,
-            None => {
-                return Err(Refused::BadValue {
-                    flag: "--inside",
-                    form: INSIDE,
-                    word: part,
-                });
-            }
-        }
-    }
-    Ok(networks)
-}
-
 /// The seed that 64 hexadecimal digits write, first digits first.
 pub(crate) fn seed<'a>(word: &'a str) -> Result<[u8; 32], Refused<'a>> {
     seed_of(word.as_bytes()).ok_or(Refused::BadValue {
@@ -126,7 +111,7 @@ fn seed_of(digits: &[u8]) -> Option<[u8; 32]>
 }
 
 /// What a hexadecimal digit of either case counts.
-fn digit(byte: u8) -> Option<u8>
+pub(crate) fn digit(byte: u8) -> Option<u8>
     ensures { SomeIff result (digit_value byte < 16) (digit_value byte) }
 {
     match char::from(byte).to_digit(16) {
@@ -158,6 +143,21 @@ pub(crate) fn workers<'a>(word: &'a str) -> Result<u64, Refused<'a>>
         _ => Err(Refused::BadValue {
             flag: "--workers",
             form: WORKERS,
+            word,
+        }),
+    }
+}
+
+/// On which side of their translation packets that go out were captured, by the word for it.
+pub(crate) fn tap<'a>(word: &'a str) -> Result<Tap, Refused<'a>>
+    ensures { result_ok result ≡ tap_of word.entry.now }
+{
+    match word {
+        "stack" => Ok(Tap::Stack),
+        "wire" => Ok(Tap::Wire),
+        _ => Err(Refused::BadValue {
+            flag: "--tap",
+            form: TAP,
             word,
         }),
     }

@@ -1,16 +1,20 @@
 //! The words of the command line.
-ghost use Rattle.std.specs.Prelude.{◌≡◌, ◌≤◌, IfOk};
+ghost use Rattle.std.specs.Prelude.{◌≡◌, ◌≤◌, IfOk, length};
 ghost use Rattle.std.proofs.Props.{props};
+ghost use Rattle.pfr_command.specs.Macs.{all_known};
 ghost use Rattle.pfr_command.specs.Places.{ArePlaces};
 
 use crate::also::{CaptureWords, Places, places_of};
 use crate::around::given_flags;
 use crate::commands::command_line;
+use crate::inside::{Inside, networks};
+use crate::mac::link_addresses;
 use crate::peer::Peer;
 use crate::refused::Refused;
-use crate::values::{batch, interface, networks, peer, seed, workers};
+use crate::values::{batch, interface, peer, seed, tap, workers};
 use clap::ArgMatches;
 use clap::error::ErrorKind;
+use pfr_headers::{EthernetAddress, Tap};
 use pfr_items::Items;
 use pfr_net::Net;
 use pfr_prepare::Request;
@@ -50,8 +54,14 @@ pub struct RunWords<'a> {
     pub captures: Items<CaptureWords<'a>>,
     /// The ruleset, and the interfaces that it is for.
     pub rules: Request<'a>,
-    /// The networks whose packets go out.
-    pub inside: Vec<Net>,
+    /// The networks whose packets go out: none if the flag for them isn't given.
+    pub inside: Items<Net>,
+    /// Those whose packets come in, though a shorter prefix says that they go out.
+    pub excepted: Items<Net>,
+    /// The link-level addresses of the interfaces, where they are given, by the places of the captures.
+    pub link_addresses: Items<Option<EthernetAddress>>,
+    /// On which side of their translation packets that go out were captured.
+    pub tap: Tap,
     /// What random choices begin with.
     pub seed: [u8; 32],
     /// How many packets are taken and written at a time, 1 to 4096.
@@ -60,6 +70,7 @@ pub struct RunWords<'a> {
     pub workers: u64,
     /// The files that are written, and where the messages go.
     pub outputs: OutputNames<'a>,
+    pub ghost one_each: { length link_addresses ≡ length captures },
     pub ghost are_places: { ArePlaces rules.interfaces captures } by { Prim.hlevel props },
     pub ghost batch_within: { (1 ≤ batch) × (batch ≤ 4096) },
     pub ghost workers_within: { workers ≤ 64 },
@@ -138,25 +149,86 @@ fn refused<'a>(alloc: Global, error: &clap::Error) -> Result<Asked<'a>, Refused<
     }
 }
 
+/// What the words behind `run` say of which way packets go, and of where they were captured.
+#[derive(Drop)]
+struct Ways {
+    inside: Inside,
+    link_addresses: Items<Option<EthernetAddress>>,
+    tap: Tap,
+}
+
 /// What the words behind `run` ask for.
 fn run_words<'a>(alloc: Global, matches: &ArgMatches<'a>) -> Result<Asked<'a>, Refused<'a>> {
     let outputs = given_outputs(matches)?;
-    let inside = given(matches, "inside")?;
     let seed = given_seed(matches)?;
     let batch = given_batch(matches)?;
     let workers = given_workers(matches)?;
     let places = given_places(alloc, matches)?;
+    let ways = given_ways(alloc, matches, places.captures.as_slice())?;
     let rules = given_rules(alloc, matches, matches.get_flag("adapt"), places.interfaces)?;
-    let inside = networks(alloc, inside)?;
     Ok(Asked::Run(RunWords {
         captures: places.captures,
         rules,
-        inside,
+        inside: ways.inside.networks,
+        excepted: ways.inside.excepted,
+        link_addresses: ways.link_addresses,
+        tap: ways.tap,
         seed,
         batch,
         workers,
         outputs,
     }))
+}
+
+/// What the words say of which way packets go on the interfaces of these captures.
+fn given_ways<'a>(
+    alloc: Global,
+    matches: &ArgMatches<'a>,
+    captures: &[CaptureWords<'a>],
+) -> Result<Ways, Refused<'a>>
+    ensures { IfOk result (λ ways. length ways.link_addresses ≡ length captures.now) }
+{
+    let tap = given_tap(matches)?;
+    let link_addresses = link_addresses(alloc, captures, matches)?;
+    let inside = given_inside(alloc, matches, link_addresses.as_slice())?;
+    Ok(Ways {
+        inside,
+        link_addresses,
+        tap,
+    })
+}
+
+/// The inside networks that the words say. They may say none if every interface has a link-level address.
+fn given_inside<'a>(
+    alloc: Global,
+    matches: &ArgMatches<'a>,
+    link_addresses: &[Option<EthernetAddress>],
+) -> Result<Inside, Refused<'a>> {
+    match matches.get_str("inside") {
+        Some(word) => networks(alloc, word),
+        None if are_all(link_addresses) => Ok(Inside::none(alloc)),
+        None => Err(Refused::NoInside),
+    }
+}
+
+/// Whether every interface has a link-level address.
+fn are_all(link_addresses: &[Option<EthernetAddress>]) -> bool
+    ensures { result ≡ all_known link_addresses.now }
+{
+    for address in link_addresses {
+        if address.is_none() {
+            return false;
+        }
+    }
+    true
+}
+
+/// The side that the words say, or that of the network stack.
+fn given_tap<'a>(matches: &ArgMatches<'a>) -> Result<Tap, Refused<'a>> {
+    match matches.get_str("tap") {
+        Some(word) => tap(word),
+        None => Ok(Tap::Stack),
+    }
 }
 
 /// The interfaces that the words say, and the files of each.

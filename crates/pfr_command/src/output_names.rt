@@ -1,8 +1,9 @@
 //! The names of the files that a run writes.
 ghost use Rattle.std.specs.Prelude.{◌≡◌, ◌++◌, IfOk, OnOk};
-ghost use Rattle.pfr_cli.specs.Outputs.{file_names, messages_names, packets_names};
+ghost use Rattle.pfr_command.specs.Outputs.{file_names, messages_names, packets_names};
 
-use pfr_command::{CaptureWords, Messages, RunWords};
+use crate::also::CaptureWords;
+use crate::words::{Messages, RunWords};
 use pfr_items::Items;
 use std::alloc::{AllocError, Global};
 
