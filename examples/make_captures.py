@@ -44,6 +44,11 @@ DISKS_OUTSIDE, OFFICE, GAME, FRIEND = "192.0.2.9", "172.16.1.5", "203.0.113.30",
 DESK, OFFICE_WEB, SECOND_LINE = "198.51.100.66", "198.51.100.80", "203.0.113.2"
 SECOND_PROVIDER, SHOP, CUSTOMER = "203.0.113.254", "203.0.113.7", "203.0.113.150"
 
+# the workshop behind one address, and the ports and the identifier that its gateway has picked
+BENCH, WORKSHOP_PAGES = "10.0.0.11", "10.0.0.40"
+INNER_STATION, BENCH_STATION = bytes.fromhex("020000000002"), bytes.fromhex("02000000000b")
+NAME_PORT, PAGE_PORT, PING_IDENTIFIER = 57244, 50893, 31046
+
 URG = 0x20
 GRE = 47
 # the IP option 'record route', with room for three addresses
@@ -115,6 +120,45 @@ class Lines(Story):
         """The frames at one interface. Their seconds have to rise as they were added."""
         own = (each for each, where in zip(self.records(), self.places) if where == place)
         return capture_header(network=LINKTYPE_ETHERNET) + b"".join(own)
+
+
+class Gateway(Lines):
+    """Ethernet frames at two interfaces of a gateway, as tcpdump shows them: em0 leads to the provider, em1 inside.
+    What goes out is seen behind its translation."""
+
+    # a neighbour and the gateway itself, by places
+    STATIONS = ((UPLINK_STATION, FIREWALL_STATION), (BENCH_STATION, INNER_STATION))
+
+    def __init__(self):
+        super().__init__((FIREWALL, 32))
+
+    def through(self, second, goes_out, build):
+        """A packet that goes through is seen twice, and is a hop older where it leaves. `build` makes it as it is at a
+        place."""
+        identification = len(self.frames) + 1
+        for hop, place in enumerate((1, 0) if goes_out else (0, 1)):
+            packet = build(place, identification=identification, lifetime=64 - hop)
+            neighbour, own = self.STATIONS[place]
+            self.at(place).add_frame(second, ETHER_IPV4, packet, *((own, neighbour) if hop else (neighbour, own)))
+
+
+class Passage:
+    """A conversation through a gateway: its end inside, and the one that the provider sees in the place of that."""
+
+    def __init__(self, gateway, inside, outside):
+        self.gateway = gateway
+        self.ends = (outside, inside)
+
+    def add(self, second, build, *words, **named):
+        """Builds a packet as it is on both sides, from the ends that the inside sees."""
+        goes_out = words[:2] == self.ends[1]
+
+        def built(place, **header):
+            end = self.ends[place]
+            ends = (*end, *words[2:4]) if goes_out else (*words[:2], *end)
+            return build(*ends, *words[4:], **named, **header)
+        self.gateway.through(second, goes_out, built)
+        return built
 
 
 class Connection:
@@ -426,13 +470,52 @@ def office_at(place):
     return lambda: office().capture_at(place)
 
 
+def page_through(gateway):
+    """A page, and a router on the way that says of its request that it is too large."""
+    page = Connection(Passage(gateway, (BENCH, 49152), (FIREWALL, PAGE_PORT)), (BENCH, 49152), (SITE, 443))
+    page.open(2)
+    asked = page.send(3, CLIENT, PSH | ACK, 200)
+    gateway.through(3, False, lambda place, **header: icmp_error(UPLINK, UNREACHABLE, 4, asked(place), **header))
+    page.send(4, SERVER, PSH | ACK, 1200)
+    page.close(5)
+
+
+def workshop():
+    """Half a minute of a workshop's gateway, as tcpdump shows it on both interfaces."""
+    gateway = Gateway()
+    look_for_firewall(gateway, 0)
+    look_up(Passage(gateway, (BENCH, 40001), (FIREWALL, NAME_PORT)), 1, BENCH, 40001, NAMES)
+    page_through(gateway)
+    visit = Connection(Passage(gateway, (WORKSHOP_PAGES, 8443), (FIREWALL, 443)), (CUSTOMER, 50500),
+                       (WORKSHOP_PAGES, 8443))
+    visit.open(10)
+    visit.fetch(11)
+    ends = ((FIREWALL, PING_IDENTIFIER), (BENCH, 7))
+    gateway.through(20, True, lambda place, **header: echo(ends[place][0], SITE, True, ends[place][1], 1, b"abcdefgh",
+                                                           **header))
+    gateway.through(20, False, lambda place, **header: echo(SITE, ends[place][0], False, ends[place][1], 1, b"abcdefgh",
+                                                            **header))
+    ask_time(gateway.at(0), 21, FIREWALL, 123, CLOCK)
+    mail = tcp(BENCH, 49153, MAIL, 25, SYN, 1000, window=64240, options=SYN_OPTIONS, identification=99)
+    gateway.at(1).add_frame(30, ETHER_IPV4, mail, BENCH_STATION, INNER_STATION)
+    for port in (22, 8443):
+        knock(gateway.at(0), 31, SCANNER, (FIREWALL, port), SYN)
+    return gateway
+
+
+def workshop_at(place):
+    """The capture of the workshop's gateway at one of its interfaces."""
+    return lambda: workshop().capture_at(place)
+
+
 def first():
     """Three datagrams without payload at second 0, without frames."""
     packets = [udp("198.51.100.7", 9, FIREWALL, 9), udp("203.0.113.9", 9, FIREWALL, 9), udp("10.0.0.5", 9, "198.51.100.7", 9)]
     return capture_header() + b"".join(record(0, 0, packet) for packet in packets)
 
 
-CAPTURES = {"first.pcap": first, "gateway.pcap": gateway, "home.pcap": home, "office_em0.pcap": office_at(0),
+CAPTURES = {"first.pcap": first, "gateway.pcap": gateway, "gateway_wire_em0.pcap": workshop_at(0),
+            "gateway_wire_em1.pcap": workshop_at(1), "home.pcap": home, "office_em0.pcap": office_at(0),
             "office_em1.pcap": office_at(1), "router.pcap": router, "server.pcap": server}
 
 

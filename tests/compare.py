@@ -26,12 +26,12 @@ import building
 TESTS = Path(__file__).resolve().parent
 # each is a package with a module `compare`
 WORDS = ("runs", "rulesets", "expansions", "tracking", "table", "steps", "commits", "messages", "schedules",
-         "published", "workers", "matrix", "standby", "adapt", "faults")
+         "published", "workers", "matrix", "standby", "adapt", "faults", "gateway")
 # those without answers written by hand
-WITHOUT_MODEL_ALONE = ("workers",)
+WITHOUT_MODEL_ALONE = ("workers", "gateway")
 # those of the program pfreplay, of message_answers, of schedule_answers and of published_answers; all others are of the
 # program `answers`
-OF_PFREPLAY = ("runs", "workers", "matrix", "standby", "adapt", "faults")
+OF_PFREPLAY = ("runs", "workers", "matrix", "standby", "adapt", "faults", "gateway")
 OF_MESSAGES = ("messages",)
 OF_SCHEDULES = ("schedules",)
 OF_PUBLISHED = ("published",)

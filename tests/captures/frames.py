@@ -11,7 +11,8 @@ ICMP, TCP, UDP = 1, 6, 17
 
 
 class Packet(NamedTuple):
-    """What a ruleset can ask of a packet. Of a fragment there are neither ports nor flags nor an ICMP type."""
+    """What a ruleset can ask of a packet, and who sent its frame. Of a fragment there are neither ports nor flags nor
+    an ICMP type."""
     source: int
     destination: int
     protocol: int
@@ -23,6 +24,8 @@ class Packet(NamedTuple):
     flags: int | None = None
     # type and code of an ICMP packet
     icmp: tuple | None = None
+    # the six bytes of the source address of an Ethernet frame
+    sender: bytes | None = None
 
 
 def datagram_of(link, frame):
@@ -36,6 +39,11 @@ def datagram_of(link, frame):
     if frame[12:14] == TYPE_VLAN and frame[16:18] == TYPE_IPV4:
         return frame[18:]
     return None
+
+
+def sender_of(link, frame):
+    """The source address of an Ethernet frame, which stands behind that of the destination; None for another link."""
+    return frame[6:12] if link == ETHERNET else None
 
 
 def lacks_transport(protocol, segment, whole):
@@ -74,7 +82,7 @@ def view(link, frame):
     # the flag for more fragments, or an offset
     is_fragment = int.from_bytes(datagram[6:8], "big") % 16384 != 0
     source, destination = (int.from_bytes(datagram[place:place + 4], "big") for place in (12, 16))
-    packet = Packet(source, destination, datagram[9], is_fragment, header_length > 20)
+    packet = Packet(source, destination, datagram[9], is_fragment, header_length > 20, sender=sender_of(link, frame))
     if is_fragment:
         return packet
     segment = datagram[header_length:]

@@ -32,8 +32,8 @@ class Record(NamedTuple):
     frame: bytes
 
 
-def read_header(capture):
-    """The capture's header, where it is accepted."""
+def header_of_any_link(capture):
+    """The capture's header, where it is accepted but for the link type."""
     if len(capture) < HEADER:
         raise Refused("header cut")
     if capture[:4] not in FORMS:
@@ -41,10 +41,15 @@ def read_header(capture):
     order, fraction = FORMS[capture[:4]]
     if struct.unpack_from(order + "H", capture, 4)[0] != MAJOR_VERSION:
         raise Refused("bad version")
-    link = struct.unpack_from(order + "I", capture, 20)[0] & 0xFFFF
-    if link not in (LOOPBACK, ETHERNET, RAW):
-        raise Refused(f"link type {link}")
-    return Header(order, link, fraction)
+    return Header(order, struct.unpack_from(order + "I", capture, 20)[0] & 0xFFFF, fraction)
+
+
+def read_header(capture):
+    """The capture's header, where it is accepted."""
+    header = header_of_any_link(capture)
+    if header.link not in (LOOPBACK, ETHERNET, RAW):
+        raise Refused(f"link type {header.link}")
+    return header
 
 
 def records_of(capture, order):

@@ -36,8 +36,8 @@ class Bursts(Packets):
     SHAPES = (((4, 12, 1, 0), 5, (1,)), ((12, 6, 1, 0), 30, (1, 2)), ((20, 2, 0, 1), 100, (1, 10)),
               ((20, 4, 0, 0), 60, (1,)))
 
-    def __init__(self, draw, link, table, interfaces):
-        super().__init__(draw, link, table, interfaces)
+    def __init__(self, draw, run, table):
+        super().__init__(draw, run, table)
         self.SHARES, bursting, waits = draw.choice(self.SHAPES)
         self.WAITS = (0,) * bursting + waits
 
@@ -62,8 +62,8 @@ class Together(Bursts):
     """Connections that begin together, and whose states go together."""
     PAUSE = 200
 
-    def __init__(self, draw, link, table, interfaces):
-        super().__init__(draw, link, table, interfaces)
+    def __init__(self, draw, run, table):
+        super().__init__(draw, run, table)
         self.SHARES = (1, 40, 0, 0)
         self.burst = draw.randint(150, 220)
         self.count = 0

@@ -7,7 +7,7 @@ from typing import NamedTuple
 from messages import cut, queue
 from messages.cut import Origin
 from messages.events import Followed, packet_of
-from steps.replay import Record, job_of, steps_of
+from steps.replay import Record, steps_of
 from steps.states import StateTable
 
 
@@ -56,8 +56,7 @@ def told_of(text, job, steps):
 
 def told(run):
     """A Run whose ruleset has no fault."""
-    text = run.rules.encode()
-    job = job_of(text, run.interfaces, run.inside, run.seed)
+    job = run.job()
     records = [Record(b"", *each) for each in run.placed()]
     table = StateTable(job.ruleset.options.values["states"])
-    return told_of(text, job, list(steps_of(job, run.link_at, records, table)))
+    return told_of(run.rules.encode(), job, list(steps_of(job, run.link_at, records, table)))

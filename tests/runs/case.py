@@ -30,15 +30,18 @@ class Also(NamedTuple):
 
 
 class Case(NamedTuple):
-    """A run of the program: what its files and its words hold."""
+    """A run of the program: what its files and its words hold. The inside may be left out, and so may the tap. The
+    addresses are words of link-level addresses, each behind the name of its interface."""
     name: str
     rules: bytes
-    inside: str
+    inside: str | None
     capture: bytes
     interface: str = "em0"
     address: str = "192.0.2.1/24"
     seed: str = NO_SEED
     also: tuple = ()
+    tap: str | None = None
+    addresses: tuple = ()
 
     def interfaces(self):
         """Of each interface its name, and its address with the bits behind it."""
@@ -47,6 +50,11 @@ class Case(NamedTuple):
     def captures(self):
         """By the places of their interfaces."""
         return [self.capture, *(each.capture for each in self.also)]
+
+    def addressed(self):
+        """Of each interface its name, and the word of its link-level address, None for one that has none."""
+        words = dict(self.addresses)
+        return [(name, words.get(name)) for name, _ in self.interfaces()]
 
 
 class Line(NamedTuple):

@@ -10,21 +10,31 @@ import captures.merge_cases
 import steps.cases
 from captures import merging
 from runs import (also_files, cases, devices, filter_cases, filter_rows, interface_rows, lines, long_rulesets,
-                  message_cases, message_rows, model, random_cases, rows, same_files, standard_streams)
+                  message_cases, message_rows, model, random_cases, rows, same_files, setting_cases, setting_files,
+                  setting_rows, standard_streams)
 from runs.case import EXAMPLES, INSIDE, PACKETS, Case, capture_of
 from runs.comparison import a_line
 from runs.model import FILE, NONE, OUTPUTS, PEER, Outcome
+from steps.model import STACK
+from steps.tap_cases import RULES as REDIRECTING
 
-# each such case is also run with its messages sent to a peer, and each such one without messages
-PEER_STEP, NONE_STEP = 5, 9
-# the numbers of workers with which rows on several interfaces are run
+# each such case is also run with its messages sent to a peer, each such one without messages, and each such one with
+# the tap of most runs written out
+PEER_STEP, NONE_STEP, TAP_STEP = 5, 9, 7
+# the numbers of workers with which rows on several interfaces and random runs with settings are run
 WORKERS = (0, 4)
 
 
 def written_cases():
     """The cases of which something is written out."""
-    for make in (captures.cases.rows, captures.frame_cases.rows, filter_rows.faults, rows.rows):
+    for make in (captures.cases.rows, captures.frame_cases.rows, filter_rows.faults, rows.rows, setting_rows.rows):
         yield from make()
+
+
+def scenes():
+    """Those on several interfaces."""
+    yield from interface_rows.rows()
+    yield from setting_rows.scenes()
 
 
 def modelled_cases():
@@ -51,7 +61,7 @@ def compare_model(comparison):
     expect_packets(comparison, "model: messages as packets", model.run)
     for sources in captures.merge_cases.cases():
         comparison.expect(f"model: records of {sources}", merging.by_heads(sources), merging.merged(sources))
-    for scene in interface_rows.rows():
+    for scene in scenes():
         expect_scene(comparison, f"model: {scene.case.name}", scene, model.run(scene.case))
     for row in filter_rows.rows():
         for case, words in row.alone():
@@ -71,22 +81,28 @@ def compare(comparison):
         forms += [PEER] if number < written_count or number % PEER_STEP == 0 else []
         forms += [NONE] if number % NONE_STEP == 0 else []
         compare_case(comparison, case, forms, is_old=number % 3 == 0)
+        if number % TAP_STEP == 0 and case.tap is None:
+            compare_case(comparison, case, [FILE], words=("--tap", STACK))
     compare_scenes(comparison)
+    compare_settings(comparison)
     good_lines(comparison)
+    settled_lines(comparison)
     bad_lines(comparison)
     devices.compare(comparison)
     also_files.compare(comparison)
     same_files.compare(comparison)
+    setting_files.compare(comparison)
     standard_streams.compare(comparison)
     example_captures(comparison)
 
 
-def compare_case(comparison, case, forms, is_old=False):
-    """Runs a case with its messages in some forms, and with files that are new or hold something old."""
+def compare_case(comparison, case, forms, is_old=False, words=()):
+    """Runs a case with its messages in some forms, with files that are new or hold something old, and with words
+    besides its own that change nothing."""
     for form in forms:
         comparison.prepare(case, is_old)
-        comparison.expect(f"{case.name} ({'old' if is_old else 'new'} files, {form})", model.run(case, form),
-                          comparison.replay(case, form))
+        more = " ".join(map(str, (f"{'old' if is_old else 'new'} files, {form}", *words)))
+        comparison.expect(f"{case.name} ({more})", model.run(case, form), comparison.replay(case, form, words))
 
 
 # Several interfaces
@@ -99,7 +115,7 @@ def expect_scene(comparison, name, scene, outcome):
 
 def compare_scenes(comparison):
     """The rows on several interfaces, without workers and with some."""
-    for number, scene in enumerate(interface_rows.rows()):
+    for number, scene in enumerate(scenes()):
         for workers in WORKERS:
             comparison.prepare(scene.case, is_old=number % 3 == 0)
             seen = comparison.execute([*comparison.command(scene.case), "--workers", workers])
@@ -107,6 +123,13 @@ def compare_scenes(comparison):
             comparison.expect(name, model.run(scene.case), seen)
             expect_scene(comparison, name, scene, seen or Outcome(b"", b"", None))
         compare_case(comparison, scene.case, [PEER] + [NONE] * (number % PEER_STEP == 0))
+
+
+def compare_settings(comparison):
+    """The random runs with settings, without workers and with some."""
+    for number, case in enumerate(setting_cases.cases()):
+        for workers in WORKERS:
+            compare_case(comparison, case, [FILE], is_old=number % 3 == 0, words=("--workers", workers))
 
 
 # Messages
@@ -171,11 +194,20 @@ def good_lines(comparison):
         comparison.expect(f"words {words}", model.run(case, PEER),
                           comparison.execute(["run", *named(comparison, words)], peer=comparison.peer))
     comparison.prepare()
-    for words, parts in ((["--help"], ()), (["run", "--help"], (b"--messages <FILE>", b"--peer <HOST:PORT>",
-                                                                          b"--also <NAME,A.B.C.D/BITS,CAPTURE,PACKETS>"))):
+    flags = tuple(f"{flag} <{lines.FORMS[flag]}>".encode() for flag in lines.HELPED)
+    for words, parts in ((["--help"], ()), (["run", "--help"], flags)):
         seen = comparison.execute(words)
         is_told = seen and seen.out and all(part in seen.out for part in parts)
         comparison.expect(f"words {words}", Outcome(seen.out if is_told else b"(some)", b"", 0), seen)
+
+
+def settled_lines(comparison):
+    """Settings in any order and spelling, of a capture of Ethernet."""
+    case = setting_rows.one("words", setting_rows.OF_BOTH, (), REDIRECTING.encode())
+    for words, settings in lines.settled():
+        comparison.prepare(case)
+        comparison.expect(f"words {words}", model.run(case._replace(**settings)),
+                          comparison.execute(["run", *named(comparison, words)]))
 
 
 def bad_lines(comparison):

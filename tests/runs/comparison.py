@@ -86,9 +86,9 @@ class Comparison:
         also = also_of(case, self.other_captures, files.others)
         return ["run", self.capture, self.rules, *flags_of(case, files), *also, *peer]
 
-    def replay(self, case, form=FILE):
-        """One run that replays a case, with its messages in a form."""
-        return self.execute(self.command(case, form), peer=self.peer if form == PEER else None)
+    def replay(self, case, form=FILE, words=()):
+        """One run that replays a case, with its messages in a form, and with more words than its own."""
+        return self.execute([*self.command(case, form), *words], peer=self.peer if form == PEER else None)
 
     def show(self, most):
         """Prints the first of what went wrong."""
@@ -101,7 +101,10 @@ def flags_of(case, files):
     so may the file of messages be."""
     named = [(name, file) for name, file in zip(OUTPUTS, files) if file is not None]
     seed = [] if case.seed == NO_SEED else ["--seed", case.seed]
-    return ["--interface", case.interface, "--address", case.address, "--inside", case.inside, *seed,
+    inside = [] if case.inside is None else ["--inside", case.inside]
+    tap = [] if case.tap is None else ["--tap", case.tap]
+    return ["--interface", case.interface, "--address", case.address, *inside, *seed, *tap,
+            *(word for name, address in case.addresses for word in ("--mac", f"{name}={address}")),
             *(word for name, file in named for word in (f"--{name}", file))]
 
 

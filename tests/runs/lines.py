@@ -11,25 +11,51 @@ SEED = "0123456789abcdef" * 4
 FLAGS = {"--interface": "em0", "--address": "192.0.2.1/24", "--inside": "10.0.0.0/8",
          **{f"--{name}": name for name in REQUIRED}}
 # those that may be missing
-BATCH_FLAG, WORKERS_FLAG = ("--batch", "7"), ("--workers", "2")
+BATCH_FLAG, WORKERS_FLAG, TAP_FLAG = ("--batch", "7"), ("--workers", "2"), ("--tap", "wire")
 SEED_FLAG, MESSAGES_FLAG, PEER_FLAG = ("--seed", SEED), ("--messages", "messages"), ("--peer", PEER)
 # what the help and what is said of a value call its form
 FORMS = {**check_cases.FORMS, "--inside": "NETS", "--seed": "HEX", "--batch": "1..4096", "--workers": "0..64",
-         "--peer": "HOST:PORT", "--also": "NAME,A.B.C.D/BITS,CAPTURE,PACKETS",
+         "--peer": "HOST:PORT", "--also": "NAME,A.B.C.D/BITS,CAPTURE,PACKETS", "--tap": "stack|wire",
+         "--mac": "NAME=AA:BB:CC:DD:EE:FF",
          **{f"--{name}": "FILE" for name in OUTPUTS}}
+# those that the help shows, among others
+HELPED = ("--messages", "--peer", "--also", "--tap", "--mac")
 # values of --also that aren't of its form, each with the part that is wrong; with other than four parts the whole is
 BAD_ALSO = {**{value: value for value in ("", ",", "em1", "em1,203.0.113.2/24", "em1,203.0.113.2/24,missing", ",,",
                                           "em1,203.0.113.2/24,missing,more,others", "em1,203.0.113.2/24,missing,more,",
                                           ",,,,", "em1;203.0.113.2/24;missing;more")},
             **{f"{name},203.0.113.2/24,missing,more": name for name in BAD_INTERFACES},
             **{f"em1,{address},missing,more": address for address in BAD_ADDRESSES}}
+# values of --mac that aren't of its form; of one with a sign between two parts the first that is wrong is refused
+BAD_MACS = ("em0", "em0=", "em0=02:00:00:00:00", "em0=02:00:00:00:00:01:03", "em0=2:0:0:0:0:1", "em0=02-00-00-00-00-01",
+            "em0=020000000001", "em0=0g:00:00:00:00:01", "em0=02:00:00:00:00:0", "em0=02:00:00:00:00:001", "em0=:::::",
+            "em0=02:00:00:00:00:01 ", "em0= 02:00:00:00:00:01", "em0=02:00:00:00:00:", "em0=02:00:00:00::01",
+            "em0=02:00:00:00:00:01:", "em0=+2:00:00:00:00:01", "em0=02:00:00:00:00,01", "em0=0x:00:00:00:00:01",
+            "em0=002:0:00:00:00:01", "em0=em0=02:00:00:00:00:01", "em0:02:00:00:00:00:01", "em0,02:00:00:00:00:01",
+            "02:00:00:00:00:01", "", "=02:00:00:00:00:01", "=", "a_name_of_16_byt=02:00:00:00:00:01")
+
+
+def refused_mac(value):
+    """The part of a value of --mac that is refused."""
+    name, sign, address = value.partition("=")
+    if not sign:
+        return value
+    return name if name in BAD_INTERFACES else address
+
+
 BAD_VALUES = {
     "--also": tuple(BAD_ALSO),
+    "--mac": BAD_MACS,
+    "--tap": ("", "Stack", "WIRE", "both", "stack,wire", "wire ", " stack", "stack|wire", "w", "wired", "0"),
     "--interface": BAD_INTERFACES,
     "--address": BAD_ADDRESSES,
     "--inside": ("", ",", "10.0.0.0/8,", ",10.0.0.0/8", "10.0.0.1,,10.0.0.2", "10.0.0.0/33", "10.0.0.0/", "/8", "10.0.0.256",
                  "10.0.0", "10.0.0.0.0", "10.0.0.0/8 ", "10.0.0.0/8, 192.0.2.1", "10.0.0.0/-1", "10.0.0.0/8/8", "10.0.0.x",
-                 "10.0.0.1 10.0.0.2", "10.0.0.1;10.0.0.2", "em0", "any", "10.0.0.0/8,em0", "10.0.0.1,10.0.0.0/4294967304"),
+                 "10.0.0.1 10.0.0.2", "10.0.0.1;10.0.0.2", "em0", "any", "10.0.0.0/8,em0",
+                 "10.0.0.1,10.0.0.0/4294967304", "!", "!!10.0.0.0/8", "! 10.0.0.0/8", "10.0.0.0/8!",
+                 "10.0.0.0/8,!", "10.0.0.0/8,!!10.0.0.1",
+                 "10.0.0.0/8,! 10.0.0.1", "10.0.0.0/8, !10.0.0.1", "10.0.0.0/8,!10.0.0.0/33", "!em0,10.0.0.0/8",
+                 "10.0.0.0/8,!any", "10.0.0.0/8,!10.0.0.1!", "10.0.0.0/8,!/8"),
     "--seed": ("", "0", "0" * 63, "0" * 65, "0" * 128, "g" * 64, "0" * 63 + "G", "0x" + "0" * 62, "0" * 63 + " ",
                " " + "0" * 63, "-" + "0" * 63),
     "--batch": ("", "0", "00", "4097", "65536", "4294967552", "18446744073709551617", "-1", "+4", "0x4", "4.0", "4 ", " 4", "four"),
@@ -42,11 +68,25 @@ BAD_VALUES = {
 # of a list of networks the first part that is none is refused
 REFUSED_PARTS = {"--inside": {",": "", "10.0.0.0/8,": "", ",10.0.0.0/8": "", "10.0.0.1,,10.0.0.2": "",
                               "10.0.0.0/8, 192.0.2.1": " 192.0.2.1", "10.0.0.0/8,em0": "em0",
-                              "10.0.0.1,10.0.0.0/4294967304": "10.0.0.0/4294967304"},
-                 "--also": BAD_ALSO}
+                              "10.0.0.1,10.0.0.0/4294967304": "10.0.0.0/4294967304", "10.0.0.0/8,!": "!",
+                              "10.0.0.0/8,!!10.0.0.1": "!!10.0.0.1", "10.0.0.0/8,! 10.0.0.1": "! 10.0.0.1",
+                              "10.0.0.0/8, !10.0.0.1": " !10.0.0.1", "10.0.0.0/8,!10.0.0.0/33": "!10.0.0.0/33",
+                              "!em0,10.0.0.0/8": "!em0", "10.0.0.0/8,!any": "!any",
+                              "10.0.0.0/8,!10.0.0.1!": "!10.0.0.1!", "10.0.0.0/8,!/8": "!/8"},
+                 "--also": BAD_ALSO, "--mac": {value: refused_mac(value) for value in BAD_MACS}}
 GOOD_SEEDS = ("0" * 64, "f" * 64, "F" * 64, SEED, SEED.upper(), SEED.swapcase(), "aB" * 32)
 GOOD_INSIDES = ("10.0.0.5", "10.0.0.0/8,192.0.2.1", "0.0.0.0/0", "192.0.2.1/32,10.0.0.5/8,10.0.0.6/0", "10.0.0.5/0",
-                "010.0.0.5", "000010.0.0.0/008")
+                "010.0.0.5", "000010.0.0.0/008", "10.0.0.0/8,!10.9.0.0/16", "!10.0.0.5,10.0.0.0/8",
+                "10.0.0.0/8,!010.000.0.5/032", "0.0.0.0/0,!198.51.100.0/24,!203.0.113.0/24", "10.0.0.0/8,!0.0.0.0/0",
+                "10.0.0.0/8,10.0.0.5/8,!10.0.0.4/31,!10.0.0.5/31", "!198.51.100.0/24,198.51.100.7",
+                "10.0.0.5/8,!10.0.0.5/9")
+# networks of the inside of which one is excepted too, each with the later word of the two
+NETWORKS_TWICE = {"10.0.0.0/8,!10.0.0.0/8": "!10.0.0.0/8", "!10.0.0.0/8,10.0.0.0/8": "10.0.0.0/8",
+                  "10.0.0.5/8,!10.9.9.9/8": "!10.9.9.9/8", "0.0.0.0/0,!10.0.0.5/0": "!10.0.0.5/0",
+                  "10.0.0.5,!10.0.0.5/32": "!10.0.0.5/32", "!10.0.0.5/032,010.0.0.5": "010.0.0.5",
+                  "192.0.2.1,10.0.0.0/8,!10.1.0.0/16,198.51.100.0/24,10.1.255.0/16": "10.1.255.0/16",
+                  "10.0.0.0/8,!10.0.0.4/31,10.0.0.5/31": "10.0.0.5/31"}
+MAC = "02:00:00:00:00:01"
 
 
 def spelled(flags):
@@ -74,7 +114,7 @@ def missing_words():
         others = {name: value for name, value in FLAGS.items() if name != flag}
         yield Line(run_line(others))
         yield Line(run_line(others, flag))
-    for flag in ("--seed", "--batch", "--workers", "--messages", "--peer", "--also"):
+    for flag in ("--seed", "--batch", "--workers", "--messages", "--peer", "--also", "--tap", "--mac"):
         yield Line(run_line(FLAGS, flag))
     yield Line(("run", *spelled(FLAGS)))
     yield Line(("run", CAPTURE, *spelled(FLAGS)))
@@ -84,7 +124,7 @@ def missing_words():
 
 
 def surplus_words():
-    for flag, value in (*FLAGS.items(), SEED_FLAG, BATCH_FLAG, WORKERS_FLAG, MESSAGES_FLAG, PEER_FLAG):
+    for flag, value in (*FLAGS.items(), SEED_FLAG, BATCH_FLAG, WORKERS_FLAG, MESSAGES_FLAG, PEER_FLAG, TAP_FLAG):
         again = {**FLAGS, flag: value}
         said = (f"the argument '{flag} <{FORMS[flag]}>' cannot be used multiple times".encode(),)
         yield Line(run_line(again, flag, value), said)
@@ -127,10 +167,41 @@ def interfaces():
         yield Line((command, RULES, "--interface", "em0", "--address", "192.0.2.1/24", *also("em1")))
 
 
+def mac(name, address=MAC):
+    return ("--mac", f"{name}={address}")
+
+
+def settings():
+    """Link-level addresses of no interface, or two of one; networks that are inside and excepted; no inside, or none
+    but excepted networks."""
+    for name, names in (("em1", ()), ("EM0", ()), ("em", ()), ("em00", ()), ("em2", ("em1",))):
+        yield Line(run_line(FLAGS, *also(*names), *mac(name)), (f"no such interface: {name}\n".encode(),))
+        yield Line(run_line(FLAGS, *mac("em0"), *also(*names), *mac(name)), (f"no such interface: {name}\n".encode(),))
+    for name, names in (("em0", ()), ("em0", ("em1",)), ("em1", ("em1",))):
+        again = mac(name), mac(name, "02:00:00:00:00:02")
+        yield Line(run_line(FLAGS, *also(*names), *again[0], *again[1]), (f"interface twice: {name}\n".encode(),))
+        yield Line(run_line(FLAGS, *again[0], *also(*names), *again[0]), (f"interface twice: {name}\n".encode(),))
+    for networks, later in NETWORKS_TWICE.items():
+        for more in ((), mac("em0")):
+            yield Line(run_line({**FLAGS, "--inside": networks}, *more), (f"network twice: {later}\n".encode(),))
+    for networks in ("!10.0.0.0/8", "!0.0.0.0/0", "!10.0.0.0/8,!192.0.2.1"):
+        said = (f"invalid value '{networks}' for '--inside <NETS>'".encode(),)
+        for more in ((), mac("em0")):
+            yield Line(run_line({**FLAGS, "--inside": networks}, *more), said)
+    without = {flag: value for flag, value in FLAGS.items() if flag != "--inside"}
+    for more in (also("em1"), (*also("em1"), *mac("em0")), (*also("em1"), *mac("em1")),
+                 (*also("em1", "em2"), *mac("em2"), *mac("em0")), TAP_FLAG):
+        yield Line(run_line(without, *more), (b"--inside",))
+    for command in ("check", "adapt"):
+        for more in (TAP_FLAG, mac("em0")):
+            yield Line((command, RULES, "--interface", "em0", "--address", "192.0.2.1/24", *more))
+
+
 def bad():
     """Lines that don't fit. The files that they name have faults too, which aren't to be met."""
     yield from bad_values()
     yield from interfaces()
+    yield from settings()
     yield from missing_words()
     yield from surplus_words()
 
@@ -152,6 +223,26 @@ def good():
         yield (f"--workers={workers}", CAPTURE, RULES, f"--batch={batch}", *flags), inside, NO_SEED
     for networks in GOOD_INSIDES:
         yield (CAPTURE, RULES, *spelled({**FLAGS, "--inside": networks}), *MESSAGES_FLAG), networks, NO_SEED
+
+
+def settled():
+    """Lines that fit and have settings: the words of each, and the settings of its case."""
+    flags = (*spelled(FLAGS), *MESSAGES_FLAG)
+    without = spelled({flag: value for flag, value in FLAGS.items() if flag != "--inside"})
+    for tap in ("stack", "wire"):
+        yield (CAPTURE, RULES, *flags, "--tap", tap), {"tap": tap}
+        yield (f"--tap={tap}", CAPTURE, *flags, RULES), {"tap": tap}
+    for word in (MAC, "02:00:00:00:00:11", "aB:cD:Ef:01:23:45", "FF:FF:FF:ff:ff:ff", "00:00:00:00:00:00"):
+        addressed = {"addresses": (("em0", word),)}
+        yield (CAPTURE, RULES, *flags, *mac("em0", word)), addressed
+        yield (f"--mac=em0={word}", *flags, CAPTURE, RULES, "--tap=wire"), {**addressed, "tap": "wire"}
+        yield (CAPTURE, *mac("em0", word), RULES, *without, *MESSAGES_FLAG), {**addressed, "inside": None}
+    excepted = "10.0.0.0/8,192.0.2.0/24,!10.0.0.0/30"
+    yield (CAPTURE, RULES, *spelled({**FLAGS, "--inside": excepted}), *MESSAGES_FLAG, *TAP_FLAG), {
+        "inside": excepted, "tap": "wire"}
+    # a name is what stands before the first of the signs
+    yield (CAPTURE, RULES, *spelled({**FLAGS, "--interface": "e"}), *MESSAGES_FLAG, *mac("e")), {
+        "interface": "e", "addresses": (("e", MAC),)}
 
 
 def peers():

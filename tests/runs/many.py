@@ -1,8 +1,8 @@
 #!/usr/bin/env python3
 """Runs pfreplay on many random cases of several captures, with batches and workers that are drawn too, and compares
-each run with the model. It is no part of the tests.
+each run with the model. With `--settings` they are those of setting_cases.py. It is no part of the tests.
 
-    many.py N [SEED] [--program FILE]
+    many.py N [SEED] [--settings] [--program FILE]
 """
 
 import argparse
@@ -17,7 +17,7 @@ sys.path.append(str(Path(__file__).resolve().parent.parent))
 sys.dont_write_bytecode = True
 
 import building
-from runs import model
+from runs import model, setting_cases
 from runs.comparison import Comparison
 from runs.random_cases import placed_cases
 
@@ -28,11 +28,11 @@ BLOCK = 50
 
 def block(asked):
     """How many cases of one block were run, how many of them ended other than well, and what went wrong."""
-    program, seed, count = asked
+    program, cases, seed, count = asked
     draw = random.Random(seed)
     with tempfile.TemporaryDirectory() as folder:
         comparison, ended = Comparison(program, Path(folder)), 0
-        for case in placed_cases(seed, count):
+        for case in cases(seed, count):
             batch, workers = draw.choice(BATCHES), draw.choice(WORKERS)
             comparison.prepare(case)
             expected = model.run(case)
@@ -46,10 +46,12 @@ def main():
     parser = argparse.ArgumentParser(description="Compares random runs of several captures with the model.")
     parser.add_argument("cases", type=int, metavar="N")
     parser.add_argument("seed", type=int, nargs="?", default=0)
+    parser.add_argument("--settings", action="store_true", help="draw runs with settings, of one to three captures")
     parser.add_argument("--program", type=Path, metavar="FILE", help="the built program")
     words = parser.parse_args()
     program = words.program.resolve() if words.program else building.pfreplay()
-    blocks = [(program, words.seed + number, BLOCK) for number in range(-(-words.cases // BLOCK))]
+    cases = setting_cases.cases if words.settings else placed_cases
+    blocks = [(program, cases, words.seed + number, BLOCK) for number in range(-(-words.cases // BLOCK))]
     total, ended = 0, 0
     with tempfile.TemporaryDirectory() as folder, ProcessPoolExecutor(cpu_count()) as pool:
         comparison = Comparison(program, Path(folder))

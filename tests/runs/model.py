@@ -9,13 +9,15 @@ from functools import lru_cache
 from itertools import accumulate
 from typing import NamedTuple
 
+from captures.frames import ETHERNET
 from captures.merging import ENDED
-from captures.model import Refused
+from captures.model import Refused, header_of_any_link
 from expansions.hosts import interface_of
 from messages.run import Told, told_of
 from messages.spelling import bare, in_file
 from rulesets.tree import Network
 from steps.marks import verdict_line
+from steps.model import STACK
 from steps.replay import Replay, job_of, packets_by_place, replay_all, ruleset_of
 
 # what each run writes, in the order in which the files are opened; messages are written if that is requested
@@ -71,16 +73,41 @@ def cannot_open(name, files=UNTOUCHED):
 
 
 def network_of(word):
-    """A network as the command line has it."""
-    address, _, bits = word.partition("/")
+    """A network as the command line has it, whether it is excepted or not."""
+    address, _, bits = word.removeprefix("!").partition("/")
     octets = bytes(int(octet) for octet in address.split("."))
     return Network(int.from_bytes(octets), int(bits) if bits else 32)
 
 
+def networks_of(case, is_excepted):
+    """The networks of the inside, or those that are excepted from it."""
+    words = case.inside.split(",") if case.inside else ()
+    return tuple(network_of(word) for word in words if word.startswith("!") == is_excepted)
+
+
 def job_of_case(case):
-    networks = tuple(map(network_of, case.inside.split(",")))
     interfaces = tuple(interface_of(name, address) for name, address in case.interfaces())
-    return job_of(case.rules, interfaces, networks, bytes.fromhex(case.seed))
+    addresses = tuple(word and bytes.fromhex(word.replace(":", "")) for _, word in case.addressed())
+    return job_of(case.rules, interfaces, networks_of(case, False), bytes.fromhex(case.seed), case.tap or STACK,
+                  networks_of(case, True), addresses)
+
+
+def link_fault(case):
+    """What is said of the first interface with a link-level address whose capture isn't of Ethernet, or None. A capture
+    whose header isn't accepted for another reason tells no link type."""
+    for (name, word), capture in zip(case.addressed(), case.captures()):
+        link = link_told_by(capture) if word else None
+        if link not in (None, ETHERNET):
+            return f"--mac {name}: capture of link type {link}"
+    return None
+
+
+def link_told_by(capture):
+    """The link type of a capture, None if its header isn't accepted for another reason."""
+    try:
+        return header_of_any_link(capture).link
+    except Refused:
+        return None
 
 
 class Done(NamedTuple):
@@ -131,6 +158,8 @@ def run(case, form=FILE):
         job_of_case(case)
     except Refused as why:
         return refused(f"rules {why}", untouched(case))
+    if said := link_fault(case):
+        return refused(said, untouched(case))
     try:
         replay = done_of(case).replay
     except Refused as why:

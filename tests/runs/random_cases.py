@@ -12,7 +12,7 @@ import steps.translation_runs
 from captures.packets import (ETHER_IPV4, LINKTYPE_ETHERNET, LINKTYPE_LOOPBACK, LINKTYPE_RAW, NANOSECONDS, capture_header,
                               ethernet, loopback, record)
 from runs.case import FORMS, Also
-from runs.rows import case_of
+from runs.rows import addresses_of, case_of, inside_of
 
 SEED = 20261124
 RUNS, TRANSLATED_RUNS = 400, 200
@@ -106,7 +106,8 @@ def placed_case(draw, run):
     first, *others = some_captures(draw, run)
     also = tuple(Also(each.name, f"{each.address}/{each.bits}", capture)
                  for each, capture in zip(run.interfaces[1:], others, strict=True))
-    return case_of(run._replace(interfaces=run.interfaces[:1]))._replace(capture=first, also=also)
+    first_alone = case_of(run._replace(interfaces=run.interfaces[:1]))
+    return first_alone._replace(capture=first, also=also, inside=inside_of(run), addresses=addresses_of(run))
 
 
 def placed_cases(seed=SEED, runs=PLACED_RUNS):

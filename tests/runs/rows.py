@@ -2,9 +2,10 @@
 
 import steps.rows
 from captures.packets import SYN, capture_header, record, tcp, udp
-from expansions.model import dotted
+from expansions.model import network_words
 from messages.rows import SYN_HEADER, SYN_PEERS
 from runs.case import EMPTIED, INSIDE, Case, Written, capture_of, refused
+from steps.model import STACK
 
 # a network of the inside that holds no packet's source, if a run has none at all
 NOBODY = "255.255.255.255"
@@ -20,11 +21,25 @@ SYN_MESSAGE = bytes.fromhex(
     + "0000000000000028 0000000000000000 00000001 02 06 02 00000000 00 0000 0c000001")
 
 
+def inside_of(run):
+    """The networks of a run's inside, and those that are excepted, as one word; None for none if each interface has a
+    link-level address."""
+    if not run.inside and not run.excepted and len(addresses_of(run)) == len(run.interfaces):
+        return None
+    inside = [network_words(network) for network in run.inside] or [NOBODY]
+    return ",".join([*inside, *(f"!{network_words(network)}" for network in run.excepted)])
+
+
+def addresses_of(run):
+    """The words of the link-level addresses of a run, each behind the name of its interface."""
+    return tuple((each.name, address.hex(":")) for each, address in zip(run.interfaces, run.addresses) if address)
+
+
 def case_of(run):
-    """A run of the steps as a case of the program."""
-    inside = ",".join(f"{dotted(network.address)}/{network.bits}" for network in run.inside) or NOBODY
+    """A run of the steps as a case of the program. The tap is left out where it is the one of most runs."""
     [(name, address, bits)] = run.interfaces
-    return Case(run.name, run.rules.encode(), inside, run.capture(), name, f"{address}/{bits}", run.seed.hex())
+    return Case(run.name, run.rules.encode(), inside_of(run), run.capture(), name, f"{address}/{bits}", run.seed.hex(),
+                tap=None if run.tap == STACK else run.tap, addresses=addresses_of(run))
 
 
 def step_row(expected):

@@ -12,24 +12,28 @@ in the folder `tests` compares this number of packets of random runs with transl
 
 import sys
 from collections import Counter
-from itertools import chain, islice
+from itertools import chain, islice, repeat
 
 import building
 from answering import SHOWN, answers_of, differing, place_of_difference, show_lines
 from captures.model import Refused
 from faults.command import ends_lawfully
-from steps import (interface_cases, place_cases, place_kinds, place_runs, random_runs, translation_kinds,
-                   translation_runs)
+from steps import (interface_cases, place_cases, place_kinds, place_runs, random_runs, tap_cases, tap_kinds,
+                   translation_kinds, translation_runs, way_cases)
 from steps.cases import cases
 from steps.followed import followed
 from steps.lines import binding_words, state_line, step_line
-from steps.replay import replay
+from steps.model import WIRE
+from steps.replay import replay, replay_of
 from steps.rows import ends, rows
+from steps.settings import plain, some_settings
 from steps.run import INSIDE, INTERFACE, words_of
 
 RANDOM_PACKETS, TRANSLATED_PACKETS = 20000, 84000
 # one packet in three is in a run on several interfaces
 PLACED_STEP = 3
+# how many packets there are in runs with settings for each `of` packets in runs without any
+SETTLED, OF = 7, 10
 # how often what is counted of packets has to come up at least, also of those on several interfaces, and how many runs
 # are compared at once
 LEAST, LEAST_PLACED, CHUNK = 100, 20, 200
@@ -52,20 +56,30 @@ def interface_bytes(interface):
     return bytes([len(name)]) + name.encode() + address_bytes(address) + bytes([bits])
 
 
+def networks_bytes(networks):
+    return bytes([len(networks)]) + b"".join(each.address.to_bytes(4) + bytes([each.bits]) for each in networks)
+
+
+def link_address_bytes(address):
+    """A link-level address behind a byte that tells whether it is known."""
+    return b"\0" * 7 if address is None else b"\1" + address
+
+
 def run_bytes(run):
-    networks = b"".join(network.address.to_bytes(4) + bytes([network.bits]) for network in run.inside)
+    addresses = chain(run.addresses, repeat(None))
     records = b"".join(bytes([place]) + run.link.to_bytes(2) + second.to_bytes(4) + with_length(frame)
                        for second, frame, place in run.placed())
     return (bytes([len(run.interfaces)]) + b"".join(map(interface_bytes, run.interfaces))
-            + bytes([len(run.inside)]) + networks
+            + networks_bytes(run.inside) + networks_bytes(run.excepted) + bytes([run.tap == WIRE])
+            + b"".join(link_address_bytes(address) for _, address in zip(run.interfaces, addresses))
             # the first byte of the seed, which is each of it
             + with_length(run.rules.encode()) + run.seed[:1] + len(run.records).to_bytes(4) + records)
 
 
 # Runs as the model tells them
 
-def replay_of(run):
-    return replay(run.rules.encode(), run.interfaces, run.inside, run.capture(), run.seed, run.places)
+def done_of(run):
+    return replay_of(run.job(), run.capture(), run.places)
 
 
 def lines_of(done):
@@ -75,7 +89,7 @@ def lines_of(done):
 def told_by_model(run):
     """The lines of a run, and its packets; none if the ruleset has a fault."""
     try:
-        done = replay_of(run)
+        done = done_of(run)
     except Refused as why:
         return [str(why)], []
     return lines_of(done), done.steps
@@ -127,7 +141,7 @@ def texts_of(expected, done):
 
 def compare_with_model(title, written):
     """How many runs that are written out differ from the model."""
-    replays = [replay_of(each.run) for each in written]
+    replays = [done_of(each.run) for each in written]
     by_lines = differing(((each.run, each.words, list(map(words_of, map(step_line, done.steps))))
                           for each, done in zip(written, replays)), show)
     by_texts = differing(((each.run, [wanted], [told]) for each, done in zip(written, replays)
@@ -156,9 +170,20 @@ def compare_ends():
     return len(wrong)
 
 
+def settled_of(packets):
+    """How many packets there are in runs with settings beside a number of packets in runs without any."""
+    return packets * SETTLED // OF
+
+
+def translated_runs(packets, settings):
+    """Runs with translation that have a number of packets in all, some of them on several interfaces."""
+    placed = packets // PLACED_STEP
+    return chain(translation_runs.runs(packets - placed, settings), place_runs.runs(placed, settings))
+
+
 def compare_random(command):
     """How many random runs differ, and whether too few packets visit rules that have no room."""
-    runs = list(random_runs.runs(RANDOM_PACKETS))
+    runs = [*random_runs.runs(RANDOM_PACKETS), *random_runs.runs(settled_of(RANDOM_PACKETS), some_settings)]
     expected, counts, full = [], Counter(), 0
     for lines, steps in map(told_by_model, runs):
         expected.append(lines)
@@ -173,8 +198,8 @@ def compare_random(command):
 
 def compare_translated(command, packets):
     """How many random runs with translation and on several interfaces differ, and what else is wrong with them."""
-    placed = packets // PLACED_STEP
-    runs = chain(translation_runs.runs(packets - placed), place_runs.runs(placed))
+    settled = settled_of(packets)
+    runs = chain(translated_runs(packets, plain), translated_runs(settled, some_settings))
     counts, faults, differ = Counter(), [], 0
     while chunk := list(islice(runs, CHUNK)):
         expected = [followed(run) for run in chunk]
@@ -182,10 +207,12 @@ def compare_translated(command, packets):
         for each in expected:
             counts += each.counts
             faults += each.faults
-    print(f"{packets} packets in random runs with translation, {placed} of them on several interfaces: {differ} runs "
-          f"differ, {len(faults)} packets are written wrongly", *faults[:SHOWN], sep="\n  ")
+    print(f"{packets} packets in random runs with translation, and {settled} in those with settings, a third of both "
+          f"on several interfaces: {differ} runs differ, {len(faults)} packets are written wrongly", *faults[:SHOWN],
+          sep="\n  ")
     seldom = (compare_counts(counts, translation_kinds.COUNTED, LEAST)
-              + compare_counts(counts, place_kinds.COUNTED, LEAST_PLACED))
+              + compare_counts(counts, place_kinds.COUNTED, LEAST_PLACED)
+              + compare_counts(counts, tap_kinds.COUNTED, LEAST_PLACED))
     return differ + len(faults) + seldom
 
 
@@ -206,7 +233,9 @@ def translated(packets):
 def written_out():
     """The runs that are written out, by titles."""
     return {"whole runs": list(rows()), "cases": list(cases()),
-            "cases of several interfaces": [*place_cases.cases(), *interface_cases.cases()]}
+            "cases of several interfaces": [*place_cases.cases(), *interface_cases.cases()],
+            "cases of captures on the wire": [*tap_cases.cases(), *tap_cases.placed_cases()],
+            "cases of the way of packets": [*way_cases.cases(), *way_cases.placed_cases()]}
 
 
 def compare_model():
@@ -222,7 +251,7 @@ def main():
     command, written = building.answers("steps"), written_out()
     wrong = compare_model() + sum(compare_written(title, command, each) for title, each in written.items())
     wrong += compare_random(command) + compare_translated(command, TRANSLATED_PACKETS)
-    each_case = [*written["cases"], *written["cases of several interfaces"]]
-    refused = b"".join(run_bytes(each.run) for each in each_case[::REFUSED_STEP])
+    refused = b"".join(run_bytes(each.run) for title, each_case in written.items() if title != "whole runs"
+                       for each in each_case[::REFUSED_STEP])
     # its answers are cut like those of the expansion
     sys.exit(not ends_lawfully("expansions", command, refused) or bool(wrong))

@@ -1,8 +1,18 @@
 """What one packet comes to in a model of the run with states and translation.
 
 A packet comes on an interface, which has a place, and is looked up for that place. Rules that name an interface are
-asked for the name of that one, which is empty at a place behind the last interface. A packet goes through these steps,
-in this order, until one of them says what becomes of it:
+asked for the name of that one, which is empty at a place behind the last interface.
+
+Which way a packet goes depends on the link-level address of its interface, if that is known: then it goes out if its
+frame was sent from this address. Else it goes out if its source is inside: of the networks of the inside and those that
+are excepted the one with the longest prefix that holds the source decides. All other packets come in.
+
+Captures are taken at the stack or on the wire. A packet that goes out and was captured on the wire stands behind its
+translation. Its state is the one with this key on the wire; for an ICMP error that is the key of the packet that it
+embeds. Nothing is written into it, and step 6 is left out: no rule of translation is asked. So a state that it makes
+has its key on both sides.
+
+A packet goes through these steps, in this order, until one of them says what becomes of it:
 
 1. One that is no IPv4 packet is skipped (`not-ip`).
 2. One of an interface that `set skip on` names passes (`skip-on`).
@@ -26,7 +36,8 @@ in this order, until one of them says what becomes of it:
 A packet with IP options that would pass by 4, 5 or 7 may be blocked (`ip-option`), and then changes nothing. It is
 where the rule that decides, or by which the state was made, doesn't allow them. It is as well where no rule decides.
 
-Into a packet that passes by a state, or makes one, the inside end is written that it has on the state's other side.
+Into a packet that passes by a state, or makes one, the inside end is written that it has on the state's other side,
+unless it stands behind its translation already.
 """
 
 from typing import NamedTuple
@@ -42,13 +53,20 @@ from tracking.connections import connection, told_connection, tracked_packet
 
 # the verdict of a rule by what it does
 VERDICTS = {"pass": "pass", "drop": "block", "return": "return"}
+# where captures are taken
+STACK, WIRE = "stack", "wire"
 
 
 class Job(NamedTuple):
-    """What all packets of a run are evaluated by: the ruleset, the networks of the inside, and the seed, 32 bytes."""
+    """What all packets of a run are evaluated by: the ruleset, the networks of the inside, the seed, 32 bytes, where
+    the captures are taken, the networks that are excepted from the inside, and the link-level addresses of the first
+    interfaces by their places, None for one that isn't known."""
     ruleset: Ruleset
     inside: list
     seed: bytes
+    tap: str = STACK
+    excepted: tuple = ()
+    addresses: tuple = ()
 
     def interfaces(self):
         return self.ruleset.hosts.run.interfaces
@@ -65,8 +83,36 @@ class Job(NamedTuple):
         binding = None if rule is None else self.ruleset.rules.filter[rule].binding
         return binding or self.ruleset.options.values["state-policy"]
 
-    def direction_of(self, packet):
-        return "out" if any(network_holds(network, packet.source) for network in self.inside) else "in"
+    def address_at(self, place):
+        """The link-level address of the interface at a place, None if it isn't known."""
+        return self.addresses[place] if place < len(self.addresses) else None
+
+    def is_inside(self, source):
+        """Whether the longest network that holds an address is one of the inside. Of two of one length, which no run of
+        pfreplay has, the excepted one decides."""
+        every = *((network, False) for network in self.inside), *((network, True) for network in self.excepted)
+        holding = [(network.bits, is_excepted) for network, is_excepted in every if network_holds(network, source)]
+        _, is_excepted = max(holding, default=(0, True))
+        return not is_excepted
+
+    def direction_of(self, packet, place):
+        address = self.address_at(place)
+        goes_out = self.is_inside(packet.source) if address is None else packet.sender == address
+        return "out" if goes_out else "in"
+
+    def is_behind(self, direction):
+        """Whether a packet of a direction was captured behind its translation."""
+        return self.tap == WIRE and direction == "out"
+
+    def side_of(self, direction):
+        """The direction on whose side a packet of a direction is looked up."""
+        return "in" if self.is_behind(direction) else direction
+
+    def translation_of(self, packet, place, direction):
+        """What the rules of translation say of the first packet of a connection."""
+        if self.is_behind(direction):
+            return translation.Found(())
+        return translation.find(self.ruleset, packet, place, direction)
 
 
 class Outcome(NamedTuple):
@@ -131,8 +177,17 @@ class Arrival(NamedTuple):
     def by_state(self, entry, verdict, reason, change=None):
         return Outcome(self.direction, verdict, reason, entry.rule, entry.translation, entry.number, change=change)
 
+    def is_behind(self):
+        return self.job.is_behind(self.direction)
+
+    def state_with(self, key, table):
+        """The state with a key on the side on which the packet was captured."""
+        return table.at(self.job.side_of(self.direction), key, self.place)
+
     def passed_by_state(self, entry, reason, change=None):
-        outcome = written(self.by_state(entry, "pass", reason, change), Passage(entry.wire, entry.stack))
+        outcome = self.by_state(entry, "pass", reason, change)
+        if not self.is_behind():
+            outcome = written(outcome, Passage(entry.wire, entry.stack))
         return self.unless_options(outcome, entry.allows_options)
 
     def followed(self, entry):
@@ -146,7 +201,7 @@ class Arrival(NamedTuple):
 
     def opened(self, key, table):
         """As the first packet of its connection."""
-        found = translation.find(self.job.ruleset, self.packet, self.place, self.direction)
+        found = self.job.translation_of(self.packet, self.place, self.direction)
         passage = translation.passage(found, key, self.direction, self.job.seed, self.number, table)
         if passage is None:
             outcome = Outcome(self.direction, "block", "nat-exhausted")
@@ -178,13 +233,13 @@ class Arrival(NamedTuple):
     def outcome(self, table):
         told = told_connection(self.packet, self.datagram, self.direction)
         if told:
-            entry = table.at(self.direction, told, self.place)
+            entry = self.state_with(told, table)
             if entry:
                 return self.passed_by_state(entry, "state-error")
         key = connection(self.packet, self.datagram, self.direction)
         if key is None:
             return self.filtered(table)
-        entry = table.at(self.direction, key, self.place)
+        entry = self.state_with(key, table)
         return self.followed(entry) if entry else self.opened(key, table)
 
 
@@ -197,4 +252,4 @@ def step(job, number, clock, place, seen, datagram, table):
         return Outcome("-", "pass", "skip-on")
     if seen == "short":
         return Outcome("-", "block", "short")
-    return Arrival(job, number, clock, place, seen, datagram, job.direction_of(seen)).outcome(table)
+    return Arrival(job, number, clock, place, seen, datagram, job.direction_of(seen, place)).outcome(table)

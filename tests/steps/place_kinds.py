@@ -86,7 +86,7 @@ class PlaceKinds:
         told, key = told_connection(seen, datagram, direction), connection(seen, datagram, direction)
         if told or key:
             yield from self.of_look_up(told or key, direction, place, "told of" if told else "found")
-        if key and not self.table.at(direction, key, place):
+        if key and not self.table.at(self.job.side_of(direction), key, place):
             yield from self.of_first(step, seen, key)
 
     # States that go
@@ -133,7 +133,7 @@ class PlaceKinds:
 
     def of_translation(self, found, seen, direction, place):
         """What a packet finds here beside what it would find on the next interface."""
-        other = translation.find(self.job.ruleset, seen, self.elsewhere(place), direction)
+        other = self.job.translation_of(seen, self.elsewhere(place), direction)
         if found.rule and place >= self.count:
             yield "translated behind the last interface"
         if (found.rule is None) != (other.rule is None):
@@ -144,7 +144,8 @@ class PlaceKinds:
     # Look-ups
 
     def of_look_up(self, key, direction, place, way):
-        entry, all_entries = self.table.at(direction, key, place), self.table.all_at(direction, key)
+        side = self.job.side_of(direction)
+        entry, all_entries = self.table.at(side, key, place), self.table.all_at(side, key)
         if entry and entry.interface != place:
             yield f"{way} a state of another interface"
         if entry and len(all_entries) > 1:
@@ -156,7 +157,7 @@ class PlaceKinds:
 
     def of_first(self, step, seen, key):
         direction, place = step.outcome.direction, step.record.place
-        found = translation.find(self.job.ruleset, seen, place, direction)
+        found = self.job.translation_of(seen, place, direction)
         passage, own = (translation.passage(found, key, direction, self.job.seed, step.number, table)
                         for table in (self.table, Own(self.table, place)))
         yield from self.of_translation(found, seen, direction, place)

@@ -6,6 +6,7 @@ from captures.packets import udp
 from steps.place_texts import some_port_text, some_text, some_translated_text, some_way_text
 from steps.random_runs import LINKS, Packets, drawn, with_packets
 from steps.run import EIGHT, THREE, Run, seed_of
+from steps.settings import PLAIN, plain
 from steps.translation_runs import SEED_BYTES, TranslatedPackets
 
 SEED = 20261129
@@ -21,7 +22,7 @@ class PlacedPackets(Packets):
 
     def host(self, is_inside):
         if not is_inside and self.draw.random() < self.TO_OWN:
-            return self.draw.choice(self.interfaces).address
+            return self.draw.choice(self.run.interfaces).address
         return super().host(is_inside)
 
 
@@ -65,15 +66,16 @@ OF_FLOWS = ((some_way_text, FlowPackets), (some_port_text, PortFlowPackets))
 KINDS = (*OF_FLOWS, *((some_text, PlacedPackets),) * 3, *((some_translated_text, PlacedTranslatedPackets),) * 8)
 
 
-def some_run(draw, number, most, counts=COUNTS):
-    """A run of `most` packets at most, or of none if the ruleset has a fault."""
+def some_run(draw, number, most, counts=COUNTS, settings=PLAIN):
+    """A run of `most` packets at most, or of none if the ruleset has a fault. One of flows has no settings."""
     count, link, kind = min(draw.randint(*counts), most), draw.choice(LINKS), draw.choice(KINDS)
     interfaces, (make_text, packets) = EIGHT[:6] if kind in OF_FLOWS else draw.choice(FEW), kind
     run = Run(f"random run on {len(interfaces)} interfaces {number}", make_text(draw), [], link, interfaces,
               seed=seed_of(draw.choice(SEED_BYTES)))
-    return with_packets(draw, run, packets, count)
+    return with_packets(draw, run if kind in OF_FLOWS else settings.given(draw, run), packets, count)
 
 
-def runs(packets):
-    """Runs with `packets` packets in all, the same every time."""
-    return (run for run in drawn(some_run, SEED, packets) if run.records)
+def runs(packets, settings=plain):
+    """Runs with `packets` packets in all, the same every time. `settings` draws those of each run."""
+    found = drawn(lambda draw, *words: some_run(draw, *words, settings=settings(draw)), SEED, packets)
+    return (run for run in found if run.records)

@@ -4,6 +4,7 @@ So packets often belong to a connection or tell of one, and come about when its 
 """
 
 import random
+import socket
 
 import tracking.model
 import tracking.random_cases
@@ -15,8 +16,10 @@ from expansions.hosts import Interface
 from expansions.model import dotted
 from rulesets.tree import Network
 from steps.filter_texts import INSIDE_HOSTS, OUTSIDE_HOSTS, PORTS
-from steps.replay import Record, job_of, steps_of
+from steps.model import WIRE
+from steps.replay import Record, steps_of
 from steps.run import INSIDE, INTERFACE, Run
+from steps.settings import OTHER_ADDRESSES, OWN_ADDRESSES, PLAIN, plain
 from steps.states import StateTable
 from steps.texts import some_text
 
@@ -109,24 +112,27 @@ class Packets:
     SHARES = (12, 4, 4, 1)
     # seconds until the next, and how often it comes about when a state goes
     WAITS, AT_DEADLINES = (0,) * 8 + (1, 1, 3, 10), 0.15
+    # how often a packet on the wire has the key of the wire, and how often a frame is sent as its packet is meant to go
+    BEHIND_TRANSLATION, SENT_ALIKE = 0.9, 0.85
     # how often an error doesn't quote just the header and 8 bytes of a packet; half as often it quotes others
     QUOTED_BADLY = 0.3
 
-    def __init__(self, draw, link, table, interfaces):
+    def __init__(self, draw, run, table):
         self.draw = draw
-        self.link = link
+        self.run = run
         self.table = table
-        self.interfaces = interfaces
         self.clock = draw.choice((0, 0, 1000, 1000, 1000, LAST_SECOND - 100))
         self.earlier = []
-        # of the packet that is drawn
+        # of the packet that is drawn: the place of its interface, and whether it is meant to go out, None if its source
+        # tells that
         self.place = 0
+        self.goes_out = None
 
     # Places
 
     def go_anywhere(self):
         """The packet comes on any interface."""
-        count = len(self.interfaces)
+        count = len(self.run.interfaces)
         if count > 1:
             self.place = self.draw.randrange(count)
             if self.draw.random() < self.BEHIND:
@@ -134,8 +140,31 @@ class Packets:
 
     def go_near(self, entry):
         """It comes mostly on the interface on which a state was made."""
-        if len(self.interfaces) > 1 and self.draw.random() > self.ELSEWHERE:
+        if len(self.run.interfaces) > 1 and self.draw.random() > self.ELSEWHERE:
             self.place = entry.interface
+
+    # Sides
+
+    def shown(self, entry, direction):
+        """The key of a state that a packet of a direction shows; on the wire now and then that of the stack."""
+        is_of_wire = direction == "in" or self.run.tap == WIRE and self.draw.random() < self.BEHIND_TRANSLATION
+        return entry.wire if is_of_wire else entry.stack
+
+    def is_from_inside(self, datagram):
+        """Whether a packet is meant to go out, as far as its source says it."""
+        own = [socket.inet_aton(each.address) for each in self.run.interfaces] if self.run.tap == WIRE else []
+        return datagram[12:13] == b"\x0a" or datagram[12:16] in own
+
+    def sender(self, datagram):
+        """Who sent the frame of a packet: mostly the interface on which it was captured if it is meant to go out, and
+        mostly another one if not. Without link-level addresses all frames have one sender."""
+        if not self.run.addresses:
+            return bytes(6)
+        goes_out = self.is_from_inside(datagram) if self.goes_out is None else self.goes_out
+        own = self.run.addresses[self.place] if self.place < len(self.run.addresses) else None
+        if own and goes_out == (self.draw.random() < self.SENT_ALIKE):
+            return own
+        return self.draw.choice((*OWN_ADDRESSES[:len(self.run.interfaces)], *OTHER_ADDRESSES))
 
     # Datagrams
 
@@ -166,8 +195,9 @@ class Packets:
         entry = draw.choice(entries)
         self.go_near(entry)
         direction = draw.choice(("in", "out"))
-        # a packet is looked up on the side from which it comes
-        outside, inside = ends_of(entry.wire if direction == "in" else entry.stack)
+        self.goes_out = direction == "out"
+        # a packet is looked up on the side on which it was captured
+        outside, inside = ends_of(self.shown(entry, direction))
         source, destination = (outside, inside) if direction == "in" else (inside, outside)
         packet = tracking.model.Packet(direction, self.clock, 40, entry.state.kind)
         if entry.state.kind == "tcp" and draw.random() < 0.4:
@@ -198,9 +228,10 @@ class Packets:
         """An ICMP error, mostly to the side from which the packet came that it quotes."""
         draw = self.draw
         quoted = self.quoted()
-        was_out = quoted[12:13] == b"\x0a"
+        was_out = self.is_from_inside(quoted)
         if draw.random() < 0.1:
             was_out = not was_out
+        self.goes_out = not was_out
         source, destination = self.host(not was_out), self.host(was_out)
         return ipv4(source, destination, ICMP,
                     summed_message(draw.choice(ERROR_TYPES), draw.choice((0, 1, 3)), bytes(4) + quoted))
@@ -231,14 +262,15 @@ class Packets:
     # Records
 
     def frame(self):
-        draw = self.draw
+        draw, link = self.draw, self.run.link
         self.go_anywhere()
+        self.goes_out = None
         if draw.random() < 0.03:
-            return draw.choice(STRANGE_FRAMES[self.link])
+            return draw.choice(STRANGE_FRAMES[link])
         datagram = self.changed(self.datagram())
-        if self.link == LINKTYPE_ETHERNET:
-            return ethernet(ETHER_IPV4, datagram, draw.choice(((), (), (7,))))
-        if self.link == LINKTYPE_LOOPBACK:
+        if link == LINKTYPE_ETHERNET:
+            return ethernet(ETHER_IPV4, datagram, draw.choice(((), (), (7,))), self.sender(datagram))
+        if link == LINKTYPE_LOOPBACK:
             return loopback(datagram, order=draw.choice("<>"))
         return datagram
 
@@ -266,24 +298,24 @@ def with_packets(draw, run, packets, count):
     """A run with `count` packets, which `packets` draws; or with none if its ruleset has a fault. They have places if
     it has several interfaces."""
     try:
-        job = job_of(run.rules.encode(), run.interfaces, run.inside, run.seed)
+        job = run.job()
     except Refused:
         return run
     table = StateTable(job.ruleset.options.values["states"])
-    steps = steps_of(job, run.link_at, packets(draw, run.link, table, run.interfaces).records(count), table)
+    steps = steps_of(job, run.link_at, packets(draw, run, table).records(count), table)
     records = [step.record for step in steps]
     return run._replace(records=[(each.seconds, each.frame) for each in records],
                         places=tuple(each.place for each in records) if len(run.interfaces) > 1 else ())
 
 
-def some_run(draw, number, most, counts=COUNTS, interfaces=()):
+def some_run(draw, number, most, counts=COUNTS, interfaces=(), settings=PLAIN):
     """A run of `most` packets at most, or of none if the ruleset has a fault; on one interface, or on these."""
     rules, link = some_text(draw), draw.choice(LINKS)
     count = min(draw.randint(*counts), most)
     interface = INTERFACE if draw.random() < 0.9 else draw.choice(OTHER_INTERFACES)
     inside = INSIDE if draw.random() < 0.8 else draw.choice(OTHER_INSIDES)
     run = Run(f"random run {number}", rules, [], link, interfaces or (interface,), inside)
-    return with_packets(draw, run, Packets, count)
+    return with_packets(draw, settings.given(draw, run), Packets, count)
 
 
 def drawn(some_run, seed, packets):
@@ -298,6 +330,6 @@ def drawn(some_run, seed, packets):
         number += 1
 
 
-def runs(packets):
-    """Runs with `packets` packets in all, the same every time."""
-    return drawn(some_run, SEED, packets)
+def runs(packets, settings=plain):
+    """Runs with `packets` packets in all, the same every time. `settings` draws those of each run."""
+    return drawn(lambda draw, *words: some_run(draw, *words, settings=settings(draw)), SEED, packets)

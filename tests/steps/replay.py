@@ -31,7 +31,7 @@ from expansions.model import Ruleset, expand
 from expansions.values import TOO_MANY
 from rulesets.model import worded
 from steps.marks import name_at, state_line, verdict_line
-from steps.model import Job, Outcome, step
+from steps.model import STACK, Job, Outcome, step
 from steps.picks import ZERO_SEED
 from steps.rewriting import rewritten
 from steps.states import StateTable
@@ -113,9 +113,9 @@ def ruleset_of(text, interfaces):
     return answer
 
 
-def job_of(text, interfaces, inside, seed=ZERO_SEED):
-    """The job of a run; a fault of the ruleset refuses it."""
-    return Job(ruleset_of(text, interfaces), inside, seed)
+def job_of(text, interfaces, inside, seed=ZERO_SEED, tap=STACK, excepted=(), addresses=()):
+    """The job of a run; a fault of the ruleset refuses it. The last three are those of a Job."""
+    return Job(ruleset_of(text, interfaces), inside, seed, tap, excepted, addresses)
 
 
 def step_of(job, number, clock, link, record, table):

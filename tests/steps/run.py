@@ -5,7 +5,9 @@ from typing import NamedTuple
 from captures.packets import LINKTYPE_RAW, capture_header, record
 from expansions.hosts import Interface
 from rulesets.tree import Network
+from steps.model import STACK
 from steps.picks import ZERO_SEED
+from steps.replay import job_of
 
 # the one of most runs, and those of a run on several
 INTERFACE = Interface("em0", "192.0.2.1", 24)
@@ -22,7 +24,9 @@ def seed_of(byte):
 class Run(NamedTuple):
     """A ruleset, and records: the second and the captured bytes of each. The places are those of the interfaces on which
     they were captured, and 0 for each if there are none; the links are the types of these interfaces, if they differ.
-    Only pfreplay takes a seed whose bytes differ."""
+    Only pfreplay takes a seed whose bytes differ. The tap says where packets were captured, the networks that are
+    excepted stand beside those of the inside, and the addresses are the link-level ones of interfaces by their places,
+    None for one that isn't known."""
     name: str
     rules: str
     records: list
@@ -32,10 +36,18 @@ class Run(NamedTuple):
     seed: bytes = ZERO_SEED
     places: tuple = ()
     links: tuple = ()
+    tap: str = STACK
+    excepted: tuple = ()
+    addresses: tuple = ()
 
     def link_at(self, place):
         """The type of the packets of an interface."""
         return self.links[place] if self.links else self.link
+
+    def job(self):
+        """What its packets are evaluated by; a fault of the ruleset refuses it."""
+        return job_of(self.rules.encode(), self.interfaces, self.inside, self.seed, self.tap, self.excepted,
+                      self.addresses)
 
     def placed(self):
         """Of each record the second, the captured bytes and the place."""

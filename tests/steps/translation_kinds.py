@@ -82,7 +82,8 @@ class Kinds:
             return
         direction = step.outcome.direction
         told, key = told_connection(seen, datagram, direction), connection(seen, datagram, direction)
-        entry = self.table.at(direction, told or key, step.record.place) if told or key else None
+        side = self.job.side_of(direction)
+        entry = self.table.at(side, told or key, step.record.place) if told or key else None
         if entry and entry.translation is not None:
             yield from self.of_error(step.outcome, seen, entry) if told else self.of_state(step.outcome, entry)
         elif key and not entry:
@@ -118,7 +119,7 @@ class Kinds:
     def of_first(self, step, seen, key):
         outcome = step.outcome
         place = step.record.place
-        found = translation.find(self.job.ruleset, seen, place, outcome.direction)
+        found = self.job.translation_of(seen, place, outcome.direction)
         yield from self.of_ended(found, seen, place, outcome.direction)
         if found.rule is None:
             return

@@ -7,6 +7,8 @@
   a packet with the key that it has there.
 - A state stays bound as it was made. No two states whose bindings meet have a key in common on one side.
 - A port is one of those that the rule picks from, and no state has it, wherever that is bound.
+- A packet that was captured behind its translation stays as it is, and visits no rule of translation. A state that it
+  makes has one key.
 """
 
 from captures.frames import ICMP, TCP, UDP, datagram_of, view
@@ -102,16 +104,20 @@ def made_faults(rules, entry, table):
         yield "its state has the key of another one"
 
 
-def faults_of(rules, link, step, table):
-    """What is wrong with a packet of a run; the table is as it was before. `rules` are the kinds and the rules of
-    translation by their numbers."""
+def faults_of(job, rules, link, step, table):
+    """What is wrong with a packet of a run of a job; the table is as it was before. `rules` are the kinds and the rules
+    of translation by their numbers."""
     outcome = step.outcome
+    if job.is_behind(outcome.direction) and (step.frame != step.record.frame or outcome.visited_translation):
+        yield "it was captured behind its translation, and is translated"
     yield from (f"its checksum of {name} was right" for name in spoilt_sums(link, step))
     if outcome.verdict != "pass" and step.frame != step.record.frame:
         yield "it doesn't pass and is written otherwise"
     kind, changed = outcome.change or (None, None)
     if kind == "made":
         yield from made_faults(rules, changed, table)
+        if job.is_behind(outcome.direction) and changed.wire != changed.stack:
+            yield "it was captured behind its translation, and its state has two keys"
     if kind == "touched" and not is_bound_alike(changed, table.entries[changed.number]):
         yield "its state is bound otherwise"
     entry = changed if kind in ("made", "touched") else table.entries.get(outcome.state)

@@ -3,9 +3,9 @@
 Workers evaluate the packets of a batch on the table as it was before. So the cases are such that packets often change
 what one close behind them meets. Most are those of other comparisons: few connections with their packets close
 together, tables of a few states, ranges of a few ports, states that run out on the way, several interfaces with a
-capture each. Here come runs that fill a
-range of ports again and again, runs whose rules are for about as many states as there are flows, runs that are so long that
-workers rest in them, limits of states, and packets that come twice.
+capture each, captures on the wire. Here come runs that fill a range of ports again and again, runs whose rules are for
+about as many states as there are flows, runs that are so long that workers rest in them, limits of states, and packets
+that come twice.
 """
 
 import random
@@ -21,6 +21,7 @@ from runs.random_cases import placed_case, some_capture
 from runs.rows import case_of
 from steps.rows import HERE, OTHER, H, P
 from steps.run import Run
+from steps.settings import some_settings
 
 SEED = 20261126
 # packets of a run whose kind doesn't tell: few, some batches of 256, and now and then many
@@ -67,6 +68,19 @@ def placed_run(draw, number):
     """A run on several interfaces."""
     count = draw.randint(*draw.choice(LENGTHS))
     return limited(draw, steps.place_runs.some_run(draw, number, count, (count, count)))
+
+
+def settled_run(draw, number):
+    """A run with settings, mostly one that is captured on the wire."""
+    count = draw.randint(*draw.choice(LENGTHS))
+    return steps.translation_runs.some_run(draw, number, count, draw.randbytes(32), (count, count),
+                                           settings=some_settings(draw))
+
+
+def settled_placed_run(draw, number):
+    """One on several interfaces."""
+    count = draw.randint(*draw.choice(LENGTHS))
+    return limited(draw, steps.place_runs.some_run(draw, number, count, (count, count), some_settings(draw)))
 
 
 def telling_run(draw, number):
@@ -133,8 +147,9 @@ def with_some_again(draw, run):
     return run._replace(records=[(second, frame) for second, frame, _ in made], places=places)
 
 
+# how many these are has no divisor in common with how many choices there are, so that each kind meets each choice
 KINDS = (plain_run, translated_run, placed_run, telling_run, full_run, moving_run, room_run, translated_run, placed_run,
-         message_cases.together_run, resting_run)
+         message_cases.together_run, resting_run, settled_run, settled_placed_run)
 
 
 def is_fit(run):

@@ -174,6 +174,7 @@ impl Arrival {
         let kind = given.byte();
         let (protocol, transport) = carried(kind, header(given));
         let packet = Packet {
+            sender: None,
             header_length: 20,
             total_length,
             protocol,

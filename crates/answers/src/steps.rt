@@ -9,14 +9,16 @@
 //! No line ends in the name of an interface.
 //!
 //! A run holds a byte that counts the interfaces, and these by their places; the inside networks (one byte that counts them, and
-//! of each four bytes and the bits in one); the text of the ruleset with its length before it in four bytes; a byte, which is
-//! each of the seed's; how many records there are (4), and these. A record holds the place of its interface (1), the link type
-//! (2), the seconds (4), and the captured bytes with their length before them (4).
+//! of each four bytes and the bits in one), and in the same form the networks that are excepted from these; a byte that is 1 if
+//! the captures were taken on the wire, and 0 if on the stack; of each interface a byte that is 1 if its link address is known,
+//! and the six bytes of this address; the text of the ruleset with its length before it in four bytes; a byte, which is each of
+//! the seed's; how many records there are (4), and these. A record holds the place of its interface (1), the link type (2), the
+//! seconds (4), and the captured bytes with their length before them (4).
 use crate::given::Given;
 use crate::printing::{put_address, put_bytes, put_fault, put_state};
 use pfr_commit::VerdictLine;
 use pfr_conf::ConfError;
-use pfr_headers::{Change, End, view};
+use pfr_headers::{Change, End, EthernetAddress, Tap, view};
 use pfr_net::{Ipv4Address, Net};
 use pfr_packet::{Direct, Job, Outcome, step};
 use pfr_rules::Visits;
@@ -41,6 +43,38 @@ fn networks(alloc: Global, given: &mut Given<'_>) -> Result<Vec<Net>, AllocError
         networks.push(Net { address, bits })?;
     }
     Ok(networks)
+}
+
+/// Where the captures were taken.
+fn tap_of(given: &mut Given<'_>) -> Tap {
+    match given.byte() {
+        1 => Tap::Wire,
+        _ => Tap::Stack,
+    }
+}
+
+/// The link address of an interface, if it is known.
+fn link_address(given: &mut Given<'_>) -> Option<EthernetAddress> {
+    let known = given.byte();
+    let [first, second, third, fourth, fifth, sixth] = given.array::<6>();
+    let address = u64::from_be_bytes([0, 0, first, second, third, fourth, fifth, sixth]);
+    match known {
+        1 => Some(EthernetAddress(address)),
+        _ => None,
+    }
+}
+
+/// The link addresses of the first `count` interfaces, by their places.
+fn link_addresses(
+    alloc: Global,
+    given: &mut Given<'_>,
+    count: usize,
+) -> Result<Vec<Option<EthernetAddress>>, AllocError> {
+    let mut addresses = Vec::new(alloc);
+    for _place in 0..count {
+        addresses.push(link_address(given))?;
+    }
+    Ok(addresses)
 }
 
 impl<'a> Record<'a> {
@@ -287,13 +321,27 @@ fn put_lines(
     }
 }
 
-/// The answer to a run, but for its end.
-fn put_run(alloc: Global, out: &mut String, given: &mut Given<'_>) -> Result<(), AllocError> {
+/// The job of a run with all that is told of its captures, or its ruleset's first fault.
+fn job_of(alloc: Global, given: &mut Given<'_>) -> Result<Result<Job, ConfError>, AllocError> {
     let interfaces = given.interfaces(alloc)?;
     let inside = networks(alloc, given)?;
+    let excepted = networks(alloc, given)?;
+    let tap = tap_of(given);
+    let addresses = link_addresses(alloc, given, interfaces.len())?;
     let text = given.text();
     let seed = [given.byte(); 32];
-    let job = Job::new(alloc, text, interfaces.as_slice(), inside.as_slice(), seed);
+    let job = match Job::new(alloc, text, interfaces.as_slice(), inside.as_slice(), seed) {
+        Ok(job) => job.with_tap(tap),
+        Err(fault) => return Ok(Err(fault)),
+    };
+    let job = job.with_excepted(alloc, excepted.as_slice())?;
+    let job = job.with_link_addresses(alloc, addresses.as_slice())?;
+    Ok(Ok(job))
+}
+
+/// The answer to a run, but for its end.
+fn put_run(alloc: Global, out: &mut String, given: &mut Given<'_>) -> Result<(), AllocError> {
+    let job = job_of(alloc, given)?;
     let answered = put_lines(alloc, out, given, &job);
     drop(job);
     answered
