@@ -1,11 +1,11 @@
 //! Packets that are taken together.
-ghost use Rattle.std.specs.Prelude.{◌≡◌, ◌≤◌, ◌+◌, ◌^◌, true, length, OnOk, OnErr};
+ghost use Rattle.std.specs.Prelude.{◌≡◌, ◌≤◌, ◌+◌, ◌^◌, [], true, length, OnOk, OnErr};
 ghost use Rattle.std.specs.List.{All};
 ghost use Rattle.pfr_headers.specs.View.{view_of};
 
 use crate::book::Book;
 use crate::emitted::Emitted;
-use crate::gate::{Gate, Unwatched};
+use crate::gate::{Gate, OutcomesAlone, Unwatched};
 use crate::results::in_places;
 use pfr_capture::Record;
 use pfr_headers::View;
@@ -107,8 +107,26 @@ impl Book {
         self.take_batch(packets, &[results], false, &Unwatched, out)
     }
 
+    /// What [`Book::commit_batch`] does without results. A gate is told what each packet came to, and of no turn: none is evaluated
+    /// anywhere else.
+    pub fn commit_batch_alone<G: Gate>(
+        &mut self,
+        packets: &[(Record, View)],
+        gate: &G,
+        out: &mut Emitted,
+    ) -> Result<(), AllocError>
+        requires views { All (λ packet. packet.1 ≡ view_of packet.0.link packet.0.bytes.items) packets.now }
+        requires few { self.old.count + length packets.now ≤ 2 ^ 43 }
+        ensures taken { OnOk result (TakesAll self.old self.new out.old out.new packets.now []) }
+        ensures refused { OnErr result (TakesSome self.old self.new out.old out.new packets.now []) }
+        ensures job { self.new.job ≡ self.old.job }
+        ensures over { self.old.is_over ≡ true → (self.new ≡ self.old) × (out.new ≡ out.old) }
+    {
+        self.take_batch(packets, &[], false, &OutcomesAlone(gate), out)
+    }
+
     /// What [`Book::commit_batch`] does, with results that come in groups and are known to be of the book's own job: the job's
-    /// text isn't compared with theirs. A gate is told of each packet before it is evaluated here.
+    /// text isn't compared with theirs. A gate is told of each packet before it is evaluated here, and what each came to.
     pub fn commit_batch_of_job<G: Gate>(
         &mut self,
         packets: &[(Record, View)],

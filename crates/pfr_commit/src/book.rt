@@ -371,6 +371,7 @@ impl Book {
         // whatever the table is asked, its states are those of a table
         let _ = self.table.len();
         self.take_outcome(clock, packet, view, outcome, found, out)?;
+        gate.taken(packet, view, outcome);
         self.own += evaluated_here;
         self.is_over = false;
         Ok(())

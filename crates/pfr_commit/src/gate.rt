@@ -1,7 +1,10 @@
-//! Who watches the turns of packets.
+//! Who watches the turns of packets, and what packets come to.
+use pfr_capture::Record;
+use pfr_headers::View;
+use pfr_packet::Outcome;
 
-/// Is told when a worker or the committer turns to a packet. The numbers are those of packets, from 1. A call may wait: a
-/// worker goes on after it.
+/// Is told when a worker or the committer turns to a packet, and what it came to. The numbers are those of packets, from 1. A call
+/// may wait: a worker goes on after it.
 pub trait Gate: Sync {
     /// A worker has drawn a packet, and evaluates it next. Nobody is told of a packet that is drawn and not evaluated.
     fn starts(&self, number: u64);
@@ -12,6 +15,30 @@ pub trait Gate: Sync {
 
     /// The committer evaluates a packet itself next, as no result of it holds.
     fn ran_again(&self, number: u64);
+
+    /// The committer has taken a packet, of which this is the view and what it came to. It takes packets one by one, in their order.
+    #[inline]
+    fn taken(&self, _packet: &Record, _view: &View, _outcome: &Outcome) {}
+}
+
+/// Tells a gate what packets come to, and nothing of their turns.
+#[derive(Clone, Copy)]
+pub(crate) struct OutcomesAlone<'a, G>(pub(crate) &'a G);
+
+impl<G: Gate> Gate for OutcomesAlone<'_, G> {
+    #[inline]
+    fn starts(&self, _number: u64) {}
+
+    #[inline]
+    fn answered(&self, _number: u64) {}
+
+    #[inline]
+    fn ran_again(&self, _number: u64) {}
+
+    #[inline]
+    fn taken(&self, packet: &Record, view: &View, outcome: &Outcome) {
+        self.0.taken(packet, view, outcome);
+    }
 }
 
 /// Nobody watches.

@@ -10,11 +10,17 @@ use crate::feed::Feed;
 use crate::packets::viewed;
 use crate::room::Room;
 use crate::turn::Turn;
-use pfr_commit::Book;
+use pfr_commit::{Book, Gate};
 use std::alloc::{AllocError, Global};
 
 /// Asks a feed for a batch, has a book take it, and hands the feed what it adds, in a piece that has the room of the one before.
-fn take_turn<F: Feed>(alloc: Global, book: &mut Book, feed: &mut F, room: &mut Room) -> Turn
+fn take_turn<F: Feed, G: Gate>(
+    alloc: Global,
+    book: &mut Book,
+    feed: &mut F,
+    gate: &G,
+    room: &mut Room,
+) -> Turn
     requires few { book.old.count ≤ F.given feed.old }
     ensures told { F.told feed.new ≡ F.told feed.old }
     ensures names { F.names feed.new ≡ F.names feed.old }
@@ -30,7 +36,7 @@ fn take_turn<F: Feed>(alloc: Global, book: &mut Book, feed: &mut F, room: &mut R
         return Turn::IsRefused;
     };
     let mut piece = room.piece(alloc);
-    let Ok(()) = book.commit_batch(packets.as_slice(), Vec::new(alloc), &mut piece) else {
+    let Ok(()) = book.commit_batch_alone(packets.as_slice(), gate, &mut piece) else {
         return Turn::IsRefused;
     };
     *room = Room::of(&piece);
@@ -41,11 +47,13 @@ fn take_turn<F: Feed>(alloc: Global, book: &mut Book, feed: &mut F, room: &mut R
     Turn::GoesOn
 }
 
-/// Takes the batches of a feed one after the other, and hands the feed what each adds before it asks for the next.
-pub fn run_alone<F: Feed>(
+/// Takes the batches of a feed one after the other, and hands the feed what each adds before it asks for the next. A gate is told what
+/// each packet came to.
+pub fn run_alone<F: Feed, G: Gate>(
     alloc: Global,
     mut book: Book,
     mut feed: F,
+    gate: &G,
 ) -> (Book, F, Result<(), AllocError>)
     requires start { StandsAt book (opening (job_of book)) }
     ensures job { result.0.job ≡ book.job }
@@ -56,7 +64,7 @@ pub fn run_alone<F: Feed>(
 {
     let mut room = Room::first();
     'turns: loop {
-        match take_turn(alloc, &mut book, &mut feed, &mut room) {
+        match take_turn(alloc, &mut book, &mut feed, gate, &mut room) {
             Turn::GoesOn => {}
             Turn::IsOver => return (book, feed, Ok(())),
             Turn::IsRefused => return (book, feed, Err(AllocError)),

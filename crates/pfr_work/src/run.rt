@@ -41,8 +41,8 @@ fn keep_memory(alloc: Global) {
 ///
 /// The trace has the batches that were opened, the claims of those whose passes all came back, in order, those whose passes didn't,
 /// the published table, and whether workers were given up. Without workers no batch is opened and no table published.
-/// The gate is told of each turn of a packet; what it does there can hold the run up, and changes nothing else. Without workers it
-/// isn't called.
+/// The gate is told of each turn of a packet, and what it came to; what it does there can hold the run up, and changes nothing else.
+/// Without workers it is told of no turn.
 ///
 /// The two histories are new ones: in the proofs they are what packets did to the table, and which batches were opened.
 pub fn run_workers<
@@ -78,7 +78,7 @@ pub fn run_workers<
     let history = changes.named::<J>();
     let openings = Openings::new(batches.named::<K>());
     if workers == 0 {
-        let (book, feed, outcome) = run_alone(alloc, book, feed);
+        let (book, feed, outcome) = run_alone(alloc, book, feed, gate);
         return (book, feed, no_trace(alloc, openings, None), outcome);
     }
     let stop = AtomicBool::new(false);
