@@ -1,3 +1,4 @@
 pub mod Destinations
 pub mod Heads
+pub mod Jobs
 pub mod Standard

@@ -30,8 +30,11 @@ pub enum Failure<'a> {
         interface: &'a str,
         link: u16,
     },
-    /// A file can't be opened or created, a ruleset's not be read, or a peer not be reached.
-    CannotOpen(&'a str),
+    /// A file can't be opened or created, a ruleset's not be read, or a peer not be reached, for this reason.
+    CannotOpen {
+        name: &'a str,
+        reason: io::Error,
+    },
     /// The ruleset was refused, or the run was stopped.
     Stopped {
         stop: Stop,
@@ -62,7 +65,7 @@ impl From<ConfError> for Failure<'_> {
 impl<'a> From<Refusal<'a>> for Failure<'a> {
     fn from(refusal: Refusal<'a>) -> Self {
         match refusal {
-            Refusal::CannotOpen(name) => Failure::CannotOpen(name),
+            Refusal::CannotOpen(name, reason) => Failure::CannotOpen { name, reason },
             Refusal::Memory => Failure::from(ConfError::from(AllocError)),
         }
     }
@@ -89,7 +92,10 @@ impl<'a> Failure<'a> {
     pub fn of_opening(name: &'a str, error: &io::Error) -> Failure<'a> {
         match error.kind() {
             io::ErrorKind::OutOfMemory => Failure::from(AllocError),
-            _ => Failure::CannotOpen(name),
+            _ => Failure::CannotOpen {
+                name,
+                reason: *error,
+            },
         }
     }
 
@@ -117,7 +123,7 @@ impl<'a> Failure<'a> {
     pub fn status(&self) -> u8 {
         match self {
             Failure::Words(_) | Failure::SameFile(_) | Failure::NotEthernet { .. } => REFUSED,
-            Failure::CannotOpen(_) | Failure::PrintFailed => DEVICE,
+            Failure::CannotOpen { .. } | Failure::PrintFailed => DEVICE,
             Failure::Stopped { stop, .. } => status_of(stop),
             Failure::StandbyStopped(stop) => standby_status_of(stop),
         }
@@ -196,7 +202,7 @@ impl fmt::Display for Failure<'_> {
             Failure::NotEthernet { interface, link } => {
                 write!(f, "--mac {interface}: capture of link type {link}")
             }
-            Failure::CannotOpen(name) => write!(f, "cannot open: {name}"),
+            Failure::CannotOpen { name, .. } => write!(f, "cannot open: {name}"),
             Failure::Stopped { stop, interface } => write_stop(stop, *interface, f),
             Failure::StandbyStopped(stop) => write_standby_stop(stop, f),
             Failure::PrintFailed => write!(f, "write failed: standard output"),

@@ -1,5 +1,6 @@
 //! What `pfreplay run` does.
 ghost use Rattle.std.specs.Prelude.{◌≡◌, IfOk, length};
+ghost use Rattle.pfr_cli.specs.Jobs as spec;
 
 use crate::destination::Destination;
 use crate::failure::{CUT, DONE, Failure};
@@ -11,26 +12,17 @@ use crate::same_file::repeated_output;
 use crate::standard::{STANDARD, has_standard, is_standard, repeats_input};
 use pfr_capture::{CaptureError, ReaderSource, Tail, WriterSink};
 use pfr_command::{CaptureWords, Messages, RunWords, names_of};
-use pfr_out::{Form, Gate, PacketSinks, Report, RunSettings, Sinks, Sources, Stop, replay_job};
+use pfr_out::{Form, PacketSinks, Report, RunSettings, Sinks, Sources, Stop, replay_job};
 use pfr_packet::Job;
 use pfr_prepare::prepared_text;
+use pfr_warnings::{Warning, Watch, warn};
 use std::alloc::{AllocError, AllocGlobal, Global};
-use std::io::{Chain, Read, Write};
+use std::io::{Chain, ErrorKind, Read, Write};
 use std::net::Net;
 use std::rt::Files;
 use std::sync::Wait;
 use std::thread::Threads;
-
-/// Who waits for no packet's turn.
-struct Unwatched;
-
-impl Gate for Unwatched {
-    fn starts(&self, _number: u64) {}
-
-    fn answered(&self, _number: u64) {}
-
-    fn ran_again(&self, _number: u64) {}
-}
+use std::{fs, io};
 
 /// What takes an output, by the files and the network of a runtime, and by standard output.
 type OutputSink<R, O> = WriterSink<
@@ -43,9 +35,57 @@ type CaptureSource<R, I> = ReaderSource<Chain<Head, Origin<<R as Files>::File, I
 /// The link type of Ethernet.
 const ETHERNET: u16 = 1;
 
-/// Replays captures through a ruleset, prints how many packets were committed, and answers the status. If standard output takes an
-/// output of the run, that line goes to `err`.
+/// Replays captures through a ruleset, and answers the status. If warnings are asked for, `err` is told why a file wasn't opened.
 pub fn replay<
+    'a,
+    R: Files + Net + AllocGlobal + Threads + Wait + Sync,
+    I: Read + Drop,
+    O: Write + Copy,
+    E: Write,
+>(rt: &R, asked: &RunWords<'a>, input: I, out: &mut O, err: &mut E) -> Result<u8, Failure<'a>> {
+    match replay_words(rt, asked, input, out, err) {
+        Ok(status) => Ok(status),
+        Err(failure) => {
+            if asked.warns {
+                warn_of(rt, &failure, asked.captures.as_slice(), err);
+            }
+            Err(failure)
+        }
+    }
+}
+
+/// Warns of what stands behind a failure, if the system says more of it.
+fn warn_of<'a, R: Files, E: Write>(
+    rt: &R,
+    failure: &Failure<'a>,
+    captures: &[CaptureWords<'a>],
+    err: &mut E,
+) {
+    match failure {
+        Failure::CannotOpen { name, reason } => warn(&Warning::NotOpened(name, *reason), err),
+        Failure::Stopped {
+            stop: Stop::Read(place, _),
+            ..
+        } => warn_of_folder(rt, captures.get(*place), err),
+        _ => {}
+    }
+}
+
+/// Warns of a capture that is a folder: it can be opened, and not be read.
+fn warn_of_folder<'a, R: Files, E: Write>(rt: &R, words: Option<&CaptureWords<'a>>, err: &mut E) {
+    if let Some(words) = words {
+        if let Ok(metadata) = fs::metadata(rt, words.capture) {
+            if metadata.is_dir() {
+                let reason = io::Error::from(ErrorKind::IsADirectory);
+                warn(&Warning::NotOpened(words.capture, reason), err);
+            }
+        }
+    }
+}
+
+/// Replays captures through a ruleset, prints what there is to warn of, and how many packets were committed, and answers the status.
+/// If standard output takes an output of the run, that number goes to `err`.
+fn replay_words<
     'a,
     R: Files + Net + AllocGlobal + Threads + Wait + Sync,
     I: Read + Drop,
@@ -61,20 +101,29 @@ pub fn replay<
     }
     // A fault of the ruleset is reported before any other file is touched.
     let job = job_of(rt, asked, err)?;
-    let report = replayed(rt, asked, job, input, *out)?;
+    let watch = Watch::new(rt.alloc(), job.rules(), asked.warns)?;
+    let report = replayed(rt, asked, job, input, *out, &watch)?;
+    watch.warn(report.committed, err);
     if has_standard(outputs.as_slice()) {
         return finish(&report, err);
     }
     finish(&report, out)
 }
 
-/// Replays captures by a job, and writes the outputs.
+/// Replays captures by a job, and writes the outputs. Somebody watches the packets.
 fn replayed<
     'a,
     R: Files + Net + AllocGlobal + Threads + Wait + Sync,
     I: Read + Drop,
     O: Write + Copy,
->(rt: &R, asked: &RunWords<'a>, job: Job, input: I, out: O) -> Result<Report, Failure<'a>> {
+>(
+    rt: &R,
+    asked: &RunWords<'a>,
+    job: Job,
+    input: I,
+    out: O,
+    watch: &Watch,
+) -> Result<Report, Failure<'a>> {
     let mut sources = sources(rt, asked, input)?;
     let mut sinks = sinks(rt, asked, out)?;
     let settings = RunSettings {
@@ -82,7 +131,7 @@ fn replayed<
         workers: asked.workers,
         form: form_of(&asked.outputs.messages),
     };
-    match replay_job(rt, &mut sources, job, settings, &mut sinks, &Unwatched) {
+    match replay_job(rt, &mut sources, job, settings, &mut sinks, watch) {
         Ok(report) => Ok(report),
         Err(stop) => Err(Failure::of_run(stop, asked.captures.as_slice())),
     }
@@ -93,7 +142,9 @@ fn job_of<'a, R: Files + AllocGlobal, E: Write>(
     rt: &R,
     asked: &RunWords<'a>,
     err: &mut E,
-) -> Result<Job, Failure<'a>> {
+) -> Result<Job, Failure<'a>>
+    ensures { IfOk result (spec.IsAsked asked.now) }
+{
     let text = prepared_text(rt, &asked.rules, err)?;
     let job = Job::new(
         rt.alloc(),
@@ -109,7 +160,9 @@ fn job_of<'a, R: Files + AllocGlobal, E: Write>(
 }
 
 /// A job with what the words say of the ways that packets go, besides the inside networks.
-fn with_ways<'a>(alloc: Global, job: Job, asked: &RunWords<'a>) -> Result<Job, Failure<'a>> {
+fn with_ways<'a>(alloc: Global, job: Job, asked: &RunWords<'a>) -> Result<Job, Failure<'a>>
+    ensures { IfOk result (λ made. made ≡ spec.with_ways asked.now job) }
+{
     let job = job
         .with_tap(asked.tap)
         .with_excepted(alloc, asked.excepted.as_slice())?;

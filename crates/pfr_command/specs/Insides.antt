@@ -4,6 +4,8 @@ use Rattle.std.specs.List.{AllByRecursion, list_any, slice_split}
 use Rattle.pfr_net.specs.Networks.{net_of, prefix}
 use Rattle.pfr_net.specs.Notation.{◌>>=◌}
 use Rattle.pfr_net.specs.declared.network.Net.{Net}
+use Rattle.pfr_headers.specs.declared.ethernet.EthernetAddress.{EthernetAddress}
+use Rattle.pfr_command.specs.Macs.{all_known}
 use Rattle.pfr_command.specs.declared.inside.Inside.{Inside}
 use Rattle.pfr_command.specs.declared.inside.Listed.{Listed}
 
@@ -56,3 +58,8 @@ Adds parts before after =
 abbrev pub Lists : List ℕ → Inside → Type 0
 Lists word inside =
     Adds (slice_split (λ b. b == 44) word) none inside × (1 ≤ length inside.networks) × NoneTwice inside
+
+-- the networks that a word lists; without one there are none, and every interface has a link-level address
+abbrev pub AreGiven : List (Option EthernetAddress) → Option (List ℕ) → Inside → Type 0
+AreGiven link_addresses None inside = (inside ≡ none) × (all_known link_addresses ≡ true)
+AreGiven link_addresses (Some word) inside = Lists word inside

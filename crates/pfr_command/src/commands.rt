@@ -118,7 +118,18 @@ fn with_choices<'a>(alloc: Global, command: Command<'a>) -> Result<Command<'a>, 
     let command = command.arg(also_arg(alloc))?;
     let command = command.arg(flag(alloc, "seed", SEED, seed).required(false))?;
     let command = with_sizes(alloc, command)?;
-    with_messages(alloc, command)
+    let command = with_messages(alloc, command)?;
+    command.arg(warn_arg(alloc))
+}
+
+/// The flag that asks for warnings.
+fn warn_arg<'a>(alloc: Global) -> Arg<'a> {
+    let help =
+        "Say on standard error what may mean that ruleset, captures and flags don't fit, and why a file can't be opened";
+    Arg::new(alloc, "warn")
+        .long("warn")
+        .help(help)
+        .action(ArgAction::SetTrue)
 }
 
 /// A command with the flags that say which way packets go, and where they were captured.

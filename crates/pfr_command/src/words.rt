@@ -1,8 +1,11 @@
 //! The words of the command line.
-ghost use Rattle.std.specs.Prelude.{◌≡◌, ◌≤◌, IfOk, length};
+ghost use Rattle.std.specs.Prelude.{◌≡◌, ◌≤◌, IfOk, codes, length};
 ghost use Rattle.std.proofs.Props.{props};
-ghost use Rattle.pfr_command.specs.Macs.{all_known};
+ghost use Rattle.clap.specs.Matches.{first_value, found_of};
+ghost use Rattle.pfr_command.specs.Insides.{AreGiven};
+ghost use Rattle.pfr_command.specs.Macs.{AreLinkAddresses, all_known, words_behind};
 ghost use Rattle.pfr_command.specs.Places.{ArePlaces};
+ghost use Rattle.pfr_command.specs.Taps.{IsTap};
 
 use crate::also::{CaptureWords, Places, places_of};
 use crate::around::given_flags;
@@ -70,6 +73,8 @@ pub struct RunWords<'a> {
     pub workers: u64,
     /// The files that are written, and where the messages go.
     pub outputs: OutputNames<'a>,
+    /// Whether warnings are asked for.
+    pub warns: bool,
     pub ghost one_each: { length link_addresses ≡ length captures },
     pub ghost are_places: { ArePlaces rules.interfaces captures } by { Prim.hlevel props },
     pub ghost batch_within: { (1 ≤ batch) × (batch ≤ 4096) },
@@ -177,6 +182,7 @@ fn run_words<'a>(alloc: Global, matches: &ArgMatches<'a>) -> Result<Asked<'a>, R
         batch,
         workers,
         outputs,
+        warns: matches.get_flag("warn"),
     }))
 }
 
@@ -186,7 +192,10 @@ fn given_ways<'a>(
     matches: &ArgMatches<'a>,
     captures: &[CaptureWords<'a>],
 ) -> Result<Ways, Refused<'a>>
-    ensures { IfOk result (λ ways. length ways.link_addresses ≡ length captures.now) }
+    ensures one_each { IfOk result (λ ways. length ways.link_addresses ≡ length captures.now) }
+    ensures link_addresses { IfOk result (λ ways. AreLinkAddresses (words_behind matches.now) captures.now ways.link_addresses) }
+    ensures inside { IfOk result (λ ways. AreGiven ways.link_addresses (first_value (found_of matches.now) (codes "inside")) ways.inside) }
+    ensures tap { IfOk result (λ ways. IsTap (first_value (found_of matches.now) (codes "tap")) ways.tap) }
 {
     let tap = given_tap(matches)?;
     let link_addresses = link_addresses(alloc, captures, matches)?;
@@ -203,7 +212,9 @@ fn given_inside<'a>(
     alloc: Global,
     matches: &ArgMatches<'a>,
     link_addresses: &[Option<EthernetAddress>],
-) -> Result<Inside, Refused<'a>> {
+) -> Result<Inside, Refused<'a>>
+    ensures { IfOk result (AreGiven link_addresses.now (first_value (found_of matches.now) (codes "inside"))) }
+{
     match matches.get_str("inside") {
         Some(word) => networks(alloc, word),
         None if are_all(link_addresses) => Ok(Inside::none(alloc)),
@@ -224,7 +235,9 @@ fn are_all(link_addresses: &[Option<EthernetAddress>]) -> bool
 }
 
 /// The side that the words say, or that of the network stack.
-fn given_tap<'a>(matches: &ArgMatches<'a>) -> Result<Tap, Refused<'a>> {
+fn given_tap<'a>(matches: &ArgMatches<'a>) -> Result<Tap, Refused<'a>>
+    ensures { IfOk result (IsTap (first_value (found_of matches.now) (codes "tap"))) }
+{
     match matches.get_str("tap") {
         Some(word) => tap(word),
         None => Ok(Tap::Stack),

@@ -10,8 +10,8 @@ use std::rt::Files;
 /// Why a ruleset's text can't be had.
 #[derive(Clone, Copy)]
 pub enum Refusal<'a> {
-    /// The file of this name can't be opened or read.
-    CannotOpen(&'a str),
+    /// The file of this name can't be opened or read, for this reason.
+    CannotOpen(&'a str, io::Error),
     /// Memory was refused.
     Memory,
 }
@@ -38,7 +38,7 @@ pub(crate) fn file_text<'a, R: Files + AllocGlobal>(
         Ok(text) => Ok(Items::of(text)),
         Err(error) => match error.kind() {
             ErrorKind::OutOfMemory => Err(Refusal::Memory),
-            _ => Err(Refusal::CannotOpen(name)),
+            _ => Err(Refusal::CannotOpen(name, error)),
         },
     }
 }

@@ -1,0 +1,3 @@
+pub mod Midway
+pub mod Named
+pub mod Skipped

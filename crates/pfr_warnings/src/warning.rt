@@ -1,0 +1,86 @@
+//! Warnings, each in a line.
+use pfr_net::IfName;
+use std::io::Write;
+use std::str::from_utf8;
+use std::{fmt, io};
+
+/// What an operator is warned of.
+#[derive(Clone, Copy)]
+pub enum Warning<'a> {
+    /// No packet of this interface goes out.
+    NoneGoesOut(IfName),
+    /// No packet of this interface comes in.
+    NoneComesIn(IfName),
+    /// No rule names this interface of the run.
+    NoRule(IfName),
+    /// Rules name this interface, and the run doesn't have it.
+    NoCapture(IfName),
+    /// This many packets are of TCP connections that began before them, and met no state.
+    Midway(u64),
+    /// Records are skipped: how many of all, and how many of these hold what.
+    Skipped {
+        packets: u64,
+        skipped: u64,
+        arp: u64,
+        ipv6: u64,
+        pppoe: u64,
+        two_tags: u64,
+        other: u64,
+    },
+    /// This many states were refused by a limit.
+    Refused(u64),
+    /// Why the system didn't give a file, or a connection to a peer.
+    NotOpened(&'a str, io::Error),
+}
+
+/// Writes a warning. If it can't be written, there is nowhere to say so.
+pub fn warn<E: Write>(warning: &Warning<'_>, err: &mut E) {
+    let _ = writeln!(err, "pfreplay: warning: {warning}");
+}
+
+/// The name of an interface as it is printed: without the zeros behind it.
+#[derive(Clone, Copy)]
+struct Printed(IfName);
+
+impl fmt::Display for Printed {
+    fn fmt<W: fmt::Write>(&self, f: &mut fmt::Formatter<W>) -> fmt::Result {
+        match from_utf8(self.0.bytes.as_slice()) {
+            Ok(text) => f.write_str(text.trim_end_matches('\0')),
+            Err(_) => Ok(()),
+        }
+    }
+}
+
+impl fmt::Display for Warning<'_> {
+    fn fmt<W: fmt::Write>(&self, f: &mut fmt::Formatter<W>) -> fmt::Result {
+        match self {
+            Warning::NoneGoesOut(name) => write!(f, "{}: no packet goes out", Printed(*name)),
+            Warning::NoneComesIn(name) => write!(f, "{}: no packet comes in", Printed(*name)),
+            Warning::NoRule(name) => write!(f, "no rule names {}", Printed(*name)),
+            Warning::NoCapture(name) => {
+                write!(f, "no capture is of {}, which rules name", Printed(*name))
+            }
+            Warning::Midway(count) => write!(f, "packets midway in a TCP connection: {count}"),
+            Warning::Skipped {
+                packets,
+                skipped,
+                arp,
+                ipv6,
+                pppoe,
+                two_tags,
+                other,
+            } => {
+                write!(
+                    f,
+                    "packets skipped: {skipped} of {packets}: {arp} ARP, {ipv6} IPv6, "
+                )?;
+                write!(
+                    f,
+                    "{pppoe} PPPoE, {two_tags} with two VLAN tags, {other} other"
+                )
+            }
+            Warning::Refused(count) => write!(f, "states refused by a limit: {count}"),
+            Warning::NotOpened(name, reason) => write!(f, "{name}: {reason}"),
+        }
+    }
+}
