@@ -11,16 +11,16 @@ import steps.cases
 from captures import merging
 from runs import (also_files, cases, devices, filter_cases, filter_rows, interface_rows, lines, long_rulesets,
                   message_cases, message_rows, model, random_cases, rows, same_files, setting_cases, setting_files,
-                  setting_rows, standard_streams)
+                  setting_rows, standard_streams, warn_rows, warnings)
 from runs.case import EXAMPLES, INSIDE, PACKETS, Case, capture_of
 from runs.comparison import a_line
 from runs.model import FILE, NONE, OUTPUTS, PEER, Outcome
 from steps.model import STACK
 from steps.tap_cases import RULES as REDIRECTING
 
-# each such case is also run with its messages sent to a peer, each such one without messages, and each such one with
-# the tap of most runs written out
-PEER_STEP, NONE_STEP, TAP_STEP = 5, 9, 7
+# each such case is also run with its messages sent to a peer, each such one without messages, each such one with the
+# tap of most runs written out, and each such one with warnings
+PEER_STEP, NONE_STEP, TAP_STEP, WARN_STEP = 5, 9, 7, 4
 # the numbers of workers with which rows on several interfaces and random runs with settings are run
 WORKERS = (0, 4)
 
@@ -67,6 +67,7 @@ def compare_model(comparison):
         for case, words in row.alone():
             line = model.run(case).files.verdicts.decode()
             comparison.expect(f"model: {case.name}", f"1 0 {words} t=-", line[:line.find(" s=")])
+    warn_rows.compare_model(comparison)
 
 
 # The program beside the model
@@ -83,6 +84,8 @@ def compare(comparison):
         compare_case(comparison, case, forms, is_old=number % 3 == 0)
         if number % TAP_STEP == 0 and case.tap is None:
             compare_case(comparison, case, [FILE], words=("--tap", STACK))
+        if number % WARN_STEP == 0:
+            compare_warned(comparison, case, WORKERS[number // WARN_STEP % len(WORKERS)])
     compare_scenes(comparison)
     compare_settings(comparison)
     good_lines(comparison)
@@ -90,6 +93,7 @@ def compare(comparison):
     bad_lines(comparison)
     devices.compare(comparison)
     also_files.compare(comparison)
+    warn_rows.compare(comparison)
     same_files.compare(comparison)
     setting_files.compare(comparison)
     standard_streams.compare(comparison)
@@ -103,6 +107,13 @@ def compare_case(comparison, case, forms, is_old=False, words=()):
         comparison.prepare(case, is_old)
         more = " ".join(map(str, (f"{'old' if is_old else 'new'} files, {form}", *words)))
         comparison.expect(f"{case.name} ({more})", model.run(case, form), comparison.replay(case, form, words))
+
+
+def compare_warned(comparison, case, workers):
+    """Runs a case with warnings."""
+    comparison.prepare(case)
+    seen = comparison.replay(case, words=(warn_rows.WARN, "--workers", workers))
+    comparison.expect(f"{case.name}, with warnings and {workers} workers", warnings.run(case), seen)
 
 
 # Several interfaces
@@ -123,6 +134,7 @@ def compare_scenes(comparison):
             comparison.expect(name, model.run(scene.case), seen)
             expect_scene(comparison, name, scene, seen or Outcome(b"", b"", None))
         compare_case(comparison, scene.case, [PEER] + [NONE] * (number % PEER_STEP == 0))
+        compare_warned(comparison, scene.case, WORKERS[number % len(WORKERS)])
 
 
 def compare_settings(comparison):
@@ -130,6 +142,7 @@ def compare_settings(comparison):
     for number, case in enumerate(setting_cases.cases()):
         for workers in WORKERS:
             compare_case(comparison, case, [FILE], is_old=number % 3 == 0, words=("--workers", workers))
+        compare_warned(comparison, case, WORKERS[number % len(WORKERS)])
 
 
 # Messages

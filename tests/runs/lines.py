@@ -20,6 +20,7 @@ FORMS = {**check_cases.FORMS, "--inside": "NETS", "--seed": "HEX", "--batch": "1
          **{f"--{name}": "FILE" for name in OUTPUTS}}
 # those that the help shows, among others
 HELPED = ("--messages", "--peer", "--also", "--tap", "--mac")
+WARN_FLAG = "--warn"
 # values of --also that aren't of its form, each with the part that is wrong; with other than four parts the whole is
 BAD_ALSO = {**{value: value for value in ("", ",", "em1", "em1,203.0.113.2/24", "em1,203.0.113.2/24,missing", ",,",
                                           "em1,203.0.113.2/24,missing,more,others", "em1,203.0.113.2/24,missing,more,",
@@ -129,6 +130,9 @@ def surplus_words():
         said = (f"the argument '{flag} <{FORMS[flag]}>' cannot be used multiple times".encode(),)
         yield Line(run_line(again, flag, value), said)
         yield Line(run_line(again, f"{flag}={value}"), said)
+    yield Line(run_line(FLAGS, WARN_FLAG, WARN_FLAG))
+    yield Line(run_line(FLAGS, f"{WARN_FLAG}=true"))
+    yield Line(run_line(FLAGS, f"{WARN_FLAG}s"))
     # messages go to one place at most
     both = b"--messages", b"--peer"
     yield Line(run_line(FLAGS, *MESSAGES_FLAG, *PEER_FLAG), both)
@@ -193,7 +197,7 @@ def settings():
                  (*also("em1", "em2"), *mac("em2"), *mac("em0")), TAP_FLAG):
         yield Line(run_line(without, *more), (b"--inside",))
     for command in ("check", "adapt"):
-        for more in (TAP_FLAG, mac("em0")):
+        for more in (TAP_FLAG, mac("em0"), (WARN_FLAG,)):
             yield Line((command, RULES, "--interface", "em0", "--address", "192.0.2.1/24", *more))
 
 
