@@ -23,8 +23,8 @@ from pathlib import Path
 sys.dont_write_bytecode = True
 
 from make_flows import REDIRECTED, write_flows, write_translated_flows
-from run import (MEGABYTE, OUTPUTS, PROGRAM, best_seconds, count_records, peak_memory, print_row, replay_command,
-                 seconds, tcpdump_command)
+from run import (MEGABYTE, OUTPUTS, best_seconds, count_records, peak_memory, print_row, replay_command,
+                 seconds, tcpdump_command, words_with_program)
 
 # ten rules that make states; the filter passes the packets that they and their states pass
 RULES = """\
@@ -275,10 +275,7 @@ def main():
     parser.add_argument("--nat", action="store_true", help="prints the table of flows that are translated, alone")
     parser.add_argument("--messages", action="store_true", help="prints the table of runs that tell a standby, alone")
     parser.add_argument("--before", type=Path, help="another program, beside which runs without messages are measured")
-    parser.add_argument("program", nargs="?", type=Path, default=PROGRAM)
-    words = parser.parse_args()
-    if not words.program.is_file():
-        sys.exit(f"{words.program} isn't there: build the program first")
+    words = words_with_program(parser)
     for needed in () if words.messages else ("tcprewrite",) if words.nat else ("tcpdump", "tcprewrite"):
         if shutil.which(needed) is None:
             sys.exit(f"{needed} isn't there: apt-get update && apt-get install -y tcpdump tcpreplay time")

@@ -24,7 +24,7 @@ sys.dont_write_bytecode = True
 from flows import RULES
 from make_flows import write_flows
 from rules import vain_ranges
-from run import PROGRAM, best_seconds, count_records, peak_memory, print_row, replay_command
+from run import best_seconds, count_records, peak_memory, print_row, replay_command, words_with_program
 
 HEADER, RECORD = 24, 16
 # the addresses of a frame's IP header behind its link header
@@ -152,10 +152,7 @@ def main():
     parser.add_argument("--packets", type=int, default=PACKETS)
     parser.add_argument("--instructions", action="store_true", help="counts instructions in the place of seconds")
     parser.add_argument("--workers", type=int, help="prints the table of a capture that ends early, alone")
-    parser.add_argument("program", nargs="?", type=Path, default=PROGRAM)
-    words = parser.parse_args()
-    if not words.program.is_file():
-        sys.exit(f"{words.program} isn't there: build the program first")
+    words = words_with_program(parser)
     with tempfile.TemporaryDirectory() as name:
         contest = Contest(Path(name), words.program.resolve(), words.packets)
         if words.workers:

@@ -12,7 +12,7 @@ from pathlib import Path
 sys.dont_write_bytecode = True
 
 from make_capture import OPENING
-from run import PROGRAM, best_seconds, print_row, replay_command
+from run import best_seconds, print_row, replay_command, words_with_program
 
 # found where make_capture says
 from captures.packets import capture_header, record, udp
@@ -100,10 +100,7 @@ def main():
     parser = argparse.ArgumentParser(description="Measures what `max` on rules costs.")
     parser.add_argument("--packets", type=int, default=PACKETS)
     parser.add_argument("--states", type=int, nargs="+", default=list(STATES))
-    parser.add_argument("program", nargs="?", type=Path, default=PROGRAM)
-    words = parser.parse_args()
-    if not words.program.is_file():
-        sys.exit(f"{words.program} isn't there: build the program first")
+    words = words_with_program(parser)
     program = words.program.resolve()
     with tempfile.TemporaryDirectory() as folder:
         print_row(["rules", "packets that make a state", "us each without max", "us each with max", "ratio"])

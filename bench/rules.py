@@ -21,7 +21,7 @@ from pathlib import Path
 sys.dont_write_bytecode = True
 
 from make_capture import write_capture
-from run import PROGRAM, RUNS, count_records, peak_memory, print_row, replay_command, tcpdump_command
+from run import RUNS, count_records, peak_memory, print_row, replay_command, tcpdump_command, words_with_program
 
 # found where make_capture says
 from captures.packets import LINKTYPE_ETHERNET
@@ -236,12 +236,8 @@ def main():
     parser.add_argument("--kinds", nargs="+", choices=KINDS, default=list(KINDS))
     parser.add_argument("--rules", type=int, nargs="+", help="in place of the numbers that each kind has")
     parser.add_argument("--unchecked", action="store_true", help="the program may print what it likes")
-    parser.add_argument("program", nargs="?", type=Path, default=PROGRAM)
-    words = parser.parse_args()
+    words = words_with_program(parser)
     programs = [program.resolve() for program in (words.program, *words.beside)]
-    for program in programs:
-        if not program.is_file():
-            sys.exit(f"{program} isn't there: build the program first")
     print_row(["kind", "rules", "s a million packets", "x fewest", *(f"{program.name}, s" for program in programs[1:]),
                "tcpdump, s", "start ms", "start MB"])
     print_row(["---"] + ["---:"] * (6 + len(programs)))

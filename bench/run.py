@@ -144,13 +144,19 @@ def print_row(words):
     print("| " + " | ".join(words) + " |", flush=True)
 
 
-def main():
-    parser = argparse.ArgumentParser(description="Measures the program beside tcpdump.")
-    parser.add_argument("--packets", type=int, nargs="+", default=[10**4, 10**5, 10**6])
+def words_with_program(parser):
+    """The words of a command line behind which the program may stand, which has to be there."""
     parser.add_argument("program", nargs="?", type=Path, default=PROGRAM)
     words = parser.parse_args()
     if not words.program.is_file():
         sys.exit(f"{words.program} isn't there: build the program first")
+    return words
+
+
+def main():
+    parser = argparse.ArgumentParser(description="Measures the program beside tcpdump.")
+    parser.add_argument("--packets", type=int, nargs="+", default=[10**4, 10**5, 10**6])
+    words = words_with_program(parser)
     if shutil.which("tcpdump") is None:
         sys.exit("tcpdump isn't there: apt-get update && apt-get install -y tcpdump")
     if shutil.which("time") is None:

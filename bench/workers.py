@@ -31,8 +31,8 @@ from flows import outcomes
 from make_capture import write_capture
 from make_flows import write_flows
 from rules import vain_ranges
-from run import (OUTPUTS, PROGRAM, RUNS, peak_memory, peak_word, print_row, replay_command, seconds, seconds_and_peak,
-                 used)
+from run import (OUTPUTS, RUNS, peak_memory, peak_word, print_row, replay_command, seconds, seconds_and_peak, used,
+                 words_with_program)
 
 PACKETS = 200000
 COUNTS, BATCHES, WORKERS = [10, 100, 1000], [256, 4096], [1, 2, 4, 8]
@@ -212,10 +212,7 @@ def main():
     parser.add_argument("--workers", type=int, nargs="+", default=WORKERS, help="beside 0, which is always measured")
     parser.add_argument("--long", type=int, nargs="*", metavar="N",
                         help="prints the table of captures of N packets, alone")
-    parser.add_argument("program", nargs="?", type=Path, default=PROGRAM)
-    words = parser.parse_args()
-    if not words.program.is_file():
-        sys.exit(f"{words.program} isn't there: build the program first")
+    words = words_with_program(parser)
     if shutil.which("time") is None:
         print("without the program 'time' (apt-get install -y time) no peak memory is shown")
     print(f"load {os.getloadavg()[0]:.1f}")
