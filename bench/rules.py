@@ -21,7 +21,8 @@ from pathlib import Path
 sys.dont_write_bytecode = True
 
 from make_capture import write_capture
-from run import RUNS, count_records, peak_memory, print_row, replay_command, tcpdump_command, words_with_program
+from run import (RUNS, check_built, count_records, peak_memory, print_row, replay_command, tcpdump_command,
+                 words_with_program)
 
 # found where make_capture says
 from captures.packets import LINKTYPE_ETHERNET
@@ -238,6 +239,8 @@ def main():
     parser.add_argument("--unchecked", action="store_true", help="the program may print what it likes")
     words = words_with_program(parser)
     programs = [program.resolve() for program in (words.program, *words.beside)]
+    for program in programs[1:]:
+        check_built(program)
     print_row(["kind", "rules", "s a million packets", "x fewest", *(f"{program.name}, s" for program in programs[1:]),
                "tcpdump, s", "start ms", "start MB"])
     print_row(["---"] + ["---:"] * (6 + len(programs)))

@@ -144,12 +144,17 @@ def print_row(words):
     print("| " + " | ".join(words) + " |", flush=True)
 
 
+def check_built(program):
+    """Ends if a program isn't there."""
+    if not program.is_file():
+        sys.exit(f"{program} isn't there: build the program first")
+
+
 def words_with_program(parser):
     """The words of a command line behind which the program may stand, which has to be there."""
     parser.add_argument("program", nargs="?", type=Path, default=PROGRAM)
     words = parser.parse_args()
-    if not words.program.is_file():
-        sys.exit(f"{words.program} isn't there: build the program first")
+    check_built(words.program)
     return words
 
 

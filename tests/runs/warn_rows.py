@@ -6,6 +6,8 @@ from captures.packets import LINKTYPE_ETHERNET, LINKTYPE_LOOPBACK, capture_heade
 from runs import model, warnings
 from runs.also_files import words_of
 from runs.case import FIRST_RULES, INSIDE, PACKETS, Also, Case, capture_of
+from runs.model import NONE
+from runs.peers import nobody
 
 WARN = "--warn"
 # none evaluates packets ahead, or some do
@@ -103,6 +105,7 @@ def compare(comparison):
         comparison.prepare(case)
         comparison.expect(f"warnings: {case.name}", model.run(case), comparison.replay(case, words=(WARN,)))
     refusals(comparison)
+    silent_peer(comparison)
 
 
 def execute(comparison, names, more=()):
@@ -130,3 +133,14 @@ def refusals(comparison):
     comparison.expect("warnings: the capture is a folder",
                       warnings.said([f"{folder.name}: is a directory"]) + b"pfreplay: read failed, committed 0\n",
                       seen and seen.err)
+
+
+def silent_peer(comparison):
+    """A peer where nobody listens: the reason is that of the connection."""
+    with nobody() as silent:
+        peer = "%s:%d" % silent.getsockname()
+        comparison.prepare(CASE)
+        expected = model.cannot_open(peer, model.opened(NONE))
+        said = warnings.said([f"{peer}: Connection refused (os error 111)"])
+        comparison.expect("warnings: a peer where nobody listens", expected._replace(err=said + expected.err),
+                          comparison.execute([*comparison.command(CASE, NONE), "--peer", peer, WARN]))
