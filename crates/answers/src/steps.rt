@@ -56,8 +56,7 @@ fn tap_of(given: &mut Given<'_>) -> Tap {
 /// The link address of an interface, if it is known.
 fn link_address(given: &mut Given<'_>) -> Option<EthernetAddress> {
     let known = given.byte();
-    let [first, second, third, fourth, fifth, sixth] = given.array::<6>();
-    let address = u64::from_be_bytes([0, 0, first, second, third, fourth, fifth, sixth]);
+    let address = given.array::<6>();
     match known {
         1 => Some(EthernetAddress(address)),
         _ => None,

@@ -21,15 +21,7 @@ pair_of text =
     digit_of (slice_index text 0) >>= (λ high. digit_of (slice_index text 1) >>= (λ low. Some (16 * high + low)))
     else None
 
--- three pairs of digits, the highest byte first
-abbrev pub three_pairs : (first second third : List ℕ) → Option ℕ
-three_pairs first second third = do
-  high ← pair_of first
-  middle ← pair_of second
-  low ← pair_of third
-  Some ((high * 256 + middle) * 256 + low)
-
--- `AA:BB:CC:DD:EE:FF`: the address of which the first pair of digits is the highest byte (IEEE 802, section 8.1)
+-- `AA:BB:CC:DD:EE:FF`: the address of which the first pair of digits is the byte that is sent first (IEEE 802, section 8.1)
 unfoldable pub address_of : List ℕ → Option EthernetAddress
 address_of text = do
   a ← cut_at 58 text
@@ -37,9 +29,13 @@ address_of text = do
   c ← cut_at 58 b.1
   d ← cut_at 58 c.1
   e ← cut_at 58 d.1
-  high ← three_pairs a.0 b.0 c.0
-  low ← three_pairs d.0 e.0 e.1
-  Some (record { 0 = high * 16777216 + low })
+  first ← pair_of a.0
+  second ← pair_of b.0
+  third ← pair_of c.0
+  fourth ← pair_of d.0
+  fifth ← pair_of e.0
+  sixth ← pair_of e.1
+  Some (record { 0 = first ∷ second ∷ third ∷ fourth ∷ fifth ∷ sixth ∷ [] })
 
 -- the name of an interface, and its address
 abbrev pub Mac : Type 0

@@ -1,5 +1,5 @@
 //! The link-level addresses of a run's interfaces.
-ghost use Rattle.std.specs.Prelude.{◌≡◌, [], ◌∷◌, length, map, true, IfOk, IfSome, OnOk, option_map, ◌<◌, ◌^◌};
+ghost use Rattle.std.specs.Prelude.{◌≡◌, [], ◌∷◌, length, map, true, IfOk, OnOk, option_map};
 ghost use Rattle.std.specs.List.{list_any};
 ghost use Rattle.std.specs.Result.{result_ok};
 ghost use Rattle.std.specs.Str.{bytes_eq};
@@ -52,31 +52,25 @@ fn pair(text: &[u8]) -> Option<u8>
     Some(16 * high + low)
 }
 
-/// The number that three pairs of hexadecimal digits write, between which colons stand.
-fn three_pairs(first: &[u8], second: &[u8], third: &[u8]) -> Option<u64>
-    ensures value { result ≡ spec.three_pairs first.now second.now third.now }
-    ensures within { IfSome result (λ number. number < 2 ^ 24) }
-{
-    let high = pair(first)?;
-    let middle = pair(second)?;
-    let low = pair(third)?;
-    Some((u64::from(high) * 256 + u64::from(middle)) * 256 + u64::from(low))
-}
-
 /// The address that six pairs of hexadecimal digits write, between which colons stand.
 #[tactic(auto, unfolding(crate::specs::Macs::address_of))]
 fn address_of(text: &[u8]) -> Option<EthernetAddress>
-    ensures value { result ≡ spec.address_of text.now }
-    ensures within { IfSome result (λ address. address.0 < 2 ^ 48) }
+    ensures { result ≡ spec.address_of text.now }
 {
     let (first, rest) = notation::cut(b':', text)?;
     let (second, rest) = notation::cut(b':', rest)?;
     let (third, rest) = notation::cut(b':', rest)?;
     let (fourth, rest) = notation::cut(b':', rest)?;
     let (fifth, sixth) = notation::cut(b':', rest)?;
-    let high = three_pairs(first, second, third)?;
-    let low = three_pairs(fourth, fifth, sixth)?;
-    Some(EthernetAddress(high * 16777216 + low))
+    let address = [
+        pair(first)?,
+        pair(second)?,
+        pair(third)?,
+        pair(fourth)?,
+        pair(fifth)?,
+        pair(sixth)?,
+    ];
+    Some(EthernetAddress(address))
 }
 
 /// What stands before the first `=` of a word and behind it.

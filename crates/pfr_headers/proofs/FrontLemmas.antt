@@ -1,5 +1,6 @@
 -- What is read of bytes that stay, and of a frame whose bytes before its datagram stay.
-use Rattle.std.proofs.Common.{◌≡◌, inl, inr, ◌≤◌, ◌<◌, ◌+◌, ◌&&◌, ℕ, zero, suc, Bool, not, eqb, ltb, List, length, drop, slice_index, Option, Some, None, refl, sym, ◌∙◌, ap, subst, cond, arith}
+use Rattle.std.proofs.Common.{◌≡◌, inl, inr, ◌≤◌, ◌<◌, ◌+◌, ◌&&◌, ℕ, zero, suc, Bool, not, eqb, ltb, List, length, drop, take, slice_index, Option, Some, None, refl, sym, ◌∙◌, ap, subst, cond, arith}
+use Rattle.std.proofs.Math.Seq.{drop-cons}
 use Rattle.std.proofs.lemmas.List.{get_or-drop}
 use Rattle.byteorder.specs.Endian.{big_from, big_number}
 use Rattle.pfr_headers.specs.View.{HoldsIpv4, sender_of}
@@ -18,6 +19,14 @@ number_from (suc n) from place low high now old same least most =
 
 pub number_same : (n place low high : ℕ) (now old : List ℕ) → Agree low high now old → low ≤ place → place + n ≤ high → big_number n (drop place now) ≡ big_number n (drop place old)
 number_same n place low high now old same least most = number_from n 0 place low high now old same (omega arith) (omega arith)
+
+-- and so are bytes among them
+bytes_same : (n place low high : ℕ) (now old : List ℕ) → Agree low high now old → low ≤ place → place + n ≤ high → place + n ≤ length now → place + n ≤ length old → take n (drop place now) ≡ take n (drop place old)
+bytes_same zero place low high now old same least most in_now in_old = refl
+bytes_same (suc n) place low high now old same least most in_now in_old =
+    let byte = same place least (omega arith) in
+    let rest = bytes_same n (suc place) low high now old same (omega arith) (omega arith) (omega arith) (omega arith) in
+    rw (drop-cons now place 0 (omega arith), drop-cons old place 0 (omega arith), byte, rest) refl
 
 -- the same behind a place
 pub agree_behind : (from low high : ℕ) (now old : List ℕ) → Agree (from + low) (from + high) now old → Agree low high (drop from now) (drop from old)
@@ -64,7 +73,9 @@ sender_same link now bytes place size front (inl r) = rw r.link_is refl
 sender_same link now bytes place size front (inr (inl l)) = rw l.link_is refl
 sender_same link now bytes place size front (inr (inr (inl e))) =
     let at = e.place_is in
-    rw (size, number_same 6 6 0 place now bytes front (omega arith) (omega arith)) refl
+    let whole = e.whole in
+    rw (size, bytes_same 6 6 0 place now bytes front (omega arith) (omega arith) (omega arith) (omega arith)) refl
 sender_same link now bytes place size front (inr (inr (inr t))) =
     let at = t.place_is in
-    rw (size, number_same 6 6 0 place now bytes front (omega arith) (omega arith)) refl
+    let whole = t.whole in
+    rw (size, bytes_same 6 6 0 place now bytes front (omega arith) (omega arith) (omega arith) (omega arith)) refl

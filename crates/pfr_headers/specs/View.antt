@@ -8,7 +8,7 @@
 --   bytes 16..19  destination
 --
 -- All numbers are big-endian.
-use Rattle.std.specs.Prelude.{◌≡◌, ◌⊎◌, ℕ, ◌*◌, ◌/◌, ◌%◌, ◌-◌, ◌<◌, ◌≤◌, Bool, not, ◌==◌, ◌&&◌, ◌||◌, nat_lt, if◌then◌else◌, List, length, drop, slice_index, Option, Some, None}
+use Rattle.std.specs.Prelude.{◌≡◌, ◌⊎◌, ℕ, ◌*◌, ◌/◌, ◌%◌, ◌-◌, ◌<◌, ◌≤◌, Bool, not, ◌==◌, ◌&&◌, ◌||◌, nat_lt, if◌then◌else◌, List, length, drop, take, slice_index, Option, Some, None}
 use Rattle.byteorder.specs.Endian.{big_number, little_number}
 use Rattle.pfr_headers.specs.declared.ethernet.EthernetAddress.{EthernetAddress}
 use Rattle.pfr_headers.specs.declared.packet.Packet.{Packet}
@@ -92,7 +92,7 @@ HoldsIpv4 link bytes place = IsRaw link bytes place ⊎ IsLoopback link bytes pl
 -- The address from which a frame was sent: bytes 6 to 11 of an Ethernet frame (IEEE 802.3, clause 3.2). Frames of other links have
 -- none.
 unfoldable pub sender_of : ℕ → List ℕ → Option EthernetAddress
-sender_of link bytes = if link == 1 && not (nat_lt (length bytes) 12) then Some (record { 0 = big_number 6 (drop 6 bytes) }) else None
+sender_of link bytes = if link == 1 && not (nat_lt (length bytes) 12) then Some (record { 0 = take 6 (drop 6 bytes) }) else None
 
 -- What a frame is: a packet, by its sender and the headers of its datagram; one whose headers are not there as they should
 -- be; or no IPv4 packet.

@@ -1,5 +1,5 @@
 //! Ethernet addresses.
 
-/// An Ethernet address (IEEE 802.3) as a number: the byte that is sent first is the highest of its six.
+/// An Ethernet address (IEEE 802.3): its six bytes in the order in which they are sent.
 #[derive(Clone, Copy, Debug, PartialEq, Eq)]
-pub struct EthernetAddress(pub u64);
+pub struct EthernetAddress(pub [u8; 6]);

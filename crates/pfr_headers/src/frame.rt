@@ -28,7 +28,9 @@ pub fn sender(link: u16, bytes: &[u8]) -> Option<EthernetAddress>
     ensures { result ≡ sender_of link bytes.now }
 {
     if link == 1 && bytes.len() >= 12 {
-        Some(EthernetAddress(BigEndian::read_u48(&bytes[6..])))
+        let mut address = [0; 6];
+        address.copy_from_slice(&bytes[6..12]);
+        Some(EthernetAddress(address))
     } else {
         None
     }

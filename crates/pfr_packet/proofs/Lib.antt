@@ -18,3 +18,4 @@ pub mod ShownLemmas
 pub mod TryLemmas
 pub mod VisitLemmas
 pub mod WayLemmas
+pub mod WireLemmas

@@ -58,13 +58,13 @@ same_value x y h = Prim.search rules
 value_same : (x : EthernetAddress) → address_ghosts.eq x x ≡ true
 value_same x = Prim.search rules
 
-same_address : (x y : Option EthernetAddress) → option_eq address_ghosts.eq x y ≡ true → x ≡ y
+pub same_address : (x y : Option EthernetAddress) → option_eq address_ghosts.eq x y ≡ true → x ≡ y
 same_address None None h = refl
 same_address None (Some y) h = absurd (cc h)
 same_address (Some x) None h = absurd (cc h)
 same_address (Some x) (Some y) h = ap (λ (a : EthernetAddress). Some a) (same_value x y h)
 
-address_same : (x : Option EthernetAddress) → option_eq address_ghosts.eq x x ≡ true
+pub address_same : (x : Option EthernetAddress) → option_eq address_ghosts.eq x x ≡ true
 address_same None = refl
 address_same (Some x) = value_same x
 

@@ -1,7 +1,9 @@
 -- Settings: which way packets go, and where they were captured.
 use Rattle.std.proofs.Common.{◌≡◌, ◌↔◌, ◌&&◌, ℕ, Bool, true, false, eqb, cond, List, [], ◌∷◌, Option, Some, None, refl, sym, ◌∙◌, ap, subst}
 use Rattle.std.proofs.lemmas.Bool.{eq-eqb, eqb-true}
+use Rattle.std.proofs.lemmas.Slice.Eq.{bytes_eq-Decides}
 use Rattle.std.specs.List.{Contains, find}
+use Rattle.std.specs.Str.{bytes_eq}
 use Rattle.pfr_net.specs.declared.direction.Direction.{Direction}
 use Rattle.pfr_net.specs.declared.direction.Direction.TheVariants.{In, Out}
 use Rattle.pfr_net.specs.declared.endpoint.Endpoint.{Endpoint}
@@ -66,13 +68,13 @@ use Rattle.pfr_packet.proofs.ShownLemmas.{shown_either}
 -- ---- which way packets go
 
 address_is : (a b : EthernetAddress) → a.0 ≡ b.0 → a ≡ b
-address_is a b is = ap (λ (n : ℕ). record { 0 = n }) is
+address_is a b is = ap (λ (bytes : List ℕ). record { 0 = bytes }) is
 
-sent_out : (address sender : EthernetAddress) (test : Bool) → eqb sender.0 address.0 ≡ test → (cond test Out In ≡ Out) ↔ (Some sender ≡ Some address)
-sent_out address sender true is = (λ out. ap (λ (a : EthernetAddress). Some a) (address_is sender address (eqb-true _ _ is)), λ same. refl)
+sent_out : (address sender : EthernetAddress) (test : Bool) → bytes_eq sender.0 address.0 ≡ test → (cond test Out In ≡ Out) ↔ (Some sender ≡ Some address)
+sent_out address sender true is = (λ out. ap (λ (a : EthernetAddress). Some a) (address_is sender address ((bytes_eq-Decides sender.0 address.0).0 is)), λ same. refl)
 sent_out address sender false is = (
   λ out. absurd (cc out),
-  λ same. (let a : sender ≡ address = cc same in let both : false ≡ true = sym is ∙ eq-eqb sender.0 address.0 (ap (λ (x : EthernetAddress). x.0) a) in absurd (cc both)),
+  λ same. (let a : sender ≡ address = cc same in let both : false ≡ true = sym is ∙ (bytes_eq-Decides sender.0 address.0).1 (ap (λ (x : EthernetAddress). x.0) a) in absurd (cc both)),
 )
 
 by_sender : (address : EthernetAddress) (sender : Option EthernetAddress) → (sent_from address sender ≡ Out) ↔ (sender ≡ Some address)

@@ -21,8 +21,9 @@ use Rattle.pfr_states.specs.declared.change.TableChange.TheVariants.{Made}
 use Rattle.pfr_states.specs.Answers.{purged_at}
 use Rattle.pfr_states.specs.States.{IsTable, StateTable, lives}
 use Rattle.pfr_packet.specs.declared.outcome.Outcome.{Outcome}
-use Rattle.pfr_packet.specs.Connections.{IsAnswerTo, IsLater}
+use Rattle.pfr_packet.specs.Connections.{GoesBy, IsAnswerTo, IsLater, sent_on}
 use Rattle.pfr_packet.specs.Job.{HasDefaults, RunJob, direction_of, is_skipped, link_address_at}
+use Rattle.pfr_packet.specs.Keys.{written_by}
 use Rattle.pfr_packet.specs.Steps.{step_of}
 use Rattle.pfr_packet.specs.Taps.{is_translated}
 
@@ -89,3 +90,27 @@ AnswersOnTheWireAreFollowed =
     → meets later.rules.binding (To back) ≡ true
     → is_skipped job back ≡ is_skipped job place
     → IsFollowed later (step_of job next now back (Ipv4 answer) after)
+
+-- A packet goes out by a state: as it reaches the firewall's filter it has the state's key on the side of the stack, and as the state
+-- sends it on the key on the wire.
+pub record GoesOutBy (packet sent : Packet) (state : State) : Type 0 where
+  pub sent_is : sent ≡ sent_on packet (written_by Out packet state.wire state.stack)
+  pub stack_protocol : state.stack.protocol ≡ packet.protocol
+  pub wire_protocol : state.wire.protocol ≡ packet.protocol
+  pub captured : GoesBy Out packet state.stack
+  pub is_sent : GoesBy Out sent state.wire
+
+-- Such a packet comes to the same where the wire shows it, over the same table, and nothing is written into it. So it has the same line,
+-- and the state goes on alike.
+abbrev pub SameOnTheWire : Type 0
+SameOnTheWire =
+    (job : RunJob) (number : ℕ) (clock : Clock) (place : InterfacePlace) (packet sent : Packet) (table : StateTable) (state : State)
+    → IsTable table
+    → Contains table.states state
+    → lives clock state ≡ true
+    → meets state.rules.binding (To place) ≡ true
+    → GoesOutBy packet sent state
+    → direction_of job place packet ≡ Out
+    → direction_of job place sent ≡ Out
+    → step_of (record job { tap = tap.Wire }) number clock place (Ipv4 sent) table
+    ≡ record (step_of (record job { tap = tap.Stack }) number clock place (Ipv4 packet) table) { bytes = None }

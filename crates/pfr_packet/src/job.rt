@@ -181,17 +181,9 @@ impl Job {
         &self.rules
     }
 
-    /// The networks whose packets go out.
-    #[inline]
-    pub fn inside(&self) -> &[Net]
-        ensures { result.now ≡ self.now.inside }
-    {
-        self.inside.as_slice()
-    }
-
     /// Where packets were captured that go out.
     #[inline]
-    pub fn tap(&self) -> Tap
+    pub(crate) fn tap(&self) -> Tap
         ensures { result ≡ self.now.tap }
     {
         self.tap

@@ -1,7 +1,7 @@
 //! Laws of the definitions, each the contract of a function that does nothing.
 ghost use Rattle.pfr_packet.specs.Connections.{AnswersAreBroughtBack, AnswersGoBack, StateKnowsBothSides};
 ghost use Rattle.pfr_packet.specs.Laws.{BlockedIsNotWritten, BlockedOnlyRemoves, ChangesAreOfTheNamed, EachPortOnce, FirstFreeIsPicked, LimitBlocksWhereReached, MadeByTheRulesNamed, MadeWhereItsRuleHasRoom, NoChangeIsRefused, NoRuleBehindAState, NoneWhereAllAreTaken, OpensNoConnection, OptionsPassByLeave, PassedOverChangesNothing, SameAnswersGiveTheSame, VisitsRulesOnce, WrittenIsOfThePacket};
-ghost use Rattle.pfr_packet.specs.Settings.{AnswersOnTheWireAreFollowed, GoesBySourceByDefault, GoesOutByItsSender, MadeUntranslated, TapChangesNothing};
+ghost use Rattle.pfr_packet.specs.Settings.{AnswersOnTheWireAreFollowed, GoesBySourceByDefault, GoesOutByItsSender, MadeUntranslated, SameOnTheWire, TapChangesNothing};
 ghost use Rattle.pfr_packet.specs.Steps.{asked_of, step_of};
 
 use pfr_states::laws::one_state_answers_a_key;
@@ -151,4 +151,10 @@ pub fn each_port_is_tried_once()
 pub fn the_first_free_port_is_picked()
     ensures first { FirstFreeIsPicked }
     ensures none { NoneWhereAllAreTaken }
+{}
+
+/// A packet that goes out by a state comes to the same where it was captured on the wire, as the state has sent it on, over the same
+/// table: its line is the same, and the state goes on alike. Nothing is written into it there.
+pub fn a_packet_of_a_state_is_the_same_on_the_wire()
+    ensures { SameOnTheWire }
 {}

@@ -12,11 +12,7 @@ fn is_same_transport(first: &Transport, second: &Transport) -> bool
 fn is_same_sender(first: Option<EthernetAddress>, second: Option<EthernetAddress>) -> bool
     ensures { IsTrue result ↔ (first ≡ second) }
 {
-    match (first, second) {
-        (Some(first), Some(second)) => first.0 == second.0,
-        (None, None) => true,
-        _ => false,
-    }
+    first == second
 }
 
 fn is_same_packet(first: &Packet, second: &Packet) -> bool

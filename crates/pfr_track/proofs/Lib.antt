@@ -6,3 +6,4 @@ pub mod TrackingMade
 pub mod TrackingRemoved
 pub mod TrackingSegments
 pub mod TrackingTurned
+pub mod TrackingTranslated

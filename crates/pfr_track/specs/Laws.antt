@@ -3,12 +3,15 @@
 use Rattle.std.specs.Prelude.{◌≡◌, ◌≢◌, ◌+◌, ◌^◌, ◌<◌, ◌≤◌, true}
 use Rattle.pfr_net.specs.declared.direction.Direction.{Direction}
 use Rattle.pfr_net.specs.declared.direction.Direction.TheVariants.{In, Out}
+use Rattle.pfr_net.specs.declared.endpoint.Endpoint.{Endpoint}
 use Rattle.pfr_net.specs.declared.interface.InterfacePlace.{InterfacePlace}
 use Rattle.pfr_net.specs.declared.timeout.Timeouts.{Timeouts}
 use Rattle.pfr_net.specs.Timeouts.{seconds_of}
+use Rattle.pfr_headers.specs.declared.change.End.{End}
 use Rattle.pfr_headers.specs.declared.packet.Packet.{Packet}
 use Rattle.pfr_headers.specs.declared.transport.Transport.{Transport}
 use Rattle.pfr_headers.specs.declared.transport.Transport.TheVariants as transport
+use Rattle.pfr_headers.specs.Translated.{translated}
 use Rattle.pfr_track.specs.declared.datagram.DatagramPeer.{DatagramPeer}
 use Rattle.pfr_track.specs.declared.datagram.DatagramPeer.TheVariants.{Silent, Single}
 use Rattle.pfr_track.specs.declared.outcome.Touch.{Touch}
@@ -198,3 +201,9 @@ abbrev pub BothDirectionsAgree : Type 0
 BothDirectionsAgree =
     (state : State) (packet : Packet) (direction : Direction) (clock : Clock) (timeouts : Timeouts)
     → touched (turned state) packet direction clock timeouts ≡ turned_touch (touched state packet direction clock timeouts)
+
+-- a packet behind a translation of one of its ends does to a state what it does before it
+abbrev pub TranslationIsNotTracked : Type 0
+TranslationIsNotTracked =
+    (state : State) (packet : Packet) (end : End) (to : Endpoint) (direction : Direction) (clock : Clock) (timeouts : Timeouts)
+    → touched state (translated end to packet) direction clock timeouts ≡ touched state packet direction clock timeouts

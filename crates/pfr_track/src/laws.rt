@@ -1,5 +1,5 @@
 //! Laws of the definitions, each the contract of a function that does nothing.
-ghost use Rattle.pfr_track.specs.Laws.{BothDirectionsAgree, EndsNeverGoBack, NewStateWaits, OnlyEndedAreRemoved, WhatAPacketLeaves};
+ghost use Rattle.pfr_track.specs.Laws.{BothDirectionsAgree, EndsNeverGoBack, NewStateWaits, OnlyEndedAreRemoved, TranslationIsNotTracked, WhatAPacketLeaves};
 
 /// No packet takes an end back: the ends stay ones of the same protocol, each end's code is no lesser one behind a packet,
 /// and the place behind what an end of TCP has sent, once something was seen of it, is the same or a later one.
@@ -28,4 +28,10 @@ pub fn new_state_waits_by_its_timeout()
 /// places, a packet does to it what it does to the state itself, turned as well.
 pub fn both_directions_agree()
     ensures { BothDirectionsAgree }
+{}
+
+/// A translation of either end of a packet changes nothing of what the packet does to a state: addresses, ports and identifiers are
+/// asked of no state.
+pub fn a_translation_is_not_tracked()
+    ensures { TranslationIsNotTracked }
 {}
