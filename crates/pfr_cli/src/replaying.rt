@@ -101,13 +101,32 @@ fn replay_words<
     }
     // A fault of the ruleset is reported before any other file is touched.
     let job = job_of(rt, asked, err)?;
-    let watch = Watch::new(rt.alloc(), job.rules(), asked.warns)?;
-    let report = replayed(rt, asked, job, input, *out, &watch)?;
-    watch.warn(report.committed, err);
+    let report = watched(rt, asked, job, input, *out, err)?;
     if has_standard(outputs.as_slice()) {
         return finish(&report, err);
     }
     finish(&report, out)
+}
+
+/// Replays captures by a job, writes the outputs, and prints what there is to warn of.
+fn watched<
+    'a,
+    R: Files + Net + AllocGlobal + Threads + Wait + Sync,
+    I: Read + Drop,
+    O: Write + Copy,
+    E: Write,
+>(
+    rt: &R,
+    asked: &RunWords<'a>,
+    job: Job,
+    input: I,
+    out: O,
+    err: &mut E,
+) -> Result<Report, Failure<'a>> {
+    let watch = Watch::new(rt.alloc(), job.rules(), asked.warns)?;
+    let report = replayed(rt, asked, job, input, out, &watch)?;
+    watch.warn(report.committed, err);
+    Ok(report)
 }
 
 /// Replays captures by a job, and writes the outputs. Somebody watches the packets.

@@ -4,17 +4,20 @@ use pfr_headers::View;
 use pfr_packet::Outcome;
 
 /// Is told when a worker or the committer turns to a packet, and what it came to. The numbers are those of packets, from 1. A call
-/// may wait: a worker goes on after it.
+/// may wait: a worker goes on after it. What a gate doesn't care about it need not define.
 pub trait Gate: Sync {
     /// A worker has drawn a packet, and evaluates it next. Nobody is told of a packet that is drawn and not evaluated.
-    fn starts(&self, number: u64);
+    #[inline]
+    fn starts(&self, _number: u64) {}
 
     /// A worker has found out about a packet. It hands that on with what it finds out about its next packets, or when it has drawn its
     /// last.
-    fn answered(&self, number: u64);
+    #[inline]
+    fn answered(&self, _number: u64) {}
 
     /// The committer evaluates a packet itself next, as no result of it holds.
-    fn ran_again(&self, number: u64);
+    #[inline]
+    fn ran_again(&self, _number: u64) {}
 
     /// The committer has taken a packet, of which this is the view and what it came to. It takes packets one by one, in their order.
     #[inline]
@@ -27,15 +30,6 @@ pub(crate) struct OutcomesAlone<'a, G>(pub(crate) &'a G);
 
 impl<G: Gate> Gate for OutcomesAlone<'_, G> {
     #[inline]
-    fn starts(&self, _number: u64) {}
-
-    #[inline]
-    fn answered(&self, _number: u64) {}
-
-    #[inline]
-    fn ran_again(&self, _number: u64) {}
-
-    #[inline]
     fn taken(&self, packet: &Record, view: &View, outcome: &Outcome) {
         self.0.taken(packet, view, outcome);
     }
@@ -44,13 +38,4 @@ impl<G: Gate> Gate for OutcomesAlone<'_, G> {
 /// Nobody watches.
 pub struct Unwatched;
 
-impl Gate for Unwatched {
-    #[inline]
-    fn starts(&self, _number: u64) {}
-
-    #[inline]
-    fn answered(&self, _number: u64) {}
-
-    #[inline]
-    fn ran_again(&self, _number: u64) {}
-}
+impl Gate for Unwatched {}

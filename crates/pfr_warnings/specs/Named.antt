@@ -1,10 +1,8 @@
 -- The interfaces that the rules of a ruleset name (pf.conf(5), "on").
-use Rattle.std.specs.Prelude.{Bool, if◌then◌else◌, List, [], ◌∷◌, ◌++◌, Option, Some, None, fold}
-use Rattle.std.specs.List.{list_any}
+use Rattle.std.specs.Prelude.{◌≡◌, Bool, false, not, ◌||◌, List, Option, Some, None}
+use Rattle.std.specs.List.{filter, list_any}
 use Rattle.pfr_net.specs.declared.interface.IfName.{IfName}
-use Rattle.pfr_ruleset.specs.declared.flat.FlatAnchor.{FlatAnchor}
-use Rattle.pfr_ruleset.specs.declared.flat.FlatRule.{FlatRule}
-use Rattle.pfr_ruleset.specs.declared.flat.FlatTranslation.{FlatTranslation}
+use Rattle.pfr_ruleset.specs.declared.interface.Interface.{Interface}
 use Rattle.pfr_ruleset.specs.declared.interface.InterfaceCriterion.{InterfaceCriterion}
 use Rattle.pfr_ruleset.specs.declared.ruleset.Ruleset.{Ruleset}
 use Rattle.pfr_criteria.specs.Packets.{is_named}
@@ -12,27 +10,31 @@ use Rattle.pfr_criteria.specs.Packets.{is_named}
 abbrev pub is_among : List IfName → IfName → Bool
 is_among names name = list_any (λ other. is_named other name) names
 
--- names, each once, with the one that is asked for
-abbrev pub with_asked : List IfName → Option InterfaceCriterion → List IfName
-with_asked names None = names
-with_asked names (Some criterion) = if is_among names criterion.name then names else names ++ criterion.name ∷ []
+-- what is asked for is this interface, or with `!` every other one
+abbrev pub asks_for : IfName → Option InterfaceCriterion → Bool
+asks_for name None = false
+asks_for name (Some criterion) = is_named criterion.name name
 
-abbrev pub with_rules : List IfName → List FlatRule → List IfName
-with_rules names rules = fold (λ names rule. with_asked names rule.packet.interface) names rules
+-- one of some rules or anchors, of which each asks for an interface or none, asks for this one
+abbrev pub one_asks_for : {R : Type 0} → (R → Option InterfaceCriterion) → IfName → List R → Bool
+one_asks_for asked name rules = list_any (λ rule. asks_for name (asked rule)) rules
 
-abbrev pub with_anchors : List IfName → List FlatAnchor → List IfName
-with_anchors names anchors = fold (λ names anchor. with_asked names anchor.packet.interface) names anchors
+-- a filter rule names the interface, or an anchor, or a rule of nat, rdr or binat
+abbrev pub is_named_in : Ruleset → IfName → Bool
+is_named_in rules name =
+    one_asks_for (λ rule. rule.packet.interface) name rules.filter.rules
+    || (one_asks_for (λ anchor. anchor.packet.interface) name rules.filter.anchors
+    || (one_asks_for (λ rule. rule.packet.interface) name rules.translations.nats
+    || (one_asks_for (λ rule. rule.packet.interface) name rules.translations.rdrs
+    || one_asks_for (λ rule. rule.packet.interface) name rules.translations.binats)))
 
-abbrev pub with_translations : {T : Type 0} → List IfName → List (FlatTranslation T) → List IfName
-with_translations names rules = fold (λ names rule. with_asked names rule.packet.interface) names rules
+-- besides names from before there are just those of which this is true
+abbrev pub Gains : (before after : List IfName) → (IfName → Bool) → Type 0
+Gains before after asked = (name : IfName) → is_among after name ≡ (is_among before name || asked name)
 
--- the filter rules and their anchors come first, and then the rules of nat, rdr and binat
-abbrev pub named_by_filter : Ruleset → List IfName
-named_by_filter rules = with_anchors (with_rules [] rules.filter.rules) rules.filter.anchors
+abbrev pub has_interface : List Interface → IfName → Bool
+has_interface interfaces name = list_any (λ interface. is_named interface.name name) interfaces
 
-abbrev pub named_by_nat : Ruleset → List IfName
-named_by_nat rules = with_translations (named_by_filter rules) rules.translations.nats
-
-abbrev pub named_interfaces : Ruleset → List IfName
-named_interfaces rules =
-    with_translations (with_translations (named_by_nat rules) rules.translations.rdrs) rules.translations.binats
+-- those of some names that no interface of a run has
+abbrev pub missing : List Interface → List IfName → List IfName
+missing interfaces names = filter (λ name. not (has_interface interfaces name)) names

@@ -4,7 +4,8 @@
 //! one way alone, that belong to connections begun before the capture, or that are skipped, and states that a limit refused.
 //! It also finds the interfaces that rules name and no capture is of. No output of a run depends on it.
 //!
-//! Proved is what a packet counts as, and which interfaces rules name. That each packet is counted once is tested (`tests/runs`).
+//! Proved is what a skipped record holds, which packets are midway in a connection, and which interfaces rules name. That each packet
+//! is counted, once and by its way, and that each thing is said, is tested (`tests/runs`).
 #![tactic(auto)]
 
 mod midway;
@@ -17,5 +18,5 @@ mod watch;
 pub use midway::is_midway;
 pub use named::named_interfaces;
 pub use skipped::{SkippedAs, skipped_as};
-pub use warning::{Warning, warn};
+pub use warning::{Skipped, Warning, warn};
 pub use watch::Watch;

@@ -1,11 +1,48 @@
-//! The interfaces that rules name.
-ghost use Rattle.std.specs.Prelude.{◌≡◌, IfOk, OnOk};
+//! The interfaces that rules name, and those of them that a run doesn't have.
+ghost use Rattle.std.specs.Prelude.{◌≡◌, IfOk, OnOk, Option};
+ghost use Rattle.std.specs.List.{IsDistinct};
+ghost use Rattle.pfr_criteria.specs.Packets.{is_named};
+ghost use Rattle.pfr_net.specs.declared.interface.IfName.{IfName};
+ghost use Rattle.pfr_ruleset.specs.declared.interface.InterfaceCriterion.{InterfaceCriterion};
 ghost use Rattle.pfr_warnings.specs.Named as spec;
 
 use pfr_criteria::is_named;
 use pfr_net::IfName;
-use pfr_ruleset::{FlatAnchor, FlatRule, FlatTranslation, InterfaceCriterion, Ruleset};
+use pfr_ruleset::{FlatAnchor, FlatRule, FlatTranslation, Interface, InterfaceCriterion, Ruleset};
 use std::alloc::{AllocError, Global};
+
+/// What may ask for an interface behind `on`: a rule or an anchor.
+trait Asks {
+    /// The interface that it asks for.
+    ghost criterion: { Self → Option InterfaceCriterion };
+    /// The interface that it asks for, with `!` or without.
+    fn interface(&self) -> Option<InterfaceCriterion>
+        ensures { result ≡ criterion self.now };
+}
+
+impl Asks for FlatRule {
+    ghost criterion = { λ rule. rule.packet.interface };
+
+    fn interface(&self) -> Option<InterfaceCriterion> {
+        self.packet.interface
+    }
+}
+
+impl Asks for FlatAnchor {
+    ghost criterion = { λ anchor. anchor.packet.interface };
+
+    fn interface(&self) -> Option<InterfaceCriterion> {
+        self.packet.interface
+    }
+}
+
+impl<T> Asks for FlatTranslation<T> {
+    ghost criterion = { λ rule. rule.packet.interface };
+
+    fn interface(&self) -> Option<InterfaceCriterion> {
+        self.packet.interface
+    }
+}
 
 /// Whether a name is one of these.
 pub(crate) fn is_among(names: &[IfName], name: &IfName) -> bool
@@ -16,7 +53,8 @@ pub(crate) fn is_among(names: &[IfName], name: &IfName) -> bool
 
 /// Adds the interface that is asked for, if it isn't there.
 fn add(names: &mut Vec<IfName>, asked: Option<InterfaceCriterion>) -> Result<(), AllocError>
-    ensures { OnOk result (names.new.items ≡ spec.with_asked names.old.items asked) }
+    ensures gained { OnOk result (spec.Gains names.old.items names.new.items (λ name. spec.asks_for name asked)) }
+    ensures once { IsDistinct is_named names.old.items → OnOk result (IsDistinct is_named names.new.items) }
 {
     let Some(criterion) = asked else {
         return Ok(());
@@ -28,48 +66,53 @@ fn add(names: &mut Vec<IfName>, asked: Option<InterfaceCriterion>) -> Result<(),
     Ok(())
 }
 
-/// Adds the interfaces of filter rules.
-fn add_rules(names: &mut Vec<IfName>, rules: &[FlatRule]) -> Result<(), AllocError>
-    ensures { OnOk result (names.new.items ≡ spec.with_rules names.old.items rules.now) }
+/// Adds the interfaces that rules or anchors ask for.
+fn add_all<T: Asks>(names: &mut Vec<IfName>, rules: &[T]) -> Result<(), AllocError>
+    ensures gained { OnOk result (spec.Gains names.old.items names.new.items (λ name. spec.one_asks_for T.criterion name rules.now)) }
+    ensures once { IsDistinct is_named names.old.items → OnOk result (IsDistinct is_named names.new.items) }
 {
     for rule in rules {
-        add(names, rule.packet.interface)?;
-    }
-    Ok(())
-}
-
-/// Adds the interfaces of anchors.
-fn add_anchors(names: &mut Vec<IfName>, anchors: &[FlatAnchor]) -> Result<(), AllocError>
-    ensures { OnOk result (names.new.items ≡ spec.with_anchors names.old.items anchors.now) }
-{
-    for anchor in anchors {
-        add(names, anchor.packet.interface)?;
-    }
-    Ok(())
-}
-
-/// Adds the interfaces of translation rules of a kind.
-fn add_translations<T>(
-    names: &mut Vec<IfName>,
-    rules: &[FlatTranslation<T>],
-) -> Result<(), AllocError>
-    ensures { OnOk result (names.new.items ≡ spec.with_translations names.old.items rules.now) }
-{
-    for rule in rules {
-        add(names, rule.packet.interface)?;
+        add(names, rule.interface())?;
     }
     Ok(())
 }
 
 /// The interfaces that rules of a ruleset name behind `on`, with `!` or without, and those that its anchors do. Each comes once.
 pub fn named_interfaces(alloc: Global, rules: &Ruleset) -> Result<Vec<IfName>, AllocError>
-    ensures { IfOk result (λ names. names.items ≡ spec.named_interfaces rules.now) }
+    ensures named { IfOk result (λ names. (name : IfName) → spec.is_among names.items name ≡ spec.is_named_in rules.now name) }
+    ensures once { IfOk result (λ names. IsDistinct is_named names.items) }
 {
     let mut names = Vec::new(alloc);
-    add_rules(&mut names, rules.filter.rules())?;
-    add_anchors(&mut names, rules.filter.anchors())?;
-    add_translations(&mut names, rules.translations.nats.as_slice())?;
-    add_translations(&mut names, rules.translations.rdrs.as_slice())?;
-    add_translations(&mut names, rules.translations.binats.as_slice())?;
+    add_all(&mut names, rules.filter.rules())?;
+    add_all(&mut names, rules.filter.anchors())?;
+    add_all(&mut names, rules.translations.nats.as_slice())?;
+    add_all(&mut names, rules.translations.rdrs.as_slice())?;
+    add_all(&mut names, rules.translations.binats.as_slice())?;
     Ok(names)
+}
+
+/// Whether a run has an interface of this name.
+fn has_interface(interfaces: &[Interface], name: &IfName) -> bool
+    ensures { result ≡ spec.has_interface interfaces.now name.now }
+{
+    interfaces
+        .iter()
+        .any(|interface| is_named(&interface.name, name))
+}
+
+/// Those of some names that no interface of a run has.
+pub(crate) fn missing(
+    alloc: Global,
+    interfaces: &[Interface],
+    names: &[IfName],
+) -> Result<Vec<IfName>, AllocError>
+    ensures { IfOk result (λ missing. missing.items ≡ spec.missing interfaces.now names.now) }
+{
+    let mut missing = Vec::new(alloc);
+    for name in names {
+        if !has_interface(interfaces, name) {
+            missing.push(*name)?;
+        }
+    }
+    Ok(missing)
 }

@@ -1,8 +1,8 @@
 //! What is counted of the packets of a run.
 use crate::midway::is_midway;
-use crate::named::{is_among, named_interfaces};
+use crate::named::{is_among, missing, named_interfaces};
 use crate::skipped::{SkippedAs, skipped_as};
-use crate::warning::{Warning, warn};
+use crate::warning::{Skipped, Warning, warn};
 use pfr_capture::Record;
 use pfr_headers::{Direction, View};
 use pfr_net::IfName;
@@ -42,9 +42,9 @@ struct Seen {
     go_out: Count,
 }
 
-/// How many records are skipped, by what they hold.
+/// Counts of the records that are skipped, by what they hold.
 #[derive(Drop)]
-struct Skipped {
+struct SkippedCounts {
     arp: Count,
     ipv6: Count,
     pppoe: Count,
@@ -59,16 +59,16 @@ pub(crate) struct Tally {
     interfaces: Vec<Seen>,
     /// The interfaces that rules name and the run doesn't have.
     missing: Vec<IfName>,
-    skipped: Skipped,
+    skipped: SkippedCounts,
     /// Packets of TCP connections that began before them, without a state.
     midway: Count,
     /// States that a limit refused.
     refused: Count,
 }
 
-impl Skipped {
-    fn new() -> Skipped {
-        Skipped {
+impl SkippedCounts {
+    fn new() -> SkippedCounts {
+        SkippedCounts {
             arp: Count::new(),
             ipv6: Count::new(),
             pppoe: Count::new(),
@@ -87,26 +87,13 @@ impl Skipped {
         }
     }
 
-    /// Warns of records that are skipped of `packets` ones, if some are.
-    fn warn<E: Write>(&self, packets: u64, err: &mut E) {
-        let (arp, ipv6, pppoe) = (self.arp.get(), self.ipv6.get(), self.pppoe.get());
-        let (two_tags, other) = (self.two_tags.get(), self.other.get());
-        let skipped = arp
-            .saturating_add(ipv6)
-            .saturating_add(pppoe)
-            .saturating_add(two_tags)
-            .saturating_add(other);
-        if skipped > 0 {
-            let warning = Warning::Skipped {
-                packets,
-                skipped,
-                arp,
-                ipv6,
-                pppoe,
-                two_tags,
-                other,
-            };
-            warn(&warning, err);
+    fn get(&self) -> Skipped {
+        Skipped {
+            arp: self.arp.get(),
+            ipv6: self.ipv6.get(),
+            pppoe: self.pppoe.get(),
+            two_tags: self.two_tags.get(),
+            other: self.other.get(),
         }
     }
 }
@@ -147,21 +134,6 @@ fn unseen(
     Ok(unseen)
 }
 
-/// The names that no interface of a run has.
-fn missing(
-    alloc: Global,
-    interfaces: &[Interface],
-    named: &[IfName],
-) -> Result<Vec<IfName>, AllocError> {
-    let mut missing = Vec::new(alloc);
-    for name in named {
-        if !interfaces.iter().any(|interface| interface.name == *name) {
-            missing.push(*name)?;
-        }
-    }
-    Ok(missing)
-}
-
 impl Tally {
     /// Nothing is counted yet of a run through a ruleset.
     pub(crate) fn new(alloc: Global, rules: &Ruleset) -> Result<Tally, AllocError> {
@@ -171,7 +143,7 @@ impl Tally {
         Ok(Tally {
             interfaces: unseen(alloc, interfaces, named.as_slice(), skipped)?,
             missing: missing(alloc, interfaces, named.as_slice())?,
-            skipped: Skipped::new(),
+            skipped: SkippedCounts::new(),
             midway: Count::new(),
             refused: Count::new(),
         })
@@ -211,7 +183,10 @@ impl Tally {
         for name in self.missing.as_slice() {
             warn(&Warning::NoCapture(*name), err);
         }
-        self.skipped.warn(packets, err);
+        let skipped = self.skipped.get();
+        if skipped.count() > 0 {
+            warn(&Warning::Skipped { packets, skipped }, err);
+        }
         let midway = self.midway.get();
         if midway > 0 {
             warn(&Warning::Midway(midway), err);

@@ -4,6 +4,36 @@ use std::io::Write;
 use std::str::from_utf8;
 use std::{fmt, io};
 
+/// How many records are skipped, by what they hold.
+#[derive(Clone, Copy)]
+pub struct Skipped {
+    pub arp: u64,
+    pub ipv6: u64,
+    pub pppoe: u64,
+    pub two_tags: u64,
+    pub other: u64,
+}
+
+impl Skipped {
+    /// How many they are in all.
+    pub(crate) fn count(&self) -> u64 {
+        self.arp
+            .saturating_add(self.ipv6)
+            .saturating_add(self.pppoe)
+            .saturating_add(self.two_tags)
+            .saturating_add(self.other)
+    }
+}
+
+impl fmt::Display for Skipped {
+    fn fmt<W: fmt::Write>(&self, f: &mut fmt::Formatter<W>) -> fmt::Result {
+        let (arp, ipv6, pppoe) = (self.arp, self.ipv6, self.pppoe);
+        write!(f, "{arp} ARP, {ipv6} IPv6, {pppoe} PPPoE, ")?;
+        let (two_tags, other) = (self.two_tags, self.other);
+        write!(f, "{two_tags} with two VLAN tags, {other} other")
+    }
+}
+
 /// What an operator is warned of.
 #[derive(Clone, Copy)]
 pub enum Warning<'a> {
@@ -17,16 +47,8 @@ pub enum Warning<'a> {
     NoCapture(IfName),
     /// This many packets are of TCP connections that began before them, and met no state.
     Midway(u64),
-    /// Records are skipped: how many of all, and how many of these hold what.
-    Skipped {
-        packets: u64,
-        skipped: u64,
-        arp: u64,
-        ipv6: u64,
-        pppoe: u64,
-        two_tags: u64,
-        other: u64,
-    },
+    /// Of this many packets these are skipped.
+    Skipped { packets: u64, skipped: Skipped },
     /// This many states were refused by a limit.
     Refused(u64),
     /// Why the system didn't give a file, or a connection to a peer.
@@ -61,23 +83,9 @@ impl fmt::Display for Warning<'_> {
                 write!(f, "no capture is of {}, which rules name", Printed(*name))
             }
             Warning::Midway(count) => write!(f, "packets midway in a TCP connection: {count}"),
-            Warning::Skipped {
-                packets,
-                skipped,
-                arp,
-                ipv6,
-                pppoe,
-                two_tags,
-                other,
-            } => {
-                write!(
-                    f,
-                    "packets skipped: {skipped} of {packets}: {arp} ARP, {ipv6} IPv6, "
-                )?;
-                write!(
-                    f,
-                    "{pppoe} PPPoE, {two_tags} with two VLAN tags, {other} other"
-                )
+            Warning::Skipped { packets, skipped } => {
+                let count = skipped.count();
+                write!(f, "packets skipped: {count} of {packets}: {skipped}")
             }
             Warning::Refused(count) => write!(f, "states refused by a limit: {count}"),
             Warning::NotOpened(name, reason) => write!(f, "{name}: {reason}"),

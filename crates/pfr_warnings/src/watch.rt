@@ -15,12 +15,6 @@ pub struct Watch {
 }
 
 impl Gate for Watch {
-    fn starts(&self, _number: u64) {}
-
-    fn answered(&self, _number: u64) {}
-
-    fn ran_again(&self, _number: u64) {}
-
     fn taken(&self, packet: &Record, view: &View, outcome: &Outcome) {
         if let Some(tally) = &self.tally {
             tally.add(packet, view, outcome);

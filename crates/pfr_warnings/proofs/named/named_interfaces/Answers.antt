@@ -1,0 +1,13 @@
+use Rattle.std.proofs.Common.{◌≡◌, [], sym, subst}
+use Rattle.std.specs.List.{IsDistinct}
+use Rattle.pfr_criteria.specs.Packets.{is_named}
+use Rattle.pfr_warnings.proofs.named.named_interfaces.Goals as goal
+
+none_twice : IsDistinct is_named []
+unfolding IsDistinct
+none_twice = tt
+
+pub returns-clause-once : goal.returns-clause-once
+returns-clause-once c =
+    let none = subst (IsDistinct is_named) (sym c.new-names.ensures.items) none_twice in
+    c.in_ok-add_all-5.ensures.once (c.in_ok-add_all-4.ensures.once (c.in_ok-add_all-3.ensures.once (c.in_ok-add_all-2.ensures.once (c.in_ok-add_all.ensures.once none))))
