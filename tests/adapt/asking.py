@@ -9,6 +9,7 @@ from typing import NamedTuple
 
 from adapt import interfaces
 from adapt.faults import MOST_ERRORS
+from adapt.findings import BLANKED
 from adapt.model import adapt, remarks_of, said_of, said_of_error
 from adapt.surroundings import ADDRESS, INTERFACE, NOTHING
 
@@ -151,6 +152,13 @@ def first_line_of(seen, expected):
     return f"{len(seen)} bytes and not {len(expected)}"
 
 
+def is_there(lines, place, word):
+    """Whether a word as it is said stands in the lines of a text at a place."""
+    line, column = place
+    rest = b"\n".join(lines[line - 1:])[column - 1:]
+    return line <= len(lines) and rest[:len(word)].translate(BLANKED) == word
+
+
 def misplaced(text, answer):
     """What is wrong with an answer to any text, whatever the text says, or nothing."""
     if answer.status not in (0, 1):
@@ -177,7 +185,7 @@ def misplaced(text, answer):
         # target in braces at the first one
         if place < last or place == last and not MANY_TIMES.match(word):
             return f"said too late: {line!r}"
-        if place[0] > len(lines) or not b"\n".join(lines[place[0] - 1:])[place[1] - 1:].startswith(word):
+        if not is_there(lines, place, word):
             return f"not in the text: {line!r}"
         last = place
     if errors > MOST_ERRORS:

@@ -48,6 +48,22 @@ fn say_spliced<E: Write>(request: &Request<'_>, spliced: &Spliced, err: &mut E) 
     let _ = writeln!(err, "include: the text of {file} stands here");
 }
 
+/// Whether a character says where others stand, and shows nothing itself.
+fn is_control(byte: u8) -> bool {
+    byte < 32 || byte == 127
+}
+
+/// Says bytes of a text in one line, with a blank for each control character. A word that goes over the end of a continued line has
+/// such.
+fn say_in_line<E: Write>(err: &mut E, bytes: &[u8]) {
+    for (place, piece) in bytes.split(|byte| is_control(*byte)).enumerate() {
+        if place > 0 {
+            let _ = err.write_all(b" ");
+        }
+        let _ = err.write_all(piece);
+    }
+}
+
 /// Says what was rewritten of a text whose lines come from here.
 fn say_finding<E: Write>(
     request: &Request<'_>,
@@ -59,7 +75,7 @@ fn say_finding<E: Write>(
     let name = name_of(request, origin.file);
     let reason = finding.reason;
     say_place(err, name, origin.line, finding.place.column, reason.kind());
-    let _ = err.write_all(finding.word.as_slice());
+    say_in_line(err, finding.word.as_slice());
     let _ = writeln!(err, ": {reason}");
 }
 
@@ -74,7 +90,7 @@ fn say_remark<E: Write>(
     let name = name_of(request, origin.file);
     let why = remark.why;
     say_place(err, name, origin.line, remark.place.column, Kind::Warning);
-    let _ = err.write_all(remark.word.as_slice());
+    say_in_line(err, remark.word.as_slice());
     let _ = writeln!(err, ": {why}");
 }
 
@@ -127,7 +143,7 @@ pub(crate) fn say_remarks<E: Write>(
 /// Says a word, if there is one, and what parts it from what is said of it.
 fn say_word<E: Write>(err: &mut E, word: &[u8]) {
     if !word.is_empty() {
-        let _ = err.write_all(word);
+        say_in_line(err, word);
         let _ = err.write_all(b": ");
     }
 }
