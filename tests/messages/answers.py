@@ -14,27 +14,37 @@ def changed(*changes):
     return bytes(text)
 
 
+def named_answers():
+    """The vector with one change, by that."""
+    yield "the first 19 bytes alone", VECTOR[:19], "short"
+    yield "the first 39 bytes alone", VECTOR[:39], "short"
+    yield "byte 0 is 06", changed((0, b"\6")), "version"
+    yield "byte 1 is 01", changed((1, b"\1")), "fixed 1"
+    yield "length 39", changed((2, b"\0\x27")), "length"
+    yield "length 1481", changed((2, b"\x05\xc9")), "length"
+    yield "byte 20 is 03", changed((20, b"\3")), "action 3"
+    yield "byte 20 is 0c", changed((20, b"\x0c")), "action 12"
+    yield "byte 21 is 01", changed((21, b"\1")), "fixed 21"
+    yield "count 0", changed((22, b"\0\0")), "count"
+    yield "count 2", changed((22, b"\0\2")), "count"
+    yield "byte 36 is 07", changed((36, b"\7")), "action 7"
+    yield "length 44 and 4 bytes more", changed((2, b"\0\x2c")) + bytes(4), "trailing"
+    two = changed((2, b"\0\x30"), (22, b"\0\2"))[:36]
+    yield "length 48, count 2, states 1 and 2, no EOF", two + SECOND_RECORD, "no end"
+    twice = changed((2, b"\0\x34"), (22, b"\0\2"))[:36]
+    yield "length 52, count 2, state 1 twice, EOF", twice + VECTOR[24:36] + LAST_SUBHEADER, "fixed 36"
+
+
+# of texts that have one
+NAMES = {text: name for name, text, _ in named_answers()}
+
+
 def answers():
     """Texts of a peer."""
     message = f"ok 40 checksum={EMPTY_SUM}; DEL_C number=1 creator=1"
     yield VECTOR, message
     yield VECTOR + b"\5", message
-    yield VECTOR[:19], "short"
-    yield VECTOR[:39], "short"
-    yield changed((0, b"\6")), "version"
-    yield changed((1, b"\1")), "fixed 1"
-    yield changed((2, b"\0\x27")), "length"
-    yield changed((2, b"\x05\xc9")), "length"
-    yield changed((20, b"\3")), "action 3"
-    yield changed((20, b"\x0c")), "action 12"
-    yield changed((21, b"\1")), "fixed 21"
-    yield changed((22, b"\0\0")), "count"
-    yield changed((22, b"\0\2")), "count"
-    yield changed((36, b"\7")), "action 7"
-    yield changed((2, b"\0\x2c")) + bytes(4), "trailing"
-    two = changed((2, b"\0\x30"), (22, b"\0\2"))[:36]
-    yield two + SECOND_RECORD, "no end"
-    yield changed((2, b"\0\x34"), (22, b"\0\2"))[:36] + VECTOR[24:36] + LAST_SUBHEADER, "fixed 36"
+    yield from ((text, wanted) for _, text, wanted in named_answers())
     # what comes first is told
     yield changed((0, b"\6"))[:19], "short"
     yield changed((0, b"\6"), (1, b"\1"), (2, b"\0\0")), "version"

@@ -138,7 +138,8 @@ def seen_lines(command, asked):
 
 
 def show(text, expected, seen):
-    print(f"{text.hex()}\n  expected {expected}\n  seen     {seen}")
+    name = f"{answers.NAMES[text]}: " if text in answers.NAMES else ""
+    print(f"{name}{text.hex()}\n  expected {expected}\n  seen     {seen}")
 
 
 def compared(command, asked):
