@@ -63,6 +63,11 @@ def published_answers():
     return [str(built("published_answers"))]
 
 
+def run_answers():
+    """The program that replays scripts over devices in memory; without any it answers nothing."""
+    return str(built("run_answers"))
+
+
 def pfreplay():
     """The program pfreplay, which its script builds if a source is newer."""
     ran(["./pfreplay", "--help"], ROOT)

@@ -26,15 +26,17 @@ import building
 TESTS = Path(__file__).resolve().parent
 # each is a package with a module `compare`
 WORDS = ("runs", "rulesets", "expansions", "tracking", "table", "steps", "commits", "messages", "schedules",
-         "published", "workers", "matrix", "standby", "adapt", "faults", "gateway")
+         "published", "devices", "workers", "matrix", "standby", "adapt", "faults", "hostile",
+         "gateway")
 # those without answers written by hand
-WITHOUT_MODEL_ALONE = ("workers", "gateway")
-# those of the program pfreplay, of message_answers, of schedule_answers and of published_answers; all others are of the
-# program `answers`
-OF_PFREPLAY = ("runs", "workers", "matrix", "standby", "adapt", "faults", "gateway")
+WITHOUT_MODEL_ALONE = ("workers", "hostile", "gateway")
+# those of the program pfreplay, of message_answers, of schedule_answers, of published_answers and of run_answers; all
+# others are of the program `answers`
+OF_PFREPLAY = ("runs", "workers", "matrix", "standby", "adapt", "faults", "hostile", "gateway")
 OF_MESSAGES = ("messages",)
-OF_SCHEDULES = ("schedules",)
+OF_SCHEDULES = ("schedules", "devices")
 OF_PUBLISHED = ("published",)
+OF_RUNS = ("devices",)
 
 
 class Outcome(NamedTuple):
@@ -62,7 +64,9 @@ def build(words):
         building.schedule_answers()
     if set(words) & set(OF_PUBLISHED):
         building.published_answers()
-    if set(words) - {*OF_PFREPLAY, *OF_MESSAGES, *OF_SCHEDULES, *OF_PUBLISHED}:
+    if set(words) & set(OF_RUNS):
+        building.run_answers()
+    if set(words) - {*OF_PFREPLAY, *OF_MESSAGES, *OF_SCHEDULES, *OF_PUBLISHED, *OF_RUNS}:
         building.built("answers", building.IDLE_WORD)
 
 

@@ -41,7 +41,6 @@
 #![tactic(auto)]
 
 mod course;
-mod given;
 mod script;
 mod signals;
 mod states;

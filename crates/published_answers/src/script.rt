@@ -1,10 +1,10 @@
 //! Scripts, each a plan.
 
 use crate::course::{Deed, Outcome, Plan, run};
-use crate::given::Words;
 use crate::states::{change, put_table};
 use crate::viewing::Step;
 use pfr_states::Change;
+use scripts::Words;
 use std::alloc::{AllocError, AllocGlobal, Global};
 use std::io::Write;
 use std::str::Lines;

@@ -1,11 +1,11 @@
 //! Changes of a table as they are given, and tables as they are printed.
-use crate::given::Words;
 use pfr_net::{Direction, Endpoint, Ipv4Address, Port, Protocol};
 use pfr_states::{Change, Table, TableChange};
 use pfr_track::{
     Binding, Clock, Deadline, InterfacePlace, Key, Peers, RuleNumber, State, StateNumber,
     StateRules, Timeout, Traffic,
 };
+use scripts::Words;
 use std::alloc::AllocError;
 
 /// Rules from 0 on whose states are counted, and how many states of one are counted at most.

@@ -68,8 +68,6 @@ impl<'a, R: Clock + Sync> Gate for Answers<'a, R> {
     fn answered(&self, number: u64) {
         let _ = self.answered.fetch_or(bit_of(number), Ordering::SeqCst);
     }
-
-    fn ran_again(&self, _number: u64) {}
 }
 
 impl<'a, R: Clock> Watch for Answers<'a, R> {

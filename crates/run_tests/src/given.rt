@@ -96,14 +96,6 @@ pub(crate) fn only_sink<S: Drop>(alloc: Global, sink: S) -> Result<PacketSinks<S
     Ok(PacketSinks::new(sinks))
 }
 
-/// What the packets' sink of such a run has taken.
-pub(crate) fn packets_of(outputs: &Sinks<Mem>) -> &[u8] {
-    match outputs.packets.as_slice() {
-        [only] => only.bytes(),
-        _ => &[],
-    }
-}
-
 /// Outputs in memory, with this device for the verdicts.
 pub(crate) fn sinks(alloc: Global, verdicts: Mem) -> Result<Sinks<Mem>, AllocError> {
     Ok(Sinks {

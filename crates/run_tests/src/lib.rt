@@ -1,4 +1,4 @@
-//! The unit tests of whole runs: packets that workers evaluate ahead, and runs over devices that fail.
+//! The unit tests of whole runs: packets that workers evaluate ahead, and how far captures are read ahead.
 //!
 //! What a contract says of every input, and what the models of the folder `tests` answer, isn't asked here again.
 #![tactic(auto)]
@@ -7,8 +7,6 @@
 mod ahead;
 #[cfg(test)]
 mod answers;
-#[cfg(test)]
-mod devices;
 #[cfg(test)]
 mod feeds;
 #[cfg(test)]
@@ -21,8 +19,6 @@ mod orders;
 mod pace;
 #[cfg(test)]
 mod reading;
-#[cfg(test)]
-mod runs;
 #[cfg(test)]
 mod shown;
 #[cfg(test)]

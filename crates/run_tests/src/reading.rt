@@ -1,12 +1,11 @@
 //! How far a source is read ahead of what is written.
 ghost use Rattle.std.specs.Prelude.{◌≤◌};
 
-use crate::devices::{End, end_of};
 use crate::given::{capture, replay_into, sinks};
 use crate::told::rules;
 use crate::turns::{Freely, Turns};
 use pfr_capture::{Fault, Mem, Source};
-use pfr_out::{Form, Output};
+use pfr_out::{Form, Output, Stop};
 use std::alloc::{AllocError, AllocGlobal};
 use std::sync::Wait;
 use std::test::Fail;
@@ -63,7 +62,7 @@ fn reads_ahead(rt: HostRuntime) -> Result<(), Fail> {
     let reads = source.reads;
     drop(source);
     drop(outputs);
-    assert!(rt; end_of(end, Output::Verdicts) == End::Write(0));
+    assert!(rt; matches!(&end, Err(Stop::Write(Output::Verdicts, 0))));
     assert!(rt; reads <= 4, "{reads} reads");
     Ok(())
 }
@@ -95,7 +94,8 @@ fn makes_all_reads<R: AllocGlobal + Threads + Wait + Clock + Sync>(
         &Turns::by(rt, Freely),
     )?;
     let taken = writes.saturating_mul(batch as u64);
-    let stops = end_of(end, Output::Verdicts) == End::Write(taken);
+    let stops =
+        matches!(&end, Err(Stop::Write(Output::Verdicts, committed)) if *committed == taken);
     let read = source.read(&mut [0; 44]).is_err();
     drop(source);
     drop(outputs);

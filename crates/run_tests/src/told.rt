@@ -180,8 +180,6 @@ impl<'a, R: Clock + Sync> Gate for AtOnce<'a, R> {
             self.now.fetch_sub(1, Ordering::SeqCst);
         }
     }
-
-    fn ran_again(&self, _number: u64) {}
 }
 
 /// The most packets that `workers` workers evaluate at once, in the two batches after the first one, of 1024 packets each.

@@ -32,7 +32,6 @@
 
 mod course;
 mod feed;
-mod given;
 mod printing;
 mod schedule;
 mod script;

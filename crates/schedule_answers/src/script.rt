@@ -1,12 +1,12 @@
 //! Scripts, each a run with the order of its calls.
 
 use crate::course::put_run;
-use crate::given::Words;
 use crate::schedule::{Call, Step};
 use pfr_capture::Record;
 use pfr_net::{IfName, Ipv4Address, Net};
 use pfr_packet::Job;
 use pfr_ruleset::Interface;
+use scripts::Words;
 use std::alloc::{AllocError, AllocGlobal, Global};
 use std::io;
 use std::io::Write;

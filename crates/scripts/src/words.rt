@@ -1,36 +1,36 @@
-//! What is given on standard input: lines of words.
-
+//! The words of a line.
 use std::alloc::{AllocError, Global};
 use std::str::{FromStr, SplitWhitespace};
 
 /// The words of a line that weren't read yet.
 #[derive(Drop)]
-pub(crate) struct Words<'a> {
+pub struct Words<'a> {
     rest: SplitWhitespace<'a>,
 }
 
 impl<'a> Words<'a> {
-    pub(crate) fn of(line: &'a str) -> Words<'a> {
+    /// The words of a line.
+    pub fn of(line: &'a str) -> Words<'a> {
         Words {
             rest: line.split_whitespace(),
         }
     }
 
     /// The next word; behind the last one it is empty.
-    pub(crate) fn word(&mut self) -> &'a str {
+    pub fn word(&mut self) -> &'a str {
         self.rest.next().unwrap_or("")
     }
 
-    /// The number that is the next word.
-    pub(crate) fn number<T: FromStr>(&mut self) -> Option<T>
+    /// The number that is the next word, if it is one.
+    pub fn number<T: FromStr>(&mut self) -> Option<T>
     where
         T::Err: Drop,
     {
         self.word().parse::<T>().ok()
     }
 
-    /// The bytes that are the next word.
-    pub(crate) fn bytes(&mut self, alloc: Global) -> Result<Vec<u8>, AllocError> {
+    /// The bytes that are the next word, in hex; `-` where there are none.
+    pub fn bytes(&mut self, alloc: Global) -> Result<Vec<u8>, AllocError> {
         let word = self.word();
         let digits = if word == "-" { "" } else { word };
         match hex::decode(alloc, digits) {
