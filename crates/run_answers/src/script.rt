@@ -1,5 +1,5 @@
 //! Scripts, each a run.
-ghost use Rattle.std.specs.Prelude.{◌≤◌};
+ghost use Rattle.std.specs.Prelude.{◌≤◌, length};
 
 use crate::devices::{Limits, NO_LIMITS, NONE, OutputLimits};
 use crate::gate::Again;
