@@ -1,28 +1,23 @@
-"""Which endings of a run with workers are lawful if an allocation is refused. Its calls return in an order in which
-each packet is evaluated ahead.
+"""Which endings of a run with workers are lawful if an allocation is refused, where each packet is evaluated ahead.
 
 A refusal that meets a worker's evaluation alone changes no output: the committer evaluates that packet itself, and the
-gate is told so. One that meets the committer ends the run, and what was handed on is a beginning. Or the program ends
-without an answer.
+gate is told so. One that meets the committer ends the run, and what was handed on is a beginning. So does one that meets
+who takes a piece. Or the program ends without an answer.
 """
-
-from itertools import islice
 
 from devices import rows
 from faults.rulesets import MEMORY
 from faults.trial import Unlawful
 from messages.rows import flows
-from schedules.machine import Shape, all_orders
-from schedules.model import Script, again_in, expected_of, known_of
+from schedules.machine import ANSWERED, TAKE, Shape, Step
+from schedules.model import Script, again_in, known_of
 from steps.run import THREE, Run
 
 TARGETS = (MEMORY,)
 # in the order of the summary
-ENDINGS = ("whole", "evaluated again", "no memory", "no answer")
+ENDINGS = ("whole", "evaluated again", "no memory", "not taken", "no answer")
 PROMISED = ENDINGS[:3]
 NO_RULES = "line 0: no memory"
-# how many orders of a shape are looked at
-LOOKED_AT = 500
 WORKERS = 2
 
 
@@ -31,16 +26,16 @@ def run_of(name, rules, packets):
 
 
 def script_of(run, batches):
-    """A script of a run in an order by which the fewest packets are evaluated again for another reason."""
+    """A script of a run by which each packet is answered before its batch is taken. Where a thread is refused, the other
+    one does so too."""
     shape = Shape(batches, WORKERS)
-    known = known_of(run, shape)
-    scripts = (Script(known, order) for order in islice(all_orders(shape), LOOKED_AT))
-    exact = [expected for script in scripts if (expected := expected_of(script)).is_exact()]
-    return min(exact, key=lambda expected: len(expected.surely)).script
+    order = [step for batch, _ in enumerate(batches, 1)
+             for step in (*(Step(ANSWERED, number) for number in shape.packets_of(batch)), Step(TAKE, batch))]
+    return Script(known_of(run, shape), tuple(order))
 
 
 def scripts():
-    yield script_of(run_of("a connection", b"pass out", rows.CONNECTION), (2, 2))
+    """Runs in which the same packets are evaluated again whichever tables the workers look at."""
     yield script_of(run_of("two ports for three flows", rows.TWO_PORTS, flows(3)), (3,))
     yield script_of(run_of("four flows", b"pass out", flows(4)), (2, 2))
 
@@ -54,8 +49,8 @@ def lines_in(out):
 
 
 def outputs_in(lines):
-    """What an answer says of the run, but for who evaluated which packet."""
-    return [line for line in lines if not line.startswith(("own ", "again "))]
+    """What an answer says of the run, but for who evaluated which packet, and for the order of the calls."""
+    return [line for line in lines if not line.startswith(("own ", "again ", "passed "))]
 
 
 def handed_on(lines):
@@ -63,12 +58,13 @@ def handed_on(lines):
     return lines[:next(place for place, line in enumerate(lines) if line.startswith("own "))]
 
 
-def check_stopped(whole, lines):
-    """A run that ended for want of memory: what it handed on are the first pieces, the last of them perhaps in part."""
-    mine, all_of_it = handed_on(lines), handed_on(whole)
-    verdicts = [line for line in mine if not line.startswith(("packets ", "messages "))]
-    if verdicts != [line for line in all_of_it if not line.startswith(("packets ", "messages "))][:len(verdicts)]:
-        raise Unlawful("what was handed on is no beginning")
+def begins(mine, whole):
+    """Whether lines are the first ones of others, and not all."""
+    return mine == whole[:len(mine)] and len(mine) < len(whole)
+
+
+def verdicts_in(lines):
+    return [line for line in handed_on(lines) if not line.startswith(("packets ", "messages "))]
 
 
 def judge(trial, fault, counts, seen):
@@ -81,8 +77,13 @@ def judge(trial, fault, counts, seen):
     if lines == [NO_RULES]:
         return "no memory"
     if "refused" in lines:
-        check_stopped(whole, lines)
+        # of the last piece a part may be handed on
+        mine, all_of_it = verdicts_in(lines), verdicts_in(whole)
+        if mine != all_of_it[:len(mine)]:
+            raise Unlawful("what was handed on is no beginning")
         return "no memory"
+    if begins(handed_on(lines), handed_on(whole)):
+        return "not taken"
     if outputs_in(lines) != outputs_in(whole):
         raise Unlawful("another outcome")
     again, before = again_in(lines), again_in(whole)
