@@ -28,12 +28,13 @@ from captures.packets import capture_header, record, udp
 from runs.peers import HOST
 from standby.callers import free_port
 
-# Every flow is translated. It has few packets, and its state ends some seconds later. Some flows find no room.
+# Every flow is translated. It has few packets, and its state ends some seconds later. A rule has no room for some flows,
+# and neither has the table.
 RULES = """set timeout { udp.first 3, udp.single 3, udp.multiple 3 }
-set limit states 60000
+set limit states 22000
 nat on em0 proto udp from 10.0.0.0/8 to any -> 192.0.2.1 port 1024:65535
-block in
-pass out proto udp to any port 53 keep state (max 40000)
+block all
+pass out proto udp to any port 53 keep state (max 15000)
 pass out proto udp to any port 123 keep state
 """
 MILLION, BLOCK, FLOWS = 10**6, 10**5, 10**4
@@ -45,10 +46,12 @@ WORKERS, PIECE, PAUSE = 4, 1 << 20, 2.0
 
 
 def block():
-    """The records of a block, of many flows at once: a third of the packets are answers that the filter never sees."""
+    """The records of a block, of many flows at once, with one packet in ten that comes in and is blocked."""
     packets = [udp(f"10.0.{flow >> 8}.{flow & 255}", 1000 + flow % 7, "198.51.100.7", 53 if flow % 3 else 123)
                for flow in range(FLOWS)]
-    return bytearray(b"".join(record(0, 0, packets[number * 7 % FLOWS]) for number in range(BLOCK)))
+    other = udp("198.51.100.7", 53, "192.0.2.1", 9)
+    return bytearray(b"".join(record(0, 0, packets[number * 7 % FLOWS] if number % 10 else other)
+                              for number in range(BLOCK)))
 
 
 def write_capture(path, millions):
