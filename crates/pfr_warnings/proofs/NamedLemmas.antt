@@ -1,38 +1,9 @@
 -- Names of interfaces, one behind the other.
-use Rattle.std.proofs.Common.{◌≡◌, ◌||◌, ◌++◌, ℕ, Bool, true, false, List, [], ◌∷◌, refl, sym, ap, ◌∙◌, subst, true≢false}
-use Rattle.std.proofs.lemmas.List.Folds.{list_any-append}
-use Rattle.std.proofs.lemmas.Slice.Eq.{bytes_eq-Decides}
-use Rattle.std.specs.List.{AllByRecursion, IsDistinct, list_any}
-use Rattle.std.specs.Str.{bytes_eq}
+use Rattle.std.proofs.Common.{◌≡◌, ◌||◌, ◌++◌, Bool, true, false, List, [], ◌∷◌, refl, true≢false}
+use Rattle.std.specs.List.{AllByRecursion, IsDistinct}
 use Rattle.pfr_net.specs.declared.interface.IfName.{IfName}
 use Rattle.pfr_criteria.specs.Packets.{is_named}
-use Rattle.pfr_warnings.specs.Named.{Gains, is_among}
-
-or_false : (a : Bool) → a ≡ (a || false)
-or_false true = refl
-or_false false = refl
-
-or_same : (a b : Bool) → (b ≡ true → a ≡ true) → a ≡ (a || b)
-or_same true b both = refl
-or_same false true both = both refl
-or_same false false both = refl
-
--- nothing is asked for
-pub gains_none : (names : List IfName) → Gains names names (λ name. false)
-gains_none names name = or_false (is_among names name)
-
-same_bytes : (a b : IfName) → is_named a b ≡ true → a.bytes ≡ b.bytes
-same_bytes a b same = (bytes_eq-Decides a.bytes b.bytes).0 same
-
--- what is asked for is there
-pub gains_known : (names : List IfName) (new : IfName) → is_among names new ≡ true → Gains names names (λ name. is_named new name)
-gains_known names new known name =
-    or_same (is_among names name) (is_named new name)
-    (λ same. subst (λ (bytes : List ℕ). list_any (λ other. bytes_eq other.bytes bytes) names ≡ true) (same_bytes new name same) known)
-
--- what is asked for comes behind them
-pub gains_new : (names : List IfName) (new : IfName) → Gains names (names ++ new ∷ []) (λ name. is_named new name)
-gains_new names new name = list_any-append (λ other. is_named other name) names (new ∷ []) ∙ ap (λ b. is_among names name || b) (sym (or_false (is_named new name)))
+use Rattle.pfr_warnings.specs.Named.{is_among}
 
 neither : (first others : Bool) → (first || others) ≡ false → (first ≡ false) × (others ≡ false)
 neither true others either = absurd (true≢false either)

@@ -1,4 +1,4 @@
-use Rattle.std.proofs.Common.{◌≡◌, [], sym, subst}
+use Rattle.std.proofs.Common.{[], sym, subst}
 use Rattle.std.specs.List.{IsDistinct}
 use Rattle.pfr_criteria.specs.Packets.{is_named}
 use Rattle.pfr_warnings.proofs.named.named_interfaces.Goals as goal
