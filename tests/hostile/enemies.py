@@ -15,7 +15,7 @@ from standby.callers import Caller
 PIECE = 1 << 16
 # the garbage that is sent unless the program ends, and how much memory it may need for it
 GARBAGE, MEGABYTES = 1 << 28, 64
-SECONDS = 20
+SECONDS = 60
 # the calls behind the first
 CALLS = 1000
 

@@ -22,7 +22,7 @@ sys.path[0] = str(Path(__file__).resolve().parent.parent)
 
 import building
 from hostile.inputs import drawn
-from hostile.trial import REFUSED, Trial, limit_files
+from hostile.trial import REFUSED, SECONDS, Trial, limit_files
 
 # inputs of one process at a time
 BLOCK = 200
@@ -66,11 +66,11 @@ class Found:
 
 def block(asked):
     """What comes of the inputs of one block."""
-    program, seed, first, end = asked
+    program, seed, first, end, seconds = asked
     found = Found()
     limit_files()
     with tempfile.TemporaryDirectory(dir=shared_memory()) as folder:
-        trial = Trial(program, folder)
+        trial = Trial(program, folder, seconds)
         for number in range(first, end):
             given = drawn(f"{seed} {number}")
             ended = trial.run(given)
@@ -93,10 +93,10 @@ def one(program, seed, number):
     print(f"{given.kind}: {' '.join(given.words)}\n{ended}\n{list(trial.faults(given, ended))}")
 
 
-def compare(program, count, seed=0):
-    """What comes of inputs that are drawn by a seed."""
+def compare(program, count, seed=0, seconds=SECONDS):
+    """What comes of inputs that are drawn by a seed, each of which may take `seconds`."""
     found = Found()
-    blocks = [(program, seed, first, min(count, first + BLOCK)) for first in range(0, count, BLOCK)]
+    blocks = [(program, seed, first, min(count, first + BLOCK), seconds) for first in range(0, count, BLOCK)]
     with ProcessPoolExecutor(cpu_count()) as pool:
         for part in pool.map(block, blocks):
             found.join(part)

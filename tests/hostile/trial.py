@@ -1,7 +1,8 @@
 """Runs the program on an input, and judges how it ends.
 
-It may not end by a signal, take longer than two seconds or more than 512 MB. Its status is one of those that the
-command may have without a failing device. What it refuses it says in one line on standard error.
+It may not end by a signal, take longer than two seconds, or as long as is said, or more than 512 MB. The memory of who
+runs it is counted as its own, until it begins. Its status is one of those that the command may have without a failing
+device, but for a file that isn't there. What it refuses it says in one line on standard error.
 """
 
 import os
@@ -13,8 +14,8 @@ from pathlib import Path
 from typing import NamedTuple
 
 SECONDS, MEGABYTES = 2, 512
-# of a run that goes on and on
-PATIENCE = 20
+# a run that takes so many times longer than it may is killed
+PATIENCE = 10
 DONE, REFUSED, CUT, FAILED = range(4)
 STATUSES = {"check": (DONE, REFUSED), "adapt": (DONE, REFUSED), "run": (DONE, REFUSED, CUT), "standby": (DONE, REFUSED)}
 ONE_LINE = re.compile(rb"pfreplay: [^\n]*\n")
@@ -43,10 +44,12 @@ def give_up(*_):
 
 
 class Trial:
-    """Runs the program in a folder of its own. A process has one at most: it uses the alarm."""
+    """Runs the program in a folder of its own, each time for `seconds` at most. A process has one at most: it uses the
+    alarm."""
 
-    def __init__(self, program, folder):
+    def __init__(self, program, folder, seconds=SECONDS):
         self.program = str(program)
+        self.seconds = seconds
         self.folder = Path(folder)
         self.out, self.err = self.folder / "out", self.folder / "err"
         self.made = set()
@@ -63,7 +66,7 @@ class Trial:
 
     def wait(self, process):
         """How a process ended, and what it took; one that goes on and on is killed."""
-        signal.setitimer(signal.ITIMER_REAL, PATIENCE)
+        signal.setitimer(signal.ITIMER_REAL, PATIENCE * self.seconds)
         try:
             return os.wait4(process, 0)[1:]
         except TooLong:
@@ -90,7 +93,7 @@ class Trial:
         if ended.status < 0:
             yield f"signal {-ended.status}"
             return
-        yield from [f"{ended.seconds:.1f} s"] if ended.seconds > SECONDS else []
+        yield from [f"{ended.seconds:.1f} s"] if ended.seconds > self.seconds else []
         yield from [f"{ended.megabytes:.0f} MB"] if ended.megabytes > MEGABYTES else []
         command = given.words[0] if given.words and given.words[0] in STATUSES else None
         if ended.status not in (*STATUSES.get(command, (DONE, REFUSED)), FAILED):
