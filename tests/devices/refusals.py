@@ -55,6 +55,11 @@ def check_stopped(scene, whole, left):
         raise Unlawful(f"{left.end}, and {boundary(scene, left)} packets are there")
 
 
+def is_same(seen, clean):
+    """Whether two runs left the same, whoever evaluated which packet."""
+    return seen.status == clean.status and answer_in(seen.out).left == answer_in(clean.out).left
+
+
 def judge(trial, fault, counts, seen):
     """The ending of a run with this fault, one of ENDINGS; Unlawful if it is none of them."""
     if seen.status == 1 and not seen.out:

@@ -67,6 +67,11 @@ def verdicts_in(lines):
     return [line for line in handed_on(lines) if not line.startswith(("packets ", "messages "))]
 
 
+def is_same(seen, clean):
+    """Whether two runs handed on and left the same."""
+    return seen.status == clean.status and outputs_in(lines_in(seen.out)) == outputs_in(lines_in(clean.out))
+
+
 def judge(trial, fault, counts, seen):
     """The ending of a run with this fault, one of ENDINGS; Unlawful if it is none of them."""
     if seen.status == 1 and not seen.out:

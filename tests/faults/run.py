@@ -10,6 +10,7 @@ writes, as the judge tells, stands for a new file in each run; no file of that n
 
 import argparse
 import importlib.util
+import operator
 import os
 import resource
 import sys
@@ -32,12 +33,17 @@ MOST_SLOW = 4
 NOT_REACHED, NOT_TRIED = "not reached", "not tried"
 
 
-def count_calls(trial, targets):
+def same_by(judge):
+    """Which two runs are the same to a judge: by default those that left the same."""
+    return getattr(judge, "is_same", operator.eq)
+
+
+def count_calls(trial, targets, is_same):
     """The number of calls of each target in a run without a fault."""
     calls = {}
     for target in targets:
         seen, counts = trial.counted(target)
-        if seen != trial.clean:
+        if not is_same(seen, trial.clean):
             raise OSError("two runs without a fault differ")
         calls[target] = counts.calls
         if counts.calls == 0 and has_calls(trial, target):
@@ -70,10 +76,10 @@ def judged(trial, judge, fault, slow):
             raise Unlawful("it took too long")
         if not counts.fired:
             # with several threads the number of calls may vary
-            if seen != trial.clean:
+            if not same_by(judge)(seen, trial.clean):
                 raise Unlawful("it differs, though the fault was not reached")
             return NOT_REACHED, None
-        return judge(trial, fault, counts, seen), None
+        return judge.judge(trial, fault, counts, seen), None
     except Unlawful as reason:
         return "unlawful", f"""{' '.join(trial.command)}
   fault: {fault}
@@ -96,12 +102,12 @@ def run(command, source, judge):
         trial = Trial(command, source, folder, places, getattr(judge, "OUTPUTS", ()), reference)
         # a file that the command doesn't name has no calls
         targets = [target for target in judge.TARGETS if not target.file or target.file in places]
-        calls = count_calls(trial, targets)
+        calls = count_calls(trial, targets, same_by(judge))
         faults = [Fault(target, deed, number) for target in targets for deed in target.deeds
                   for number in range(1, calls[target] + 1)]
         slow = []
         with ThreadPoolExecutor(os.cpu_count()) as pool:
-            results = list(pool.map(lambda fault: judged(trial, judge.judge, fault, slow), faults))
+            results = list(pool.map(lambda fault: judged(trial, judge, fault, slow), faults))
     return calls, Counter(ending for ending, _ in results), [text for _, text in results if text]
 
 

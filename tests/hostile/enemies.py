@@ -17,7 +17,7 @@ PIECE = 1 << 16
 GARBAGE, MEGABYTES = 1 << 28, 64
 SECONDS = 60
 # the calls behind the first
-CALLS = 1000
+CALLS = 100_000
 
 
 def messages():

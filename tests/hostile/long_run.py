@@ -28,8 +28,8 @@ from captures.packets import capture_header, record, udp
 from runs.peers import HOST
 from standby.callers import free_port
 
-# Every flow is translated. It has few packets, and its state ends some seconds later. A rule has no room for some flows,
-# and neither has the table.
+# Every flow is translated. It has few packets, and its state ends some seconds later. For some flows a rule has no room,
+# and for some the table.
 RULES = """set timeout { udp.first 3, udp.single 3, udp.multiple 3 }
 set limit states 22000
 nat on em0 proto udp from 10.0.0.0/8 to any -> 192.0.2.1 port 1024:65535
