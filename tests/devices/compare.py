@@ -13,7 +13,7 @@ import building
 from answering import SHOWN, answers_of, differing, place_of_difference, show_lines
 from devices import refusals, rows, speculations
 from devices.model import expected
-from devices.scene import OUTPUTS, answer_of
+from devices.scene import OUTPUTS, left_of
 from faults.run import NOT_REACHED
 from faults.run import run as run_with_faults
 from schedules.compare import script_bytes
@@ -57,7 +57,7 @@ def show(scene, wanted, seen):
 def seen_of(lines):
     """What is left by an answer, None if it isn't one."""
     try:
-        return answer_of(lines).left
+        return left_of(lines)
     except ValueError:
         return None
 

@@ -8,11 +8,12 @@ What was written before is there, and committed is what the whole batches before
 from functools import lru_cache
 from typing import NamedTuple
 
+from captures.merging import source_of
 from captures.model import Refused
 from devices.scene import OUTPUTS, Left
 from runs import model
 
-HEADER, RECORD = 24, 16
+HEADER = 24
 # the bytes that are read at once at most
 PIECE = 1 << 16
 
@@ -78,15 +79,6 @@ def left_at(case, committed, end):
     return Left(end, *texts_of(online(case, committed)).values())
 
 
-def records_in(capture):
-    """How many whole records the bytes of a capture have."""
-    count, place = 0, HEADER
-    while place + RECORD <= len(capture):
-        place += RECORD + int.from_bytes(capture[place + 8:place + 12], "little")
-        count += place <= len(capture)
-    return count
-
-
 def read_before(scene):
     """The bytes of a capture that are read before a read fails, and None if none does. The last read finds the end."""
     most = min(scene.source.most or PIECE, PIECE)
@@ -99,7 +91,7 @@ def read_failed(scene, read):
     """What is left if a read fails behind these bytes. The packets among them are written first."""
     if len(read) < HEADER:
         return Left("read failed: capture 0, committed 0")
-    case, committed = scene.case(), records_in(read)
+    case, committed = scene.case(), len(source_of(read).records)
     end = f"read failed: capture 0, committed {committed}"
     return write_failed(scene, writes_of(case, scene.batch, committed)) or left_at(case, committed, end)
 

@@ -6,9 +6,10 @@ refusal, and committed is the greatest boundary of batches up to which all is th
 """
 
 from devices import model
-from devices.scene import Left, Scene, answer_of
+from devices.scene import Left, Scene, left_of
 from faults.rulesets import MEMORY
 from faults.trial import Unlawful
+from runs.model import done_of
 
 TARGETS = (MEMORY,)
 # in the order of the summary
@@ -25,13 +26,13 @@ def scene_of(source):
                  int(words["workers"]))
 
 
-def answer_in(out):
-    """The one answer of an output."""
+def left_in(out):
+    """What a run left by the one answer of an output."""
     *lines, last = out.decode().splitlines()
     if last != "end":
         raise Unlawful("the output ends inside an answer")
     try:
-        return answer_of(lines)
+        return left_of(lines)
     except ValueError as error:
         raise Unlawful(str(error)) from error
 
@@ -39,7 +40,7 @@ def answer_in(out):
 def boundary(scene, left):
     """The greatest number of packets of whole batches, or of all, of which all is there."""
     case = scene.case()
-    count = len(model.model.done_of(case).replay.steps)
+    count = len(done_of(case).replay.steps)
     for packets in sorted({*range(0, count, scene.batch), count}, reverse=True):
         online = model.left_at(case, packets, left.end)
         if packets and all(mine.startswith(theirs) for mine, theirs in zip(left.files(), online.files())):
@@ -57,7 +58,7 @@ def check_stopped(scene, whole, left):
 
 def is_same(seen, clean):
     """Whether two runs left the same, whoever evaluated which packet."""
-    return seen.status == clean.status and answer_in(seen.out).left == answer_in(clean.out).left
+    return seen.status == clean.status and left_in(seen.out) == left_in(clean.out)
 
 
 def judge(trial, fault, counts, seen):
@@ -66,7 +67,7 @@ def judge(trial, fault, counts, seen):
         return "no answer"
     if seen.status != 0:
         raise Unlawful("the program ended otherwise than by an error or with an answer")
-    whole, left = answer_in(trial.clean.out).left, answer_in(seen.out).left
+    whole, left = left_in(trial.clean.out), left_in(seen.out)
     if left == whole:
         return "whole"
     if left == Left(NO_RULES):

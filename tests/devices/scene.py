@@ -58,20 +58,11 @@ class Left(NamedTuple):
         return self[1:]
 
 
-class Answer(NamedTuple):
-    """An answer to a script: what the run left, how often a packet was evaluated again, and of which packets that was
-    told."""
-    left: Left
-    again: int
-    numbers: tuple
-
-
-def answer_of(lines):
-    """The answer that lines spell; ValueError if they spell none."""
+def left_of(lines):
+    """What a run left by the lines of its answer; ValueError if they are none. Which packets were evaluated again, as the
+    last one tells, depends on the workers."""
     end, *outputs, again = lines
     names, texts = zip(*(line.split(" ") for line in outputs), strict=True)
-    word, *numbers = again.split(" ")
-    if names != OUTPUTS or word != "again":
+    if names != OUTPUTS or not again.startswith("again "):
         raise ValueError(f"no answer: {lines}")
-    count, *told = map(int, numbers)
-    return Answer(Left(end, *(b"" if text == "-" else bytes.fromhex(text) for text in texts)), count, tuple(told))
+    return Left(end, *(b"" if text == "-" else bytes.fromhex(text) for text in texts))

@@ -11,11 +11,12 @@ import tempfile
 import time
 from pathlib import Path
 
+from captures.merging import source_of
 from captures.packets import capture_header, record, udp
 from runs.case import INSIDE
 
 OUTPUTS = ("verdicts", "packets", "counters", "states", "messages")
-HEADER, RECORD = 24, 16
+HEADER = 24
 PACKETS, FLOWS = 60_000, 500
 RULES = b"set timeout { udp.first 5, udp.single 5, udp.multiple 5 }\nblock in\npass out\n"
 SIGNALS = (signal.SIGKILL, signal.SIGTERM)
@@ -88,11 +89,7 @@ class Runs:
 
 def packets_in(octets):
     """How many whole packets stand in a capture, or in a beginning of one."""
-    count, place = 0, HEADER
-    while place + RECORD <= len(octets):
-        place += RECORD + int.from_bytes(octets[place + 8:place + 12], "little")
-        count += place <= len(octets)
-    return count
+    return len(source_of(octets).records) if len(octets) >= HEADER else 0
 
 
 def compare(program, count, seed=0):
