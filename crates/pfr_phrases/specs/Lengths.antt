@@ -7,13 +7,19 @@ use Rattle.pfr_marks.specs.Marks.{begins_with, is}
 use Rattle.pfr_phrases.specs.declared.lengths.Takes.{Takes}
 use Rattle.pfr_phrases.specs.declared.lengths.Takes.TheVariants as takes
 
--- how many marks there are up to the first of this sign, with it and those before; none if the line ends before it
-abbrev pub group_from : ℕ → List ℕ → List Mark → ℕ
-group_from before close [] = 0
-group_from before close (mark ∷ marks) =
-    if is close mark then before + 1
-    else if is (codes "\n") mark then 0
-    else group_from (before + 1) close marks
+-- how many marks there are up to the first sign that closes a group, with it and those before; none if the line ends before it, or another
+-- group is opened: no group stands in one of its kind
+abbrev pub group_from : ℕ → (opens closes : List ℕ) → List Mark → ℕ
+group_from before opens closes [] = 0
+group_from before opens closes (mark ∷ marks) =
+    if is closes mark then before + 1
+    else if is (codes "\n") mark || is opens mark then 0
+    else group_from (before + 1) opens closes marks
+
+-- how many marks the group has that the first of them opens
+abbrev pub group_len : (opens closes : List ℕ) → List Mark → ℕ
+group_len opens closes [] = 0
+group_len opens closes (first ∷ marks) = if is opens first then group_from 1 opens closes marks else 0
 
 -- how many ends of lines stand at the front, with those before
 abbrev pub newlines_from : ℕ → List Mark → ℕ
@@ -32,9 +38,9 @@ is_no_value word = is_among signs_of_no_values word
 -- how many marks a value has: a word, or a group in brackets, braces or `< >`
 abbrev pub value_at : Mark → List Mark → ℕ
 value_at first marks =
-    if is (codes "(") first then group_from 0 (codes ")") marks
-    else if is (codes "{") first then group_from 0 (codes "}") marks
-    else if is (codes "<") first then group_from 0 (codes ">") marks
+    if is (codes "(") first then group_len (codes "(") (codes ")") marks
+    else if is (codes "{") first then group_len (codes "{") (codes "}") marks
+    else if is (codes "<") first then group_len (codes "<") (codes ">") marks
     else if is_no_value first.piece then 0
     else 1
 
@@ -43,7 +49,7 @@ value_len [] = 0
 value_len (first ∷ marks) = value_at first (first ∷ marks)
 
 abbrev pub brackets_len : List Mark → ℕ
-brackets_len marks = if begins_with marks (codes "(") then group_from 0 (codes ")") marks else 0
+brackets_len marks = group_len (codes "(") (codes ")") marks
 
 -- a word with the value behind it, which must be there
 abbrev pub with_value : ℕ → ℕ

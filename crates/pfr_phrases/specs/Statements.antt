@@ -1,5 +1,6 @@
 -- The statements that are left out whole.
 use Rattle.std.specs.Prelude.{ℕ, ◌+◌, ◌-◌, ◌&&◌, ◌||◌, Bool, true, false, not, nat_lt, if◌then◌else◌, List, [], ◌∷◌, length, take, codes, Option, Some, None}
+use Rattle.std.specs.Option.{is_some}
 use Rattle.pfr_words.specs.Names.{entry_of, is_among}
 use Rattle.pfr_marks.specs.declared.mark.Mark.{Mark}
 use Rattle.pfr_marks.specs.declared.mark.Place.{Place}
@@ -129,6 +130,11 @@ unfoldable pub left_out_in : List Mark → Option Finding
 left_out_in [] = None
 left_out_in (first ∷ behind) =
     left_out_by (statement_reason first.piece) (second_left_out first behind) first behind
+
+-- a statement that begins so may be left out
+abbrev pub may_be_left_out : List Mark → Bool
+may_be_left_out [] = false
+may_be_left_out (first ∷ behind) = is_some (statement_reason first.piece) || is (codes "no") first || is (codes "set") first || may_ask first.piece
 
 -- the end of the last of some marks
 abbrev pub end_of : Place → List Mark → Place

@@ -47,20 +47,32 @@ fn is_no_value(word: &[u8]) -> bool
     is_among(&NO_VALUES, word)
 }
 
-/// How many marks there are up to the first of this sign, with it; none if the line ends before it.
-fn group_len(close: &[u8], marks: &[Mark<'_>]) -> usize
-    ensures value { result ≡ spec.group_from 0 close.now marks.now }
-    ensures within { result ≤ length marks.now }
+/// How many marks there are up to the first sign that closes a group, with it and the one before these; none if the line ends before
+/// it, or another group of the kind is opened.
+fn group_behind(opens: &[u8], closes: &[u8], behind: &[Mark<'_>]) -> usize
+    ensures value { result ≡ spec.group_from 1 opens.now closes.now behind.now }
+    ensures within { result ≤ 1 + length behind.now }
 {
-    for (before, mark) in marks.iter().enumerate() {
-        if is(mark, close) {
-            return before + 1;
+    for (before, mark) in behind.iter().enumerate() {
+        if is(mark, closes) {
+            return before + 2;
         }
-        if is(mark, b"\n") {
+        if is(mark, b"\n") || is(mark, opens) {
             return 0;
         }
     }
     0
+}
+
+/// How many marks the group has that the first of them opens; none if it opens none, or nothing closes it.
+fn group_len(opens: &[u8], closes: &[u8], marks: &[Mark<'_>]) -> usize
+    ensures value { result ≡ spec.group_len opens.now closes.now marks.now }
+    ensures within { result ≤ length marks.now }
+{
+    match marks.first() {
+        Some(first) if is(first, opens) => group_behind(opens, closes, &marks[1..]),
+        _ => 0,
+    }
 }
 
 /// How many marks a value has: a word, or a group in brackets, braces or `< >`; none if no value is there.
@@ -73,13 +85,13 @@ fn value_len(marks: &[Mark<'_>]) -> usize
         return 0;
     };
     if is(first, b"(") {
-        return group_len(b")", marks);
+        return group_len(b"(", b")", marks);
     }
     if is(first, b"{") {
-        return group_len(b"}", marks);
+        return group_len(b"{", b"}", marks);
     }
     if is(first, b"<") {
-        return group_len(b">", marks);
+        return group_len(b"<", b">", marks);
     }
     if is_no_value(first.piece.as_slice()) {
         return 0;
@@ -205,9 +217,5 @@ pub fn brackets_len(marks: &[Mark<'_>]) -> usize
     ensures value { result ≡ spec.brackets_len marks.now }
     ensures within { result ≤ length marks.now }
 {
-    if begins_with(marks, b"(") {
-        group_len(b")", marks)
-    } else {
-        0
-    }
+    group_len(b"(", b")", marks)
 }

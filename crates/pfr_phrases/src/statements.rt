@@ -222,6 +222,18 @@ fn left_out_in<'a>(statement: &[Mark<'a>]) -> Option<Finding<'a>>
     }
 }
 
+/// Whether the statement at the front of marks may be left out, by its first word. No statement is looked at whole for a bracket or a
+/// brace before it.
+fn may_be_left_out(marks: &[Mark<'_>]) -> bool
+    ensures { result ≡ spec.may_be_left_out marks.now }
+{
+    let Some(first) = marks.first() else {
+        return false;
+    };
+    let word = first.piece.as_slice();
+    statement_reason(word).is_some() || is(first, b"no") || is(first, b"set") || may_ask(word)
+}
+
 /// The end of the last of some marks, or a place if there are none.
 pub fn end_of(place: Place, marks: &[Mark<'_>]) -> Place
     ensures { result ≡ spec.end_of place marks.now }
@@ -238,6 +250,9 @@ pub fn end_of(place: Place, marks: &[Mark<'_>]) -> Place
 pub fn statement_left_out<'a>(marks: &[Mark<'a>]) -> Option<Found<'a>>
     ensures { result ≡ spec.statement_left_out marks.now }
 {
+    if !may_be_left_out(marks) {
+        return None;
+    }
     let (statement, _) = marks.split_at(statement_len(marks));
     let finding = left_out_in(statement)?;
     let first = statement.first()?;

@@ -10,7 +10,7 @@ use Rattle.pfr_phrases.specs.declared.reason.Reason.{Reason}
 use Rattle.pfr_phrases.proofs.CoverLawLemmas.{CoversIf, IsAtIf, at_behind, at_later, of_element, of_whole, unless}
 use Rattle.pfr_spelling.specs.Known.{value_len}
 use Rattle.pfr_spelling.specs.declared.known.Known.{Known}
-use Rattle.pfr_rewrite.specs.Unseen.{element_behind, element_by, element_here, element_reason, lists_addresses, reason_here, rule_for, rule_here, rule_in, said_for, said_from, said_here}
+use Rattle.pfr_rewrite.specs.Unseen.{begins_asking, element_behind, element_by, element_here, element_reason, lists_addresses, reason_here, rule_for, rule_here, rule_in, said_for, said_from, said_here}
 use Rattle.pfr_rewrite.specs.UnseenValues.{unseen_value}
 use Rattle.pfr_rewrite.proofs.UnseenLemmas.{none_here, some_here}
 
@@ -46,7 +46,7 @@ of_said n None context first marks at = tt
 of_said n (Some finding) context first marks at = of_whole n finding context first marks at
 
 of_rule : (n : ℕ) (known : Known) (context : Context) (marks : List Mark) → CoversIf context marks (rule_in known (take n marks) marks)
-of_rule zero known context marks = tt
+of_rule zero known context marks = unless (not (begins_asking marks) || is_some (statement_left_out marks)) context marks None tt
 of_rule (suc n) known context [] = tt
 of_rule (suc n) known context (first ∷ marks) =
     let said = said_from known known.left (first ∷ take n marks) in

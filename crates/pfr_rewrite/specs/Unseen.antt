@@ -66,11 +66,15 @@ rule_for None statement = None
 rule_for (Some finding) [] = None
 rule_for (Some finding) (first ∷ behind) = Some (whole first.start (end_of first.end (first ∷ behind)) (length (first ∷ behind)) finding)
 
+-- a statement begins that may be left out for what it asks for
+abbrev pub begins_asking : List Mark → Bool
+begins_asking [] = false
+begins_asking (first ∷ behind) = may_ask first.piece
+
 abbrev pub rule_in : Known → (statement marks : List Mark) → Option Found
-rule_in known [] marks = None
-rule_in known (first ∷ behind) marks =
-    if not (may_ask first.piece) || is_some (statement_left_out marks) then None
-    else rule_for (said_from known known.left (first ∷ behind)) (first ∷ behind)
+rule_in known statement marks =
+    if not (begins_asking marks) || is_some (statement_left_out marks) then None
+    else rule_for (said_from known known.left statement) statement
 
 -- the rule at the front of marks, if it is left out for what its macros stand for, and not for its own words
 unfoldable pub rule_here : Known → List Mark → Option Found

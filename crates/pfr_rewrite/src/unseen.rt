@@ -159,6 +159,17 @@ fn said_in<'a>(
     Ok(None)
 }
 
+/// Whether the statement that begins at the front of marks may be left out for what it asks for. No statement is looked at whole for
+/// a bracket or a brace before its first word.
+fn begins_asking(marks: &[Mark<'_>]) -> bool
+    ensures { result ≡ spec.begins_asking marks.now }
+{
+    match marks.first() {
+        Some(first) => may_ask(first.piece.as_slice()),
+        None => false,
+    }
+}
+
 /// The rule at the front of marks as a change, if it is left out for what its macros stand for, and not for its own words.
 #[tactic(auto, unfolding(crate::specs::Unseen::rule_here))]
 pub(crate) fn rule_here<'a>(
@@ -168,13 +179,13 @@ pub(crate) fn rule_here<'a>(
 ) -> Result<Option<Found<'a>>, AllocError>
     ensures { IfOk result (λ found. found ≡ spec.rule_here known.now marks.now) }
 {
+    if !begins_asking(marks) || statement_left_out(marks).is_some() {
+        return Ok(None);
+    }
     let (statement, _) = marks.split_at(statement_len(marks));
     let Some(first) = statement.first() else {
         return Ok(None);
     };
-    if !may_ask(first.piece.as_slice()) || statement_left_out(marks).is_some() {
-        return Ok(None);
-    }
     match said_in(alloc, known, statement)? {
         Some(finding) => Ok(Some(whole(
             first.start,
