@@ -145,8 +145,11 @@ def value_end(words, at):
         return whole_use_end(words, at)
     if words[at].is_word():
         return at + 1
-    closer = CLOSERS.get(words[at].text) if words[at].kind == SIGN else None
-    while closer and at < len(words) and words[at].kind != LINE:
+    opener = words[at].text
+    closer = CLOSERS.get(opener) if words[at].kind == SIGN else None
+    at += 1
+    # a group has none of its kind in it
+    while closer and at < len(words) and words[at].kind != LINE and not words[at].is_sign(opener):
         if words[at].is_sign(closer):
             return at + 1
         at += 1

@@ -1,6 +1,6 @@
 -- The interfaces that the rules of a ruleset name (pf.conf(5), "on").
-use Rattle.std.specs.Prelude.{◌≡◌, Bool, false, not, ◌||◌, List, Option, Some, None}
-use Rattle.std.specs.List.{filter, list_any}
+use Rattle.std.specs.Prelude.{◌≡◌, Bool, false, not, ◌||◌, if◌then◌else◌, List, [], ◌∷◌, ◌++◌, Option, Some, None}
+use Rattle.std.specs.List.{filter, filter_map, list_any}
 use Rattle.pfr_net.specs.declared.interface.IfName.{IfName}
 use Rattle.pfr_ruleset.specs.declared.interface.Interface.{Interface}
 use Rattle.pfr_ruleset.specs.declared.interface.InterfaceCriterion.{InterfaceCriterion}
@@ -27,6 +27,40 @@ is_named_in rules name =
     || (one_asks_for (λ rule. rule.packet.interface) name rules.translations.nats
     || (one_asks_for (λ rule. rule.packet.interface) name rules.translations.rdrs
     || one_asks_for (λ rule. rule.packet.interface) name rules.translations.binats)))
+
+-- ---- in their order
+
+-- the interface that is asked for, if one is
+abbrev pub name_in : Option InterfaceCriterion → Option IfName
+name_in None = None
+name_in (Some criterion) = Some criterion.name
+
+-- the interfaces that rules or anchors ask for, in their order, each as often as it is asked for
+abbrev pub asked_by : {R : Type 0} → (R → Option InterfaceCriterion) → List R → List IfName
+asked_by asked rules = filter_map (λ rule. name_in (asked rule)) rules
+
+-- those that a ruleset asks for: its filter rules, its anchors, and its rules of nat, rdr and binat
+abbrev pub asked_in : Ruleset → List IfName
+asked_in rules =
+    asked_by (λ rule. rule.packet.interface) rules.filter.rules
+    ++ (asked_by (λ anchor. anchor.packet.interface) rules.filter.anchors
+    ++ (asked_by (λ rule. rule.packet.interface) rules.translations.nats
+    ++ (asked_by (λ rule. rule.packet.interface) rules.translations.rdrs
+    ++ asked_by (λ rule. rule.packet.interface) rules.translations.binats)))
+
+-- with a name behind others, unless it is one of them
+abbrev pub with_name : List IfName → IfName → List IfName
+with_name names name = if is_among names name then names else names ++ name ∷ []
+
+-- with what is asked for, if an interface is
+abbrev pub with_asked : List IfName → Option InterfaceCriterion → List IfName
+with_asked names None = names
+with_asked names (Some criterion) = with_name names criterion.name
+
+-- with each further name at its first place
+abbrev pub each_once : (names more : List IfName) → List IfName
+each_once names [] = names
+each_once names (name ∷ more) = each_once (with_name names name) more
 
 -- besides names from before there are just those of which this is true
 abbrev pub Gains : (before after : List IfName) → (IfName → Bool) → Type 0

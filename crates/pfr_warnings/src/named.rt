@@ -1,5 +1,5 @@
 //! The interfaces that rules name, and those of them that a run doesn't have.
-ghost use Rattle.std.specs.Prelude.{◌≡◌, IfOk, OnOk, Option};
+ghost use Rattle.std.specs.Prelude.{[], ◌≡◌, IfOk, OnOk, Option};
 ghost use Rattle.std.specs.List.{IsDistinct};
 ghost use Rattle.pfr_criteria.specs.Packets.{is_named};
 ghost use Rattle.pfr_net.specs.declared.interface.IfName.{IfName};
@@ -53,6 +53,7 @@ pub(crate) fn is_among(names: &[IfName], name: &IfName) -> bool
 
 /// Adds the interface that is asked for, if it isn't there.
 fn add(names: &mut Vec<IfName>, asked: Option<InterfaceCriterion>) -> Result<(), AllocError>
+    ensures order { OnOk result (names.new.items ≡ spec.with_asked names.old.items asked) }
     ensures gained { OnOk result (spec.Gains names.old.items names.new.items (λ name. spec.asks_for name asked)) }
     ensures once { IsDistinct is_named names.old.items → OnOk result (IsDistinct is_named names.new.items) }
 {
@@ -68,6 +69,7 @@ fn add(names: &mut Vec<IfName>, asked: Option<InterfaceCriterion>) -> Result<(),
 
 /// Adds the interfaces that rules or anchors ask for.
 fn add_all<T: Asks>(names: &mut Vec<IfName>, rules: &[T]) -> Result<(), AllocError>
+    ensures order { OnOk result (names.new.items ≡ spec.each_once names.old.items (spec.asked_by T.criterion rules.now)) }
     ensures gained { OnOk result (spec.Gains names.old.items names.new.items (λ name. spec.one_asks_for T.criterion name rules.now)) }
     ensures once { IsDistinct is_named names.old.items → OnOk result (IsDistinct is_named names.new.items) }
 {
@@ -77,8 +79,10 @@ fn add_all<T: Asks>(names: &mut Vec<IfName>, rules: &[T]) -> Result<(), AllocErr
     Ok(())
 }
 
-/// The interfaces that rules of a ruleset name behind `on`, with `!` or without, and those that its anchors do. Each comes once.
+/// The interfaces that rules of a ruleset name behind `on`, with `!` or without, and those that its anchors do. Each comes once, at its
+/// first place among filter rules, anchors and rules of nat, rdr and binat.
 pub fn named_interfaces(alloc: Global, rules: &Ruleset) -> Result<Vec<IfName>, AllocError>
+    ensures order { IfOk result (λ names. names.items ≡ spec.each_once [] (spec.asked_in rules.now)) }
     ensures named { IfOk result (λ names. (name : IfName) → spec.is_among names.items name ≡ spec.is_named_in rules.now name) }
     ensures once { IfOk result (λ names. IsDistinct is_named names.items) }
 {
