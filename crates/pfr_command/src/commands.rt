@@ -6,10 +6,17 @@ use crate::values::{ADDRESS, BATCH, FILE, INSIDE, INTERFACE, PEER, SEED, TAP, WO
 use clap::{Arg, ArgAction, Command};
 use std::alloc::{AllocError, Global};
 
-const RUN_EXAMPLE: &str = "Examples:
+/// What the program prints of itself for `--version`: its own, and the line of the toolchain that proved it.
+const VERSIONS: &str = "0.1.0
+rattle-kit-13f logic dac8208d650f15bf";
+
+const RUN_EXAMPLE: &str = "Example:
   pfreplay run office.pcap /etc/pf.conf --interface em0 --address 192.0.2.1/24 \\
       --inside 10.0.0.0/8,192.0.2.1 --verdicts verdicts.txt --packets passed.pcap \\
-      --counters counters.txt --states states.txt
+      --counters counters.txt --states states.txt";
+
+const MORE_OF_RUN: &str =
+    "Several interfaces, a capture from a pipe, and packets as they are on the wire:
   pfreplay run em0.pcap /etc/pf.conf --interface em0 --address 192.0.2.1/24 \\
       --also em1,203.0.113.2/24,em1.pcap,passed1.pcap --inside 10.0.0.0/8 \\
       --verdicts verdicts.txt --packets passed0.pcap \\
@@ -27,16 +34,23 @@ In the place of a capture - is standard input, and in the place of an output sta
 const CHECK_EXAMPLE: &str = "Example:
   pfreplay check /etc/pf.conf --interface em0 --address 192.0.2.1/24";
 
-const ADAPT_EXAMPLE: &str =
+const MORE_OF_PROGRAM: &str = "pfreplay help COMMAND prints the words and flags of a command.";
+
+const ADAPT_EXAMPLE: &str = "Example:
+  pfreplay adapt /etc/pf.conf --interface em0 --address 192.0.2.1/24 > adapted.conf";
+
+const MORE_OF_ADAPT: &str =
     "It prints the text on standard output, and on standard error a line for each part that it rewrote:
 RULES:LINE:COLUMN: KIND: WORD: WHY. KIND is note if no verdict depends on it, and warning if
 verdicts may differ from pf's. error says what is still refused.
 
-Examples:
-  pfreplay adapt /etc/pf.conf --interface em0 --address 192.0.2.1/24 > adapted.conf
+What the file of a table holds can be given:
   pfreplay adapt pf.conf --interface em0 --address 192.0.2.1/24 --table spammers=spammers.txt";
 
-const STANDBY_EXAMPLE: &str =
+const STANDBY_EXAMPLE: &str = "Example:
+  pfreplay standby --messages messages.bin";
+
+const MORE_OF_STANDBY: &str =
     "It prints a line for each state, by number: N PROTO DIR WIRE STACK r=R PEER PEER TIMEOUT.
 N is the number of the packet that made the state, PROTO its protocol's number.
 DIR is in or out, WIRE and STACK are the ends outside and inside on the two sides.
@@ -45,9 +59,6 @@ PEER is CODE/LOW/HIGH/WINDOW/SCALE of the end that made the state, and of the ot
 TIMEOUT: 0 to 5 tcp.first, tcp.opening, tcp.established, tcp.closing, tcp.finwait,
   tcp.closed; 6 to 8 udp.first, udp.single, udp.multiple; 9 and 10 icmp.first,
   icmp.error; 11 to 13 other.first, other.single, other.multiple.
-
-Example:
-  pfreplay standby --messages messages.bin
 
 In the place of the file - is standard input.";
 
@@ -87,10 +98,11 @@ fn program<'a>(alloc: Global) -> Result<Command<'a>, AllocError> {
     Ok(
         program
             .version("0.1.0")
+            .long_version(VERSIONS)
             .about("Replays a packet capture through a pf ruleset")
-            .after_help(CHECK_EXAMPLE)
-            .subcommand_required(true)
-            .disable_help_subcommand(true),
+            .before_help(CHECK_EXAMPLE)
+            .after_help(MORE_OF_PROGRAM)
+            .subcommand_required(true),
     )
 }
 
@@ -104,7 +116,8 @@ fn run_command<'a>(alloc: Global) -> Result<Command<'a>, AllocError> {
     let capture = "The file with the packet capture, in the classic pcap format";
     let command = Command::new(alloc, "run")
         .about("Replays a packet capture through a ruleset")
-        .after_help(RUN_EXAMPLE)
+        .before_help(RUN_EXAMPLE)
+        .after_help(MORE_OF_RUN)
         .arg(word(alloc, "CAPTURE", capture))?;
     let command = with_adapt(alloc, with_ruleset(alloc, command)?)?;
     with_choices(alloc, command)
@@ -169,7 +182,7 @@ fn with_messages<'a>(alloc: Global, command: Command<'a>) -> Result<Command<'a>,
 fn check_command<'a>(alloc: Global) -> Result<Command<'a>, AllocError> {
     let command = Command::new(alloc, "check")
         .about("Reads a ruleset and prints how many rules it makes, and its checksum")
-        .after_help(CHECK_EXAMPLE);
+        .before_help(CHECK_EXAMPLE);
     with_adapt(alloc, with_ruleset(alloc, command)?)
 }
 
@@ -210,7 +223,8 @@ fn standby_command<'a>(alloc: Global) -> Result<Command<'a>, AllocError> {
     let listen = flag(alloc, "listen", PEER, listen).required(false);
     let command = Command::new(alloc, "standby")
         .about("Reads what a run tells a standby, and prints the states that it holds then")
-        .after_help(STANDBY_EXAMPLE)
+        .before_help(STANDBY_EXAMPLE)
+        .after_help(MORE_OF_STANDBY)
         .arg(file.conflicts_with("listen")?)?;
     command.arg(listen)
 }
