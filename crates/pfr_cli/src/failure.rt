@@ -1,6 +1,7 @@
 //! What the program says when something is wrong, in one line, and the statuses that it ends with.
 use pfr_capture::CaptureError;
 use pfr_command::{CaptureWords, Refused};
+use pfr_listing::Refused as ListingRefused;
 use pfr_out::{ConfError, ConfErrorKind, StandbyStop, Stop};
 use pfr_prepare::{Prepared, Refusal};
 use pfr_sync::SyncError;
@@ -43,6 +44,8 @@ pub enum Failure<'a> {
     },
     /// A standby has not taken all messages.
     StandbyStopped(StandbyStop),
+    /// A file isn't one of states that a run left.
+    StatesRefused(ListingRefused),
     /// Standard output failed.
     PrintFailed,
 }
@@ -126,6 +129,7 @@ impl<'a> Failure<'a> {
             Failure::CannotOpen { .. } | Failure::PrintFailed => DEVICE,
             Failure::Stopped { stop, .. } => status_of(stop),
             Failure::StandbyStopped(stop) => standby_status_of(stop),
+            Failure::StatesRefused(refused) => states_status_of(refused),
         }
     }
 }
@@ -171,6 +175,14 @@ fn standby_status_of(stop: &StandbyStop) -> u8 {
     }
 }
 
+/// The status where states aren't listed.
+fn states_status_of(refused: &ListingRefused) -> u8 {
+    match refused {
+        ListingRefused::Line(_) => REFUSED,
+        ListingRefused::Memory => NO_MEMORY,
+    }
+}
+
 /// The number by which the program names why a message is refused.
 fn code_of(refusal: SyncError) -> u8 {
     match refusal {
@@ -205,6 +217,10 @@ impl fmt::Display for Failure<'_> {
             Failure::CannotOpen { name, .. } => write!(f, "cannot open: {name}"),
             Failure::Stopped { stop, interface } => write_stop(stop, *interface, f),
             Failure::StandbyStopped(stop) => write_standby_stop(stop, f),
+            Failure::StatesRefused(ListingRefused::Line(number)) => {
+                write!(f, "states line {number}: no state")
+            }
+            Failure::StatesRefused(ListingRefused::Memory) => write!(f, "no memory"),
             Failure::PrintFailed => write!(f, "write failed: standard output"),
         }
     }

@@ -1,8 +1,12 @@
 //! Where the bytes of an input come from.
 ghost use Rattle.pfr_cli.specs.Destinations.{remaining_of};
 
+use crate::failure::Failure;
+use crate::files::opened;
+use crate::standard::is_standard;
 use std::io;
 use std::io::Read;
+use std::rt::Files;
 
 /// A file, or standard input.
 #[derive(Drop)]
@@ -20,4 +24,16 @@ impl<F: Read, I: Read> Read for Origin<F, I> {
             Origin::Standard(input) => input.read(piece),
         }
     }
+}
+
+/// Opens the file of this name, or takes standard input.
+pub fn origin_of<'a, R: Files, I: Read + Drop>(
+    rt: &R,
+    name: &'a str,
+    input: I,
+) -> Result<Origin<R::File, I>, Failure<'a>> {
+    if is_standard(name) {
+        return Ok(Origin::Standard(input));
+    }
+    Ok(Origin::File(opened(rt, name)?))
 }

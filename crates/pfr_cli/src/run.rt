@@ -2,8 +2,10 @@
 use crate::failure::{DONE, Failure, REFUSED, report};
 use crate::replaying::replay;
 use crate::standby::stand_by;
+use crate::states::list_states;
 use crate::summary::Summary;
 use pfr_command::{Asked, parse};
+use pfr_listing::Refused;
 use pfr_out::{StandbyStop, Stop};
 use pfr_prepare::{Prepared, Refusal, Request, prepared_text, say_faults};
 use std::alloc::Global;
@@ -23,22 +25,30 @@ pub fn run<
 >(rt: &R, words: &[String], input: I, out: &mut O, err: &mut E) -> u8 {
     match work(rt, words, input, out, err) {
         Ok(status) => status,
-        Err(
-            Failure::Stopped {
-                stop: Stop::Memory(_),
-                ..
-            },
-        ) if ask_for_standby(words) => {
-            report(&Failure::StandbyStopped(StandbyStop::Memory(0)), err)
-        }
-        Err(failure) => report(&failure, err),
+        Err(failure) => report(&by_command(failure, words), err),
     }
 }
 
-/// Whether the words, the program's name first, ask for the command `standby`: it counts messages and no packets.
-fn ask_for_standby(words: &[String]) -> bool {
+/// What is said of memory that is refused depends on the command that the words ask for, the program's name first: `standby` counts
+/// messages and no packets, and `states` neither.
+fn by_command<'a>(failure: Failure<'a>, words: &[String]) -> Failure<'a> {
+    match failure {
+        Failure::Stopped {
+            stop: Stop::Memory(_),
+            ..
+        } if ask_for(words, "standby") => Failure::StandbyStopped(StandbyStop::Memory(0)),
+        Failure::Stopped {
+            stop: Stop::Memory(_),
+            ..
+        } if ask_for(words, "states") => Failure::StatesRefused(Refused::Memory),
+        other => other,
+    }
+}
+
+/// Whether the words ask for this command.
+fn ask_for(words: &[String], command: &str) -> bool {
     match words.get(1) {
-        Some(word) => word.as_str() == "standby",
+        Some(word) => word.as_str() == command,
         None => false,
     }
 }
@@ -56,6 +66,7 @@ fn work<
         Asked::Adapt(rules) => adapt(rt, &rules, out, err),
         Asked::Run(asked) => replay(rt, &asked, input, out, err),
         Asked::Standby(stream) => stand_by(rt, &stream, input, out),
+        Asked::States(asked) => list_states(rt, &asked, input, out),
     }
 }
 
@@ -115,7 +126,7 @@ fn faults<'a, E: Write>(
 }
 
 /// Prints a text and no more.
-fn print<'a, O: Write>(out: &mut O, text: &[u8]) -> Result<u8, Failure<'a>> {
+pub fn print<'a, O: Write>(out: &mut O, text: &[u8]) -> Result<u8, Failure<'a>> {
     match out.write_all(text) {
         Ok(()) => Ok(DONE),
         Err(_) => Err(Failure::PrintFailed),

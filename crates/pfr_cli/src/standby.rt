@@ -1,9 +1,7 @@
 //! What `pfreplay standby` does.
 use crate::failure::{DONE, Failure};
-use crate::files::opened;
-use crate::origin::Origin;
+use crate::origin::origin_of;
 use crate::peer::accepted;
-use crate::standard::is_standard;
 use pfr_capture::{ReaderSource, Source, WriterSink};
 use pfr_command::Stream;
 use pfr_out::{Framing, standby};
@@ -21,7 +19,7 @@ pub fn stand_by<'a, R: Files + Net + AllocGlobal, I: Read + Drop, O: Write>(
 ) -> Result<u8, Failure<'a>> {
     match stream {
         Stream::File(name) => {
-            let mut source = ReaderSource::new(messages(rt, name, input)?);
+            let mut source = ReaderSource::new(origin_of(rt, name, input)?);
             print_states(rt.alloc(), &mut source, Framing::File, out)
         }
         Stream::Listen(address) => {
@@ -29,18 +27,6 @@ pub fn stand_by<'a, R: Files + Net + AllocGlobal, I: Read + Drop, O: Write>(
             print_states(rt.alloc(), &mut source, Framing::Bare, out)
         }
     }
-}
-
-/// Opens a file of messages, or takes standard input.
-fn messages<'a, R: Files, I: Read + Drop>(
-    rt: &R,
-    name: &'a str,
-    input: I,
-) -> Result<Origin<R::File, I>, Failure<'a>> {
-    if is_standard(name) {
-        return Ok(Origin::Standard(input));
-    }
-    Ok(Origin::File(opened(rt, name)?))
 }
 
 /// Prints the states that a standby holds after the messages of a source.

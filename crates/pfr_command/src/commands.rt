@@ -62,6 +62,20 @@ TIMEOUT: 0 to 5 tcp.first, tcp.opening, tcp.established, tcp.closing, tcp.finwai
 
 In the place of the file - is standard input.";
 
+const STATES_EXAMPLE: &str = "Example:
+  pfreplay states states.txt";
+
+const MORE_OF_STATES: &str =
+    "It prints a line for each state, as pfctl -s states does: the interface to which it is bound or all,
+the protocol, both ends and how far they have come. The end inside stands first, what is
+translated in brackets. -> is a state that a packet made on its way out, <- one on its way in.
+
+Those of one protocol and address, and one state to a line of JSON:
+  pfreplay states states.txt | grep 'tcp 192.0.2.1:443'
+  pfreplay states states.txt --json
+
+In the place of the file - is standard input.";
+
 /// The flags that say which interface a ruleset is for: their names, what the help calls their values, and their help.
 const INTERFACE_FLAGS: [(&str, &str, &str); 2] = [
     (
@@ -89,7 +103,8 @@ pub(crate) fn command_line<'a>(alloc: Global) -> Result<Command<'a>, AllocError>
     let program = with_run(alloc, program(alloc)?)?;
     let program = program.subcommand(check_command(alloc)?)?;
     let program = program.subcommand(adapt_command(alloc)?)?;
-    program.subcommand(standby_command(alloc)?)
+    let program = program.subcommand(standby_command(alloc)?)?;
+    program.subcommand(states_command(alloc)?)
 }
 
 /// The program without its commands.
@@ -227,6 +242,20 @@ fn standby_command<'a>(alloc: Global) -> Result<Command<'a>, AllocError> {
         .after_help(MORE_OF_STANDBY)
         .arg(file.conflicts_with("listen")?)?;
     command.arg(listen)
+}
+
+/// The command that lists states.
+fn states_command<'a>(alloc: Global) -> Result<Command<'a>, AllocError> {
+    let json = Arg::new(alloc, "json")
+        .long("json")
+        .help("Print an object of JSON for each state, on a line of its own")
+        .action(ArgAction::SetTrue);
+    let command = Command::new(alloc, "states")
+        .about("Lists the states that a run left, as pfctl does")
+        .before_help(STATES_EXAMPLE)
+        .after_help(MORE_OF_STATES)
+        .arg(word(alloc, "STATES", "The file of the states that run wrote"))?;
+    command.arg(json)
 }
 
 /// A command with the words that say a ruleset and the interface that it is for.

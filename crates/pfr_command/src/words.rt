@@ -37,6 +37,8 @@ pub enum Asked<'a> {
     Adapt(Request<'a>),
     /// To print what a standby holds after the messages that stand here.
     Standby(Stream<'a>),
+    /// To print the states that a run left.
+    States(StatesWords<'a>),
     /// To print this text and no more.
     Text(String),
 }
@@ -48,6 +50,15 @@ pub enum Stream<'a> {
     File(&'a str),
     /// In what the first one sends who connects to this address.
     Listen(Peer<'a>),
+}
+
+/// What the words behind `states` say.
+#[derive(Clone, Copy)]
+pub struct StatesWords<'a> {
+    /// The file with the states of a run.
+    pub name: &'a str,
+    /// Whether they are printed as JSON.
+    pub as_json: bool,
 }
 
 /// What the words behind `run` say: which captures are replayed through which ruleset, and how.
@@ -137,8 +148,11 @@ pub fn parse<'a>(alloc: Global, words: &'a [String]) -> Result<Asked<'a>, Refuse
     if let Some(matches) = matches.subcommand_matches("adapt") {
         return adapt_words(alloc, matches);
     }
-    match matches.subcommand_matches("standby") {
-        Some(matches) => standby_words(matches),
+    if let Some(matches) = matches.subcommand_matches("standby") {
+        return standby_words(matches);
+    }
+    match matches.subcommand_matches("states") {
+        Some(matches) => states_words(matches),
         None => Err(Refused::MissingWord("COMMAND")),
     }
 }
@@ -348,6 +362,14 @@ fn standby_words<'a>(matches: &ArgMatches<'a>) -> Result<Asked<'a>, Refused<'a>>
         Some(word) => Ok(Asked::Standby(Stream::Listen(peer("--listen", word)?))),
         None => Err(Refused::MissingWord("--messages or --listen")),
     }
+}
+
+/// What the words behind `states` ask for.
+fn states_words<'a>(matches: &ArgMatches<'a>) -> Result<Asked<'a>, Refused<'a>> {
+    Ok(Asked::States(StatesWords {
+        name: given(matches, "STATES")?,
+        as_json: matches.get_flag("json"),
+    }))
 }
 
 /// The interface that the words say.

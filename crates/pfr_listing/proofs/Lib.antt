@@ -1,0 +1,2 @@
+pub mod AppendLemmas
+pub mod LineLemmas

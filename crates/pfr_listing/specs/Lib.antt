@@ -1,0 +1,3 @@
+pub mod Json
+pub mod Lines
+pub mod Pfctl
