@@ -29,10 +29,11 @@ OUTPUTS = ("verdicts", "packets", "counters", "states", "messages")
 
 
 class Costly(NamedTuple):
-    """A ruleset, and the packets of a capture, each with its second; without any it is checked alone."""
+    """A ruleset, and the packets of a capture, each with its second; without any it is checked alone, or adapted."""
     name: str
     rules: str
     records: list = []
+    command: str = "check"
 
 
 def fitting(make):
@@ -88,14 +89,35 @@ def costly():
     yield Costly("macros that double to 65536 words", doubled(16) + "pass proto { $m16 }\n")
     yield Costly("65536 rules of addresses", f"pass from {{ {addresses(256)} }} to {{ {addresses(256)} }}\n")
     yield Costly("brackets that are never closed", "pass from {" * (MOST // 11))
+    yield from adapted()
     yield Costly("comments alone", "#\n" * (MOST // 2))
     yield Costly("labels of 65536 rules", "pass label \"x\"\n" * 65536)
+
+
+# one long line of each, and where it stands
+PIECES = (("round brackets", "("), ("pairs of braces", "{}"), ("groups that are never closed", "rtable < "),
+          ("options that are never closed", "max-src-nodes ( "))
+BEFORE = (("before any word", ""), ("in a rule", "pass "), ("in the options of a state", "pass keep state ("))
+
+
+def adapted():
+    """Rulesets that are adapted: long lines, large macros, and many faults."""
+    for name, piece in PIECES:
+        for place, before in BEFORE:
+            line = before + piece * ((MOST - len(before)) // len(piece))
+            yield Costly(f"adapt: {name} {place}", line, command="adapt")
+    networks, names = " ".join(["10.0.0.0/8"] * 370), " ".join(["em0"] * 1000)
+    yield Costly("adapt: a macro of 4 KiB as each target",
+                 f'm = "{networks}"\nrdr pass on em0 -> ' + "$m " * 300000, command="adapt")
+    yield Costly("adapt: a macro of 4 KiB as each interface", f'm = "{names}"\npass ' + "on $m " * 150000,
+                 command="adapt")
+    yield Costly("adapt: a fault in each statement", "pass nonsense\n" * (MOST // 14), command="adapt")
 
 
 def run(program, folder, case):
     """Runs the program on a case: its seconds, its peak in megabytes, and how it ended."""
     (folder / "rules").write_text(case.rules)
-    words = ["check", folder / "rules"]
+    words = [case.command, folder / "rules"]
     if case.records:
         (folder / "capture").write_bytes(capture_header() + b"".join(record(second, 0, packet)
                                                                      for second, packet in case.records))

@@ -1,11 +1,12 @@
 #!/usr/bin/env python3
 """Gives the program inputs of an enemy, and prints how it ended.
 
-    run.py N [SEED] [--program FILE]
+    run.py N [SEED] [--program FILE] [--beside]
 
 N inputs are drawn by SEED. Of each kind it prints how many there were, how many the program refused, and the longest
 time and the greatest peak of memory, each with the number of its input. It exits with 1 if a run ends otherwise than
 it may, and shows the first ones. With --only it gives one input alone, whose files it leaves in the folder `kept`.
+With --beside other work runs beside: the seconds are then the processor's.
 """
 
 import argparse
@@ -66,11 +67,11 @@ class Found:
 
 def block(asked):
     """What comes of the inputs of one block."""
-    program, seed, first, end, seconds = asked
+    program, seed, first, end, seconds, is_beside = asked
     found = Found()
     limit_files()
     with tempfile.TemporaryDirectory(dir=shared_memory()) as folder:
-        trial = Trial(program, folder, seconds)
+        trial = Trial(program, folder, seconds, is_beside)
         for number in range(first, end):
             given = drawn(f"{seed} {number}")
             ended = trial.run(given)
@@ -93,10 +94,10 @@ def one(program, seed, number):
     print(f"{given.kind}: {' '.join(given.words)}\n{ended}\n{list(trial.faults(given, ended))}")
 
 
-def compare(program, count, seed=0, seconds=SECONDS):
-    """What comes of inputs that are drawn by a seed, each of which may take `seconds`."""
+def compare(program, count, seed=0, seconds=SECONDS, is_beside=False):
+    """What comes of inputs that are drawn by a seed, each of which may take `seconds`, maybe beside other work."""
     found = Found()
-    blocks = [(program, seed, first, min(count, first + BLOCK), seconds) for first in range(0, count, BLOCK)]
+    blocks = [(program, seed, first, min(count, first + BLOCK), seconds, is_beside) for first in range(0, count, BLOCK)]
     with ProcessPoolExecutor(cpu_count()) as pool:
         for part in pool.map(block, blocks):
             found.join(part)
@@ -109,11 +110,12 @@ def main():
     parser.add_argument("seed", type=int, nargs="?", default=0, metavar="SEED")
     parser.add_argument("--only", type=int, metavar="NUMBER", help="this input alone")
     parser.add_argument("--program", type=Path, metavar="FILE", help="the built program")
+    parser.add_argument("--beside", action="store_true", help="other work runs beside")
     words = parser.parse_args()
     program = words.program.resolve() if words.program else building.pfreplay()
     if words.only is not None:
         return one(program, words.seed, words.only)
-    found = compare(program, words.count, words.seed)
+    found = compare(program, words.count, words.seed, is_beside=words.beside)
     found.show()
     return sys.exit(bool(found.wrong))
 

@@ -1,6 +1,7 @@
 """Runs the program on an input, and judges how it ends.
 
-It may not end by a signal, take longer than two seconds, or as long as is said, or more than 512 MB. The memory of who
+It may not end by a signal, take longer than two seconds, or as long as is said, or more than 512 MB. Where other work
+runs beside, the seconds are the processor's, and those of the clock count ten times less. The memory of who
 runs it is counted as its own, until it begins. Its status is one of those that the command may have without a failing
 device, but for a file that isn't there. What it refuses it says in one line on standard error.
 """
@@ -47,9 +48,9 @@ class Trial:
     """Runs the program in a folder of its own, each time for `seconds` at most. A process has one at most: it uses the
     alarm."""
 
-    def __init__(self, program, folder, seconds=SECONDS):
+    def __init__(self, program, folder, seconds=SECONDS, is_beside=False):
         self.program = str(program)
-        self.seconds = seconds
+        self.seconds, self.is_beside = seconds, is_beside
         self.folder = Path(folder)
         self.out, self.err = self.folder / "out", self.folder / "err"
         self.made = set()
@@ -85,6 +86,8 @@ class Trial:
         words = [os.fsencode(word) for word in (self.program, *given.words)]
         status, used = self.wait(os.posix_spawn(self.program, words, os.environ, file_actions=actions))
         seconds = time.perf_counter() - start
+        if self.is_beside:
+            seconds = max(used.ru_utime + used.ru_stime, seconds / PATIENCE)
         return Ended(os.waitstatus_to_exitcode(status), self.out.read_bytes(), self.err.read_bytes(), seconds,
                      used.ru_maxrss / 1024)
 
