@@ -1,13 +1,13 @@
 -- States one line after the other.
 use Rattle.std.proofs.Common.{◌≡◌, ◌++◌, ℕ, List, [], ◌∷◌, subst, sym}
 use Rattle.std.proofs.lemmas.List.{append_assoc, append-nil}
-use Rattle.pfr_listing.specs.Lines.{AreLinesOf, Lists}
+use Rattle.pfr_listing.specs.Lines.{AreLinesOf, IsLineOf}
 use Rattle.pfr_listing.specs.declared.line.Listed.{Listed}
 
 -- with one state more
 pub one_more : (states after : List Listed) (listed : Listed) (text rest line behind : List ℕ)
     → ((more : List Listed) → AreLinesOf more rest → AreLinesOf (states ++ more) text)
-    → Lists listed line → rest ≡ line ++ 10 ∷ behind → after ≡ states ++ listed ∷ []
+    → IsLineOf listed line → rest ≡ line ++ 10 ∷ behind → after ≡ states ++ listed ∷ []
     → (more : List Listed) → AreLinesOf more behind → AreLinesOf (after ++ more) text
 one_more states after listed text rest line behind so_far lists parts is more later =
     let all : AreLinesOf (states ++ listed ∷ more) text = so_far (listed ∷ more) (line, behind, (lists, (parts, later))) in

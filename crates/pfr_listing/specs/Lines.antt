@@ -12,10 +12,10 @@ bound_text All = codes " i=-"
 bound_text (To name) = codes " i=" ++ name
 
 -- A line, without its newline, lists a state: it is what a run with one interface writes of it, and what is said of the interface.
-abbrev pub Lists : Listed → List ℕ → Type 0
-Lists listed line = (plain : List ℕ) × ((state_line [] listed.state ≡ plain ++ 10 ∷ []) × (line ≡ plain ++ bound_text listed.bound))
+abbrev pub IsLineOf : Listed → List ℕ → Type 0
+IsLineOf listed line = (plain : List ℕ) × ((state_line [] listed.state ≡ plain ++ 10 ∷ []) × (line ≡ plain ++ bound_text listed.bound))
 
 -- a text has just the lines of these states, in their order
 abbrev pub AreLinesOf : List Listed → List ℕ → Type 0
 AreLinesOf [] text = text ≡ []
-AreLinesOf (listed ∷ more) text = (line rest : List ℕ) × (Lists listed line × ((text ≡ line ++ 10 ∷ rest) × AreLinesOf more rest))
+AreLinesOf (listed ∷ more) text = (line rest : List ℕ) × (IsLineOf listed line × ((text ≡ line ++ 10 ∷ rest) × AreLinesOf more rest))

@@ -91,7 +91,7 @@ pub(crate) fn listed_in<'a>(
     line: &'a [u8],
     text: &mut Vec<u8>,
 ) -> Result<Option<Listed<'a>>, AllocError>
-    ensures { IfOk result (λ listed. IfSome listed (λ listed. spec.Lists listed line.now)) }
+    ensures { IfOk result (λ listed. IfSome listed (λ listed. spec.IsLineOf listed line.now)) }
 {
     let Parted { plain, bound } = part(line);
     let Some(state) = state_in(plain) else {

@@ -37,7 +37,7 @@ fn first_line(text: &[u8]) -> Option<(&[u8], &[u8])>
 
 /// The state that a line lists.
 fn listed_at<'a>(line: &'a [u8], number: u64, text: &mut Vec<u8>) -> Result<Listed<'a>, Refused>
-    ensures { IfOk result (λ listed. spec.Lists listed line.now) }
+    ensures { IfOk result (λ listed. spec.IsLineOf listed line.now) }
 {
     match listed_in(line, text)? {
         Some(listed) => Ok(listed),
