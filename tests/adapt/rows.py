@@ -54,12 +54,13 @@ ROWS = (
      "1:6: warning: tag | 2:6: warning: tag | 3:6: warning: tag"),
     ("pass tag", None, "1:6: error: tag: left out: tag"),
     # no group in one of its kind
-    ("pass rtable (1 2) all⏎pass rtable ((1) all", "pass all⏎pass rtable ((1) all", "1:6: note: rtable | 2:6: error: rtable"),
-    ("pass queue { (a { b) } all", None, "1:6: error: queue"),
-    ("pass rtable < rtable < 1 > all", None, "1:6: error: rtable"),
-    # brackets before the first word of a statement
-    ("(( pass tag x", None, "1:1: error: ("),
-    ("{ } scrub in all", None, "1:1: error: {"),
+    ("pass rtable (1 2) all⏎pass rtable ((1) all", "pass all⏎pass rtable ((1) all",
+     "1:6: note: rtable | 2:6: error: rtable: unknown word"),
+    ("pass queue { (a { b) } all", None, "1:6: error: queue: left out: queue"),
+    ("pass rtable < rtable < 1 > all", "pass rtable < all", "1:15: note: rtable | 1:6: error: rtable: unknown word"),
+    # brackets and braces before the first word
+    ("(( scrub in all", "(( ", "1:4: warning: scrub | 1:1: error: (: unknown word"),
+    ("{ } scrub in all", "{ } ", "1:5: warning: scrub | 1:1: error: {: unknown word"),
     ("pass \\⏎ tag x \\⏎ all", "pass \\⏎  \\⏎ all", "2:2: warning: tag"),
     ("anchor \"a\" tag x {⏎ pass tag y⏎ queue z⏎}⏎pass tag z", "anchor \"a\" {⏎ pass⏎ ⏎}⏎pass",
      "1:12: warning: tag | 2:7: warning: tag | 3:2: note: queue | 5:6: warning: tag"),
