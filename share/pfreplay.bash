@@ -4,9 +4,9 @@
 _pfreplay_flags() {
     local ruleset='--interface --address'
     local surroundings='--interface-address --group --hosts --services --table --include'
+    local run='--inside --mac --tap --verdicts --packets --counters --states --also --seed --batch --workers'
     case $1 in
-        run) echo "--help $ruleset --adapt $surroundings --inside --mac --tap --verdicts --packets --counters --states" \
-            '--also --seed --batch --workers --messages --peer --warn' ;;
+        run) echo "--help $ruleset --adapt $surroundings $run --messages --peer --warn" ;;
         check) echo "--help $ruleset --adapt $surroundings" ;;
         adapt) echo "--help $ruleset $surroundings" ;;
         standby) echo '--help --messages --listen' ;;
