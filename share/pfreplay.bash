@@ -10,6 +10,7 @@ _pfreplay_flags() {
         check) echo "--help $ruleset --adapt $surroundings" ;;
         adapt) echo "--help $ruleset $surroundings" ;;
         standby) echo '--help --messages --listen' ;;
+        states) echo '--help --json' ;;
         '') echo '--help --version' ;;
     esac
 }
@@ -44,7 +45,7 @@ _pfreplay_value() {
 }
 
 _pfreplay() {
-    local commands='run check adapt standby help'
+    local commands='run check adapt standby states help'
     local word=${COMP_WORDS[COMP_CWORD]} command=${COMP_WORDS[1]} place=$((COMP_CWORD - 1))
     local value=$word
     COMPREPLY=()
@@ -62,7 +63,7 @@ _pfreplay() {
     _pfreplay_value "${COMP_WORDS[place]}" "${value#=}" "$word" && return
     case $command in
         help) ((COMP_CWORD > 2)) || _pfreplay_words "${commands% help}" "$word" ;;
-        run | check | adapt | standby)
+        run | check | adapt | standby | states)
             if [[ $word == -* ]]; then
                 _pfreplay_words "$(_pfreplay_flags "$command")" "$word"
             elif [[ $command != standby ]]; then

@@ -38,7 +38,9 @@ CASES = (
     (("adapt", "rul"), {"rules.conf"}),
     (("standby", ""), set()),
     (("standby", "--messages", "of"), CAPTURE),
-    (("st",), {"standby"}),
+    (("states", "--j"), {"--json"}),
+    (("states", "ru"), {"rules.conf"}),
+    (("st",), {"standby", "states"}),
     ((HELP, "a"), {"adapt"}),
     (("nothing", "--"), set()),
 )
