@@ -84,7 +84,8 @@ def compare_completions(comparison, helps):
     expect_words(comparison, "flags for zsh", helps.all_flags(), {*FLAG.findall(zsh)})
     for command, flags in helps.flags.items():
         expect_words(comparison, f"flags of {command} for zsh", flags, zsh_flags(zsh, command))
-    expect_words(comparison, "commands for bash", helps.commands(), {*found(r"local commands='([^'\n]*)'", bash).split()})
+    in_bash = found(r"local commands='([^'\n]*)'", bash)
+    expect_words(comparison, "commands for bash", helps.commands(), {*in_bash.split()})
     in_zsh = found(r"^commands=\(\n(.*?)^\)$", zsh)
     expect_words(comparison, "commands for zsh", helps.commands(), {*re.findall(r"^ +'(\w+):", in_zsh, re.MULTILINE)})
     expect_words(comparison, "words for ksh", helps.commands() | helps.alone,
