@@ -226,7 +226,8 @@ fn with_surroundings<'a>(
 fn adapt_command<'a>(alloc: Global) -> Result<Command<'a>, AllocError> {
     let command = Command::new(alloc, "adapt")
         .about("Rewrites a ruleset in the words that run and check read")
-        .after_help(ADAPT_EXAMPLE);
+        .before_help(ADAPT_EXAMPLE)
+        .after_help(MORE_OF_ADAPT);
     with_surroundings(alloc, with_ruleset(alloc, command)?, false)
 }
 
