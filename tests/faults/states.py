@@ -1,7 +1,7 @@
 """Which endings of the command `states` are lawful under each fault.
 
-The words behind `states` are the file, and maybe `--json`. Nothing else is read than that file, and only standard output
-and standard error are written. The model tells what is answered to a file that ends early.
+The words behind `states` are the file, and maybe `--json`. Nothing else is read than that file, and only standard
+output and standard error are written. The model tells what is answered to a file that ends early.
 """
 
 from pathlib import Path

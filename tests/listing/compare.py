@@ -92,14 +92,14 @@ def program_rows(comparison):
 
 # Command lines
 
+UNKNOWN = ("--jsons", "--jso", "--JSON", "--json=true", "--json=", "--quiet", "--states=left", "--messages=left",
+           "--interface=em0", "--workers=0")
 NO_STATES, TWICE = (b"<STATES>",), (b"'--json' cannot be used multiple times",)
 BAD_LINES = (
     (("states",), NO_STATES), (("states", "--json"), NO_STATES), (("states", "--"), NO_STATES),
     (("states", "left", "--json", "--json"), TWICE), (("states", "--json", "left", "--json"), TWICE),
     (("states", "left", "more"), (b"more",)), (("states", "left", "-"), ()), (("states", "left", "left", "--json"), ()),
-    *((("states", "left", word), (word.partition("=")[0].encode(),))
-      for word in ("--jsons", "--jso", "--JSON", "--json=true", "--json=", "--quiet", "--states=left", "--messages=left",
-                   "--interface=em0", "--workers=0")),
+    *((("states", "left", word), (word.partition("=")[0].encode(),)) for word in UNKNOWN),
     (("states", "left", "-j"), ()), (("states", "left", "json"), ()), (("states", "--states", "left"), ()),
     (("state", "left"), ()), (("States", "left"), ()), (("left", "states"), ()), (("--json", "states", "left"), ()),
 )

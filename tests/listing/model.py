@@ -19,8 +19,8 @@ NUMBER = re.compile(rb"0|[1-9][0-9]*")
 # more than the digits of any number that fits
 MOST_DIGITS = 20
 WORDS = 15
-TCP_NAMES = ("CLOSED", "LISTEN", "SYN_SENT", "SYN_RCVD", "ESTABLISHED", "CLOSE_WAIT", "FIN_WAIT_1", "CLOSING", "LAST_ACK",
-             "FIN_WAIT_2", "TIME_WAIT")
+TCP_NAMES = ("CLOSED", "LISTEN", "SYN_SENT", "SYN_RCVD", "ESTABLISHED", "CLOSE_WAIT", "FIN_WAIT_1", "CLOSING",
+             "LAST_ACK", "FIN_WAIT_2", "TIME_WAIT")
 OTHER_NAMES = ("NO_TRAFFIC", "SINGLE", "MULTIPLE")
 # what an end has behind its code that isn't one of TCP
 NO_SEQUENCES = b"/0/0/0/-"

@@ -64,7 +64,8 @@ RDR_SHOWN = "all tcp 10.0.0.40:80 (192.0.2.1:8080) <- 198.51.100.7:50601       L
 # the address alone is another one, or the port alone
 BINAT = "4 6 out 198.51.100.7:25,192.0.2.8:900 198.51.100.7:25,10.0.0.8:900 r=0 t=1 6/1/2/3/- 7/4/5/6/- 0 9 1 40 1 40"
 BINAT_SHOWN = "all tcp 192.0.2.8:900 (10.0.0.8:900) -> 198.51.100.7:25       FIN_WAIT_1:CLOSING"
-PORT_ALONE = "5 6 in 198.51.100.7:26,192.0.2.1:99 198.51.100.7:26,192.0.2.1:98 r=0 t=1 1/1/2/3/- 3/4/5/6/- 0 9 1 40 1 40"
+PORT_ALONE = ("5 6 in 198.51.100.7:26,192.0.2.1:99 198.51.100.7:26,192.0.2.1:98 r=0 t=1 1/1/2/3/- 3/4/5/6/- 0 9 1 40 "
+              "1 40")
 PORT_ALONE_SHOWN = "all tcp 192.0.2.1:98 (192.0.2.1:99) <- 198.51.100.7:26       SYN_RCVD:LISTEN"
 
 
@@ -126,21 +127,23 @@ def other_rows():
                  objects=(ECHO_OBJECT, NAT_OBJECT, UDP_OBJECT, GRE_OBJECT))
     yield states([of_protocol(protocol) for protocol in reversed(NAMED)], "protocols with a name and without",
                  *(f"all {name} 3.0.0.3 -> 2.0.0.2       {level_shown(protocol)}" for protocol, name in NAMED.items()))
-    yield states(["1 17 out 198.51.100.7:0,10.0.0.5:53 198.51.100.7:0,10.0.0.5:53 r=0 t=- 1/0/0/0/- 0/0/0/0/- 0 9 1 28 0 0",
-                  "2 17 in 198.51.100.7:53,10.0.0.5:7 198.51.100.7:53,10.0.0.5:0 r=0 t=- 1/0/0/0/- 0/0/0/0/- 0 9 1 28 0 0"],
+    rest = "r=0 t=- 1/0/0/0/- 0/0/0/0/- 0 9 1 28 0 0"
+    yield states([f"1 17 out 198.51.100.7:0,10.0.0.5:53 198.51.100.7:0,10.0.0.5:53 {rest}",
+                  f"2 17 in 198.51.100.7:53,10.0.0.5:7 198.51.100.7:53,10.0.0.5:0 {rest}"],
                  "port 0 of UDP", "all udp 10.0.0.5 (10.0.0.5:7) <- 198.51.100.7:53       NO_TRAFFIC:SINGLE",
                  "all udp 10.0.0.5:53 -> 198.51.100.7       SINGLE:NO_TRAFFIC")
     # no rule does this to the end outside
-    yield states(["1 17 out 8.8.8.8:53,10.0.0.5:1 9.9.9.9:53,10.0.0.5:1 r=- t=0 0/0/0/0/- 2/0/0/0/- 0 9 1 28 0 0",
-                  "2 17 in 8.8.8.8:53,10.0.0.5:1 8.8.8.8:54,10.0.0.5:1 r=- t=0 0/0/0/0/- 2/0/0/0/- 0 9 1 28 0 0"],
-                 "an end outside that is another one", "all udp 10.0.0.5:1 -> 8.8.8.8:53 (9.9.9.9:53)       NO_TRAFFIC:MULTIPLE",
-                 "all udp 10.0.0.5:1 <- 8.8.8.8:54 (8.8.8.8:53)       MULTIPLE:NO_TRAFFIC")
+    yield states([f"1 17 out 8.8.8.8:53,10.0.0.5:1 9.9.9.9:53,10.0.0.5:1 {rest}",
+                  f"2 17 in 8.8.8.8:53,10.0.0.5:1 8.8.8.8:54,10.0.0.5:1 {rest}"],
+                 "an end outside that is another one",
+                 "all udp 10.0.0.5:1 -> 8.8.8.8:53 (9.9.9.9:53)       SINGLE:NO_TRAFFIC",
+                 "all udp 10.0.0.5:1 <- 8.8.8.8:54 (8.8.8.8:53)       NO_TRAFFIC:SINGLE")
 
 
 # Names of TCP's states
 
-TCP_CODES = ("CLOSED", "LISTEN", "SYN_SENT", "SYN_RCVD", "ESTABLISHED", "CLOSE_WAIT", "FIN_WAIT_1", "CLOSING", "LAST_ACK",
-             "FIN_WAIT_2", "TIME_WAIT")
+TCP_CODES = ("CLOSED", "LISTEN", "SYN_SENT", "SYN_RCVD", "ESTABLISHED", "CLOSE_WAIT", "FIN_WAIT_1", "CLOSING",
+             "LAST_ACK", "FIN_WAIT_2", "TIME_WAIT")
 
 
 def of_codes(number, direction, maker, other):
@@ -200,11 +203,11 @@ HIDDEN_OBJECT = '"a\\u0022\\u005c\\u0001\\u001f\\u007f\\u0080\\u00e9\\u00ff~\\u0
 
 
 def object_of_plain(number, interface):
-    return (f'{{"number":{number},"interface":{interface},"protocol":17,"direction":"out","wire":{{"outside":{{"address":'
-            '"2.0.0.2","port":2},"inside":{"address":"3.0.0.3","port":3}},"stack":{"outside":{"address":"2.0.0.2",'
-            '"port":2},"inside":{"address":"3.0.0.3","port":3}},"rule":null,"translation":null,"maker":{"state":"SINGLE"},'
-            f'"other":{{"state":"NO_TRAFFIC"}},"made":{number},"deadline":9,"forth":{{"packets":1,"bytes":28}},"back":'
-            '{"packets":0,"bytes":0}}')
+    return (f'{{"number":{number},"interface":{interface},"protocol":17,"direction":"out","wire":{{"outside":'
+            '{"address":"2.0.0.2","port":2},"inside":{"address":"3.0.0.3","port":3}},"stack":{"outside":{"address":'
+            '"2.0.0.2","port":2},"inside":{"address":"3.0.0.3","port":3}},"rule":null,"translation":null,"maker":'
+            '{"state":"SINGLE"},"other":{"state":"NO_TRAFFIC"},'
+            f'"made":{number},"deadline":9,"forth":{{"packets":1,"bytes":28}},"back":{{"packets":0,"bytes":0}}}}')
 
 
 def interface_rows():
@@ -254,17 +257,17 @@ def limit_rows():
 # Files that are refused
 
 # what stands in a line once, and what stands there instead, so that it is no state's
+WRONG_KEYS = ("198.51.100.7:443;10.0.0.5:40000", "198.51.100.7:443,10.0.0.5:65536", "198.51.100.7:443,10.0.0.5:",
+              "198.51.100.7:443,10.0.0.256:40000", "198.51.100.7:443,10.0.5:40000", "198.51.100.7:443,10.0.0.05:40000",
+              "198.51.100.7,10.0.0.5:40000", "198.51.100.7:0443,10.0.0.5:40000", "198.51.100.7:443", ",", "",
+              "198.51.100.7:443,10.0.0.5:40000,10.0.0.5:40000", "198.51.100.7:443:443,10.0.0.5:40000",
+              "198.51.100..7:443,10.0.0.5:40000", "198.51.100.7.7:443,10.0.0.5:40000",
+              "198.51.100.7:443,10.0.0.5:40000,")
 WRONG_OF_TCP = {
-    "7 6": ("07 6", "+7 6", "-7 6", "0x7 6", "18446744073709551616 6", "x 6", " 6", "7 06", "7 256", "7 x", "7 -6", "7 17",
-            "7 1", "7 tcp"),
+    "7 6": ("07 6", "+7 6", "-7 6", "0x7 6", "18446744073709551616 6", "x 6", " 6", "7 06", "7 256", "7 x", "7 -6",
+            "7 17", "7 1", "7 tcp"),
     " out ": (" Out ", " outbound ", " i ", " - ", "  "),
-    "198.51.100.7:443,10.0.0.5:40000 198": ("198.51.100.7:443;10.0.0.5:40000 198", "198.51.100.7:443,10.0.0.5:40000,198",
-                                            "198.51.100.7:443,10.0.0.5:65536 198", "198.51.100.7:443,10.0.0.5: 198",
-                                            "198.51.100.7:443,10.0.0.256:40000 198", "198.51.100.7:443,10.0.5:40000 198",
-                                            "198.51.100.7:443,10.0.0.05:40000 198", "198.51.100.7,10.0.0.5:40000 198",
-                                            "198.51.100.7:0443,10.0.0.5:40000 198", "198.51.100.7:443 198",
-                                            "198.51.100.7:443,10.0.0.5:40000,10.0.0.5:40000 198",
-                                            "198.51.100.7:443:443,10.0.0.5:40000 198", "198.51.100..7:443,10.0.0.5:4 198"),
+    " out 198.51.100.7:443,10.0.0.5:40000 ": tuple(f" out {key} " for key in WRONG_KEYS),
     "r=0": ("r=", "r=00", "r=0-", "R=0", "r=18446744073709551616", "r=any", "0", "t=0"),
     "t=-": ("t=", "t=--", "t=-1", "t=01", "-", "r=-", "t=18446744073709551616"),
     "2/1000/1002/1000/-": ("11/1000/1002/1000/-", "02/1000/1002/1000/-", "2/4294967296/1002/1000/-",
@@ -281,13 +284,14 @@ WRONG_OF_UDP = {"2/0/0/0/-": ("3/0/0/0/-", "2/1/0/0/-", "2/0/1/0/-", "2/0/0/1/-"
                               "2/00/0/0/-", "02/0/0/0/-", "10/0/0/0/-", "2", "/0/0/0/-", "2/0/0/0/--"),
                 " 17 ": (" 1 ", " 017 ", " udp ")}
 # both ends of an echo have the code 0
-WRONG_OF_ECHO = {"0/0/0/0/- 0": ("1/0/0/0/- 0", "00/0/0/0/- 0", "0/0/0/1/- 0", "0/0/0/0/0 0", "-/0/0/0/- 0", "0/0/0/- 0"),
+WRONG_OF_ECHO = {"0/0/0/0/- 0": ("1/0/0/0/- 0", "00/0/0/0/- 0", "0/0/0/1/- 0", "0/0/0/0/0 0", "-/0/0/0/- 0",
+                                 "0/0/0/- 0"),
                  "0/0/0/0/- 5": ("1/0/0/0/- 5", "0/0/0/0/7 5", "0 5")}
 HELD = "43 6 in 203.0.113.100:52000,192.0.2.1:443 203.0.113.100:52000,192.0.2.1:443 r=6 2/9000/9002/1024/- 0/0/1/1/- 0"
 OTHER_TEXTS = {"an empty line": "", "a line of standby": HELD, "a verdict": "26 1767261634 in pass rule r=5 t=- s=26",
                "a counter": "total 46 25 6 13 2", "what pfctl prints": TCP_IN_SHOWN, "an object": TCP_IN_OBJECT,
                "a blank": " ", "a blank before": f" {TCP_OUT}", "two lines in one": f"{TCP_OUT} {TCP_OUT}"}
-BYTES = (b"\0", b"\n", b"\0\n", b"\xd4\xc3\xb2\xa1\2\0\4\0", b"\x7fELF\n", b"\xff" * 40 + b"\n", b"\r\n", b"i=\n", b" i=\n")
+BYTES = (b"\0", b"\0\n", b"\xd4\xc3\xb2\xa1\2\0\4\0", b"\x7fELF\n", b"\xff" * 40 + b"\n", b"\r\n", b"i=\n", b" i=\n")
 
 
 def refusal(name, octets, line):
