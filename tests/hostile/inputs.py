@@ -15,6 +15,7 @@ from adapt.drawn_surroundings import hostile_surroundings
 from captures.packets import capture_header, record
 from expansions.hostile import doubled, hostile, nested
 from expansions.random_texts import Writer
+from listing.drawn import some_file
 from rulesets.cases import PIECE, change_lines, change_pieces, written
 from runs import lines
 from runs.random_cases import some_capture
@@ -24,7 +25,7 @@ INTERFACE = ("--interface", "em0", "--address", "192.0.2.1/24")
 INSIDE = ("--inside", "10.0.0.0/8")
 OUTPUTS = ("verdicts", "packets", "counters", "states")
 # files by these names
-RULES, CAPTURE, MESSAGES = "rules", "capture", "messages"
+RULES, CAPTURE, MESSAGES, LEFT = "rules", "capture", "messages", "left"
 # names of tables of the captures' fields that are damaged: where they stand in a record's header, and their bytes
 FIELDS = ((0, 4), (4, 4), (8, 4), (12, 4))
 LINKS = (0, 1, 101)
@@ -247,6 +248,18 @@ def damaged_messages(draw):
     return Input("messages", ("standby", "--messages", MESSAGES), {MESSAGES: octets})
 
 
+# States
+
+def damaged_states(draw):
+    """A file of states with damage, and now and then a long one."""
+    octets = some_file(draw).octets
+    if draw.random() < LONG:
+        octets *= draw.choice((100, 3000, 20000))
+    if draw.random() < 0.3:
+        octets = some_bytes(draw, octets)
+    return Input("states", ("states", LEFT, *(("--json",) if draw.random() < 0.5 else ())), {LEFT: octets})
+
+
 # Command lines
 
 @lru_cache
@@ -276,10 +289,15 @@ MAKERS = ((made_ruleset, 20), (real_ruleset, 15), (edge_ruleset, 8), (adapted, 1
           (made_capture, 18), (damaged_messages, 15), (command_line, 12))
 # among this many inputs one is a large ruleset
 LARGE = 2000
+# how often an input is a file of states, and how often such a file is long
+OF_STATES, LONG = 0.1, 0.02
 
 
 def drawn(seed):
-    """The input of a seed."""
+    """The input of a seed. Whether it is a file of states is drawn apart, so all others stay as they were without these."""
+    apart = random.Random(f"states {seed}")
+    if apart.random() < OF_STATES:
+        return damaged_states(apart)
     draw = random.Random(seed)
     if draw.randrange(LARGE) == 0:
         return large_ruleset(draw)

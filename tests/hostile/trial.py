@@ -18,7 +18,8 @@ SECONDS, MEGABYTES = 2, 512
 # a run that takes so many times longer than it may is killed
 PATIENCE = 10
 DONE, REFUSED, CUT, FAILED = range(4)
-STATUSES = {"check": (DONE, REFUSED), "adapt": (DONE, REFUSED), "run": (DONE, REFUSED, CUT), "standby": (DONE, REFUSED)}
+STATUSES = {"check": (DONE, REFUSED), "adapt": (DONE, REFUSED), "run": (DONE, REFUSED, CUT), "standby": (DONE, REFUSED),
+            "states": (DONE, REFUSED)}
 ONE_LINE = re.compile(rb"pfreplay: [^\n]*\n")
 # the one device that fails: a file that isn't there
 CANNOT_OPEN = re.compile(rb"pfreplay: cannot open: [^\n]*\n")

@@ -10,8 +10,6 @@ that these have left. `--states` compares that alone. Without it a program that 
 import argparse
 import subprocess
 import sys
-import tempfile
-from contextlib import contextmanager
 from pathlib import Path
 
 sys.dont_write_bytecode = True
@@ -20,13 +18,13 @@ import building
 from faults.command import ends_lawfully
 from faults.standby import MESSAGES, octets_of, places
 from faults.trial import Fault, Trial
-from runs.comparison import Comparison, a_line
+from runs.comparison import a_line
 from runs.model import FILE, PEER, Outcome
 from runs.peers import HOST
 from runs.rows import case_of
 from standby import after_runs, asking, damaged, devices, judged, lines, rows
 from standby.callers import free_port
-from standby.many import Compared, in_processes, told
+from standby.many import in_processes, part, told
 from standby.model import answer
 from standby.streams import spelled
 
@@ -39,15 +37,6 @@ RUNS_EACH, DAMAGED_EACH = 20, 1000
 # rows whose files are read and written with a fault at each call
 WITH_FAULTS = ("seven flows", "a run's messages twice", "an insertion, an update and a deletion", "no packet")
 LARGE = 200
-
-
-@contextmanager
-def part(title, program, results):
-    """A part of the comparison, with a folder of its own. Behind it is told how it went."""
-    with tempfile.TemporaryDirectory() as folder:
-        comparison = Comparison(program, Path(folder))
-        yield comparison
-    results.append(told(title, Compared(comparison.count, comparison.wrong, {})))
 
 
 # Rows

@@ -4,6 +4,7 @@ import os
 import tempfile
 from collections import Counter
 from concurrent.futures import ProcessPoolExecutor
+from contextlib import contextmanager
 from functools import partial
 from pathlib import Path
 from typing import NamedTuple
@@ -74,3 +75,12 @@ def told(title, found, names=(), share=1):
     if seldom:
         print(f"  too few: {', '.join(seldom)}")
     return bool(found.wrong or seldom or not found.count)
+
+
+@contextmanager
+def part(title, program, results):
+    """A part of the comparison, with a folder of its own. Behind it is told how it went."""
+    with tempfile.TemporaryDirectory() as folder:
+        comparison = Comparison(program, Path(folder))
+        yield comparison
+    results.append(told(title, Compared(comparison.count, comparison.wrong, {})))

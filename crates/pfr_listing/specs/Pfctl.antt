@@ -50,7 +50,7 @@ other_name (peers.Udp maker other) = datagram_name other
 other_name peers.Icmp = codes "0"
 other_name (peers.Other maker other) = datagram_name other
 
--- the names of protocols in FreeBSD's protocols(5), by IANA's numbers
+-- the protocols that are shown by name, as FreeBSD's protocols(5) has them; all others by their numbers
 abbrev pub protocol_name : ℕ → Option (List ℕ)
 protocol_name number =
     if number == 1 then Some (codes "icmp") else
@@ -84,11 +84,16 @@ both_sides here there = host here ++ (if are_same here there then [] else codes 
 abbrev pub ends : (here there : Key) → (arrow : List ℕ) → List ℕ
 ends here there arrow = both_sides here.inside there.inside ++ (arrow ++ both_sides here.outside there.outside)
 
+-- An echo of ICMP has one identifier: that of the end towards which its first packet went is shown as it is on this side.
+abbrev pub there_for : Direction → (here there : Key) → Key
+there_for Out here there = if there.protocol.0 == 1 then record there { outside = record there.outside { port = here.outside.port } } else there
+there_for In here there = if there.protocol.0 == 1 then record there { inside = record there.inside { port = here.inside.port } } else there
+
 -- The end inside stands first. A state that a packet made on its way out is shown as it is on the wire, with `->`, and the maker's end
 -- first; another one as it is behind the firewall, with `<-`.
 abbrev pub ends_by : Direction → State → List ℕ
-ends_by Out state = ends state.wire state.stack (codes " -> ")
-ends_by In state = ends state.stack state.wire (codes " <- ")
+ends_by Out state = ends state.wire (there_for Out state.wire state.stack) (codes " -> ")
+ends_by In state = ends state.stack (there_for In state.stack state.wire) (codes " <- ")
 
 abbrev pub names_by : Direction → Peers → List ℕ
 names_by Out peers = maker_name peers ++ (codes ":" ++ other_name peers)

@@ -28,6 +28,14 @@ pub struct Listed<'a> {
     pub bound: Bound<'a>,
 }
 
+/// How many bytes the name of an interface may have.
+const MOST_BYTES: usize = 15;
+
+/// Whether a word may be the name of an interface that is shown: of 1 to 15 bytes, without a control character.
+fn is_name(word: &[u8]) -> bool {
+    !word.is_empty() && word.len() <= MOST_BYTES && !word.iter().any(|byte| byte.is_ascii_control())
+}
+
 /// What a name behind `i=` says.
 fn bound_by<'a>(name: &'a [u8]) -> Bound<'a>
     ensures { spec.bound_text result ≡ codes " i=" ++ name.now }
@@ -52,11 +60,11 @@ fn part<'a>(line: &'a [u8]) -> Parted<'a>
 {
     let (plain, last) = line.split_at(last_word(line));
     match last.strip_prefix(b" i=".as_slice()) {
-        Some(name) => Parted {
+        Some(name) if is_name(name) => Parted {
             plain,
             bound: bound_by(name),
         },
-        None => Parted {
+        _ => Parted {
             plain: line,
             bound: Bound::Unsaid,
         },

@@ -133,13 +133,34 @@ fn put_ends(text: &mut Vec<u8>, here: &Key, there: &Key, arrow: &[u8]) -> Result
     put_both(text, here.outside, there.outside)
 }
 
+/// A connection on one side as it is shown beside the other one. An echo of ICMP has one identifier: that of the end towards which its
+/// first packet went is shown as it is on the other side.
+fn seen_beside(direction: Direction, here: &Key, there: &Key) -> Key
+    ensures { result ≡ spec.there_for direction here.now there.now }
+{
+    let mut seen = *there;
+    if seen.protocol.0 == 1 {
+        match direction {
+            Direction::Out => seen.outside.port = here.outside.port,
+            Direction::In => seen.inside.port = here.inside.port,
+        }
+    }
+    seen
+}
+
 /// Appends both ends of a state's connection, by the way of the packet that made it.
 fn put_connection(text: &mut Vec<u8>, state: &State) -> Result<(), AllocError>
     ensures { OnOk result (text.new.items ≡ text.old.items ++ spec.ends_by state.now.direction state.now) }
 {
     match state.direction {
-        Direction::Out => put_ends(text, &state.wire, &state.stack, b" -> "),
-        Direction::In => put_ends(text, &state.stack, &state.wire, b" <- "),
+        Direction::Out => {
+            let stack = seen_beside(Direction::Out, &state.wire, &state.stack);
+            put_ends(text, &state.wire, &stack, b" -> ")
+        }
+        Direction::In => {
+            let wire = seen_beside(Direction::In, &state.stack, &state.wire);
+            put_ends(text, &state.stack, &wire, b" <- ")
+        }
     }
 }
 
