@@ -191,6 +191,16 @@ def on_both_sides(near, far):
     return host(near) if near == far else f"{host(near)} ({host(far)})"
 
 
+def as_compared(state, near, far):
+    """The far side as pfctl compares it with the near one. The identifier of an echo stands at both ends, and pfctl
+    shows once that it is translated: the end outside has that of the near side if the first packet went out, and else
+    the end inside."""
+    if state.protocol != ICMP:
+        return far
+    name = "outside" if state.direction == "out" else "inside"
+    return far._replace(**{name: getattr(far, name)._replace(port=getattr(near, name).port)})
+
+
 def level(state, peer):
     """How far an end has come. pfctl prints that of ICMP as a number, which stays 0."""
     if state.protocol == ICMP:
@@ -208,6 +218,7 @@ def pfctl_line(state):
     near, far, arrow, first, second = state.wire, state.stack, "->", state.maker, state.other
     if state.direction == "in":
         near, far, arrow, first, second = far, near, "<-", second, first
+    far = as_compared(state, near, far)
     protocol = PROTOCOLS.get(state.protocol, state.protocol)
     ends = f"{on_both_sides(near.inside, far.inside)} {arrow} {on_both_sides(near.outside, far.outside)}"
     name = b"all" if interface_of(state) is None else interface_of(state)

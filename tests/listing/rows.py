@@ -98,6 +98,13 @@ ECHO_OBJECT = (
     '"port":770},"inside":{"address":"192.0.2.1","port":770}},"stack":{"outside":{"address":"198.51.100.7",'
     '"port":770},"inside":{"address":"192.0.2.1","port":770}},"rule":7,"translation":null,"maker":null,'
     '"other":null,"made":5,"deadline":15,"forth":{"packets":1,"bytes":28},"back":{"packets":1,"bytes":28}}')
+# the identifier stands at both ends, and it is shown once that it is another one
+NAT_ECHO = ("9 1 out 198.51.100.7:7001,192.0.2.1:7001 198.51.100.7:7,10.0.0.5:7 r=0 t=0 0/0/0/0/- 0/0/0/0/- 5 15 1 28 "
+            "0 0")
+NAT_ECHO_SHOWN = "all icmp 192.0.2.1:7001 (10.0.0.5:7) -> 198.51.100.7:7001       0:0"
+# no rule does this
+ECHO_IN = "9 1 in 198.51.100.7:7001,192.0.2.1:7001 198.51.100.7:7,192.0.2.1:7 r=0 t=0 0/0/0/0/- 0/0/0/0/- 5 15 1 28 0 0"
+ECHO_IN_SHOWN = "all icmp 192.0.2.1:7 <- 198.51.100.7:7 (198.51.100.7:7001)       0:0"
 GRE = "1 47 out 198.51.100.7:0,192.0.2.1:0 198.51.100.7:0,10.0.0.5:0 r=0 t=0 1/0/0/0/- 0/0/0/0/- 5 65 1 28 0 0"
 GRE_SHOWN = "all gre 192.0.2.1 (10.0.0.5) -> 198.51.100.7       SINGLE:NO_TRAFFIC"
 GRE_OBJECT = (
@@ -122,6 +129,8 @@ def other_rows():
     yield states([UDP], "UDP out", UDP_SHOWN, objects=(UDP_OBJECT,))
     yield states([UDP_IN], "UDP in by rdr", UDP_IN_SHOWN)
     yield states([ECHO], "an echo", ECHO_SHOWN, objects=(ECHO_OBJECT,))
+    yield states([NAT_ECHO], "an echo out by nat", NAT_ECHO_SHOWN)
+    yield states([ECHO_IN], "an echo in, with another identifier behind", ECHO_IN_SHOWN)
     yield states([GRE], "GRE by nat, with port 0", GRE_SHOWN, objects=(GRE_OBJECT,))
     yield states([GRE, UDP, NAT, ECHO], "a state of each kind", ECHO_SHOWN, NAT_SHOWN, UDP_SHOWN, GRE_SHOWN,
                  objects=(ECHO_OBJECT, NAT_OBJECT, UDP_OBJECT, GRE_OBJECT))
