@@ -15,7 +15,7 @@ PORTS = (0, 1, 7, 53, 443, 50001, 65535)
 COUNTS = {bits: (0, 0, 1, 9, 10, 99, 100, 2**bits - 1) for bits in (8, 16, 32, 64)}
 NUMBERS = (*range(1, 13), 99, 100, 2**64 - 1)
 # a file of a run with one interface has no names, another one has a name or `-` in each line
-NAMES = ("-", "-", "em0", "em1", "igb1.20", "\xe9\"\\", "\x01\xff", "i=")
+NAMES = ("-", "-", "em0", "em1", "igb1.20", "\xe9\"\\", "\x80\xff", "i=")
 # bytes that are put in place of others
 LIKELY = b"0123456789 \n-/,:.ri=t\0\xff"
 

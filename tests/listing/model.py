@@ -22,6 +22,8 @@ WORDS = 15
 TCP_NAMES = ("CLOSED", "LISTEN", "SYN_SENT", "SYN_RCVD", "ESTABLISHED", "CLOSE_WAIT", "FIN_WAIT_1", "CLOSING",
              "LAST_ACK", "FIN_WAIT_2", "TIME_WAIT")
 OTHER_NAMES = ("NO_TRAFFIC", "SINGLE", "MULTIPLE")
+# of an interface's name, and what it hasn't
+MOST_BYTES, CONTROLS = 15, {*range(32), 127}
 # what an end has behind its code that isn't one of TCP
 NO_SEQUENCES = b"/0/0/0/-"
 PROTOCOLS = {1: "icmp", 2: "igmp", 6: "tcp", 17: "udp", 47: "gre", 50: "esp", 51: "ah", 89: "ospf", 103: "pim",
@@ -140,9 +142,10 @@ def name_in(words):
     if not words:
         return None
     word, *more = words
-    if more or not word.startswith(b"i="):
+    name = word.removeprefix(b"i=")
+    if more or not word.startswith(b"i=") or not 1 <= len(name) <= MOST_BYTES or CONTROLS & {*name}:
         raise NoState
-    return word.removeprefix(b"i=")
+    return name
 
 
 def state_in(line):

@@ -207,8 +207,9 @@ def order_rows():
 
 # Interfaces
 
-HIDDEN = 'a"\\\x01\x1f\x7f\x80\xe9\xff~\t'
-HIDDEN_OBJECT = '"a\\u0022\\u005c\\u0001\\u001f\\u007f\\u0080\\u00e9\\u00ff~\\u0009"'
+HIDDEN = 'a"\\\x80\xe9\xff~'
+LONGEST = "n" * 15
+HIDDEN_OBJECT = '"a\\u0022\\u005c\\u0080\\u00e9\\u00ff~"'
 
 
 def object_of_plain(number, interface):
@@ -229,9 +230,8 @@ def interface_rows():
     yield states([f"{plain(1)} i=--", f"{plain(2)} i=i=em0", f"{plain(3)} i=all"], "names that look like others",
                  shown(name="--"), shown(name="i=em0"), shown(name="all"),
                  objects=(object_of_plain(1, '"--"'), object_of_plain(2, '"i=em0"'), object_of_plain(3, '"all"')))
-    # no run writes these
-    yield states([f"{plain(1)} i=", f"{plain(2)} i={'n' * 300}"], "no name, and a long one", shown(name=""),
-                 shown(name="n" * 300), objects=(object_of_plain(1, '""'), object_of_plain(2, f'"{"n" * 300}"')))
+    yield states([f"{plain(1)} i={LONGEST}"], "a name of 15 bytes", shown(name=LONGEST),
+                 objects=(object_of_plain(1, f'"{LONGEST}"'),))
 
 
 # Limits of numbers
@@ -287,6 +287,7 @@ WRONG_OF_TCP = {
     "1 40 0 0": ("01 40 0 0", "1 40 0 00", "1 40 0 18446744073709551616", "1 18446744073709551616 0 0", "1 40 0 -",
                  "1 40 0", "1 40 0 0 0", "1 40 0 0 ", "1 40  0 0", "1 40 0 0 em0", "1 40 0 0 I=em0", "1 40 0 0 i",
                  "1 40 0 0 i=em0 ", "1 40 0 0 i=em 0", "1 40 0 0 i=em0 i=em1", "1 40 0 0  i=em0", "1 40 0 0 i=em0 i=",
+                 "1 40 0 0 i=", f"1 40 0 0 i={LONGEST}n", "1 40 0 0 i=a\x01", "1 40 0 0 i=\x1b[m", "1 40 0 0 i=a\x7f",
                  "1 40 0 0\r", "1 40 0 0\t", "1 40 0 0\0", "1 40 0\t0"),
 }
 WRONG_OF_UDP = {"2/0/0/0/-": ("3/0/0/0/-", "2/1/0/0/-", "2/0/1/0/-", "2/0/0/1/-", "2/0/0/0/0", "2/0/0/0", "2/0/0/0/-/-",
