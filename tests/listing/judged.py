@@ -5,9 +5,11 @@ import tempfile
 from pathlib import Path
 from typing import NamedTuple
 
+from faults import made_up
+from faults.made_up import Ending, ending
 from faults.replay import ANSWER, ERROR, MEMORY
 from faults.states import STATES, judge
-from faults.trial import Counts, Fault, Seen, Target, Unlawful
+from faults.trial import Seen
 from listing.rows import ECHO, ECHO_SHOWN, HELD, UDP, UDP_SHOWN, text_of
 
 OCTETS = text_of(UDP, ECHO)
@@ -23,19 +25,6 @@ class Trial(NamedTuple):
 
     def name_of(self, _):
         return self.command[-1]
-
-
-class Ending(NamedTuple):
-    name: str
-    target: Target
-    deed: str
-    seen: Seen
-    # bytes that were read before the fault
-    moved: int = 0
-
-
-def ending(name, target, said, status, out=b"", deed="fail", moved=0):
-    return Ending(name, target, deed, Seen(status, out, f"pfreplay: {said}\n".encode() if said else b""), moved)
 
 
 def right_endings():
@@ -72,24 +61,16 @@ def wrong_endings():
     yield ending("lines that are lost with the error", ERROR, "", 0)
 
 
-def is_allowed(trial, each):
-    seen = each.seen._replace(err=each.seen.err.replace(FILE.encode(), trial.name_of("states").encode()))
-    try:
-        judge(trial, Fault(each.target, each.deed, 1), Counts(True, 1, each.moved), seen)
-    except Unlawful:
-        return False
-    return True
+def named(endings, trial):
+    """Endings in which the file has its name."""
+    for each in endings:
+        err = each.seen.err.replace(FILE.encode(), trial.name_of("states").encode())
+        yield each._replace(seen=each.seen._replace(err=err))
 
 
-def lost_error(comparison, folder):
-    """A refusal of which standard error gets nothing, or a part; and one that isn't told by the status either."""
-    clean = Seen(1, b"", b"pfreplay: states line 1: no state\n")
-    (folder / "held").write_bytes(text_of(HELD))
-    trial = Trial(["pfreplay", "states", str(folder / "held")], clean)
-    for is_right, seen in ((True, clean._replace(err=b"")), (True, clean._replace(err=clean.err[:9])),
-                           (False, clean._replace(err=b"", status=0))):
-        comparison.expect(f"an ending, a lost error, {seen}", is_right,
-                          is_allowed(trial, Ending("", ERROR, "fail", seen)))
+def lost(*seen):
+    """Endings in which standard error fails."""
+    return [Ending(f"a lost error, {one}", ERROR, "fail", one) for one in seen]
 
 
 def compare(comparison):
@@ -98,7 +79,10 @@ def compare(comparison):
         folder = Path(name)
         (folder / "states").write_bytes(OCTETS)
         trial = Trial(["pfreplay", "states", str(folder / "states")], Seen(0, SHOWN, b""))
-        for is_right, endings in ((True, right_endings()), (False, wrong_endings())):
-            for each in endings:
-                comparison.expect(f"an ending, {each.name}", is_right, is_allowed(trial, each))
-        lost_error(comparison, folder)
+        made_up.compare(comparison, judge, trial, named(right_endings(), trial), named(wrong_endings(), trial))
+        # standard error gets nothing of a refusal, or a part; in the last one the status doesn't tell it either
+        clean = Seen(1, b"", b"pfreplay: states line 1: no state\n")
+        (folder / "held").write_bytes(text_of(HELD))
+        made_up.compare(comparison, judge, Trial(["pfreplay", "states", str(folder / "held")], clean),
+                        lost(clean._replace(err=b""), clean._replace(err=clean.err[:9])),
+                        lost(clean._replace(err=b"", status=0)))

@@ -5,9 +5,11 @@ import tempfile
 from pathlib import Path
 from typing import NamedTuple
 
+from faults import made_up
+from faults.made_up import ending
 from faults.replay import ANSWER, ERROR, MEMORY
 from faults.standby import MESSAGES, judge
-from faults.trial import Counts, Fault, Seen, Target, Unlawful
+from faults.trial import Seen
 from runs.model import FILE
 from standby.model import answer
 from standby.rows import inserted, made, updated
@@ -28,19 +30,6 @@ class Trial(NamedTuple):
 
     def name_of(self, _):
         return self.file
-
-
-class Ending(NamedTuple):
-    name: str
-    target: Target
-    deed: str
-    seen: Seen
-    # bytes that were read before the fault
-    moved: int = 0
-
-
-def ending(name, target, said, status, out=b"", deed="fail", moved=0):
-    return Ending(name, target, deed, Seen(status, out, f"pfreplay: {said}\n".encode() if said else b""), moved)
 
 
 def right_endings():
@@ -86,21 +75,9 @@ def wrong_endings():
     yield ending("lines that are lost with the error", ERROR, "", 1)
 
 
-def is_allowed(trial, each):
-    fault = Fault(each.target, each.deed, 1)
-    try:
-        judge(trial, fault, Counts(True, 1, each.moved), each.seen)
-    except Unlawful:
-        return False
-    return True
-
-
 def compare(comparison):
     """The comparison keeps how many endings there are, and which are judged wrongly."""
     with tempfile.NamedTemporaryFile() as file:
         Path(file.name).write_bytes(OCTETS)
         out, err, status, _ = answer(OCTETS, FILE)
-        trial = Trial(Seen(status, out, err), file.name)
-        for is_right, endings in ((True, right_endings()), (False, wrong_endings())):
-            for each in endings:
-                comparison.expect(f"an ending, {each.name}", is_right, is_allowed(trial, each))
+        made_up.compare(comparison, judge, Trial(Seen(status, out, err), file.name), right_endings(), wrong_endings())
