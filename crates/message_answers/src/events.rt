@@ -57,24 +57,8 @@ fn rules(given: &mut Given<'_>) -> StateRules {
     }
 }
 
-fn tcp_state(code: u8) -> TcpPeerState {
-    match code {
-        0 => TcpPeerState::Closed,
-        1 => TcpPeerState::Listen,
-        2 => TcpPeerState::SynSent,
-        3 => TcpPeerState::SynReceived,
-        4 => TcpPeerState::Established,
-        5 => TcpPeerState::CloseWait,
-        6 => TcpPeerState::FinWait1,
-        7 => TcpPeerState::Closing,
-        8 => TcpPeerState::LastAck,
-        9 => TcpPeerState::FinWait2,
-        _ => TcpPeerState::TimeWait,
-    }
-}
-
 fn tcp_peer(given: &mut Given<'_>) -> TcpPeer {
-    let state = tcp_state(given.byte());
+    let state = TcpPeerState::of_code(given.byte()).unwrap_or(TcpPeerState::TimeWait);
     let low = Sequence(given.number());
     let high = Sequence(given.number());
     let greatest_window = given.short();
@@ -91,11 +75,7 @@ fn tcp_peer(given: &mut Given<'_>) -> TcpPeer {
 fn datagram_peer(given: &mut Given<'_>) -> DatagramPeer {
     let code = given.byte();
     let _ = given.bytes(11);
-    match code {
-        0 => DatagramPeer::Silent,
-        1 => DatagramPeer::Single,
-        _ => DatagramPeer::Multiple,
-    }
+    DatagramPeer::of_code(code).unwrap_or(DatagramPeer::Multiple)
 }
 
 fn peers(given: &mut Given<'_>) -> Peers {

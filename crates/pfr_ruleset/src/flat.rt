@@ -8,7 +8,7 @@ use crate::port::PortMatch;
 use pfr_net::{Direction, Ipv4Address, Protocol};
 
 /// What a flat rule or anchor asks of a packet, but for its direction. None asks for nothing.
-#[derive(Clone, Copy)]
+#[derive(Clone, Copy, PartialEq, Eq)]
 pub struct PacketMatch {
     pub interface: Option<InterfaceCriterion>,
     pub protocol: Option<Protocol>,
@@ -37,7 +37,7 @@ pub const NO_MATCH: PacketMatch = PacketMatch {
 };
 
 /// What a rule does with a packet.
-#[derive(Clone, Copy)]
+#[derive(Clone, Copy, PartialEq, Eq)]
 pub enum FilterAction {
     Pass,
     Drop,
@@ -46,7 +46,7 @@ pub enum FilterAction {
 }
 
 /// The flags that a rule asks of TCP packets.
-#[derive(Clone, Copy)]
+#[derive(Clone, Copy, PartialEq, Eq)]
 pub enum FlagsCriterion {
     Any,
     /// Of those of the mask just these.
@@ -56,7 +56,7 @@ pub enum FlagsCriterion {
 }
 
 /// The state that a rule keeps.
-#[derive(Clone, Copy)]
+#[derive(Clone, Copy, PartialEq, Eq)]
 pub struct StateRule {
     pub policy: StatePolicy,
     /// It isn't told to others.
@@ -66,7 +66,7 @@ pub struct StateRule {
 }
 
 /// A filter rule. Its number is its place among them.
-#[derive(Clone, Copy)]
+#[derive(Clone, Copy, PartialEq, Eq)]
 pub struct FlatRule {
     pub action: FilterAction,
     pub direction: Option<Direction>,
@@ -84,7 +84,7 @@ pub struct FlatRule {
 
 /// An anchor round the filter rules from the place `first` to the place `last`. Those round one rule come from the
 /// outermost on.
-#[derive(Clone, Copy)]
+#[derive(Clone, Copy, PartialEq, Eq)]
 pub struct FlatAnchor {
     pub direction: Option<Direction>,
     pub is_quick: bool,
@@ -94,14 +94,14 @@ pub struct FlatAnchor {
 }
 
 /// Ports from the first to the second.
-#[derive(Clone, Copy)]
+#[derive(Clone, Copy, PartialEq, Eq)]
 pub struct PortRange {
     pub low: u16,
     pub high: u16,
 }
 
 /// What `nat` makes of a packet's source.
-#[derive(Clone, Copy)]
+#[derive(Clone, Copy, PartialEq, Eq)]
 pub struct NatAddress {
     pub address: Ipv4Address,
     /// The ports of which one is picked, if the rule says which.
@@ -111,7 +111,7 @@ pub struct NatAddress {
 }
 
 /// What `rdr` makes of a destination port.
-#[derive(Clone, Copy)]
+#[derive(Clone, Copy, PartialEq, Eq)]
 pub enum PortChange {
     Kept,
     To(u16),
@@ -120,14 +120,14 @@ pub enum PortChange {
 }
 
 /// What `rdr` makes of a packet's destination.
-#[derive(Clone, Copy)]
+#[derive(Clone, Copy, PartialEq, Eq)]
 pub struct RdrAddress {
     pub address: Ipv4Address,
     pub port: PortChange,
 }
 
 /// A translation rule of one kind.
-#[derive(Clone, Copy)]
+#[derive(Clone, Copy, PartialEq, Eq)]
 pub struct FlatTranslation<T> {
     /// Its place among the translation rules of all kinds.
     pub number: usize,

@@ -1,7 +1,7 @@
 //! ICMP types that a rule asks for.
 
 /// An ICMP type, and a code of it where one is asked for.
-#[derive(Clone, Copy)]
+#[derive(Clone, Copy, PartialEq, Eq)]
 pub struct IcmpMatch {
     pub kind: u8,
     pub code: Option<u8>,

@@ -55,7 +55,7 @@ pub fn put_byte(line: &mut Tail, byte: u8)
 
 /// Puts an address: `a.b.c.d`.
 #[tactic(auto, unfolding(crate::specs::Texts::address_text))]
-fn put_address(line: &mut Tail, address: Ipv4Address)
+pub(crate) fn put_address(line: &mut Tail, address: Ipv4Address)
     requires room { length line.old + 32 ≤ 128 }
     ensures text { line.new ≡ spec.address_text address ++ line.old }
     ensures long { length line.new ≤ length line.old + 15 }

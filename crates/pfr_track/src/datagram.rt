@@ -1,5 +1,5 @@
 //! Connections of protocols without connections: who has spoken.
-ghost use Rattle.std.specs.Prelude.{◌≡◌};
+ghost use Rattle.std.specs.Prelude.{◌≡◌, ◌≤◌, IfSome, IfNone};
 ghost use Rattle.pfr_track.specs.Datagrams as spec;
 
 use pfr_net::Timeout;
@@ -24,6 +24,19 @@ impl DatagramPeer {
             DatagramPeer::Silent => 0,
             DatagramPeer::Single => 1,
             DatagramPeer::Multiple => 2,
+        }
+    }
+
+    /// The end that has a code, if one has it.
+    pub fn of_code(code: u8) -> Option<DatagramPeer>
+        ensures some { IfSome result (λ end. spec.code_of end ≡ code) }
+        ensures none { IfNone result (3 ≤ code) }
+    {
+        match code {
+            0 => Some(DatagramPeer::Silent),
+            1 => Some(DatagramPeer::Single),
+            2 => Some(DatagramPeer::Multiple),
+            _ => None,
         }
     }
 

@@ -1,5 +1,5 @@
 //! The ends of TCP connections (RFC 9293, section 3.3).
-ghost use Rattle.std.specs.Prelude.{◌≡◌, ◌≤◌};
+ghost use Rattle.std.specs.Prelude.{◌≡◌, ◌≤◌, IfSome, IfNone};
 ghost use Rattle.pfr_track.specs.Tcp as spec;
 
 use crate::sequence::Sequence;
@@ -47,6 +47,28 @@ impl TcpPeerState {
             TcpPeerState::LastAck => 8,
             TcpPeerState::FinWait2 => 9,
             TcpPeerState::TimeWait => 10,
+        }
+    }
+
+    /// The state that has a code, if one has it.
+    #[tactic(auto, unfolding(crate::specs::Tcp::code_of))]
+    pub fn of_code(code: u8) -> Option<TcpPeerState>
+        ensures some { IfSome result (λ state. spec.code_of state ≡ code) }
+        ensures none { IfNone result (11 ≤ code) }
+    {
+        match code {
+            0 => Some(TcpPeerState::Closed),
+            1 => Some(TcpPeerState::Listen),
+            2 => Some(TcpPeerState::SynSent),
+            3 => Some(TcpPeerState::SynReceived),
+            4 => Some(TcpPeerState::Established),
+            5 => Some(TcpPeerState::CloseWait),
+            6 => Some(TcpPeerState::FinWait1),
+            7 => Some(TcpPeerState::Closing),
+            8 => Some(TcpPeerState::LastAck),
+            9 => Some(TcpPeerState::FinWait2),
+            10 => Some(TcpPeerState::TimeWait),
+            _ => None,
         }
     }
 
