@@ -1,7 +1,9 @@
 -- What is put into a text for its statements.
 use Rattle.std.specs.Prelude.{ℕ, nat_lt, if◌then◌else◌, List, [], ◌∷◌, ◌++◌, length, Option, Some, None}
+use Rattle.std.specs.List.{filter_map}
 use Rattle.std.specs.Str.{bytes_eq}
 use Rattle.pfr_include.specs.declared.file.Found.{Found}
+use Rattle.pfr_include.specs.declared.splices.Loading.{Loading}
 use Rattle.pfr_include.specs.declared.splices.Put.{Put}
 use Rattle.pfr_include.specs.declared.splices.Put.TheVariants as put
 use Rattle.pfr_include.specs.declared.splices.Splice.{Splice}
@@ -32,38 +34,38 @@ abbrev pub includes : List Statement → List Splice
 includes [] = []
 includes (statement ∷ statements) = splice_in (include_splice statement) ++ includes statements
 
--- the file that a statement loads into the anchors of a name
-abbrev pub file_for : List ℕ → Statement → Option Found
-file_for name (statement.Include naming) = None
-file_for name (statement.Load anchor naming) = if bytes_eq anchor name then Some naming.found else None
-file_for name (statement.Anchor anchor) = None
+-- the file that a statement loads, and the anchors into which it does
+abbrev pub loading_in : Statement → Option Loading
+loading_in (statement.Include naming) = None
+loading_in (statement.Load anchor naming) = Some (record { anchor = anchor; found = naming.found })
+loading_in (statement.Anchor anchor) = None
+
+abbrev pub loadings : List Statement → List Loading
+loadings statements = filter_map loading_in statements
 
 -- the file that is loaded into the anchors of a name, by the first statement that loads one
-abbrev pub loaded : List ℕ → List Statement → Option Found
+abbrev pub loaded : List ℕ → List Loading → Option Found
 loaded name [] = None
-loaded name (statement ∷ statements) = elim (file_for name statement) [
-  | Some found ↦ Some found
-  | None ↦ loaded name statements
-]
+loaded name (loading ∷ more) = if bytes_eq loading.anchor name then Some loading.found else loaded name more
 
 abbrev pub rules_by : Anchor → Option Found → Option Splice
 rules_by anchor None = None
 rules_by anchor (Some found) = Some (opened anchor found)
 
 -- an anchor has the file's rules that is loaded into it
-unfoldable pub rules_splice : Anchor → List Statement → Option Splice
-rules_splice anchor statements = rules_by anchor (loaded anchor.name statements)
+unfoldable pub rules_splice : Anchor → List Loading → Option Splice
+rules_splice anchor loadings = rules_by anchor (loaded anchor.name loadings)
 
--- a statement `load anchor` goes, and an anchor has the rules that are loaded into it by one of all statements
-abbrev pub load_splice : List Statement → Statement → Option Splice
-load_splice all (statement.Include naming) = None
-load_splice all (statement.Load name naming) = Some (replaced naming put.Nothing)
-load_splice all (statement.Anchor anchor) = rules_splice anchor all
+-- a statement `load anchor` goes, and an anchor has the rules that are loaded into it
+abbrev pub load_splice : List Loading → Statement → Option Splice
+load_splice loadings (statement.Include naming) = None
+load_splice loadings (statement.Load name naming) = Some (replaced naming put.Nothing)
+load_splice loadings (statement.Anchor anchor) = rules_splice anchor loadings
 
-abbrev pub loads : List Statement → List Statement → List Splice
-loads all [] = []
-loads all (statement ∷ statements) = splice_in (load_splice all statement) ++ loads all statements
+abbrev pub loads : List Loading → List Statement → List Splice
+loads loadings [] = []
+loads loadings (statement ∷ statements) = splice_in (load_splice loadings statement) ++ loads loadings statements
 
 -- first the files that are included, and once there are none, those that are loaded
 unfoldable pub splices_for : List Statement → List Splice
-splices_for statements = if nat_lt 0 (length (includes statements)) then includes statements else loads statements statements
+splices_for statements = if nat_lt 0 (length (includes statements)) then includes statements else loads (loadings statements) statements

@@ -99,29 +99,49 @@ fn includes<'f>(
     Ok(found)
 }
 
-/// The file that a statement loads into the anchors of a name.
-fn file_for<'f>(name: &[u8], statement: &Statement<'_, 'f>) -> Option<Found<'f>>
-    ensures { result ≡ spec.file_for name.now statement.now }
+/// A file that is loaded into the anchors of a name.
+#[derive(Drop)]
+struct Loading<'a, 'f> {
+    anchor: Bytes<'a>,
+    found: Found<'f>,
+}
+
+/// The file that a statement loads, and the anchors into which it does.
+fn loading_in<'a, 'f>(statement: &Statement<'a, 'f>) -> Option<Loading<'a, 'f>>
+    ensures { result ≡ spec.loading_in statement.now }
 {
     match statement {
-        Statement::Load(anchor, naming) => {
-            if anchor.as_slice() == name {
-                Some(copied(&naming.found))
-            } else {
-                None
-            }
-        }
+        Statement::Load(anchor, naming) => Some(Loading {
+            anchor: Bytes::new(anchor.as_slice()),
+            found: copied(&naming.found),
+        }),
         _ => None,
     }
 }
 
-/// The file that is loaded into the anchors of a name, by the first statement that loads one.
-fn loaded<'f>(name: &[u8], statements: &[Statement<'_, 'f>]) -> Option<Found<'f>>
-    ensures { result ≡ spec.loaded name.now statements.now }
+/// The files that statements load. Most texts load none, and each anchor is looked for among these.
+fn loadings<'a, 'f>(
+    alloc: Global,
+    statements: &[Statement<'a, 'f>],
+) -> Result<Items<Loading<'a, 'f>>, AllocError>
+    ensures { IfOk result (λ loadings. loadings ≡ spec.loadings statements.now) }
 {
+    let mut loadings = Items::new(alloc);
     for statement in statements {
-        if let Some(found) = file_for(name, statement) {
-            return Some(found);
+        if let Some(loading) = loading_in(statement) {
+            loadings.push(loading)?;
+        }
+    }
+    Ok(loadings)
+}
+
+/// The file that is loaded into the anchors of a name, by the first statement that loads one.
+fn loaded<'f>(name: &[u8], loadings: &[Loading<'_, 'f>]) -> Option<Found<'f>>
+    ensures { result ≡ spec.loaded name.now loadings.now }
+{
+    for loading in loadings {
+        if loading.anchor.as_slice() == name {
+            return Some(copied(&loading.found));
         }
     }
     None
@@ -129,34 +149,38 @@ fn loaded<'f>(name: &[u8], statements: &[Statement<'_, 'f>]) -> Option<Found<'f>
 
 /// An anchor has the file's rules that is loaded into it.
 #[tactic(auto, unfolding(crate::specs::Splices::rules_splice))]
-fn rules_splice<'f>(anchor: &Anchor<'_>, statements: &[Statement<'_, 'f>]) -> Option<Splice<'f>>
-    ensures { result ≡ spec.rules_splice anchor.now statements.now }
+fn rules_splice<'f>(anchor: &Anchor<'_>, loadings: &[Loading<'_, 'f>]) -> Option<Splice<'f>>
+    ensures { result ≡ spec.rules_splice anchor.now loadings.now }
 {
-    let found = loaded(anchor.name.as_slice(), statements)?;
+    let found = loaded(anchor.name.as_slice(), loadings)?;
     Some(opened(anchor, found))
 }
 
 /// A statement `load anchor` goes, and an anchor has the rules that are loaded into it.
-fn load_splice<'f>(all: &[Statement<'_, 'f>], statement: &Statement<'_, 'f>) -> Option<Splice<'f>>
-    ensures { result ≡ spec.load_splice all.now statement.now }
+fn load_splice<'f>(
+    loadings: &[Loading<'_, 'f>],
+    statement: &Statement<'_, 'f>,
+) -> Option<Splice<'f>>
+    ensures { result ≡ spec.load_splice loadings.now statement.now }
 {
     match statement {
         Statement::Include(_) => None,
         Statement::Load(_, naming) => Some(replaced(naming, Put::Nothing)),
-        Statement::Anchor(anchor) => rules_splice(anchor, all),
+        Statement::Anchor(anchor) => rules_splice(anchor, loadings),
     }
 }
 
 /// The splices for the statements `load anchor` and the anchors that they name.
 fn loads<'f>(
     alloc: Global,
+    loadings: &[Loading<'_, 'f>],
     statements: &[Statement<'_, 'f>],
 ) -> Result<Items<Splice<'f>>, AllocError>
-    ensures { IfOk result (λ found. found ≡ spec.loads statements.now statements.now) }
+    ensures { IfOk result (λ found. found ≡ spec.loads loadings.now statements.now) }
 {
     let mut found = Items::new(alloc);
     for statement in statements {
-        add(&mut found, load_splice(statements, statement))?;
+        add(&mut found, load_splice(loadings, statement))?;
     }
     Ok(found)
 }
@@ -174,5 +198,6 @@ pub(crate) fn splices_for<'f>(
     if found.len() > 0 {
         return Ok(found);
     }
-    loads(alloc, statements)
+    let loadings = loadings(alloc, statements)?;
+    loads(alloc, loadings.as_slice(), statements)
 }

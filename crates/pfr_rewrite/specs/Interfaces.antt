@@ -9,6 +9,7 @@ use Rattle.pfr_words.specs.declared.word.Token.{Token}
 use Rattle.pfr_words.specs.declared.word.Token.TheVariants as token
 use Rattle.pfr_marks.specs.Marks.{begins_with, marks}
 use Rattle.pfr_marks.specs.declared.mark.Mark.{Mark}
+use Rattle.pfr_spelling.specs.Known.{if_within}
 use Rattle.pfr_spelling.specs.Macros.{is_plain, token_in, value_of}
 use Rattle.pfr_spelling.specs.Targets.{list_from}
 use Rattle.pfr_spelling.specs.declared.known.Known.{Known}
@@ -51,9 +52,9 @@ abbrev pub names_by : Given → Option (List ℕ) → List (List ℕ)
 names_by given (Some value) = names_of_words given (marks value)
 names_by given None = unknown_name ∷ []
 
--- the words of a macro's value; what names no interface, if that isn't known
+-- the words of a macro's value; what names no interface, if that isn't known, or has more bytes than may still be looked at
 abbrev pub value_names : Given → Known → List ℕ → List (List ℕ)
-value_names given known name = names_by given (value_of known.macros name)
+value_names given known name = names_by given (if_within (value_of known.macros name) known.left)
 
 abbrev pub names_in_token : Given → Known → Option Token → List ℕ → List (List ℕ)
 names_in_token given known (Some (token.Plain word)) piece = names_for given word

@@ -115,7 +115,8 @@ fn put_all(
     Ok(())
 }
 
-/// Puts what a macro stands for behind the names so far: the words of its value, or no interface's name if that isn't known.
+/// Puts what a macro stands for behind the names so far: the words of its value, or no interface's name if that isn't known, or has more
+/// bytes than may still be looked at.
 fn put_value(
     alloc: Global,
     given: &Given,
@@ -126,11 +127,11 @@ fn put_value(
     ensures { OnOk result (names.new ≡ names.old ++ spec.value_names given.now known.now name.now) }
 {
     match value_of(known.macros.as_slice(), name) {
-        Some(value) => {
+        Some(value) if value.as_slice().len() <= known.left => {
             let words = marks(alloc, value.as_slice())?;
             put_all(alloc, given, names, words.as_slice())
         }
-        None => names.push(Items::copied(alloc, UNKNOWN)?),
+        _ => names.push(Items::copied(alloc, UNKNOWN)?),
     }
 }
 

@@ -14,7 +14,7 @@ use Rattle.pfr_phrases.specs.declared.phrases.Phrase.{Phrase}
 use Rattle.pfr_phrases.specs.declared.reason.Reason.{Reason}
 use Rattle.pfr_phrases.specs.declared.reason.Reason.TheVariants as reason
 use Rattle.pfr_phrases.proofs.CoverLawLemmas.{Counted, CoversIf, IsOneOf, either, file_counted, first_covers, is_first, is_second, of_change, some_if, unless}
-use Rattle.pfr_spelling.specs.Known.{are_bracketed, given_as, given_by, given_change, given_first, given_for, given_here, given_in_brackets, own_change, reason_for, replaced_by, says_target, subject_of, text_change, text_for}
+use Rattle.pfr_spelling.specs.Known.{are_bracketed, given_as, given_by, given_change, given_first, given_for, given_here, given_in_brackets, own_change, reason_for, replaced_by, says_target, subject_of, text_change, text_for, value_within}
 use Rattle.pfr_spelling.specs.Macros.{is_plain, spelled_out, used_value}
 use Rattle.pfr_spelling.specs.Replacing.{entries_text, file_by, file_here, is_written_out, macro_by, macro_here, macro_replaced, macro_text, ports_here, ports_text, replaced_if, says_port, table_here, table_named, value_here, value_text}
 use Rattle.pfr_spelling.specs.Tables.{new_name}
@@ -198,7 +198,7 @@ of_first None known marks = of_address known marks
 target_is_of_some : (known : Known) (marks : List Mark) → IsOfSome (first_target known marks)
 unfolding first_target
 target_is_of_some known [] = tt
-target_is_of_some known (word ∷ marks) = of_first (used_value known.macros word.piece) known (word ∷ marks)
+target_is_of_some known (word ∷ marks) = of_first (value_within known known.left (word ∷ marks)) known (word ∷ marks)
 
 of_target : (first : Option First) (given : Given) (known : Known) (context : Context) (marks : List Mark) → IsOfSome first
     → CoversIf context marks (target_by first given known context marks)

@@ -11,7 +11,7 @@ use Rattle.pfr_phrases.specs.declared.context.Context.{Context}
 use Rattle.pfr_phrases.specs.declared.context.Within.{Within}
 use Rattle.pfr_phrases.specs.declared.context.Within.TheVariants as within
 use Rattle.pfr_phrases.specs.declared.reason.Reason.TheVariants as reason
-use Rattle.pfr_spelling.specs.Known.{says_target, text_change}
+use Rattle.pfr_spelling.specs.Known.{says_target, text_change, value_within}
 use Rattle.pfr_spelling.specs.Macros.{used_value}
 use Rattle.pfr_spelling.specs.Replacing.{value_text}
 use Rattle.pfr_spelling.specs.declared.known.Known.{Known}
@@ -100,7 +100,7 @@ first_by None known marks = first_address known marks
 
 unfoldable pub first_target : Known → List Mark → Option First
 first_target known [] = None
-first_target known (word ∷ marks) = first_by (used_value known.macros word.piece) known (word ∷ marks)
+first_target known (word ∷ marks) = first_by (value_within known known.left (word ∷ marks)) known (word ∷ marks)
 
 abbrev pub is_rule : Within → Bool
 is_rule within.Rule = true

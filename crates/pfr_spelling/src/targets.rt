@@ -211,10 +211,10 @@ fn first_target(
     ensures value { IfOk result (λ found. found ≡ spec.first_target known.now marks.now) }
     ensures within { IfOk result (λ found. IfSome found (λ found. found.count ≤ length marks.now)) }
 {
-    let Some(word) = marks.first() else {
+    if marks.is_empty() {
         return Ok(None);
-    };
-    match used_value(known.macros.as_slice(), word.piece.as_slice()) {
+    }
+    match known.value_within(known.left, marks) {
         Some(value) => first_of_value(alloc, known, value.as_slice()),
         None => first_address(alloc, known, marks),
     }
