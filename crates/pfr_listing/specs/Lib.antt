@@ -1,3 +1,4 @@
+pub mod Counters
 pub mod Json
 pub mod Lines
 pub mod Pfctl

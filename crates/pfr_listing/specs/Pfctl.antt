@@ -36,19 +36,12 @@ datagram_name Silent = codes "NO_TRAFFIC"
 datagram_name Single = codes "SINGLE"
 datagram_name Multiple = codes "MULTIPLE"
 
--- the end that made the state; nothing is kept of those of ICMP echoes
-abbrev pub maker_name : Peers → List ℕ
-maker_name (peers.Tcp maker other) = tcp_name maker.state
-maker_name (peers.Udp maker other) = datagram_name maker
-maker_name peers.Icmp = codes "0"
-maker_name (peers.Other maker other) = datagram_name maker
-
--- and the other one
-abbrev pub other_name : Peers → List ℕ
-other_name (peers.Tcp maker other) = tcp_name other.state
-other_name (peers.Udp maker other) = datagram_name other
-other_name peers.Icmp = codes "0"
-other_name (peers.Other maker other) = datagram_name other
+-- the end that made the state, and the other one; nothing is kept of those of ICMP echoes
+abbrev pub end_names : Peers → List ℕ × List ℕ
+end_names (peers.Tcp maker other) = (tcp_name maker.state, tcp_name other.state)
+end_names (peers.Udp maker other) = (datagram_name maker, datagram_name other)
+end_names peers.Icmp = (codes "0", codes "0")
+end_names (peers.Other maker other) = (datagram_name maker, datagram_name other)
 
 -- the protocols that are shown by name, as FreeBSD's protocols(5) has them; all others by their numbers
 abbrev pub protocol_name : ℕ → Option (List ℕ)
@@ -96,8 +89,8 @@ ends_by Out state = ends state.wire (there_for Out state.wire state.stack) (code
 ends_by In state = ends state.stack (there_for In state.stack state.wire) (codes " <- ")
 
 abbrev pub names_by : Direction → Peers → List ℕ
-names_by Out peers = maker_name peers ++ (codes ":" ++ other_name peers)
-names_by In peers = other_name peers ++ (codes ":" ++ maker_name peers)
+names_by Out peers = (end_names peers).0 ++ (codes ":" ++ (end_names peers).1)
+names_by In peers = (end_names peers).1 ++ (codes ":" ++ (end_names peers).0)
 
 -- `all` if no interface is said to which it is bound
 abbrev pub bound_to : Bound → List ℕ

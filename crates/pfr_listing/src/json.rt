@@ -7,8 +7,8 @@ ghost use Rattle.pfr_listing.specs.Json as spec;
 
 use crate::line::{Bound, Listed};
 use crate::pfctl::{datagram_name, tcp_name};
-use crate::writing::{put_address, put_number};
 use pfr_net::{Direction, Endpoint, Ipv4Address, Port, Protocol, RuleNumber};
+use pfr_texts::{append_address, append_number};
 use pfr_track::{Clock, DatagramPeer, Key, Peers, State, TcpPeer, Traffic};
 use std::alloc::AllocError;
 
@@ -66,7 +66,7 @@ fn put_count(text: &mut Vec<u8>, lead: &[u8], number: u64) -> Result<(), AllocEr
     ensures { OnOk result (text.new.items ≡ text.old.items ++ (lead.now ++ decimal number)) }
 {
     text.extend_from_slice(lead)?;
-    put_number(text, number)
+    append_number(text, number)
 }
 
 /// Appends a shift, or null, behind what stands before it.
@@ -75,7 +75,7 @@ fn put_scale(text: &mut Vec<u8>, lead: &[u8], scale: Option<u8>) -> Result<(), A
 {
     text.extend_from_slice(lead)?;
     match scale {
-        Some(shift) => put_number(text, u64::from(shift)),
+        Some(shift) => append_number(text, u64::from(shift)),
         None => text.extend_from_slice(b"null"),
     }
 }
@@ -86,7 +86,7 @@ fn put_rule(text: &mut Vec<u8>, lead: &[u8], rule: Option<RuleNumber>) -> Result
 {
     text.extend_from_slice(lead)?;
     match rule {
-        Some(RuleNumber(number)) => put_number(text, number as u64),
+        Some(RuleNumber(number)) => append_number(text, number as u64),
         None => text.extend_from_slice(b"null"),
     }
 }
@@ -116,7 +116,7 @@ fn put_host(text: &mut Vec<u8>, lead: &[u8], address: Ipv4Address) -> Result<(),
     ensures { OnOk result (text.new.items ≡ text.old.items ++ (lead.now ++ address_text address)) }
 {
     text.extend_from_slice(lead)?;
-    put_address(text, address)
+    append_address(text, address)
 }
 
 /// Appends a port behind what stands before it.

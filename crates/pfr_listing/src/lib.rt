@@ -1,19 +1,27 @@
-//! The states that a run left, as pfctl(8) shows them, or as JSON.
+//! What a run wrote, read again: its lines of states, of verdicts and of counters. States are printed as pfctl(8) shows them, or as
+//! JSON.
 //!
 //! [`listed`] reads the lines of a run's states and puts them in order; [`put_pfctl`] and [`put_json`] print one of them.
+//! [`judged_in`] reads a line of verdicts, and [`counted_in`] one of counters.
 //!
-//! Proved is that what is read are the states of which the text has the lines, each once, and what is printed of a state. In which order
-//! they come is tested, and that each line of a run is read.
+//! Proved is that what is read is what the line says, that the states are those of which the text has the lines, each once, and what is
+//! printed of a state. In which order they come is tested, and that each line of a run is read.
 #![tactic(auto)]
 
+mod counted;
+mod counters;
 mod json;
+mod judged;
 mod line;
 mod listing;
 mod pfctl;
 mod words;
-mod writing;
 
+pub use counted::{Counted, RuleKind, counted_in};
+pub use counters::{RuleCounts, counters_in};
 pub use json::put_json;
+pub use judged::{Judged, judged_in};
 pub use line::{Bound, Listed};
-pub use listing::{Refused, listed};
-pub use pfctl::put_pfctl;
+pub use listing::{Refused, first_line, listed};
+pub use pfctl::{protocol_name, put_pfctl};
+pub use words::{reason_word, verdict_word};

@@ -49,13 +49,13 @@ fn bound_by<'a>(name: &'a [u8]) -> Bound<'a>
 
 /// A line without what it says of the interface.
 #[derive(Drop)]
-struct Parted<'a> {
-    plain: &'a [u8],
-    bound: Bound<'a>,
+pub(crate) struct Parted<'a> {
+    pub(crate) plain: &'a [u8],
+    pub(crate) bound: Bound<'a>,
 }
 
 /// Parts what a line says of the interface from what stands before: its last word, if that begins with `i=`.
-fn part<'a>(line: &'a [u8]) -> Parted<'a>
+pub(crate) fn part<'a>(line: &'a [u8]) -> Parted<'a>
     ensures { line.now ≡ result.plain.now ++ spec.bound_text result.bound }
 {
     let (plain, last) = line.split_at(last_word(line));
@@ -85,7 +85,7 @@ fn last_word(line: &[u8]) -> usize
 }
 
 /// Whether a text is a line with its newline.
-fn is_line(text: &[u8], line: &[u8]) -> bool
+pub(crate) fn is_line(text: &[u8], line: &[u8]) -> bool
     ensures { result ≡ true → text.now ≡ line.now ++ 10 ∷ [] }
 {
     match text.split_last() {

@@ -3,8 +3,8 @@ ghost use Rattle.std.specs.Prelude.{◌≡◌, ◌++◌, OnOk, codes, option_map
 ghost use Rattle.pfr_listing.specs.Pfctl as spec;
 
 use crate::line::{Bound, Listed};
-use crate::writing::{put_address, put_number};
 use pfr_net::{Direction, Endpoint, Protocol};
+use pfr_texts::{append_address, append_number};
 use pfr_track::{DatagramPeer, Key, Peers, State, TcpPeerState};
 use std::alloc::AllocError;
 
@@ -38,32 +38,22 @@ pub(crate) fn datagram_name(end: DatagramPeer) -> &'static [u8]
     }
 }
 
-/// The name of the end that made a state.
-pub(crate) fn maker_name(peers: &Peers) -> &'static [u8]
-    ensures { result.now ≡ spec.maker_name peers.now }
+/// The names of the end that made a state, and of the other one.
+fn end_names(peers: &Peers) -> (&'static [u8], &'static [u8])
+    ensures maker { result.0.now ≡ (spec.end_names peers.now).0 }
+    ensures other { result.1.now ≡ (spec.end_names peers.now).1 }
 {
     match peers {
-        Peers::Tcp(maker, _) => tcp_name(maker.state),
-        Peers::Udp(maker, _) => datagram_name(*maker),
-        Peers::Icmp => b"0",
-        Peers::Other(maker, _) => datagram_name(*maker),
-    }
-}
-
-/// The name of the other one.
-pub(crate) fn other_name(peers: &Peers) -> &'static [u8]
-    ensures { result.now ≡ spec.other_name peers.now }
-{
-    match peers {
-        Peers::Tcp(_, other) => tcp_name(other.state),
-        Peers::Udp(_, other) => datagram_name(*other),
-        Peers::Icmp => b"0",
-        Peers::Other(_, other) => datagram_name(*other),
+        Peers::Tcp(maker, other) => (tcp_name(maker.state), tcp_name(other.state)),
+        Peers::Udp(maker, other) | Peers::Other(maker, other) => {
+            (datagram_name(*maker), datagram_name(*other))
+        }
+        Peers::Icmp => (b"0", b"0"),
     }
 }
 
 /// The name of a protocol in protocols(5).
-pub(crate) fn protocol_name(protocol: Protocol) -> Option<&'static [u8]>
+pub fn protocol_name(protocol: Protocol) -> Option<&'static [u8]>
     ensures { option_map (λ name. name.now) result ≡ spec.protocol_name protocol.0 }
 {
     match protocol.0 {
@@ -88,7 +78,7 @@ fn put_protocol(text: &mut Vec<u8>, protocol: Protocol) -> Result<(), AllocError
 {
     match protocol_name(protocol) {
         Some(name) => text.extend_from_slice(name),
-        None => put_number(text, u64::from(protocol.0)),
+        None => append_number(text, u64::from(protocol.0)),
     }
 }
 
@@ -96,12 +86,12 @@ fn put_protocol(text: &mut Vec<u8>, protocol: Protocol) -> Result<(), AllocError
 fn put_host(text: &mut Vec<u8>, end: Endpoint) -> Result<(), AllocError>
     ensures { OnOk result (text.new.items ≡ text.old.items ++ spec.host end) }
 {
-    put_address(text, end.address)?;
+    append_address(text, end.address)?;
     if end.port.0 == 0 {
         return Ok(());
     }
     text.extend_from_slice(b":")?;
-    put_number(text, u64::from(end.port.0))
+    append_number(text, u64::from(end.port.0))
 }
 
 /// Whether two ends are the same.
@@ -177,7 +167,7 @@ fn put_names(text: &mut Vec<u8>, first: &[u8], second: &[u8]) -> Result<(), Allo
 fn put_peers(text: &mut Vec<u8>, state: &State) -> Result<(), AllocError>
     ensures { OnOk result (text.new.items ≡ text.old.items ++ spec.names_by state.now.direction state.now.peers) }
 {
-    let (maker, other) = (maker_name(&state.peers), other_name(&state.peers));
+    let (maker, other) = end_names(&state.peers);
     match state.direction {
         Direction::Out => put_names(text, maker, other),
         Direction::In => put_names(text, other, maker),

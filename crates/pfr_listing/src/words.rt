@@ -1,12 +1,20 @@
 //! The words of a line. What is read is compared with the line, so nothing depends on them but which lines are read.
+ghost use Rattle.std.specs.Prelude.{◌≡◌};
+ghost use Rattle.pfr_packet.specs.Verdicts.{reason_text, verdict_text};
+
+use crate::counted::{Counted, Totals};
 use pfr_net::{
     Binding, Direction, Endpoint, InterfacePlace, Port, Protocol, RuleNumber, Timeout, notation,
 };
+use pfr_packet::{Outcome, Reason, Verdict};
 use pfr_track::{
     Clock, DatagramPeer, Deadline, Key, Peers, Sequence, State, StateNumber, StateRules, TcpPeer,
     TcpPeerState, Traffic,
 };
+use pfr_words::names::entry_of;
+use std::alloc::Global;
 use std::str;
+use std::str::FromStr;
 
 /// The words that are left of a line.
 #[derive(Drop)]
@@ -14,40 +22,71 @@ struct Words<'a> {
     rest: Option<&'a [u8]>,
 }
 
-/// A number in decimal digits.
-fn number(word: &[u8]) -> Option<u64> {
+/// The word for a verdict.
+pub fn verdict_word(verdict: Verdict) -> &'static [u8]
+    ensures { result.now ≡ verdict_text verdict }
+{
+    match verdict {
+        Verdict::Pass => b"pass",
+        Verdict::Block => b"block",
+        Verdict::Return => b"return",
+        Verdict::Skip => b"skip",
+    }
+}
+
+/// The word for a reason.
+pub fn reason_word(reason: Reason) -> &'static [u8]
+    ensures { result.now ≡ reason_text reason }
+{
+    match reason {
+        Reason::Rule => b"rule",
+        Reason::Default => b"default",
+        Reason::NotIp => b"not-ip",
+        Reason::SkipOn => b"skip-on",
+        Reason::Short => b"short",
+        Reason::IpOption => b"ip-option",
+        Reason::State => b"state",
+        Reason::StateError => b"state-error",
+        Reason::StateMismatch => b"state-mismatch",
+        Reason::StateInsert => b"state-insert",
+        Reason::StateLimit => b"state-limit",
+        Reason::NatExhausted => b"nat-exhausted",
+        Reason::NatPass => b"nat-pass",
+    }
+}
+
+/// The words for verdicts.
+const VERDICTS: [(&[u8], Verdict); 4] = [
+    (b"pass", Verdict::Pass),
+    (b"block", Verdict::Block),
+    (b"return", Verdict::Return),
+    (b"skip", Verdict::Skip),
+];
+
+/// The words for reasons.
+const REASONS: [(&[u8], Reason); 13] = [
+    (b"state", Reason::State),
+    (b"rule", Reason::Rule),
+    (b"default", Reason::Default),
+    (b"not-ip", Reason::NotIp),
+    (b"skip-on", Reason::SkipOn),
+    (b"short", Reason::Short),
+    (b"ip-option", Reason::IpOption),
+    (b"state-error", Reason::StateError),
+    (b"state-mismatch", Reason::StateMismatch),
+    (b"state-insert", Reason::StateInsert),
+    (b"state-limit", Reason::StateLimit),
+    (b"nat-exhausted", Reason::NatExhausted),
+    (b"nat-pass", Reason::NatPass),
+];
+
+/// A number in decimal digits, of as many bits as are wanted.
+fn parsed<T: FromStr>(word: &[u8]) -> Option<T>
+where
+    T::Err: Drop,
+{
     let digits = str::from_utf8(word).ok()?;
-    digits.parse::<u64>().ok()
-}
-
-/// A number of 32 bits.
-fn number32(word: &[u8]) -> Option<u32> {
-    let value = number(word)?;
-    if value <= 4294967295 {
-        Some(value as u32)
-    } else {
-        None
-    }
-}
-
-/// A number of 16 bits.
-fn number16(word: &[u8]) -> Option<u16> {
-    let value = number(word)?;
-    if value <= 65535 {
-        Some(value as u16)
-    } else {
-        None
-    }
-}
-
-/// A number of 8 bits.
-fn number8(word: &[u8]) -> Option<u8> {
-    let value = number(word)?;
-    if value <= 255 {
-        Some(value as u8)
-    } else {
-        None
-    }
+    digits.parse::<T>().ok()
 }
 
 /// An end of a connection: `a.b.c.d:port`.
@@ -55,7 +94,7 @@ fn end(word: &[u8]) -> Option<Endpoint> {
     let (address, port) = notation::cut(b':', word)?;
     Some(Endpoint {
         address: notation::dotted(address)?,
-        port: Port(number16(port)?),
+        port: Port(parsed(port)?),
     })
 }
 
@@ -64,26 +103,7 @@ fn rule(word: &[u8]) -> Option<Option<RuleNumber>> {
     if word == b"-".as_slice() {
         return Some(None);
     }
-    let value = number(word)?;
-    Some(Some(RuleNumber(value as usize)))
-}
-
-/// The state of an end of a TCP connection by its code.
-fn tcp_state(code: u8) -> Option<TcpPeerState> {
-    match code {
-        0 => Some(TcpPeerState::Closed),
-        1 => Some(TcpPeerState::Listen),
-        2 => Some(TcpPeerState::SynSent),
-        3 => Some(TcpPeerState::SynReceived),
-        4 => Some(TcpPeerState::Established),
-        5 => Some(TcpPeerState::CloseWait),
-        6 => Some(TcpPeerState::FinWait1),
-        7 => Some(TcpPeerState::Closing),
-        8 => Some(TcpPeerState::LastAck),
-        9 => Some(TcpPeerState::FinWait2),
-        10 => Some(TcpPeerState::TimeWait),
-        _ => None,
-    }
+    Some(Some(RuleNumber(parsed(word)?)))
 }
 
 /// The shift that an end offered, or `-` for none.
@@ -91,7 +111,7 @@ fn scale(word: &[u8]) -> Option<Option<u8>> {
     if word == b"-".as_slice() {
         return Some(None);
     }
-    Some(Some(number8(word)?))
+    Some(Some(parsed(word)?))
 }
 
 /// An end of a TCP connection: `code/low/high/window/offer`.
@@ -101,10 +121,10 @@ fn tcp_end(word: &[u8]) -> Option<TcpPeer> {
     let (high, rest) = notation::cut(b'/', rest)?;
     let (window, offer) = notation::cut(b'/', rest)?;
     Some(TcpPeer {
-        state: tcp_state(number8(code)?)?,
-        low: Sequence(number32(low)?),
-        high: Sequence(number32(high)?),
-        greatest_window: number16(window)?,
+        state: TcpPeerState::of_code(parsed(code)?)?,
+        low: Sequence(parsed(low)?),
+        high: Sequence(parsed(high)?),
+        greatest_window: parsed(window)?,
         scale: scale(offer)?,
     })
 }
@@ -112,12 +132,7 @@ fn tcp_end(word: &[u8]) -> Option<TcpPeer> {
 /// An end of another connection: its code, and what such ends don't have.
 fn datagram_end(word: &[u8]) -> Option<DatagramPeer> {
     let (code, _) = notation::cut(b'/', word)?;
-    match number8(code)? {
-        0 => Some(DatagramPeer::Silent),
-        1 => Some(DatagramPeer::Single),
-        2 => Some(DatagramPeer::Multiple),
-        _ => None,
-    }
+    DatagramPeer::of_code(parsed(code)?)
 }
 
 /// Both ends of a connection of a protocol, that of the state's maker first.
@@ -148,7 +163,17 @@ impl<'a> Words<'a> {
 
     /// The next word as a number.
     fn number(&mut self) -> Option<u64> {
-        number(self.next()?)
+        parsed(self.next()?)
+    }
+
+    /// The next word as a direction, or `-` for none.
+    fn direction_or_none(&mut self) -> Option<Option<Direction>> {
+        let mut word = Words { rest: self.rest };
+        if word.next()? == b"-".as_slice() {
+            self.rest = word.rest;
+            return Some(None);
+        }
+        Some(Some(self.direction()?))
     }
 
     /// The next word as a direction.
@@ -178,6 +203,15 @@ impl<'a> Words<'a> {
         rule(self.next()?.strip_prefix(mark)?)
     }
 
+    /// The next word as a state's number behind `s=`, or `-` for none.
+    fn state(&mut self) -> Option<Option<StateNumber>> {
+        let word = self.next()?.strip_prefix(b"s=".as_slice())?;
+        if word == b"-".as_slice() {
+            return Some(None);
+        }
+        Some(Some(StateNumber(parsed(word)?)))
+    }
+
     /// The next words as both ends of a connection.
     fn peers(&mut self, protocol: Protocol) -> Option<Peers> {
         let maker = self.next()?;
@@ -198,14 +232,14 @@ impl<'a> Words<'a> {
 pub(crate) fn state_in(line: &[u8]) -> Option<State> {
     let mut words = Words { rest: Some(line) };
     let number = StateNumber(words.number()?);
-    let protocol = Protocol(number8(words.next()?)?);
+    let protocol = Protocol(parsed(words.next()?)?);
     let direction = words.direction()?;
     let wire = words.key(protocol)?;
     let stack = words.key(protocol)?;
     let filter = words.rule(b"r=")?;
     let translation = words.rule(b"t=")?;
     let peers = words.peers(protocol)?;
-    let made = Clock(number32(words.next()?)?);
+    let made = Clock(parsed(words.next()?)?);
     let deadline = Deadline(words.number()?);
     let forth = words.traffic()?;
     let back = words.traffic()?;
@@ -228,5 +262,67 @@ pub(crate) fn state_in(line: &[u8]) -> Option<State> {
         direction,
         interface: InterfacePlace(0),
         timeout: Timeout::TcpFirst,
+    })
+}
+
+/// What the words of a line count for a rule, with its newline.
+pub(crate) fn counts_in(line: &[u8]) -> Option<Counted> {
+    let mut words = Words {
+        rest: Some(line.strip_suffix(b"\n".as_slice())?),
+    };
+    words.next()?;
+    words.next()?;
+    Some(Counted {
+        evaluations: words.number()?,
+        packets: words.number()?,
+        bytes: words.number()?,
+    })
+}
+
+/// What the words of a line count of all packets, with its newline.
+pub(crate) fn totals_in(line: &[u8]) -> Option<Totals> {
+    let mut words = Words {
+        rest: Some(line.strip_suffix(b"\n".as_slice())?),
+    };
+    words.next()?;
+    Some(Totals {
+        records: words.number()?,
+        passed: words.number()?,
+        blocked: words.number()?,
+        returned: words.number()?,
+        skipped: words.number()?,
+    })
+}
+
+/// A packet's number, its clock and what it came to.
+#[derive(Drop)]
+pub(crate) struct Judgement {
+    pub(crate) number: u64,
+    pub(crate) clock: Clock,
+    pub(crate) outcome: Outcome,
+}
+
+/// What the words of a line say of a packet, if they say that of one.
+pub(crate) fn judgement_in(alloc: Global, line: &[u8]) -> Option<Judgement> {
+    let mut words = Words { rest: Some(line) };
+    let number = words.number()?;
+    let clock = Clock(parsed(words.next()?)?);
+    let direction = words.direction_or_none()?;
+    let verdict = entry_of(&VERDICTS, words.next()?)?;
+    let reason = entry_of(&REASONS, words.next()?)?;
+    let rule = words.rule(b"r=")?;
+    let translation = words.rule(b"t=")?;
+    let state = words.state()?;
+    let mut outcome = Outcome::new(alloc);
+    outcome.direction = direction;
+    outcome.verdict = verdict;
+    outcome.reason = reason;
+    outcome.rule = rule;
+    outcome.translation = translation;
+    outcome.state = state;
+    Some(Judgement {
+        number,
+        clock,
+        outcome,
     })
 }

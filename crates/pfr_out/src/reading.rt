@@ -8,7 +8,7 @@ use pfr_headers::View;
 use pfr_merge::Merge;
 
 /// Gives the records of packets back, each to its capture.
-pub(crate) fn give_back(merge: &mut Merge, packets: Vec<(Record, View)>)
+pub fn give_back(merge: &mut Merge, packets: Vec<(Record, View)>)
     ensures { merge.new ≡ merge.old }
 {
     for (packet, _view) in packets {

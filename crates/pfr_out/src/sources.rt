@@ -50,7 +50,7 @@ impl<R: Source> Sources<R> {
     }
 
     /// Opens their captures, in the order of the places. The first one that is refused, and its place, end it.
-    pub(crate) fn open(&mut self, alloc: Global) -> Result<Merge, (usize, CaptureError)>
+    pub fn open(&mut self, alloc: Global) -> Result<Merge, (usize, CaptureError)>
         ensures told { map R.told self.new ≡ map R.told self.old }
         ensures starts { IfOk result (λ merge. NoneRefused merge × HasPassedOn 0 merge × (length merge ≡ length self.old)) }
         ensures long { length self.new ≡ length self.old }
@@ -63,7 +63,7 @@ impl<R: Source> Sources<R> {
     }
 
     /// Reads a batch of their captures' records.
-    pub(crate) fn read_batch(
+    pub fn read_batch(
         &mut self,
         merge: &mut Merge,
         most: usize,

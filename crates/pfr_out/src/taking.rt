@@ -42,7 +42,7 @@ pub(crate) fn close<S: Sink>(
 }
 
 /// The stop for the refusal of the capture at a place.
-pub(crate) fn stop_for(refusal: (usize, CaptureError), committed: u64) -> Stop
+pub fn stop_for(refusal: (usize, CaptureError), committed: u64) -> Stop
     ensures { result ≡ stop_for refusal committed }
 {
     let (place, refusal) = refusal;
