@@ -12,8 +12,12 @@ use std::{fmt, io};
 pub const DONE: u8 = 0;
 /// The command line, the ruleset or the capture was refused.
 pub const REFUSED: u8 = 1;
+/// Two rulesets come to something else for a packet.
+pub const CHANGED: u8 = 1;
 /// All was done, and the capture ends inside a record.
 pub const CUT: u8 = 2;
+/// The command line, a ruleset or a capture was refused, where 1 says that something changes.
+pub const TROUBLE: u8 = 2;
 /// A device failed, or a file could not be opened or a peer be reached.
 pub const DEVICE: u8 = 3;
 /// Memory was refused.
@@ -46,6 +50,19 @@ pub enum Failure<'a> {
     StandbyStopped(StandbyStop),
     /// A file isn't one of states that a run left.
     StatesRefused(ListingRefused),
+    /// The ruleset of this file was refused, of two.
+    RulesRefused {
+        name: &'a str,
+        fault: ConfError,
+    },
+    /// A ruleset's rules aren't printed, since what was written of them doesn't mean the same.
+    RulesUntold,
+    /// This line of a file isn't what a run counts of the ruleset.
+    CountersRefused(u64),
+    /// What a run writes of the packet of this number isn't read.
+    PacketUntold(u64),
+    /// Memory was refused to a command that commits no packets.
+    NoMemory,
     /// Standard output failed.
     PrintFailed,
 }
@@ -122,15 +139,62 @@ impl<'a> Failure<'a> {
         }
     }
 
+    /// The same with the name of the ruleset's file, if it is a fault of a ruleset.
+    pub fn of_rules(self, name: &'a str) -> Failure<'a> {
+        match self {
+            Failure::Stopped {
+                stop: Stop::Ruleset(fault),
+                ..
+            } => match fault.kind {
+                ConfErrorKind::Memory => Failure::NoMemory,
+                _ => Failure::RulesRefused { name, fault },
+            },
+            other => other,
+        }
+    }
+
+    /// The same for a command that commits no packets: memory that is refused is all that is said of it.
+    pub fn without_packets(self) -> Failure<'a> {
+        match self {
+            Failure::Stopped { stop, interface } => {
+                if is_memory(&stop) {
+                    Failure::NoMemory
+                } else {
+                    Failure::Stopped { stop, interface }
+                }
+            }
+            other => other,
+        }
+    }
+
     /// The status that the program ends with.
     pub fn status(&self) -> u8 {
         match self {
-            Failure::Words(_) | Failure::SameFile(_) | Failure::NotEthernet { .. } => REFUSED,
+            Failure::Words(_)
+            | Failure::SameFile(_)
+            | Failure::NotEthernet { .. }
+            | Failure::RulesRefused { .. }
+            | Failure::RulesUntold
+            | Failure::CountersRefused(_)
+            | Failure::PacketUntold(_) => REFUSED,
+            Failure::NoMemory => NO_MEMORY,
             Failure::CannotOpen { .. } | Failure::PrintFailed => DEVICE,
             Failure::Stopped { stop, .. } => status_of(stop),
             Failure::StandbyStopped(stop) => standby_status_of(stop),
             Failure::StatesRefused(refused) => states_status_of(refused),
         }
+    }
+}
+
+/// Whether memory was refused.
+fn is_memory(stop: &Stop) -> bool {
+    match stop {
+        Stop::Memory(_) => true,
+        Stop::Ruleset(fault) => match fault.kind {
+            ConfErrorKind::Memory => true,
+            _ => false,
+        },
+        Stop::Capture(_, _, _) | Stop::Read(_, _) | Stop::Write(_, _) => false,
     }
 }
 
@@ -221,6 +285,19 @@ impl fmt::Display for Failure<'_> {
                 write!(f, "states line {number}: no state")
             }
             Failure::StatesRefused(ListingRefused::Memory) => write!(f, "no memory"),
+            Failure::RulesRefused { name, fault } => {
+                let line = fault.line;
+                let kind = &fault.kind;
+                write!(f, "rules {name} line {line}: {kind}")
+            }
+            Failure::RulesUntold => write!(f, "rules not told: please report this ruleset"),
+            Failure::CountersRefused(line) => {
+                write!(f, "counters line {line}: not of this ruleset")
+            }
+            Failure::PacketUntold(number) => {
+                write!(f, "packet {number} not told: please report this")
+            }
+            Failure::NoMemory => write!(f, "no memory"),
             Failure::PrintFailed => write!(f, "write failed: standard output"),
         }
     }

@@ -1,23 +1,23 @@
 //! What `pfreplay run` does.
-ghost use Rattle.std.specs.Prelude.{◌≡◌, IfOk, length};
+ghost use Rattle.std.specs.Prelude.{IfOk};
 ghost use Rattle.pfr_cli.specs.Jobs as spec;
 
+use crate::captures::sources;
 use crate::destination::Destination;
 use crate::failure::{CUT, DONE, Failure};
-use crate::files::{created, opened};
-use crate::head::Head;
-use crate::origin::Origin;
+use crate::files::created;
+use crate::jobs::job_by;
 use crate::peer::{Connection, connected};
 use crate::same_file::repeated_output;
 use crate::standard::{STANDARD, has_standard, is_standard, repeats_input};
-use pfr_capture::{CaptureError, ReaderSource, Tail, WriterSink};
+use pfr_capture::{Tail, WriterSink};
 use pfr_command::{CaptureWords, Messages, RunWords, names_of};
-use pfr_out::{Form, PacketSinks, Report, RunSettings, Sinks, Sources, Stop, replay_job};
+use pfr_out::{Form, PacketSinks, Report, RunSettings, Sinks, Stop, replay_job};
 use pfr_packet::Job;
 use pfr_prepare::prepared_text;
 use pfr_warnings::{Warning, Watch, warn};
-use std::alloc::{AllocError, AllocGlobal, Global};
-use std::io::{Chain, ErrorKind, Read, Write};
+use std::alloc::{AllocError, AllocGlobal};
+use std::io::{ErrorKind, Read, Write};
 use std::net::Net;
 use std::rt::Files;
 use std::sync::Wait;
@@ -28,12 +28,6 @@ use std::{fs, io};
 type OutputSink<R, O> = WriterSink<
     Destination<<R as Files>::File, O, Connection<<R as Net>::Stream>>,
 >;
-
-/// Where a capture comes from, by the files of a runtime, and by standard input: what was read ahead of it, and the rest.
-type CaptureSource<R, I> = ReaderSource<Chain<Head, Origin<<R as Files>::File, I>>>;
-
-/// The link type of Ethernet.
-const ETHERNET: u16 = 1;
 
 /// Replays captures through a ruleset, and answers the status. If warnings are asked for, `err` is told why a file wasn't opened.
 pub fn replay<
@@ -143,7 +137,9 @@ fn replayed<
     out: O,
     watch: &Watch,
 ) -> Result<Report, Failure<'a>> {
-    let mut sources = sources(rt, asked, input)?;
+    let captures = asked.captures.as_slice();
+    let addresses = asked.ways.link_addresses.as_slice();
+    let mut sources = sources(rt, captures, addresses, input)?;
     let mut sinks = sinks(rt, asked, out)?;
     let settings = RunSettings {
         batch: asked.batch,
@@ -162,30 +158,10 @@ fn job_of<'a, R: Files + AllocGlobal, E: Write>(
     asked: &RunWords<'a>,
     err: &mut E,
 ) -> Result<Job, Failure<'a>>
-    ensures { IfOk result (spec.IsAsked asked.now) }
+    ensures { IfOk result (spec.IsAsked asked.now.rules asked.now.ways asked.now.seed) }
 {
     let text = prepared_text(rt, &asked.rules, err)?;
-    let job = Job::new(
-        rt.alloc(),
-        text.text.as_slice(),
-        asked.rules.interfaces.as_slice(),
-        asked.inside.as_slice(),
-        asked.seed,
-    );
-    match job {
-        Ok(job) => with_ways(rt.alloc(), job, asked),
-        Err(fault) => Err(Failure::from(fault).in_file(&text)),
-    }
-}
-
-/// A job with what the words say of the ways that packets go, besides the inside networks.
-fn with_ways<'a>(alloc: Global, job: Job, asked: &RunWords<'a>) -> Result<Job, Failure<'a>>
-    ensures { IfOk result (λ made. made ≡ spec.with_ways asked.now job) }
-{
-    let job = job
-        .with_tap(asked.tap)
-        .with_excepted(alloc, asked.excepted.as_slice())?;
-    Ok(job.with_link_addresses(alloc, asked.link_addresses.as_slice())?)
+    job_by(rt.alloc(), &asked.rules, &text, &asked.ways, asked.seed)
 }
 
 /// The form in which messages are written.
@@ -194,71 +170,6 @@ fn form_of(messages: &Messages<'_>) -> Form {
         Messages::File(_) => Form::File,
         Messages::Peer(_) => Form::Peer,
         Messages::Nowhere => Form::None,
-    }
-}
-
-/// Opens the captures, by the places of their interfaces. One at most comes from standard input.
-fn sources<'a, R: Files + AllocGlobal, I: Read + Drop>(
-    rt: &R,
-    asked: &RunWords<'a>,
-    input: I,
-) -> Result<Sources<CaptureSource<R, I>>, Failure<'a>>
-    ensures { IfOk result (λ sources. length sources ≡ length asked.now.captures) }
-{
-    let captures = asked.captures.as_slice();
-    let addresses = asked.link_addresses.as_slice();
-    let mut input = Some(input);
-    let mut sources = Vec::with_capacity(rt.alloc(), captures.len())?;
-    for place in 0..captures.len() {
-        let source = source(rt, &captures[place], addresses[place].is_some(), &mut input)?;
-        sources.push(source).map_err(AllocError::from)?;
-    }
-    Ok(Sources::new(sources))
-}
-
-/// Opens the capture of an interface. If that has a link-level address, the capture has to be one of Ethernet.
-fn source<'a, R: Files + AllocGlobal, I: Read + Drop>(
-    rt: &R,
-    words: &CaptureWords<'a>,
-    has_address: bool,
-    input: &mut Option<I>,
-) -> Result<CaptureSource<R, I>, Failure<'a>> {
-    let mut origin = origin(rt, words.capture, input)?;
-    let head = if has_address {
-        ethernet_head(rt.alloc(), words.interface, &mut origin)?
-    } else {
-        Head::none(rt.alloc())
-    };
-    Ok(ReaderSource::new(head.chain(origin)))
-}
-
-/// Reads the header of an interface's capture, which has to be one of Ethernet. What is no header is refused by who reads on.
-fn ethernet_head<'a, R: Read>(
-    alloc: Global,
-    interface: &'a str,
-    capture: &mut R,
-) -> Result<Head, Failure<'a>> {
-    let head = Head::of(alloc, capture)?;
-    match head.link(alloc) {
-        Ok(Some(link)) if link != ETHERNET => Err(Failure::NotEthernet { interface, link }),
-        Ok(_) => Ok(head),
-        Err(CaptureError::Memory) => Err(Failure::from(AllocError)),
-        Err(_) => Err(Failure::from(Stop::Read(0, 0))),
-    }
-}
-
-/// Opens a file or takes standard input, which is taken once.
-fn origin<'a, R: Files, I: Read>(
-    rt: &R,
-    name: &'a str,
-    input: &mut Option<I>,
-) -> Result<Origin<R::File, I>, Failure<'a>> {
-    if !is_standard(name) {
-        return Ok(Origin::File(opened(rt, name)?));
-    }
-    match input.take() {
-        Some(input) => Ok(Origin::Standard(input)),
-        None => Err(Failure::SameFile(name)),
     }
 }
 

@@ -1,11 +1,12 @@
 //! What the program does.
-use crate::failure::{DONE, Failure, REFUSED, report};
+use crate::changes::tell_changes;
+use crate::failure::{DONE, Failure, REFUSED, TROUBLE, report};
 use crate::replaying::replay;
+use crate::rules::tell_rules;
 use crate::standby::stand_by;
 use crate::states::list_states;
 use crate::summary::Summary;
 use pfr_command::{Asked, parse};
-use pfr_listing::Refused;
 use pfr_out::{StandbyStop, Stop};
 use pfr_prepare::{Prepared, Refusal, Request, prepared_text, say_faults};
 use std::alloc::Global;
@@ -25,22 +26,28 @@ pub fn run<
 >(rt: &R, words: &[String], input: I, out: &mut O, err: &mut E) -> u8 {
     match work(rt, words, input, out, err) {
         Ok(status) => status,
-        Err(failure) => report(&by_command(failure, words), err),
+        Err(failure) => {
+            let status = report(&by_command(failure, words), err);
+            if status == REFUSED && ask_for(words, "diff") {
+                TROUBLE
+            } else {
+                status
+            }
+        }
     }
 }
 
 /// What is said of memory that is refused depends on the command that the words ask for, the program's name first: `standby` counts
-/// messages and no packets, and `states` neither.
+/// messages and no packets, and `states`, `rules` and `diff` neither.
 fn by_command<'a>(failure: Failure<'a>, words: &[String]) -> Failure<'a> {
+    if ask_for(words, "states") || ask_for(words, "rules") || ask_for(words, "diff") {
+        return failure.without_packets();
+    }
     match failure {
         Failure::Stopped {
             stop: Stop::Memory(_),
             ..
         } if ask_for(words, "standby") => Failure::StandbyStopped(StandbyStop::Memory(0)),
-        Failure::Stopped {
-            stop: Stop::Memory(_),
-            ..
-        } if ask_for(words, "states") => Failure::StatesRefused(Refused::Memory),
         other => other,
     }
 }
@@ -67,6 +74,8 @@ fn work<
         Asked::Run(asked) => replay(rt, &asked, input, out, err),
         Asked::Standby(stream) => stand_by(rt, &stream, input, out),
         Asked::States(asked) => list_states(rt, &asked, input, out),
+        Asked::Rules(asked) => tell_rules(rt, &asked, out, err),
+        Asked::Diff(asked) => tell_changes(rt, &asked, input, out, err),
     }
 }
 

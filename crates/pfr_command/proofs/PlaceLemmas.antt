@@ -5,6 +5,7 @@ use Rattle.std.specs.List.{AllByRecursion, IsDistinct, list_any}
 use Rattle.std.specs.Str.{bytes_eq}
 use Rattle.pfr_net.specs.Interfaces.{if_name}
 use Rattle.pfr_ruleset.specs.declared.interface.Interface.{Interface}
+use Rattle.pfr_command.specs.declared.also.AlsoForm.{AlsoForm}
 use Rattle.pfr_command.specs.Places.{Adds, ArePlaces, HaveNames, files_of, interface_of, names_of, parts_of, shape}
 use Rattle.pfr_command.specs.declared.also.AlsoWords.{AlsoWords}
 use Rattle.pfr_command.specs.declared.also.Places.{Places}
@@ -58,10 +59,10 @@ place_behind interfaces captures interface words places few name is_new =
     )
 
 -- the interface of a word behind others, with its files
-pub adds_one : (word : List ℕ) (before : Places) (parts : AlsoWords) (interface : Interface) → Some (shape parts) ≡ parts_of word
+pub adds_one : (form : AlsoForm) (word : List ℕ) (before : Places) (parts : AlsoWords) (interface : Interface) → Some (shape parts) ≡ parts_of form word
     → Some interface ≡ interface_of parts.words.interface.now parts.address.now
-    → Adds (word ∷ []) before (record { interfaces = before.interfaces ++ interface ∷ []; captures = before.captures ++ parts.words ∷ [] })
-adds_one word before parts interface is named = (
+    → Adds form (word ∷ []) before (record { interfaces = before.interfaces ++ interface ∷ []; captures = before.captures ++ parts.words ∷ [] })
+adds_one form word before parts interface is named = (
   map-append (λ i. Some i) before.interfaces (interface ∷ []) ∙ ap (λ o. map (λ i. Some i) before.interfaces ++ o ∷ []) (rw (← is) named),
   map-append (λ c. Some (files_of c)) before.captures (parts.words ∷ [])
       ∙ ap (λ o. map (λ c. Some (files_of c)) before.captures ++ option_map (λ p. (p.0, p.2, p.3)) o ∷ []) is,

@@ -11,6 +11,8 @@ use Rattle.clap.specs.declared.parser.matches.ArgMatches.{ArgMatches}
 use Rattle.pfr_command.specs.declared.also.Places.{Places}
 use Rattle.pfr_ruleset.specs.declared.interface.Interface.{Interface}
 use Rattle.pfr_command.specs.declared.also.CaptureWords.{CaptureWords}
+use Rattle.pfr_command.specs.declared.also.AlsoForm.{AlsoForm}
+use Rattle.pfr_command.specs.declared.also.AlsoForm.TheVariants.{Replayed, Compared, Named}
 use Rattle.pfr_command.specs.declared.also.AlsoWords.{AlsoWords}
 
 -- an interface by its name and its address, and the files of its capture and its packets
@@ -20,13 +22,27 @@ Shape = List ℕ × List ℕ × List ℕ × List ℕ
 abbrev pub shape : AlsoWords → Shape
 shape parts = (parts.words.interface.now, parts.address.now, parts.words.capture.now, parts.words.packets.now)
 
--- `NAME,A.B.C.D/BITS,CAPTURE,PACKETS`: four parts, none of which has a comma
-abbrev pub parts_of : List ℕ → Option Shape
-parts_of word = do
+-- one part, which has no comma
+abbrev pub last_part : List ℕ → Option (List ℕ)
+last_part word = if is_some (cut_at 44 word) then None else Some word
+
+-- `NAME,A.B.C.D/BITS,CAPTURE,PACKETS`, and in other commands `NAME,A.B.C.D/BITS,CAPTURE` or `NAME,A.B.C.D/BITS`: none of the parts has a comma
+abbrev pub parts_of : AlsoForm → List ℕ → Option Shape
+parts_of Replayed word = do
   a ← cut_at 44 word
   b ← cut_at 44 a.1
   c ← cut_at 44 b.1
-  if is_some (cut_at 44 c.1) then None else Some (a.0, b.0, c.0, c.1)
+  last ← last_part c.1
+  Some (a.0, b.0, c.0, last)
+parts_of Compared word = do
+  a ← cut_at 44 word
+  b ← cut_at 44 a.1
+  last ← last_part b.1
+  Some (a.0, b.0, last, [])
+parts_of Named word = do
+  a ← cut_at 44 word
+  last ← last_part a.1
+  Some (a.0, last, [], [])
 
 -- the name of an interface has 1 to 15 bytes
 abbrev pub name_of : List ℕ → Option IfName
@@ -40,9 +56,9 @@ interface_of name address = do
   Some (record { name = known; address = network.address; bits = network.bits })
 
 -- the interface that a word names
-abbrev pub interface_in : List ℕ → Option Interface
-interface_in word = do
-  parts ← parts_of word
+abbrev pub interface_in : AlsoForm → List ℕ → Option Interface
+interface_in form word = do
+  parts ← parts_of form word
   interface_of parts.0 parts.1
 
 -- the name of an interface, and its files
@@ -53,17 +69,17 @@ abbrev pub files_of : CaptureWords → Files
 files_of words = (words.interface.now, words.capture.now, words.packets.now)
 
 -- the files that a word names
-abbrev pub files_in : List ℕ → Option Files
-files_in word = option_map (λ parts. (parts.0, parts.2, parts.3)) (parts_of word)
+abbrev pub files_in : AlsoForm → List ℕ → Option Files
+files_in form word = option_map (λ parts. (parts.0, parts.2, parts.3)) (parts_of form word)
 
 abbrev pub one_place : Interface → CaptureWords → Places
 one_place interface words = record { interfaces = interface ∷ []; captures = words ∷ [] }
 
 -- behind others come the interfaces that words name, and their files
-abbrev pub Adds : (words : List (List ℕ)) → (before after : Places) → Type 0
-Adds words before after =
-    (map (λ i. Some i) after.interfaces ≡ map (λ i. Some i) before.interfaces ++ map (λ word. interface_in word) words)
-    × (map (λ c. Some (files_of c)) after.captures ≡ map (λ c. Some (files_of c)) before.captures ++ map (λ word. files_in word) words)
+abbrev pub Adds : AlsoForm → (words : List (List ℕ)) → (before after : Places) → Type 0
+Adds form words before after =
+    (map (λ i. Some i) after.interfaces ≡ map (λ i. Some i) before.interfaces ++ map (λ word. interface_in form word) words)
+    × (map (λ c. Some (files_of c)) after.captures ≡ map (λ c. Some (files_of c)) before.captures ++ map (λ word. files_in form word) words)
 
 abbrev pub given_words : Option (List (List ℕ)) → List (List ℕ)
 given_words None = []

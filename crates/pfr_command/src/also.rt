@@ -6,6 +6,7 @@ ghost use Rattle.std.specs.Str.{bytes_eq};
 ghost use Rattle.pfr_net.specs.Interfaces.{if_name};
 ghost use Rattle.pfr_net.specs.Notation.{cut_at};
 ghost use Rattle.pfr_command.specs.Places as spec;
+ghost use Rattle.pfr_command.specs.declared.also.AlsoForm.TheVariants.{Compared, Named, Replayed};
 
 use crate::refused::Refused;
 use crate::values::{interface_name, network};
@@ -20,8 +21,16 @@ pub(crate) const MOST_INTERFACES: usize = 8;
 /// The flag that names another interface of a run.
 const FLAG: &str = "--also";
 
-/// The form of the value behind it.
-const FORM: &str = "NAME,A.B.C.D/BITS,CAPTURE,PACKETS";
+/// What the value behind it has to say.
+#[derive(Clone, Copy)]
+pub(crate) enum AlsoForm {
+    /// The interface, its capture, and the file for the packets that go on.
+    Replayed,
+    /// The interface and its capture.
+    Compared,
+    /// The interface alone.
+    Named,
+}
 
 /// An interface of a run by its name, and its files.
 #[derive(Clone, Copy)]
@@ -48,13 +57,31 @@ struct AlsoWords<'a> {
     words: CaptureWords<'a>,
 }
 
+/// How a form is written.
+fn written(form: AlsoForm) -> &'static str {
+    match form {
+        AlsoForm::Replayed => "NAME,A.B.C.D/BITS,CAPTURE,PACKETS",
+        AlsoForm::Compared => "NAME,A.B.C.D/BITS,CAPTURE",
+        AlsoForm::Named => "NAME,A.B.C.D/BITS",
+    }
+}
+
+/// What the help says of the flag.
+fn help_of(form: AlsoForm) -> &'static str {
+    match form {
+        AlsoForm::Replayed | AlsoForm::Compared => {
+            "Another interface with its capture, seven times at most; no name holds a comma"
+        }
+        AlsoForm::Named => "Another interface, seven times at most; no name holds a comma",
+    }
+}
+
 /// The flag as the command line has it.
-pub(crate) fn also_arg<'a>(alloc: Global) -> Arg<'a> {
-    let help = "Another interface with its capture, seven times at most; no name holds a comma";
+pub(crate) fn also_arg<'a>(alloc: Global, form: AlsoForm) -> Arg<'a> {
     Arg::new(alloc, "also")
         .long("also")
-        .value_name(FORM)
-        .help(help)
+        .value_name(written(form))
+        .help(help_of(form))
         .action(ArgAction::Append)
 }
 
@@ -65,16 +92,36 @@ fn cut(word: &str) -> Option<(&str, &str)>
     word.split_once(',')
 }
 
-/// The four parts of a word, between which commas stand; nothing if it has more or fewer.
-fn parts_of<'a>(word: &'a str) -> Option<AlsoWords<'a>>
-    ensures { option_map spec.shape result ≡ spec.parts_of word.entry.now }
+/// A word that has no comma.
+fn last_part<'a>(word: &'a str) -> Option<&'a str>
+    ensures { option_map (λ part. part.now) result ≡ spec.last_part word.entry.now }
+{
+    if cut(word).is_some() {
+        None
+    } else {
+        Some(word)
+    }
+}
+
+/// The parts of a word, between which commas stand; nothing if it has more or fewer than its form wants.
+fn parts_of<'a>(form: AlsoForm, word: &'a str) -> Option<AlsoWords<'a>>
+    ensures { option_map spec.shape result ≡ spec.parts_of form word.entry.now }
+{
+    match form {
+        AlsoForm::Replayed => replayed_parts(word),
+        AlsoForm::Compared => compared_parts(word),
+        AlsoForm::Named => named_parts(word),
+    }
+}
+
+/// The parts of a word that names an interface, its capture and the file for its packets.
+fn replayed_parts<'a>(word: &'a str) -> Option<AlsoWords<'a>>
+    ensures { option_map spec.shape result ≡ spec.parts_of Replayed word.entry.now }
 {
     let (interface, rest) = cut(word)?;
     let (address, rest) = cut(rest)?;
-    let (capture, packets) = cut(rest)?;
-    if cut(packets).is_some() {
-        return None;
-    }
+    let (capture, rest) = cut(rest)?;
+    let packets = last_part(rest)?;
     let words = CaptureWords {
         interface,
         capture,
@@ -83,24 +130,62 @@ fn parts_of<'a>(word: &'a str) -> Option<AlsoWords<'a>>
     Some(AlsoWords { address, words })
 }
 
-/// What the word behind the flag says.
-fn parts<'a>(word: &'a str) -> Result<AlsoWords<'a>, Refused<'a>>
-    ensures { option_map spec.shape (result_ok result) ≡ spec.parts_of word.entry.now }
+/// The parts of a word that names an interface and its capture.
+fn compared_parts<'a>(word: &'a str) -> Option<AlsoWords<'a>>
+    ensures { option_map spec.shape result ≡ spec.parts_of Compared word.entry.now }
 {
-    parts_of(word).ok_or(Refused::BadValue {
+    let (interface, rest) = cut(word)?;
+    let (address, rest) = cut(rest)?;
+    let capture = last_part(rest)?;
+    let words = CaptureWords {
+        interface,
+        capture,
+        packets: "",
+    };
+    Some(AlsoWords { address, words })
+}
+
+/// The parts of a word that names an interface.
+fn named_parts<'a>(word: &'a str) -> Option<AlsoWords<'a>>
+    ensures { option_map spec.shape result ≡ spec.parts_of Named word.entry.now }
+{
+    let (interface, rest) = cut(word)?;
+    let address = last_part(rest)?;
+    let words = CaptureWords {
+        interface,
+        capture: "",
+        packets: "",
+    };
+    Some(AlsoWords { address, words })
+}
+
+/// What the word behind the flag says.
+fn parts<'a>(form: AlsoForm, word: &'a str) -> Result<AlsoWords<'a>, Refused<'a>>
+    ensures { option_map spec.shape (result_ok result) ≡ spec.parts_of form word.entry.now }
+{
+    parts_of(form, word).ok_or(misfit(form, word))
+}
+
+/// What is said of a word, or of a part of one, that isn't of its form.
+fn misfit<'a>(form: AlsoForm, word: &'a str) -> Refused<'a> {
+    Refused::BadValue {
         flag: FLAG,
-        form: FORM,
+        form: written(form),
         word,
-    })
+    }
 }
 
 /// The interface that these parts of a word say.
-fn interface<'a>(parts: &AlsoWords<'a>) -> Result<Interface, Refused<'a>>
+fn interface<'a>(form: AlsoForm, parts: &AlsoWords<'a>) -> Result<Interface, Refused<'a>>
     ensures value { result_ok result ≡ spec.interface_of parts.now.words.interface.now parts.now.address.now }
     ensures named { IfOk result (λ interface. interface.name ≡ if_name parts.now.words.interface.now) }
 {
-    let name = interface_name(FLAG, FORM, parts.words.interface)?;
-    let network = network(FLAG, FORM, parts.address)?;
+    let Ok(name) = interface_name(FLAG, FLAG, parts.words.interface) else {
+        return Err(misfit(form, parts.words.interface));
+    };
+    let Ok(network) = network(FLAG, FLAG, parts.address) else {
+        return Err(misfit(form, parts.address));
+    };
     Ok(Interface {
         name,
         address: network.address,
@@ -142,16 +227,16 @@ impl<'a> Places<'a> {
     }
 
     /// Adds the interface that the word behind the flag says.
-    fn add(&mut self, word: &'a str) -> Result<(), Refused<'a>>
+    fn add(&mut self, form: AlsoForm, word: &'a str) -> Result<(), Refused<'a>>
         requires { spec.ArePlaces self.old.interfaces self.old.captures }
         ensures places { OnOk result (spec.ArePlaces self.new.interfaces self.new.captures) }
-        ensures added { OnOk result (spec.Adds (word.entry.now ∷ []) self.old self.new) }
+        ensures added { OnOk result (spec.Adds form (word.entry.now ∷ []) self.old self.new) }
     {
         if self.interfaces.len() >= MOST_INTERFACES {
             return Err(Refused::TooManyInterfaces);
         }
-        let parts = parts(word)?;
-        let interface = interface(&parts)?;
+        let parts = parts(form, word)?;
+        let interface = interface(form, &parts)?;
         if is_named(self.captures.as_slice(), parts.words.interface) {
             return Err(Refused::InterfaceTwice(parts.words.interface));
         }
@@ -161,13 +246,13 @@ impl<'a> Places<'a> {
     }
 
     /// Adds the interfaces that words behind the flag say.
-    fn add_all(&mut self, words: &[&'a str]) -> Result<(), Refused<'a>>
+    fn add_all(&mut self, form: AlsoForm, words: &[&'a str]) -> Result<(), Refused<'a>>
         requires { spec.ArePlaces self.old.interfaces self.old.captures }
         ensures places { OnOk result (spec.ArePlaces self.new.interfaces self.new.captures) }
-        ensures added { OnOk result (spec.Adds (map (λ w. w.now) words.now) self.old self.new) }
+        ensures added { OnOk result (spec.Adds form (map (λ w. w.now) words.now) self.old self.new) }
     {
         for word in words {
-            self.add(word)?;
+            self.add(form, word)?;
         }
         Ok(())
     }
@@ -178,15 +263,16 @@ pub(crate) fn places_of<'a>(
     alloc: Global,
     first: Interface,
     words: CaptureWords<'a>,
+    form: AlsoForm,
     matches: &ArgMatches<'a>,
 ) -> Result<Places<'a>, Refused<'a>>
     requires { first.name ≡ if_name words.interface.now }
     ensures places { IfOk result (λ places. spec.ArePlaces places.interfaces places.captures) }
-    ensures added { IfOk result (λ places. spec.Adds (spec.words_behind matches.now) (spec.one_place first words.entry) places) }
+    ensures added { IfOk result (λ places. spec.Adds form (spec.words_behind matches.now) (spec.one_place first words.entry) places) }
 {
     let mut places = Places::of(alloc, first, words)?;
     if let Some(words) = matches.get_strs("also") {
-        places.add_all(words)?;
+        places.add_all(form, words)?;
     }
     Ok(places)
 }

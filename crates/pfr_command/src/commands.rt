@@ -1,5 +1,5 @@
 //! The commands of the program, with their words, flags and help.
-use crate::also::also_arg;
+use crate::also::{AlsoForm, also_arg};
 use crate::around::surrounding_args;
 use crate::mac::mac_arg;
 use crate::values::{ADDRESS, BATCH, FILE, INSIDE, INTERFACE, PEER, SEED, TAP, WORKERS};
@@ -76,6 +76,31 @@ Those of one protocol and address, and one state to a line of JSON:
 
 In the place of the file - is standard input.";
 
+const RULES_EXAMPLE: &str = "Example:
+  pfreplay rules /etc/pf.conf --interface em0 --address 192.0.2.1/24";
+
+const MORE_OF_RULES: &str =
+    "It prints a line for each rule, @N LLINE and the rule: N is the number by which verdict lines and
+counters name it, LINE the line on which it stands. Translation rules come first. An anchor has a
+line where it begins, and one where it ends.
+
+With what a run counted, and the rules for which no packet counts:
+  pfreplay rules /etc/pf.conf --interface em0 --address 192.0.2.1/24 --counters counters.txt
+  pfreplay rules /etc/pf.conf --interface em0 --address 192.0.2.1/24 --counters counters.txt \\
+      | grep 'counts no packet'";
+
+const DIFF_EXAMPLE: &str = "Example:
+  pfreplay diff office.pcap /etc/pf.conf pf.new --interface em0 --address 192.0.2.1/24 \\
+      --inside 10.0.0.0/8,192.0.2.1";
+
+const MORE_OF_DIFF: &str =
+    "It prints a line for each flow of which packets come to something else, what they come to by both
+rulesets, how many there are, and the number of the first. LLINE is the line of the rule that
+decides. Then come sums. The status is 0 if no packet changes, 1 if one does, and more if the
+files can't be compared.
+
+In the place of the capture - is standard input.";
+
 /// The flags that say which interface a ruleset is for: their names, what the help calls their values, and their help.
 const INTERFACE_FLAGS: [(&str, &str, &str); 2] = [
     (
@@ -104,7 +129,14 @@ pub(crate) fn command_line<'a>(alloc: Global) -> Result<Command<'a>, AllocError>
     let program = program.subcommand(check_command(alloc)?)?;
     let program = program.subcommand(adapt_command(alloc)?)?;
     let program = program.subcommand(standby_command(alloc)?)?;
-    program.subcommand(states_command(alloc)?)
+    let program = program.subcommand(states_command(alloc)?)?;
+    with_views(alloc, program)
+}
+
+/// A program with the commands that show what a ruleset says and changes.
+fn with_views<'a>(alloc: Global, program: Command<'a>) -> Result<Command<'a>, AllocError> {
+    let program = program.subcommand(rules_command(alloc)?)?;
+    program.subcommand(diff_command(alloc)?)
 }
 
 /// The program without its commands.
@@ -140,11 +172,10 @@ fn run_command<'a>(alloc: Global) -> Result<Command<'a>, AllocError> {
 
 /// A command with the flags that say how a capture is replayed.
 fn with_choices<'a>(alloc: Global, command: Command<'a>) -> Result<Command<'a>, AllocError> {
-    let seed = "What random choices begin with, 64 hexadecimal digits [default: 64 zeros]";
     let command = with_ways(alloc, command)?;
     let command = with_flags(alloc, command, &OUTPUT_FLAGS)?;
-    let command = command.arg(also_arg(alloc))?;
-    let command = command.arg(flag(alloc, "seed", SEED, seed).required(false))?;
+    let command = command.arg(also_arg(alloc, AlsoForm::Replayed))?;
+    let command = with_seed(alloc, command)?;
     let command = with_sizes(alloc, command)?;
     let command = with_messages(alloc, command)?;
     command.arg(warn_arg(alloc))
@@ -193,12 +224,60 @@ fn with_messages<'a>(alloc: Global, command: Command<'a>) -> Result<Command<'a>,
     command.arg(peer)
 }
 
+/// The command that prints each rule of a ruleset.
+fn rules_command<'a>(alloc: Global) -> Result<Command<'a>, AllocError> {
+    let counters =
+        "The counters that a run with this ruleset wrote, to be printed behind the rules";
+    let command = Command::new(alloc, "rules")
+        .about("Prints each rule that a ruleset makes, with its number and its line")
+        .before_help(RULES_EXAMPLE)
+        .after_help(MORE_OF_RULES);
+    let command = with_adapt(alloc, with_named(alloc, command)?)?;
+    command.arg(flag(alloc, "counters", FILE, counters).required(false))
+}
+
+/// The command that says what another ruleset changes.
+fn diff_command<'a>(alloc: Global) -> Result<Command<'a>, AllocError> {
+    let capture = "The file with the packet capture, in the classic pcap format";
+    let command = Command::new(alloc, "diff")
+        .about("Says for which packets of a capture another ruleset comes to something else")
+        .before_help(DIFF_EXAMPLE)
+        .after_help(MORE_OF_DIFF)
+        .arg(word(alloc, "CAPTURE", capture))?;
+    let command = command.arg(word(alloc, "OLD", "The file with the ruleset as it is"))?;
+    let command = command.arg(word(alloc, "NEW", "The file with the ruleset as it is to be"))?;
+    with_comparison(alloc, with_flags(alloc, command, &INTERFACE_FLAGS)?)
+}
+
+/// A command with the flags that say how two rulesets are compared.
+fn with_comparison<'a>(alloc: Global, command: Command<'a>) -> Result<Command<'a>, AllocError> {
+    let verdicts = Arg::new(alloc, "verdicts")
+        .long("verdicts")
+        .help("Only where the verdict is another one")
+        .action(ArgAction::SetTrue);
+    let command = with_ways(alloc, command)?;
+    let command = command.arg(also_arg(alloc, AlsoForm::Compared))?;
+    let command = with_seed(alloc, command)?;
+    with_adapt(alloc, command.arg(verdicts)?)
+}
+
+/// A command with the flag that says what random choices begin with.
+fn with_seed<'a>(alloc: Global, command: Command<'a>) -> Result<Command<'a>, AllocError> {
+    let seed = "What random choices begin with, 64 hexadecimal digits [default: 64 zeros]";
+    command.arg(flag(alloc, "seed", SEED, seed).required(false))
+}
+
+/// A command with the words that say a ruleset and the interfaces that it is for.
+fn with_named<'a>(alloc: Global, command: Command<'a>) -> Result<Command<'a>, AllocError> {
+    with_ruleset(alloc, command)?.arg(also_arg(alloc, AlsoForm::Named))
+}
+
 /// The command that reads a ruleset alone.
 fn check_command<'a>(alloc: Global) -> Result<Command<'a>, AllocError> {
     let command = Command::new(alloc, "check")
         .about("Reads a ruleset and prints how many rules it makes, and its checksum")
         .before_help(CHECK_EXAMPLE);
-    with_adapt(alloc, with_ruleset(alloc, command)?)
+    with_adapt(alloc, with_named(alloc, command)?)
 }
 
 /// A command with the flag that has the ruleset rewritten before it is read.
@@ -225,10 +304,10 @@ fn with_surroundings<'a>(
 /// The command that rewrites a ruleset.
 fn adapt_command<'a>(alloc: Global) -> Result<Command<'a>, AllocError> {
     let command = Command::new(alloc, "adapt")
-        .about("Rewrites a ruleset in the words that run and check read")
+        .about("Rewrites a ruleset in the words that the other commands read")
         .before_help(ADAPT_EXAMPLE)
         .after_help(MORE_OF_ADAPT);
-    with_surroundings(alloc, with_ruleset(alloc, command)?, false)
+    with_surroundings(alloc, with_named(alloc, command)?, false)
 }
 
 /// The command that reads messages.

@@ -15,7 +15,7 @@ const FLAG: &str = "--inside";
 
 /// The networks whose packets go out, and those that are excepted: packets of these come in.
 #[derive(Drop)]
-pub(crate) struct Inside {
+pub struct Inside {
     pub networks: Items<Net>,
     pub excepted: Items<Net>,
 }

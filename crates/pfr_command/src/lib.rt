@@ -1,7 +1,7 @@
 //! The words of the command line, and what they ask for.
 //!
 //! [`of_process`] has the words that the process was started with, and [`parse`] reads them: a run, a check, a ruleset to be rewritten,
-//! a standby, a list of states, or a text to be printed. What doesn't fit is [`Refused`], in one line. No file is opened here, and no peer is looked for.
+//! a standby, a list of states or of rules, two rulesets to be compared, or a text to be printed. What doesn't fit is [`Refused`], in one line. No file is opened here, and no peer is looked for.
 //!
 //! Proved is what values mean: the host and the port of a peer, the bytes of a seed, the networks of a list, the link-level addresses
 //! of interfaces, and the bounds of the numbers of packets and of workers. Which words belong to which command has no contract.
@@ -19,7 +19,11 @@ mod values;
 mod words;
 
 pub use also::CaptureWords;
+pub use inside::Inside;
 pub use output_names::names_of;
 pub use peer::Peer;
 pub use refused::Refused;
-pub use words::{Asked, Messages, OutputNames, RunWords, StatesWords, Stream, of_process, parse};
+pub use words::{
+    Asked, DiffWords, Messages, OutputNames, RulesWords, RunWords, StatesWords, Stream, Ways,
+    of_process, parse,
+};

@@ -7,7 +7,7 @@ ghost use Rattle.pfr_command.specs.Macs.{AreLinkAddresses, all_known, words_behi
 ghost use Rattle.pfr_command.specs.Places.{ArePlaces};
 ghost use Rattle.pfr_command.specs.Taps.{IsTap};
 
-use crate::also::{CaptureWords, Places, places_of};
+use crate::also::{AlsoForm, CaptureWords, Places, places_of};
 use crate::around::given_flags;
 use crate::commands::command_line;
 use crate::inside::{Inside, networks};
@@ -39,6 +39,10 @@ pub enum Asked<'a> {
     Standby(Stream<'a>),
     /// To print the states that a run left.
     States(StatesWords<'a>),
+    /// To print each rule of a ruleset.
+    Rules(RulesWords<'a>),
+    /// To say what another ruleset changes for the packets of a capture.
+    Diff(DiffWords<'a>),
     /// To print this text and no more.
     Text(String),
 }
@@ -61,6 +65,34 @@ pub struct StatesWords<'a> {
     pub as_json: bool,
 }
 
+/// What the words behind `rules` say.
+#[derive(Drop)]
+pub struct RulesWords<'a> {
+    /// The ruleset, and the interfaces that it is for.
+    pub rules: Request<'a>,
+    /// The file with the counters of a run, if they are to be printed too.
+    pub counters: Option<&'a str>,
+}
+
+/// What the words behind `diff` say: which captures are replayed through which two rulesets, and how.
+#[derive(Drop)]
+pub struct DiffWords<'a> {
+    /// The interfaces and the captures of each, by their places. There are no files for packets.
+    pub captures: Items<CaptureWords<'a>>,
+    /// The old ruleset, and the interfaces that it is for.
+    pub old: Request<'a>,
+    /// The new one.
+    pub new: Request<'a>,
+    /// Which way packets go.
+    pub ways: Ways,
+    /// What random choices begin with.
+    pub seed: [u8; 32],
+    /// Whether another verdict alone is a change.
+    pub verdicts_alone: bool,
+    pub ghost one_each: { length ways.link_addresses ≡ length captures },
+    pub ghost are_places: { ArePlaces old.interfaces captures } by { Prim.hlevel props },
+}
+
 /// What the words behind `run` say: which captures are replayed through which ruleset, and how.
 #[derive(Drop)]
 pub struct RunWords<'a> {
@@ -68,14 +100,8 @@ pub struct RunWords<'a> {
     pub captures: Items<CaptureWords<'a>>,
     /// The ruleset, and the interfaces that it is for.
     pub rules: Request<'a>,
-    /// The networks whose packets go out: none if the flag for them isn't given.
-    pub inside: Items<Net>,
-    /// Those whose packets come in, though a shorter prefix says that they go out.
-    pub excepted: Items<Net>,
-    /// The link-level addresses of the interfaces, where they are given, by the places of the captures.
-    pub link_addresses: Items<Option<EthernetAddress>>,
-    /// On which side of their translation packets that go out were captured.
-    pub tap: Tap,
+    /// Which way packets go.
+    pub ways: Ways,
     /// What random choices begin with.
     pub seed: [u8; 32],
     /// How many packets are taken and written at a time, 1 to 4096.
@@ -86,7 +112,7 @@ pub struct RunWords<'a> {
     pub outputs: OutputNames<'a>,
     /// Whether warnings are asked for.
     pub warns: bool,
-    pub ghost one_each: { length link_addresses ≡ length captures },
+    pub ghost one_each: { length ways.link_addresses ≡ length captures },
     pub ghost are_places: { ArePlaces rules.interfaces captures } by { Prim.hlevel props },
     pub ghost batch_within: { (1 ≤ batch) × (batch ≤ 4096) },
     pub ghost workers_within: { workers ≤ 64 },
@@ -151,6 +177,12 @@ pub fn parse<'a>(alloc: Global, words: &'a [String]) -> Result<Asked<'a>, Refuse
     if let Some(matches) = matches.subcommand_matches("standby") {
         return standby_words(matches);
     }
+    if let Some(matches) = matches.subcommand_matches("rules") {
+        return rules_words(alloc, matches);
+    }
+    if let Some(matches) = matches.subcommand_matches("diff") {
+        return diff_words(alloc, matches);
+    }
     match matches.subcommand_matches("states") {
         Some(matches) => states_words(matches),
         None => Err(Refused::MissingWord("COMMAND")),
@@ -168,12 +200,15 @@ fn refused<'a>(alloc: Global, error: &clap::Error) -> Result<Asked<'a>, Refused<
     }
 }
 
-/// What the words behind `run` say of which way packets go, and of where they were captured.
+/// What the words say of which way packets go, and of where they were captured.
 #[derive(Drop)]
-struct Ways {
-    inside: Inside,
-    link_addresses: Items<Option<EthernetAddress>>,
-    tap: Tap,
+pub struct Ways {
+    /// The networks whose packets go out: none if the flag for them isn't given.
+    pub inside: Inside,
+    /// The link-level addresses of the interfaces, where they are given, by the places of the captures.
+    pub link_addresses: Items<Option<EthernetAddress>>,
+    /// On which side of their translation packets that go out were captured.
+    pub tap: Tap,
 }
 
 /// What the words behind `run` ask for.
@@ -184,14 +219,17 @@ fn run_words<'a>(alloc: Global, matches: &ArgMatches<'a>) -> Result<Asked<'a>, R
     let workers = given_workers(matches)?;
     let places = given_places(alloc, matches)?;
     let ways = given_ways(alloc, matches, places.captures.as_slice())?;
-    let rules = given_rules(alloc, matches, matches.get_flag("adapt"), places.interfaces)?;
+    let rules = given_rules(
+        alloc,
+        matches,
+        "RULES",
+        matches.get_flag("adapt"),
+        places.interfaces,
+    )?;
     Ok(Asked::Run(RunWords {
         captures: places.captures,
         rules,
-        inside: ways.inside.networks,
-        excepted: ways.inside.excepted,
-        link_addresses: ways.link_addresses,
-        tap: ways.tap,
+        ways,
         seed,
         batch,
         workers,
@@ -269,7 +307,21 @@ fn given_places<'a>(alloc: Global, matches: &ArgMatches<'a>) -> Result<Places<'a
         packets: given(matches, "packets")?,
     };
     let first = interface(name, given(matches, "address")?)?;
-    places_of(alloc, first, words, matches)
+    places_of(alloc, first, words, AlsoForm::Replayed, matches)
+}
+
+/// The interfaces that the words say, and the captures of each.
+fn given_captures<'a>(alloc: Global, matches: &ArgMatches<'a>) -> Result<Places<'a>, Refused<'a>>
+    ensures { IfOk result (λ places. ArePlaces places.interfaces places.captures) }
+{
+    let name = given(matches, "interface")?;
+    let words = CaptureWords {
+        interface: name,
+        capture: given(matches, "CAPTURE")?,
+        packets: "",
+    };
+    let first = interface(name, given(matches, "address")?)?;
+    places_of(alloc, first, words, AlsoForm::Compared, matches)
 }
 
 /// The files that the words name for the outputs, and where they send the messages.
@@ -321,16 +373,17 @@ fn given_workers<'a>(matches: &ArgMatches<'a>) -> Result<u64, Refused<'a>>
     }
 }
 
-/// The file with the ruleset, its interfaces and what else its text can't say.
+/// The file with the ruleset, which is the word for a place, its interfaces and what else its text can't say.
 fn given_rules<'a>(
     alloc: Global,
     matches: &ArgMatches<'a>,
+    place: &'a str,
     adapts: bool,
     interfaces: Items<Interface>,
 ) -> Result<Request<'a>, Refused<'a>>
     ensures { IfOk result (λ rules. rules.interfaces ≡ interfaces) }
 {
-    let name = given(matches, "RULES")?;
+    let name = given(matches, place)?;
     let flags = given_flags(alloc, matches)?;
     Ok(Request {
         name,
@@ -344,13 +397,13 @@ fn given_rules<'a>(
 fn check_words<'a>(alloc: Global, matches: &ArgMatches<'a>) -> Result<Asked<'a>, Refused<'a>> {
     let adapts = matches.get_flag("adapt");
     let interfaces = given_interfaces(alloc, matches)?;
-    Ok(Asked::Check(given_rules(alloc, matches, adapts, interfaces)?))
+    Ok(Asked::Check(given_rules(alloc, matches, "RULES", adapts, interfaces)?))
 }
 
 /// What the words behind `adapt` ask for.
 fn adapt_words<'a>(alloc: Global, matches: &ArgMatches<'a>) -> Result<Asked<'a>, Refused<'a>> {
     let interfaces = given_interfaces(alloc, matches)?;
-    Ok(Asked::Adapt(given_rules(alloc, matches, true, interfaces)?))
+    Ok(Asked::Adapt(given_rules(alloc, matches, "RULES", true, interfaces)?))
 }
 
 /// What the words behind `standby` ask for. One of the two flags has to be there, and at most one is.
@@ -372,19 +425,48 @@ fn states_words<'a>(matches: &ArgMatches<'a>) -> Result<Asked<'a>, Refused<'a>> 
     }))
 }
 
-/// The interface that the words say.
-fn given_interface<'a>(matches: &ArgMatches<'a>) -> Result<Interface, Refused<'a>> {
-    interface(given(matches, "interface")?, given(matches, "address")?)
-}
-
-/// The interface that the words say, alone.
+/// The interfaces that the words say, by their places.
 fn given_interfaces<'a>(
     alloc: Global,
     matches: &ArgMatches<'a>,
 ) -> Result<Items<Interface>, Refused<'a>> {
-    let mut interfaces = Items::new(alloc);
-    interfaces.push(given_interface(matches)?)?;
-    Ok(interfaces)
+    let name = given(matches, "interface")?;
+    let words = CaptureWords {
+        interface: name,
+        capture: "",
+        packets: "",
+    };
+    let first = interface(name, given(matches, "address")?)?;
+    Ok(places_of(alloc, first, words, AlsoForm::Named, matches)?.interfaces)
+}
+
+/// What the words behind `rules` ask for.
+fn rules_words<'a>(alloc: Global, matches: &ArgMatches<'a>) -> Result<Asked<'a>, Refused<'a>> {
+    let adapts = matches.get_flag("adapt");
+    let interfaces = given_interfaces(alloc, matches)?;
+    Ok(Asked::Rules(RulesWords {
+        rules: given_rules(alloc, matches, "RULES", adapts, interfaces)?,
+        counters: matches.get_str("counters"),
+    }))
+}
+
+/// What the words behind `diff` ask for.
+fn diff_words<'a>(alloc: Global, matches: &ArgMatches<'a>) -> Result<Asked<'a>, Refused<'a>> {
+    let seed = given_seed(matches)?;
+    let adapts = matches.get_flag("adapt");
+    let places = given_captures(alloc, matches)?;
+    let ways = given_ways(alloc, matches, places.captures.as_slice())?;
+    let interfaces = Items::copied(alloc, places.interfaces.as_slice())?;
+    let new = given_rules(alloc, matches, "NEW", adapts, interfaces)?;
+    let old = given_rules(alloc, matches, "OLD", adapts, places.interfaces)?;
+    Ok(Asked::Diff(DiffWords {
+        captures: places.captures,
+        old,
+        new,
+        ways,
+        seed,
+        verdicts_alone: matches.get_flag("verdicts"),
+    }))
 }
 
 /// The word for this place or flag, which was asked for.

@@ -13,4 +13,4 @@ returns-clause-places c =
 pub returns-clause-added : goal.returns-clause-added
 returns-clause-added c =
     rw (c.in_ok-push.ensures.pushed, c.in_ok-push-2.ensures.pushed)
-    (adds_one c.args.word.now c.args.self.now c.in_ok-parts.parts c.in_ok-interface.interface (search rules) (search rules))
+    (adds_one c.args.form c.args.word.now c.args.self.now c.in_ok-parts.parts c.in_ok-interface.interface (search rules) (search rules))

@@ -5,7 +5,7 @@ use Rattle.pfr_command.proofs.also.Places.add_all.Given as goal
 abbrev pub invariant-loop-word : goal.invariant-loop-word
 invariant-loop-word l =
     ArePlaces l.self.interfaces l.self.captures
-    × (map (λ i. Some i) l.self.interfaces ++ map (λ word. interface_in word) (map (λ w. w.now) (drop l.word-index l.words))
-    ≡ map (λ i. Some i) l.fn.self.interfaces ++ map (λ word. interface_in word) (map (λ w. w.now) l.words))
-    × (map (λ c. Some (files_of c)) l.self.captures ++ map (λ word. files_in word) (map (λ w. w.now) (drop l.word-index l.words))
-    ≡ map (λ c. Some (files_of c)) l.fn.self.captures ++ map (λ word. files_in word) (map (λ w. w.now) l.words))
+    × (map (λ i. Some i) l.self.interfaces ++ map (λ word. interface_in l.fn.form word) (map (λ w. w.now) (drop l.word-index l.words))
+    ≡ map (λ i. Some i) l.fn.self.interfaces ++ map (λ word. interface_in l.fn.form word) (map (λ w. w.now) l.words))
+    × (map (λ c. Some (files_of c)) l.self.captures ++ map (λ word. files_in l.fn.form word) (map (λ w. w.now) (drop l.word-index l.words))
+    ≡ map (λ c. Some (files_of c)) l.fn.self.captures ++ map (λ word. files_in l.fn.form word) (map (λ w. w.now) l.words))

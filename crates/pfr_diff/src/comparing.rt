@@ -1,0 +1,254 @@
+//! Two runs over one pass of captures.
+ghost use Rattle.std.specs.Prelude.{◌≡◌, ◌≤◌, ◌<◌, ◌+◌, ◌-◌, ◌^◌, length, IfNone, IfOk, OnOk};
+ghost use Rattle.std.specs.List.{All};
+ghost use Rattle.pfr_headers.specs.View.{view_of};
+ghost use Rattle.pfr_merge.specs.MergeReading.{HasPassedOn, NoneRefused};
+
+use crate::changes::Changes;
+use crate::decision::Meaning;
+use crate::side::Side;
+use pfr_capture::{Record, Source, Tail};
+use pfr_feed::viewed;
+use pfr_headers::View;
+use pfr_listing::{first_line, judged_in};
+use pfr_merge::Merge;
+use pfr_out::{Sources, Stop, give_back, stop_for};
+use pfr_wording::RulesTold;
+use std::alloc::{AllocError, Global};
+
+/// How many packets are taken at a time.
+const BATCH: usize = 256;
+
+/// What another ruleset changes for the packets of captures.
+#[derive(Drop)]
+pub struct Compared<'a> {
+    pub changes: Changes<'a>,
+    /// How many packets the captures have.
+    pub packets: u64,
+    /// How the captures end: cut if one of them is.
+    pub tail: Tail,
+}
+
+/// Why runs aren't compared.
+#[derive(Drop)]
+pub enum Stopped {
+    /// A capture is refused, or can't be read, behind so many packets. No stop is for a ruleset or an output.
+    Reading(Stop),
+    /// Memory was refused.
+    Memory,
+    /// What a run writes of the packet with this number isn't read.
+    Untold(u64),
+}
+
+impl From<AllocError> for Stopped {
+    fn from(_refused: AllocError) -> Self {
+        Stopped::Memory
+    }
+}
+
+/// How the rules of both rulesets are told.
+#[derive(Clone, Copy)]
+pub struct BothTold<'a> {
+    pub old: &'a RulesTold<'a>,
+    pub new: &'a RulesTold<'a>,
+}
+
+/// Two runs, and what was found so far.
+#[derive(Drop)]
+struct Both<'a> {
+    before: Side,
+    after: Side,
+    told: BothTold<'a>,
+    changes: Changes<'a>,
+    /// Room for a line.
+    room: Vec<u8>,
+}
+
+/// What a run came to by its line of the packet with this number.
+fn meaning_at<'a>(
+    alloc: Global,
+    rules: &RulesTold<'a>,
+    line: &[u8],
+    number: u64,
+    room: &mut Vec<u8>,
+) -> Result<Meaning<'a>, Stopped> {
+    match judged_in(alloc, line, room)? {
+        Some(judged) => Ok(Meaning::of(rules, &judged.outcome)),
+        None => Err(Stopped::Untold(number)),
+    }
+}
+
+/// The next of a run's lines, without its newline.
+fn next_line<'a>(lines: &mut &'a [u8], number: u64) -> Result<&'a [u8], Stopped> {
+    match first_line(lines) {
+        Some((line, behind)) => {
+            *lines = behind;
+            Ok(line)
+        }
+        None => Err(Stopped::Untold(number)),
+    }
+}
+
+/// Compares what both runs wrote of the packets that they took last, of which the first is the one behind so many.
+fn gather<'a>(
+    alloc: Global,
+    before: &Side,
+    after: &Side,
+    told: BothTold<'a>,
+    changes: &mut Changes<'a>,
+    room: &mut Vec<u8>,
+    taken: u64,
+    packets: &[(Record, View)],
+) -> Result<(), Stopped> {
+    let mut old_lines = before.lines();
+    let mut new_lines = after.lines();
+    let mut number = taken;
+    for (packet, view) in packets {
+        number = number.saturating_add(1);
+        let old_line = next_line(&mut old_lines, number)?;
+        let new_line = next_line(&mut new_lines, number)?;
+        let old_meaning = meaning_at(alloc, told.old, old_line, number, room)?;
+        let new_meaning = meaning_at(alloc, told.new, new_line, number, room)?;
+        changes.add(number, packet, view, &old_meaning, &new_meaning)?;
+    }
+    Ok(())
+}
+
+impl<'a> Both<'a> {
+    /// Has both runs take packets, and compares what they write of them.
+    fn take(&mut self, alloc: Global, packets: &[(Record, View)]) -> Result<(), Stopped>
+        requires views { All (λ packet. packet.1 ≡ view_of packet.0.link packet.0.bytes.items) packets.now }
+        requires few_before { self.old.before.book.count + length packets.now ≤ 2 ^ 43 }
+        requires few_after { self.old.after.book.count + length packets.now ≤ 2 ^ 43 }
+        ensures before { OnOk result (self.new.before.book.count ≡ self.old.before.book.count + length packets.now) }
+        ensures after { OnOk result (self.new.after.book.count ≡ self.old.after.book.count + length packets.now) }
+    {
+        let taken = self.before.committed();
+        self.before.take(packets)?;
+        self.after.take(packets)?;
+        gather(
+            alloc,
+            &self.before,
+            &self.after,
+            self.told,
+            &mut self.changes,
+            &mut self.room,
+            taken,
+            packets,
+        )
+    }
+}
+
+/// Has both runs take the packets of records, and gives the records back.
+fn take_records(
+    alloc: Global,
+    merge: &mut Merge,
+    both: &mut Both<'_>,
+    records: Vec<Record>,
+) -> Result<(), Stopped>
+    requires few { both.old.before.book.count + length records.items ≤ 2 ^ 43 }
+    requires same { both.old.after.book.count ≡ both.old.before.book.count }
+    ensures merge { merge.new ≡ merge.old }
+    ensures before { OnOk result (both.new.before.book.count ≡ both.old.before.book.count + length records.items) }
+    ensures same { OnOk result (both.new.after.book.count ≡ both.new.before.book.count) }
+{
+    let packets = viewed(alloc, records)?;
+    both.take(alloc, packets.as_slice())?;
+    give_back(merge, packets);
+    Ok(())
+}
+
+/// Reads the next packets of captures, and has both runs take them. If the reading has ended then, it answers how the captures end.
+fn take_turn<R: Source>(
+    alloc: Global,
+    merge: &mut Merge,
+    sources: &mut Sources<R>,
+    both: &mut Both<'_>,
+) -> Result<Option<Tail>, Stopped>
+    requires reading { NoneRefused merge.old }
+    requires captures { (length sources.old ≡ length merge.old) × (length merge.old ≤ 8) }
+    requires passed { HasPassedOn both.old.before.book.count merge.old }
+    requires same { both.old.after.book.count ≡ both.old.before.book.count }
+    ensures reading { IfOk result (λ tail. IfNone tail (NoneRefused merge.new)) }
+    ensures captures { (length sources.new ≡ length merge.new) × (length merge.new ≤ 8) }
+    ensures passed { OnOk result (HasPassedOn both.new.before.book.count merge.new) }
+    ensures same { OnOk result (both.new.after.book.count ≡ both.new.before.book.count) }
+    ensures nearer { IfOk result (λ tail. IfNone tail (2 ^ 43 - both.new.before.book.count < 2 ^ 43 - both.old.before.book.count)) }
+{
+    let taken = both.before.committed();
+    let mut records = Vec::new(alloc);
+    let end = sources.read_batch(merge, BATCH, &mut records);
+    match end {
+        None => {
+            take_records(alloc, merge, both, records)?;
+            Ok(None)
+        }
+        Some(Ok(tail)) => {
+            take_records(alloc, merge, both, records)?;
+            Ok(Some(tail))
+        }
+        Some(Err(refusal)) => {
+            let read = taken.saturating_add(records.len() as u64);
+            Err(Stopped::Reading(stop_for(refusal, read)))
+        }
+    }
+}
+
+/// Reads captures of which no record was given to their end, and has both runs take their packets.
+fn take_all<R: Source>(
+    alloc: Global,
+    mut merge: Merge,
+    sources: &mut Sources<R>,
+    both: &mut Both<'_>,
+) -> Result<Tail, Stopped>
+    requires reading { NoneRefused merge }
+    requires captures { (length sources.old ≡ length merge) × (length merge ≤ 8) }
+    requires passed { HasPassedOn both.old.before.book.count merge }
+    requires same { both.old.after.book.count ≡ both.old.before.book.count }
+{
+    'turns: loop {
+        if let Some(tail) = take_turn(alloc, &mut merge, sources, both)? {
+            return Ok(tail);
+        }
+    }
+}
+
+/// What was found, if all packets were taken.
+fn concluded<'a>(both: Both<'a>, end: Result<Tail, Stopped>) -> Result<Compared<'a>, Stopped> {
+    match end {
+        Ok(tail) => Ok(Compared {
+            packets: both.before.committed(),
+            changes: both.changes,
+            tail,
+        }),
+        Err(stopped) => Err(stopped),
+    }
+}
+
+/// Has two runs that have taken no packet take the packets of captures, and gathers those of which they write something else, or
+/// another verdict alone.
+pub fn compare<'a, R: Source>(
+    alloc: Global,
+    sources: &mut Sources<R>,
+    old: Side,
+    new: Side,
+    told: BothTold<'a>,
+    verdicts_alone: bool,
+) -> Result<Compared<'a>, Stopped>
+    requires captures { length sources.old ≤ 8 }
+    requires old { old.book.count ≡ 0 }
+    requires new { new.book.count ≡ 0 }
+{
+    let mut both = Both {
+        before: old,
+        after: new,
+        told,
+        changes: Changes::new(alloc, verdicts_alone),
+        room: Vec::new(alloc),
+    };
+    let end = match sources.open(alloc) {
+        Ok(merge) => take_all(alloc, merge, sources, &mut both),
+        Err(refusal) => Err(Stopped::Reading(stop_for(refusal, 0))),
+    };
+    concluded(both, end)
+}

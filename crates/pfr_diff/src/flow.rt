@@ -1,0 +1,104 @@
+//! The flows of packets.
+use pfr_headers::{Packet, Transport, View};
+use pfr_listing::protocol_name;
+use pfr_net::{Ipv4Address, Port, Protocol};
+use pfr_texts::{append_address, append_number};
+use std::alloc::AllocError;
+
+/// An end of a flow.
+#[derive(Clone, Copy, PartialEq, Eq, PartialOrd, Ord)]
+pub(crate) struct End {
+    address: Ipv4Address,
+    /// None where the packets of the flow have no ports that can be seen.
+    port: Option<Port>,
+}
+
+/// What packets are gathered by, as one of them has it.
+#[derive(Clone, Copy, PartialEq, Eq, PartialOrd, Ord)]
+pub(crate) enum Flow {
+    /// No IPv4 packets.
+    NotIp,
+    /// Packets of which too little can be seen.
+    Short,
+    /// Packets between two ends.
+    Between(Protocol, End, End),
+}
+
+/// The ports of a packet: its source's, and its destination's.
+fn ports_of(transport: &Transport) -> (Option<Port>, Option<Port>) {
+    match transport {
+        Transport::Tcp(header) => (Some(header.source), Some(header.destination)),
+        Transport::Udp(header) => (Some(header.source), Some(header.destination)),
+        Transport::Fragment | Transport::Icmp(_) | Transport::Other => (None, None),
+    }
+}
+
+/// The flow of an IPv4 packet, from its source to its destination.
+fn flow_of_packet(packet: &Packet) -> Flow {
+    let (source, destination) = ports_of(&packet.transport);
+    let source = End {
+        address: packet.source,
+        port: source,
+    };
+    let destination = End {
+        address: packet.destination,
+        port: destination,
+    };
+    Flow::Between(packet.protocol, source, destination)
+}
+
+/// Appends an end: `a.b.c.d` or `a.b.c.d:port`.
+fn append_end(text: &mut Vec<u8>, end: End) -> Result<(), AllocError> {
+    append_address(text, end.address)?;
+    match end.port {
+        Some(port) => {
+            text.extend_from_slice(b":")?;
+            append_number(text, u64::from(port.0))
+        }
+        None => Ok(()),
+    }
+}
+
+/// Appends a protocol by its name, or by its number.
+fn append_protocol(text: &mut Vec<u8>, protocol: Protocol) -> Result<(), AllocError> {
+    match protocol_name(protocol) {
+        Some(name) => text.extend_from_slice(name),
+        None => append_number(text, u64::from(protocol.0)),
+    }
+}
+
+impl Flow {
+    /// The flow of a packet.
+    pub(crate) fn of(view: &View) -> Flow {
+        match view {
+            View::Skip => Flow::NotIp,
+            View::Short => Flow::Short,
+            View::Ipv4(packet) => flow_of_packet(packet),
+        }
+    }
+
+    /// The same whichever way its packets go.
+    pub(crate) fn either_way(self) -> Flow {
+        match self {
+            Flow::Between(protocol, first, second) if second < first => {
+                Flow::Between(protocol, second, first)
+            }
+            other => other,
+        }
+    }
+
+    /// Appends `PROTO SOURCE > DESTINATION`, or what the packets are.
+    pub(crate) fn append(self, text: &mut Vec<u8>) -> Result<(), AllocError> {
+        match self {
+            Flow::NotIp => text.extend_from_slice(b"not-ip"),
+            Flow::Short => text.extend_from_slice(b"short"),
+            Flow::Between(protocol, source, destination) => {
+                append_protocol(text, protocol)?;
+                text.extend_from_slice(b" ")?;
+                append_end(text, source)?;
+                text.extend_from_slice(b" > ")?;
+                append_end(text, destination)
+            }
+        }
+    }
+}

@@ -1,0 +1,5 @@
+use Rattle.std.proofs.Common.{length}
+use Rattle.pfr_wording.proofs.worded.end_anchors.Given as goal
+
+abbrev pub decreases-anchors : goal.decreases-anchors
+decreases-anchors l = length l.round.items

@@ -1,0 +1,339 @@
+//! Rules as they are told: by their words, and by the lines of their file.
+use crate::again::translation_lines;
+use crate::names::table_names;
+use crate::worded::{Worded, in_words};
+use pfr_conf::{ConfError, ConfErrorKind};
+use pfr_listing::{Counted, RuleCounts};
+use pfr_prepare::Prepared;
+use pfr_ruleset::Ruleset;
+use pfr_texts::append_number;
+use std::alloc::{AllocError, Global};
+
+/// A rule as it is told.
+#[derive(Clone, Copy)]
+pub struct RuleTold<'a> {
+    /// Its words. Two rules with the same words are the same rule, wherever they stand.
+    pub words: &'a [u8],
+    /// The line of the ruleset's file on which it stands, from 1.
+    pub line: usize,
+}
+
+/// The rules of a ruleset as they are told, by their numbers.
+#[derive(Drop)]
+pub struct RulesTold<'a> {
+    pub filter: Vec<RuleTold<'a>>,
+    pub translations: Vec<RuleTold<'a>>,
+}
+
+/// The rules that a ruleset's file makes.
+#[derive(Drop)]
+pub struct Rules {
+    worded: Worded,
+    /// The lines of the file on which filter rules stand, by their numbers.
+    filter: Vec<usize>,
+    /// The same of translation rules.
+    translations: Vec<usize>,
+    /// How many lines of the words define tables.
+    tables: usize,
+}
+
+/// Why rules aren't told.
+#[derive(Clone, Copy, Debug, PartialEq, Eq)]
+pub enum Untold {
+    /// What was written of them doesn't mean the same rules.
+    OtherRules,
+    /// Memory was refused.
+    Memory,
+}
+
+impl From<AllocError> for Untold {
+    fn from(_refused: AllocError) -> Self {
+        Untold::Memory
+    }
+}
+
+impl From<ConfError> for Untold {
+    fn from(fault: ConfError) -> Self {
+        match fault.kind {
+            ConfErrorKind::Memory => Untold::Memory,
+            _ => Untold::OtherRules,
+        }
+    }
+}
+
+/// The lines of the file on which filter rules stand.
+fn filter_lines(
+    alloc: Global,
+    text: &Prepared,
+    ruleset: &Ruleset,
+) -> Result<Vec<usize>, AllocError> {
+    let mut lines = Vec::new(alloc);
+    for rule in ruleset.filter.rules() {
+        lines.push(text.line_of(rule.line))?;
+    }
+    Ok(lines)
+}
+
+/// The lines of the file for lines of the text that was made of it.
+fn lines_in_file(text: &Prepared, lines: &mut Vec<usize>) {
+    for line in lines.as_mut_slice() {
+        *line = text.line_of(*line);
+    }
+}
+
+/// Puts a line behind others, and nothing at the places of the lines with which it goes on.
+fn push_line<'a>(lines: &mut Vec<&'a [u8]>, line: &'a [u8], more: usize) -> Result<(), AllocError> {
+    lines.push(line)?;
+    for _ in 0..more {
+        lines.push(&[])?;
+    }
+    Ok(())
+}
+
+/// The lines of a text, without their newlines, each at the place of its number. A line goes on behind a newline with a backslash
+/// before it, as a label may; nothing is at the places of the lines with which it goes on.
+fn lines_of_text<'a>(alloc: Global, text: &'a [u8]) -> Result<Vec<&'a [u8]>, AllocError> {
+    let mut lines = Vec::new(alloc);
+    let mut start = 0;
+    let mut more = 0;
+    let mut before = b'\n';
+    for (place, byte) in text.iter().enumerate() {
+        if *byte == b'\n' {
+            if before == b'\\' {
+                more = place.min(more) + 1;
+            } else {
+                push_line(&mut lines, text.get(start..place).unwrap_or(&[]), more)?;
+                start = place + 1;
+                more = 0;
+            }
+        }
+        before = *byte;
+    }
+    Ok(lines)
+}
+
+/// Appends a line as it is printed: a blank stands where it goes on.
+fn append_words(text: &mut Vec<u8>, line: &[u8]) -> Result<(), AllocError> {
+    for (place, byte) in line.iter().enumerate() {
+        if *byte == b'\n' {
+            text.push(b' ')?;
+        } else if *byte != b'\\' || line.get(place + 1).copied() != Some(b'\n') {
+            text.push(*byte)?;
+        }
+    }
+    Ok(())
+}
+
+/// A line without the blanks before it.
+fn without_blanks(line: &[u8]) -> &[u8] {
+    for (place, byte) in line.iter().enumerate() {
+        if *byte != b' ' {
+            return &line[place..];
+        }
+    }
+    line
+}
+
+/// The rules that stand on these lines of the words, and on these lines of the file.
+fn told_at<'a>(
+    alloc: Global,
+    words: &[&'a [u8]],
+    places: &[usize],
+    lines: &[usize],
+) -> Result<Vec<RuleTold<'a>>, AllocError> {
+    let mut rules = Vec::new(alloc);
+    for (place, line) in places.iter().zip(lines) {
+        let words = match words.get(place.saturating_sub(1)) {
+            Some(words) => without_blanks(words),
+            None => &[],
+        };
+        rules.push(RuleTold { words, line: *line })?;
+    }
+    Ok(rules)
+}
+
+/// Whether the rule with a number stands on a line of the words.
+fn is_at(places: &[usize], number: usize, line: usize) -> bool {
+    match places.get(number) {
+        Some(place) => *place == line,
+        None => false,
+    }
+}
+
+/// Appends what stands before a rule: `@N LLINE `.
+fn append_place(text: &mut Vec<u8>, lines: &[usize], number: usize) -> Result<(), AllocError> {
+    text.extend_from_slice(b"@")?;
+    append_number(text, number as u64)?;
+    if let Some(line) = lines.get(number) {
+        text.extend_from_slice(b" L")?;
+        append_number(text, *line as u64)?;
+    }
+    text.extend_from_slice(b" ")
+}
+
+/// Whether packets can count for a rule of these words: for one that translates nothing none do.
+fn may_count(words: &[u8]) -> bool {
+    !without_blanks(words).starts_with(b"no ")
+}
+
+/// Appends what a run counted of a rule of these words.
+fn append_counted(text: &mut Vec<u8>, words: &[u8], counted: &Counted) -> Result<(), AllocError> {
+    text.extend_from_slice(b"  # ")?;
+    append_number(text, counted.evaluations)?;
+    text.extend_from_slice(b" evaluations, ")?;
+    append_number(text, counted.packets)?;
+    text.extend_from_slice(b" packets, ")?;
+    append_number(text, counted.bytes)?;
+    text.extend_from_slice(b" bytes")?;
+    if counted.packets == 0 && may_count(words) {
+        text.extend_from_slice(b": counts no packet")?;
+    }
+    Ok(())
+}
+
+/// Appends a rule as it is printed, with what a run counted of it.
+fn append_rule(
+    text: &mut Vec<u8>,
+    lines: &[usize],
+    number: usize,
+    words: &[u8],
+    counts: Option<&[Counted]>,
+) -> Result<(), AllocError> {
+    append_place(text, lines, number)?;
+    append_words(text, words)?;
+    if let Some(counts) = counts {
+        if let Some(counted) = counts.get(number) {
+            append_counted(text, words, counted)?;
+        }
+    }
+    text.extend_from_slice(b"\n")
+}
+
+/// The lines of the file on which the rules of a ruleset stand.
+#[derive(Drop)]
+struct FileLines {
+    filter: Vec<usize>,
+    translations: Vec<usize>,
+}
+
+/// The lines of the file on which the rules of a ruleset stand that this text means.
+fn file_lines(alloc: Global, text: &Prepared, ruleset: &Ruleset) -> Result<FileLines, AllocError> {
+    let mut translations = translation_lines(alloc, ruleset)?;
+    lines_in_file(text, &mut translations);
+    let filter = filter_lines(alloc, text, ruleset)?;
+    Ok(FileLines {
+        filter,
+        translations,
+    })
+}
+
+/// Rules with these words, and with the lines of their file.
+fn with_lines(
+    worded: Worded,
+    tables: usize,
+    lines: Result<FileLines, AllocError>,
+) -> Result<Rules, Untold> {
+    match lines {
+        Ok(lines) => Ok(Rules {
+            worded,
+            filter: lines.filter,
+            translations: lines.translations,
+            tables,
+        }),
+        Err(_) => Err(Untold::Memory),
+    }
+}
+
+/// How many rules were printed.
+#[derive(Clone, Copy)]
+struct Printed {
+    filter: usize,
+    translations: usize,
+}
+
+impl Rules {
+    /// The rules of a ruleset that this text means.
+    pub fn of(alloc: Global, text: &Prepared, ruleset: &Ruleset) -> Result<Rules, Untold> {
+        let names = table_names(alloc, text.text.as_slice())?;
+        match in_words(alloc, ruleset, names.as_slice())? {
+            Some(worded) => with_lines(worded, names.len(), file_lines(alloc, text, ruleset)),
+            None => Err(Untold::OtherRules),
+        }
+    }
+
+    /// The rules by their numbers.
+    pub fn told<'a>(&'a self, alloc: Global) -> Result<RulesTold<'a>, AllocError> {
+        let words = lines_of_text(alloc, self.worded.text.as_slice())?;
+        let filter = told_at(
+            alloc,
+            words.as_slice(),
+            self.worded.filter.as_slice(),
+            self.filter.as_slice(),
+        )?;
+        let translations = told_at(
+            alloc,
+            words.as_slice(),
+            self.worded.translations.as_slice(),
+            self.translations.as_slice(),
+        )?;
+        Ok(RulesTold {
+            filter,
+            translations,
+        })
+    }
+
+    /// How many filter rules and how many translation rules there are.
+    pub fn counts(&self) -> (usize, usize) {
+        (self.filter.len(), self.translations.len())
+    }
+
+    /// Appends what is printed of the line of the words with this number.
+    fn append_line(
+        &self,
+        text: &mut Vec<u8>,
+        number: usize,
+        line: &[u8],
+        counts: Option<&RuleCounts>,
+        printed: &mut Printed,
+    ) -> Result<(), AllocError> {
+        if is_at(
+            self.worded.translations.as_slice(),
+            printed.translations,
+            number,
+        ) {
+            let counts = counts.map(|counts| counts.translations.as_slice());
+            let rule = printed.translations;
+            printed.translations = rule.saturating_add(1);
+            return append_rule(text, self.translations.as_slice(), rule, line, counts);
+        }
+        if is_at(self.worded.filter.as_slice(), printed.filter, number) {
+            let counts = counts.map(|counts| counts.filter.as_slice());
+            let rule = printed.filter;
+            printed.filter = rule.saturating_add(1);
+            return append_rule(text, self.filter.as_slice(), rule, line, counts);
+        }
+        if number > self.tables && !line.is_empty() {
+            text.extend_from_slice(line)?;
+            text.extend_from_slice(b"\n")?;
+        }
+        Ok(())
+    }
+
+    /// Appends a line for each rule and for each end of an anchor, with what a run counted of the rules, if that is given.
+    pub fn append(
+        &self,
+        alloc: Global,
+        text: &mut Vec<u8>,
+        counts: Option<&RuleCounts>,
+    ) -> Result<(), AllocError> {
+        let words = lines_of_text(alloc, self.worded.text.as_slice())?;
+        let mut printed = Printed {
+            filter: 0,
+            translations: 0,
+        };
+        for (place, line) in words.iter().enumerate() {
+            self.append_line(text, place + 1, line, counts, &mut printed)?;
+        }
+        Ok(())
+    }
+}
