@@ -2,15 +2,18 @@
 
 # The flags of a command, or those that stand without one.
 _pfreplay_flags() {
-    local ruleset='--interface --address'
+    local ruleset='--interface --address --also'
+    local ways='--inside --mac --tap'
     local surroundings='--interface-address --group --hosts --services --table --include'
-    local run='--inside --mac --tap --verdicts --packets --counters --states --also --seed --batch --workers'
+    local outputs='--verdicts --packets --counters --states --messages --peer'
     case $1 in
-        run) echo "--help $ruleset --adapt $surroundings $run --messages --peer --warn" ;;
+        run) echo "--help $ruleset --adapt $surroundings $ways $outputs --seed --batch --workers --warn" ;;
         check) echo "--help $ruleset --adapt $surroundings" ;;
         adapt) echo "--help $ruleset $surroundings" ;;
         standby) echo '--help --messages --listen' ;;
         states) echo '--help --json' ;;
+        rules) echo "--help $ruleset --adapt $surroundings --counters" ;;
+        diff) echo "--help $ruleset --adapt $surroundings $ways --seed --verdicts" ;;
         '') echo '--help --version' ;;
     esac
 }
@@ -30,14 +33,24 @@ _pfreplay_files() {
     done
 }
 
-# Answers what may stand behind a flag: the flag, the value so far, and the part of it that bash takes for a word.
+# Answers the files that stand behind the name and the address of an interface, two for `run` and one for `diff`: the
+# command, the value so far, and the part of it that bash takes for a word.
+_pfreplay_also() {
+    case $1:${2//[^,]/} in
+        run:,, | run:,,, | diff:,,) _pfreplay_files "${3##*,}" "${3%,*}," ;;
+    esac
+}
+
+# Answers what may stand behind a flag: the command, the flag, the value so far, and the part of it that bash takes for a
+# word.
 _pfreplay_value() {
-    case $1 in
-        --verdicts | --packets | --counters | --states | --messages | --hosts | --services) _pfreplay_files "$3" ;;
-        --table | --include) [[ $2 != *=* ]] || _pfreplay_files "$3" ;;
-        # the name and the address of an interface, and then two files
-        --also) [[ $2 != *,*,* ]] || _pfreplay_files "${3##*,}" "${3%,*}," ;;
-        --tap) _pfreplay_words 'stack wire' "$3" ;;
+    case $2 in
+        # `diff` has this flag without a value
+        --verdicts) [[ $1 != diff ]] && _pfreplay_files "$4" ;;
+        --packets | --counters | --states | --messages | --hosts | --services) _pfreplay_files "$4" ;;
+        --table | --include) [[ $3 != *=* ]] || _pfreplay_files "$4" ;;
+        --also) _pfreplay_also "$1" "$3" "$4" ;;
+        --tap) _pfreplay_words 'stack wire' "$4" ;;
         --interface | --address | --inside | --mac | --seed | --batch | --workers | --peer | --listen) ;;
         --interface-address | --group) ;;
         *) return 1 ;;
@@ -45,7 +58,7 @@ _pfreplay_value() {
 }
 
 _pfreplay() {
-    local commands='run check adapt standby states help'
+    local commands='run check adapt standby states rules diff help'
     local word=${COMP_WORDS[COMP_CWORD]} command=${COMP_WORDS[1]} place=$((COMP_CWORD - 1))
     local value=$word
     COMPREPLY=()
@@ -60,10 +73,10 @@ _pfreplay() {
         value=${COMP_WORDS[place]}$value
         ((place -= 1))
     done
-    _pfreplay_value "${COMP_WORDS[place]}" "${value#=}" "$word" && return
+    _pfreplay_value "$command" "${COMP_WORDS[place]}" "${value#=}" "$word" && return
     case $command in
         help) ((COMP_CWORD > 2)) || _pfreplay_words "${commands% help}" "$word" ;;
-        run | check | adapt | standby | states)
+        run | check | adapt | standby | states | rules | diff)
             if [[ $word == -* ]]; then
                 _pfreplay_words "$(_pfreplay_flags "$command")" "$word"
             elif [[ $command != standby ]]; then

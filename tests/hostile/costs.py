@@ -111,6 +111,7 @@ def adapted():
                  f'm = "{networks}"\nrdr pass on em0 -> ' + "$m " * 300000, command="adapt")
     yield Costly("adapt: a macro of 4 KiB as each interface", f'm = "{names}"\npass ' + "on $m " * 150000,
                  command="adapt")
+    yield Costly("adapt: anchors alone", "anchor a\n" * (MOST // 9), command="adapt")
     yield Costly("adapt: a fault in each statement", "pass nonsense\n" * (MOST // 14), command="adapt")
 
 

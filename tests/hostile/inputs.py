@@ -25,7 +25,7 @@ INTERFACE = ("--interface", "em0", "--address", "192.0.2.1/24")
 INSIDE = ("--inside", "10.0.0.0/8")
 OUTPUTS = ("verdicts", "packets", "counters", "states")
 # files by these names
-RULES, CAPTURE, MESSAGES, LEFT = "rules", "capture", "messages", "left"
+RULES, CAPTURE, MESSAGES, LEFT, NEW_RULES = "rules", "capture", "messages", "left", "new_rules"
 # names of tables of the captures' fields that are damaged: where they stand in a record's header, and their bytes
 FIELDS = ((0, 4), (4, 4), (8, 4), (12, 4))
 LINKS = (0, 1, 101)
@@ -260,6 +260,34 @@ def damaged_states(draw):
     return Input("states", ("states", LEFT, *(("--json",) if draw.random() < 0.5 else ())), {LEFT: octets})
 
 
+# Views of rulesets and captures
+
+def viewed_ruleset(given):
+    """The same ruleset, whose rules are printed."""
+    command, name, *flags = given.words
+    adapts = ("--adapt",) if command == "adapt" else ()
+    return Input("rules", ("rules", name, *adapts, *flags), given.files)
+
+
+def viewed_capture(draw, given):
+    """The same capture, of which the ruleset is compared with a damaged one."""
+    ways = INSIDE + (("--tap", "wire") if "--tap" in given.words else ())
+    ways += ("--verdicts",) if draw.random() < 0.3 else ()
+    new = given.files[RULES]
+    if draw.random() < 0.9:
+        rows = new.splitlines(keepends=True)
+        draw.shuffle(rows)
+        new = b"".join(rows[:draw.randint(0, len(rows))]) if draw.random() < 0.5 else damaged_ruleset(draw, new)
+    return Input("diff", ("diff", CAPTURE, RULES, NEW_RULES, *INTERFACE, *ways), {**given.files, NEW_RULES: new})
+
+
+def viewed(draw):
+    """A ruleset whose rules are printed, or a capture of which two rulesets are compared."""
+    if draw.random() < 0.5:
+        return viewed_ruleset(draw.choice((made_ruleset, real_ruleset, edge_ruleset, adapted))(draw))
+    return viewed_capture(draw, draw.choice((capture_of_a_run, made_capture))(draw))
+
+
 # Command lines
 
 @lru_cache
@@ -289,15 +317,19 @@ MAKERS = ((made_ruleset, 20), (real_ruleset, 15), (edge_ruleset, 8), (adapted, 1
           (made_capture, 18), (damaged_messages, 15), (command_line, 12))
 # among this many inputs one is a large ruleset
 LARGE = 2000
-# how often an input is a file of states, and how often such a file is long
-OF_STATES, LONG = 0.1, 0.02
+# how often an input is a file of states, and how often such a file is long; how often it is a view
+OF_STATES, LONG, VIEWS = 0.1, 0.02, 0.1
 
 
 def drawn(seed):
-    """The input of a seed. Whether it is a file of states is drawn apart, so all others stay as they were without these."""
+    """The input of a seed. Whether it is a file of states, or a view, is drawn apart, so all others stay as they were
+    without these."""
     apart = random.Random(f"states {seed}")
     if apart.random() < OF_STATES:
         return damaged_states(apart)
+    apart = random.Random(f"views {seed}")
+    if apart.random() < VIEWS:
+        return viewed(apart)
     draw = random.Random(seed)
     if draw.randrange(LARGE) == 0:
         return large_ruleset(draw)

@@ -18,8 +18,10 @@ SECONDS, MEGABYTES = 2, 512
 # a run that takes so many times longer than it may is killed
 PATIENCE = 10
 DONE, REFUSED, CUT, FAILED = range(4)
+# those of `diff`
+CHANGED, TROUBLE = REFUSED, CUT
 STATUSES = {"check": (DONE, REFUSED), "adapt": (DONE, REFUSED), "run": (DONE, REFUSED, CUT), "standby": (DONE, REFUSED),
-            "states": (DONE, REFUSED)}
+            "states": (DONE, REFUSED), "rules": (DONE, REFUSED), "diff": (DONE, CHANGED, TROUBLE)}
 ONE_LINE = re.compile(rb"pfreplay: [^\n]*\n")
 # the one device that fails: a file that isn't there
 CANNOT_OPEN = re.compile(rb"pfreplay: cannot open: [^\n]*\n")
@@ -117,7 +119,7 @@ def is_said_well(command, ended):
     """Whether what is said fits the status: a refusal in one line behind remarks and warnings, and else these alone."""
     rows = ended.err.splitlines(keepends=True)
     others = [row for row in rows if not REMARK.match(row) and not row.startswith(WARNING)]
-    if ended.status in (DONE, CUT):
+    if ended.status == DONE or ended.status == (CHANGED if command == "diff" else CUT):
         return not others
     if ended.status == FAILED:
         return len(others) == 1 and bool(CANNOT_OPEN.fullmatch(others[0]))

@@ -27,10 +27,21 @@ def listed(text, heading):
         yield line
 
 
-def flags_in(text):
-    """The long flags that a help lists."""
-    found = (re.match(r" +(?:-\w, )?(--[a-z][a-z-]*)", line) for line in listed(text, "Options:"))
-    return {each[1] for each in found if each}
+def values_in(text):
+    """The long flags that a help lists, each with the form of its value; None if it has none."""
+    found = (re.match(r" +(?:-\w, )?(--[a-z][a-z-]*)(?: <(\S+)>)?", line) for line in listed(text, "Options:"))
+    return {each[1]: each[2] for each in found if each}
+
+
+def words_in(text):
+    """The words that a help lists, which stand in their places without a flag."""
+    found = (re.match(r" +<(\w+)>", line) for line in listed(text, "Arguments:"))
+    return [each[1] for each in found if each]
+
+
+def shape(flag, form):
+    """A flag with the shape of its value, which has as many parts between commas as its form."""
+    return f"{flag} {','.join('VALUE' for _ in form.split(','))}" if form else flag
 
 
 def expect_words(comparison, name, expected, seen):
@@ -45,13 +56,17 @@ def commands_in(text):
 
 
 class Helps:
-    """The flags that the help of each command lists, and those that stand without a command."""
+    """The flags that the help of each command lists, with their values, its words, and the flags that stand without a
+    command."""
 
     def __init__(self, comparison):
         self.comparison = comparison
         whole = self.text_of()
-        self.alone = flags_in(whole)
-        self.flags = {command: flags_in(self.text_of(command)) for command in commands_in(whole)}
+        self.alone = {*values_in(whole)}
+        texts = {command: self.text_of(command) for command in commands_in(whole)}
+        self.values = {command: values_in(text) for command, text in texts.items()}
+        self.words = {command: words_in(text) for command, text in texts.items()}
+        self.flags = {command: {*values} for command, values in self.values.items()}
         comparison.expect("commands and flags are listed", True, all((self.alone, self.flags, *self.flags.values())))
 
     def text_of(self, *command):

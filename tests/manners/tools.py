@@ -10,7 +10,7 @@ from manners.helps import HELP, expect_words
 # seconds; other comparisons may run at the same time
 TIME_LIMIT = 60
 # those that the man page refers to, which a machine need not have
-MANUALS = ("tcpdump.1", "pcap.3", "pfsync.4", "hosts.5", "pf.conf.5", "services.5", "pfctl.8")
+MANUALS = ("diff.1", "tcpdump.1", "pcap.3", "pfsync.4", "hosts.5", "pf.conf.5", "services.5", "pfctl.8")
 # completes the last of some words, as bash calls the function that is registered
 COMPLETE = """
 source "$0"
@@ -32,16 +32,33 @@ CASES = (
     (("run", "office.pcap", ""), {*FILES}),
     (("run", "--mac", "em0", "=", "00", ":", "00", "--verdicts", "tw"), {"two words.pcap"}),
     (("run", "--also", "em1,192.0.2.1/24,of"), {"em1,192.0.2.1/24,office.pcap"}),
+    (("run", "--also", "em1,192.0.2.1/24,a,of"), {"em1,192.0.2.1/24,a,office.pcap"}),
+    (("run", "--also", "em1,192.0.2.1/24,a,b,of"), set()),
     (("run", "--seed", ""), set()),
+    (("check", "--also", "em1,192.0.2.1/24,of"), set()),
+    (("check", "--also", "em1,192.0.2.1/24", "ru"), {"rules.conf"}),
     (("check", "rules.conf", "--table", "bad", "="), {*FILES}),
     (("check", "rules.conf", "--table", "bad", "=", "of"), CAPTURE),
     (("adapt", "rul"), {"rules.conf"}),
+    (("adapt", "--also", "em1,192.0.2.1/24,of"), set()),
     (("standby", ""), set()),
     (("standby", "--messages", "of"), CAPTURE),
     (("states", "--j"), {"--json"}),
     (("states", "ru"), {"rules.conf"}),
+    (("rules", "--also", "em1,192.0.2.1/24,of"), set()),
+    (("rules", "rules.conf", "--counters", "tw"), {"two words.pcap"}),
+    (("rules", "rules.conf", "--adapt", "--hosts", "=", "ru"), {"rules.conf"}),
+    (("diff", "of"), CAPTURE),
+    (("diff", "office.pcap", "rules.conf", ""), {*FILES}),
+    (("diff", "--verdicts", "of"), CAPTURE),
+    (("diff", "--v"), {"--verdicts"}),
+    (("diff", "--tap", "=", ""), TAPS),
+    (("diff", "--also", "em1,192.0.2.1/24,of"), {"em1,192.0.2.1/24,office.pcap"}),
+    (("diff", "--also", "em1,192.0.2.1/24,a,of"), set()),
     (("st",), {"standby", "states"}),
+    (("ru",), {"run", "rules"}),
     ((HELP, "a"), {"adapt"}),
+    ((HELP, "d"), {"diff"}),
     (("nothing", "--"), set()),
 )
 
@@ -88,8 +105,12 @@ def compare_bash(comparison, helps):
         (folder / name).touch()
     expect_words(comparison, "bash: pfreplay", helps.commands() | helps.alone, completed([""], folder))
     expect_words(comparison, f"bash: pfreplay {HELP}", {*helps.flags}, completed([HELP, ""], folder))
-    for command, flags in helps.flags.items():
-        expect_words(comparison, f"bash: flags of {command}", flags, completed([command, "--"], folder))
+    for command, values in helps.values.items():
+        expect_words(comparison, f"bash: flags of {command}", {*values}, completed([command, "--"], folder))
+        for flag, form in values.items():
+            # where a value is to stand there is no flag
+            expect_words(comparison, f"bash: flags behind {command} {flag}", set() if form else {*values},
+                         completed([command, flag, "--"], folder))
     for words, expected in CASES:
         comparison.expect(f"bash: pfreplay {' '.join(words)}", expected, completed(words, folder))
 

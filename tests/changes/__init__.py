@@ -1,0 +1,1 @@
+"""The program's command `diff`: which packets of a capture come to something else by another ruleset."""

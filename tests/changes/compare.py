@@ -1,0 +1,219 @@
+"""Compares what the command `diff` of pfreplay answers with the model, and with answers written by hand.
+
+    python3 -m changes.compare [--program FILE] [--drawn N]
+
+in the folder `tests`. `--drawn` tells how many random questions there are. For each one the program is run by both
+rulesets, and the model joins what these runs leave. For some of them the model of runs is asked too.
+"""
+
+import argparse
+import sys
+from collections import Counter
+from pathlib import Path
+
+sys.dont_write_bytecode = True
+
+import building
+from adapt.asking import begins_so
+from changes import cases, edits, files, judged, lines, model, rows
+from changes.asking import asked, flags, lay_out, runs_of
+from changes.files import BROKEN, CHANGING, CUT, SAME, TOO_LONG, TWO
+from changes.kinds import counts_of, told_drawn
+from changes.model import NAMES, REFUSED, SOMETHING_CHANGES, modelled
+from changes.row import question_of
+from faults.command import ends_lawfully
+from runs import model as runs_model
+from runs.comparison import a_line
+from runs.model import Outcome
+from runs.setting_rows import OF_BOTH
+from standby.many import in_processes, part
+from steps.tap_cases import RULES as REDIRECTING
+
+# where no other number is told, and that of the models alone
+DRAWN, MODEL_DRAWN = 2400, 1200
+# one question in this number is also answered by the model of runs
+MODEL_STEP = 4
+IDLE = {kind.__name__ for kind in edits.IDLE}
+
+
+# Answers written by hand
+
+def expect_row(comparison, row, seen):
+    """A row's answer. If rulesets are adapted, what is said of that comes first, each line with a reason behind it."""
+    told = row.told(NAMES)
+    said = seen.err.splitlines(keepends=True) if seen else []
+    before, rest = said[:len(told)], b"".join(said[len(told):])
+    comparison.expect(row.name, row.outcome(NAMES), seen and seen._replace(err=rest))
+    comparison.expect(f"{row.name}: what was rewritten", True,
+                      len(before) == len(told) and all(map(begins_so, before, told)))
+
+
+def model_rows(comparison):
+    """What the model says to the rows."""
+    for row in rows.rows():
+        comparison.expect(row.name, row.outcome(NAMES), modelled(row.question))
+        comparison.expect(f"{row.name}: what was rewritten", row.told(NAMES), row.question.remarks())
+
+
+def program_rows(comparison):
+    """What the program answers to the rows."""
+    for row in rows.rows():
+        lay_out(comparison, row.question)
+        expect_row(comparison, row, asked(comparison, row.question))
+
+
+# Command lines
+
+def bad_lines(comparison):
+    """Lines that don't fit. Of the wording what is at fault is fixed."""
+    lay_out(comparison, question_of("scrub in all", "pass", b""))
+    for words, said in lines.bad():
+        seen = comparison.execute(words, home=comparison.folder)
+        comparison.expect(f"words {words}", Outcome(b"", a_line(seen, b"pfreplay: ", said), REFUSED), seen)
+
+
+def good_lines(comparison):
+    """Lines that fit, and the help."""
+    question = question_of(REDIRECTING, "block\npass out to 198.51.100.0/24 label x", OF_BOTH)
+    lay_out(comparison, question)
+    for words, by_verdict, settings in lines.good():
+        fitting = question._replace(case=question.case._replace(**settings), by_verdict=by_verdict)
+        comparison.expect(f"words {words}", modelled(fitting),
+                          comparison.execute(["diff", *words], home=comparison.folder))
+    for words in (("--help",), ("diff", "--help"), ("help", "diff")):
+        parts = lines.HELPED if "diff" in words else (b"diff",)
+        seen = comparison.execute(words)
+        is_told = seen and all(each in seen.out for each in parts)
+        comparison.expect(f"words {words}", Outcome(seen.out if is_told else b"(some)", b"", 0), seen)
+
+
+# Faults
+
+WITH_FAULTS = {"changes": CHANGING, "no change": SAME, "a ruleset that is refused": BROKEN, "two captures": TWO,
+               "a capture that is cut": CUT, "a record that is too long": TOO_LONG,
+               "verdicts alone": CHANGING._replace(by_verdict=True)}
+
+
+def faults(comparison):
+    """Each allocation, read and write of some questions goes wrong in turn."""
+    folder = comparison.folder
+    for name, question in WITH_FAULTS.items():
+        lay_out(comparison, question)
+        print(f"diff, {name}", flush=True)
+        words = [folder / each for each in ("capture", *NAMES)]
+        command = [comparison.program, "diff", *words, *flags(comparison, question, comparison.other_captures)]
+        comparison.expect(f"{name}, with faults", True, ends_lawfully("diff", list(map(str, command))))
+
+
+# Runs of the program by both rulesets
+
+def joined(comparison, question):
+    """What both runs leave, and the answer that the model makes of that; None if a run takes too long. The program has
+    to give this answer."""
+    outcomes = runs_of(comparison, question)
+    if None in outcomes:
+        comparison.expect(f"{question.case.name}: the runs", "an end of both", outcomes)
+        return outcomes, None
+    expected = model.answer(question, *outcomes)
+    lay_out(comparison, question)
+    comparison.expect(question.case.name, expected, asked(comparison, question))
+    return outcomes, expected
+
+
+def example_questions(comparison):
+    """The examples, without each of their rules in turn."""
+    for question in cases.examples():
+        joined(comparison, question)
+
+
+def expect_idle(comparison, drawn, expected):
+    """Nothing changes if all edits leave the rules as they are."""
+    if IDLE.issuperset(drawn.edits):
+        comparison.expect(f"{drawn.question.case.name}: nothing changes", False, expected.status == SOMETHING_CHANGES)
+
+
+def drawn_by_program(comparison, number):
+    """A random question: the program is run by both rulesets, and asked."""
+    drawn = cases.drawn_at(number)
+    outcomes, expected = joined(comparison, drawn.question)
+    if expected is None:
+        return Counter()
+    if number % MODEL_STEP == 0:
+        comparison.expect(f"{drawn.question.case.name}: by the model of runs", modelled(drawn.question), expected)
+    expect_idle(comparison, drawn, expected)
+    return counts_of(drawn, outcomes, expected)
+
+
+# The model beside itself
+
+def mirrored(line):
+    """A line about flows or pairs with both decisions in each other's place."""
+    *flow, pair, rest = line.split("  ") if "  " in line else line.split(": ")
+    old, new = pair.split(" -> ")
+    return ("  " if flow else ": ").join([*flow, f"{new} -> {old}", rest])
+
+
+def expect_alike(comparison, question, outcomes, expected):
+    """With the rulesets in each other's place the same packets change, and if verdicts alone count no others do."""
+    *said, last = expected.out.decode().splitlines()
+    swapped = model.answer(question.swapped(), *reversed(outcomes)).out.decode().splitlines()
+    comparison.expect(f"{question.case.name}, the other way round", [*map(mirrored, said), last], swapped)
+    numbers, fewer = ({each.number for each in model.changes_of(question._replace(by_verdict=alone), *outcomes)}
+                      for alone in (False, True))
+    comparison.expect(f"{question.case.name}, by the verdict", fewer & numbers, fewer)
+
+
+def drawn_by_model(comparison, number):
+    """A random question by the model of runs."""
+    drawn = cases.drawn_at(number)
+    outcomes = list(map(runs_model.run, drawn.question.cases()))
+    expected = model.answer(drawn.question, *outcomes)
+    expect_idle(comparison, drawn, expected)
+    if expected.status != REFUSED:
+        expect_alike(comparison, drawn.question, outcomes, expected)
+    return counts_of(drawn, outcomes, expected)
+
+
+# All of it
+
+def compare_model():
+    """Whether something goes wrong with each part of the model alone."""
+    results = []
+    with part("answers written by hand, by the model", None, results) as comparison:
+        model_rows(comparison)
+    with part("made-up endings of faults", None, results) as comparison:
+        judged.compare(comparison)
+    found = in_processes(drawn_by_model, None, MODEL_DRAWN)
+    return [*results, told_drawn("random questions, by the models", found)]
+
+
+def compare(program, drawn=DRAWN):
+    """Whether something goes wrong with each part of the comparison with a program."""
+    results = []
+    with part("answers written by hand and command lines", program, results) as comparison:
+        program_rows(comparison)
+        bad_lines(comparison)
+        good_lines(comparison)
+    with part("files and outputs", program, results) as comparison:
+        files.compare(comparison)
+    with part("questions with a fault at each call", program, results) as comparison:
+        faults(comparison)
+    with part("the examples without a rule", program, results) as comparison:
+        example_questions(comparison)
+    return [*results, told_drawn("random questions", in_processes(drawn_by_program, program, drawn))]
+
+
+def model_alone():
+    sys.exit(any(compare_model()))
+
+
+def main():
+    parser = argparse.ArgumentParser(description="Compares the command diff with the model.")
+    parser.add_argument("--program", type=Path, metavar="FILE", help="the built program")
+    parser.add_argument("--drawn", type=int, default=DRAWN, metavar="N", help="how many random questions")
+    words = parser.parse_args()
+    sys.exit(any(compare(words.program or building.pfreplay(), words.drawn)))
+
+
+if __name__ == "__main__":
+    main()
