@@ -58,11 +58,9 @@ def beginning(out, count):
 def right_endings(trial):
     out, old, new = trial.clean.out, *rulesets_of(trial)
     yield ending("memory at first", MEMORY, "no memory, committed 0", 4)
-    yield ending("memory behind packets", MEMORY, "no memory, committed 3", 4)
-    yield ending("memory behind a line", MEMORY, "no memory, committed 3", 4, beginning(out, 1))
+    yield ending("memory", MEMORY, "no memory", 4)
+    yield ending("memory behind a line", MEMORY, "no memory", 4, beginning(out, 1))
     yield ending("memory that isn't missed", MEMORY, "", 1, out)
-    for name in (old, new):
-        yield ending(f"memory for the ruleset {name}", MEMORY, f"rules {name} line 0: no memory", 4)
     yield ending("the old ruleset", OLD, f"cannot open: {old}", 3)
     yield ending("the new ruleset", NEW, f"cannot open: {new}", 3, moved=5)
     for moved, count in ((0, 0), (23, 0), (24, 0), (BEHIND_TWO - 1, 1), (BEHIND_TWO, 2), (len(CAPTURE), 3)):
@@ -95,13 +93,13 @@ def right_ends(trial):
 
 def wrong_endings(trial):
     out, old, new = trial.clean.out, *rulesets_of(trial)
-    yield ending("all lines though memory was refused", MEMORY, "no memory, committed 3", 4, out)
-    yield ending("other lines", MEMORY, "no memory, committed 3", 4, out[1:9])
-    yield ending("another status after memory was refused", MEMORY, "no memory, committed 3", 3)
-    yield ending("more packets than there are", MEMORY, "no memory, committed 4", 4)
-    yield ending("memory without packets", MEMORY, "no memory", 4)
+    yield ending("all lines though memory was refused", MEMORY, "no memory", 4, out)
+    yield ending("other lines", MEMORY, "no memory", 4, out[1:9])
+    yield ending("another status after memory was refused", MEMORY, "no memory", 3)
+    yield ending("packets that are told", MEMORY, "no memory, committed 3", 4)
+    yield ending("a line before the words were read", MEMORY, "no memory, committed 0", 4, beginning(out, 1))
+    yield ending("memory for a ruleset", MEMORY, f"rules {old} line 0: no memory", 4)
     yield ending("memory for a ruleset without a name", MEMORY, "rules line 0: no memory", 4)
-    yield ending("memory for another ruleset", MEMORY, "rules other line 0: no memory", 4)
     yield ending("lines are missing, and nothing is said", MEMORY, "", 1, beginning(out, 1))
     yield ending("another status, and nothing is said", MEMORY, "", 0, out)
     yield ending("a read of the old ruleset, told of the new one", OLD, f"cannot open: {new}", 3)
@@ -131,7 +129,7 @@ def right_of_two(trial):
     yield ending("the second capture's header", SECOND, "read failed: em1, committed 0", 3, moved=10)
     yield ending("the end of the second capture", SECOND, "read failed: em1, committed 4", 3, moved=len(OTHER))
     yield ending("an end in the second capture's header", SECOND, "capture em1: header cut", 2, deed="zero", moved=10)
-    yield ending("memory behind all packets", MEMORY, "no memory, committed 5", 4, beginning(trial.clean.out, 2))
+    yield ending("memory behind all packets", MEMORY, "no memory", 4, beginning(trial.clean.out, 2))
 
 
 def wrong_of_two(_trial):

