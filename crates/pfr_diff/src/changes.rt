@@ -1,8 +1,8 @@
 //! The packets that come to something else, by flows and decisions.
 use crate::decision::{Decision, Meaning};
-use crate::flow::Flow;
 use pfr_capture::Record;
 use pfr_headers::View;
+use pfr_listing::Flow;
 use std::alloc::{AllocError, Global};
 use std::collections::BTreeMap;
 

@@ -10,7 +10,6 @@
 mod changes;
 mod comparing;
 mod decision;
-mod flow;
 mod side;
 mod telling;
 

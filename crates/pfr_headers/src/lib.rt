@@ -26,6 +26,7 @@ mod way;
 
 pub use change::{Change, End};
 pub use ethernet::EthernetAddress;
+pub use frame::datagram_place;
 pub use icmp::{IcmpHeader, IcmpMessage, IcmpType, Inner};
 pub use packet::{Packet, View};
 pub use pfr_net::{Direction, Endpoint, Ipv4Address, Net, Port, Protocol};

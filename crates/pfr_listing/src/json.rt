@@ -52,8 +52,8 @@ fn put_all_escaped(text: &mut Vec<u8>, bytes: &[u8]) -> Result<(), AllocError>
     Ok(())
 }
 
-/// Appends a string.
-fn put_string(text: &mut Vec<u8>, bytes: &[u8]) -> Result<(), AllocError>
+/// Appends a string: each byte but a printed one of ASCII is escaped, as if it were a character.
+pub fn put_string(text: &mut Vec<u8>, bytes: &[u8]) -> Result<(), AllocError>
     ensures { OnOk result (text.new.items ≡ text.old.items ++ spec.string bytes.now) }
 {
     text.extend_from_slice(b"\"")?;

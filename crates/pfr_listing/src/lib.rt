@@ -2,7 +2,7 @@
 //! JSON.
 //!
 //! [`listed`] reads the lines of a run's states and puts them in order; [`put_pfctl`] and [`put_json`] print one of them.
-//! [`judged_in`] reads a line of verdicts, and [`counted_in`] one of counters.
+//! [`judged_in`] reads a line of verdicts, and [`counted_in`] one of counters. A [`Flow`] is what packets are shown by.
 //!
 //! Proved is that what is read is what the line says, that the states are those of which the text has the lines, each once, and what is
 //! printed of a state. In which order they come is tested, and that each line of a run is read.
@@ -10,6 +10,7 @@
 
 mod counted;
 mod counters;
+mod flow;
 mod json;
 mod judged;
 mod line;
@@ -19,9 +20,10 @@ mod words;
 
 pub use counted::{Counted, RuleKind, counted_in};
 pub use counters::{RuleCounts, counters_in};
-pub use json::put_json;
+pub use flow::{End, Flow};
+pub use json::{put_json, put_string};
 pub use judged::{Judged, judged_in};
-pub use line::{Bound, Listed};
+pub use line::{Bound, Listed, is_line};
 pub use listing::{Refused, first_line, listed};
 pub use pfctl::{protocol_name, put_pfctl};
 pub use words::{reason_word, verdict_word};

@@ -85,7 +85,7 @@ fn last_word(line: &[u8]) -> usize
 }
 
 /// Whether a text is a line with its newline.
-pub(crate) fn is_line(text: &[u8], line: &[u8]) -> bool
+pub fn is_line(text: &[u8], line: &[u8]) -> bool
     ensures { result ≡ true → text.now ≡ line.now ++ 10 ∷ [] }
 {
     match text.split_last() {

@@ -11,7 +11,6 @@ use pfr_track::{
     Clock, DatagramPeer, Deadline, Key, Peers, Sequence, State, StateNumber, StateRules, TcpPeer,
     TcpPeerState, Traffic,
 };
-use pfr_words::names::entry_of;
 use std::alloc::Global;
 use std::str;
 use std::str::FromStr;
@@ -55,30 +54,50 @@ pub fn reason_word(reason: Reason) -> &'static [u8]
     }
 }
 
-/// The words for verdicts.
-const VERDICTS: [(&[u8], Verdict); 4] = [
-    (b"pass", Verdict::Pass),
-    (b"block", Verdict::Block),
-    (b"return", Verdict::Return),
-    (b"skip", Verdict::Skip),
+/// All verdicts.
+const VERDICTS: [Verdict; 4] = [
+    Verdict::Pass,
+    Verdict::Block,
+    Verdict::Return,
+    Verdict::Skip,
 ];
 
-/// The words for reasons.
-const REASONS: [(&[u8], Reason); 13] = [
-    (b"state", Reason::State),
-    (b"rule", Reason::Rule),
-    (b"default", Reason::Default),
-    (b"not-ip", Reason::NotIp),
-    (b"skip-on", Reason::SkipOn),
-    (b"short", Reason::Short),
-    (b"ip-option", Reason::IpOption),
-    (b"state-error", Reason::StateError),
-    (b"state-mismatch", Reason::StateMismatch),
-    (b"state-insert", Reason::StateInsert),
-    (b"state-limit", Reason::StateLimit),
-    (b"nat-exhausted", Reason::NatExhausted),
-    (b"nat-pass", Reason::NatPass),
+/// All reasons, those that most packets have first.
+const REASONS: [Reason; 13] = [
+    Reason::State,
+    Reason::Rule,
+    Reason::Default,
+    Reason::NotIp,
+    Reason::SkipOn,
+    Reason::Short,
+    Reason::IpOption,
+    Reason::StateError,
+    Reason::StateMismatch,
+    Reason::StateInsert,
+    Reason::StateLimit,
+    Reason::NatExhausted,
+    Reason::NatPass,
 ];
+
+/// The verdict that a word says.
+fn verdict_of(word: &[u8]) -> Option<Verdict> {
+    for verdict in VERDICTS {
+        if verdict_word(verdict) == word {
+            return Some(verdict);
+        }
+    }
+    None
+}
+
+/// The reason that a word says.
+fn reason_of(word: &[u8]) -> Option<Reason> {
+    for reason in REASONS {
+        if reason_word(reason) == word {
+            return Some(reason);
+        }
+    }
+    None
+}
 
 /// A number in decimal digits, of as many bits as are wanted.
 fn parsed<T: FromStr>(word: &[u8]) -> Option<T>
@@ -308,8 +327,8 @@ pub(crate) fn judgement_in(alloc: Global, line: &[u8]) -> Option<Judgement> {
     let number = words.number()?;
     let clock = Clock(parsed(words.next()?)?);
     let direction = words.direction_or_none()?;
-    let verdict = entry_of(&VERDICTS, words.next()?)?;
-    let reason = entry_of(&REASONS, words.next()?)?;
+    let verdict = verdict_of(words.next()?)?;
+    let reason = reason_of(words.next()?)?;
     let rule = words.rule(b"r=")?;
     let translation = words.rule(b"t=")?;
     let state = words.state()?;

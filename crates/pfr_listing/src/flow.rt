@@ -1,21 +1,21 @@
 //! The flows of packets.
+use crate::pfctl::protocol_name;
 use pfr_headers::{Packet, Transport, View};
-use pfr_listing::protocol_name;
 use pfr_net::{Ipv4Address, Port, Protocol};
 use pfr_texts::{append_address, append_number};
 use std::alloc::AllocError;
 
 /// An end of a flow.
 #[derive(Clone, Copy, PartialEq, Eq, PartialOrd, Ord)]
-pub(crate) struct End {
-    address: Ipv4Address,
+pub struct End {
+    pub address: Ipv4Address,
     /// None where the packets of the flow have no ports that can be seen.
-    port: Option<Port>,
+    pub port: Option<Port>,
 }
 
 /// What packets are gathered by, as one of them has it.
 #[derive(Clone, Copy, PartialEq, Eq, PartialOrd, Ord)]
-pub(crate) enum Flow {
+pub enum Flow {
     /// No IPv4 packets.
     NotIp,
     /// Packets of which too little can be seen.
@@ -69,7 +69,7 @@ fn append_protocol(text: &mut Vec<u8>, protocol: Protocol) -> Result<(), AllocEr
 
 impl Flow {
     /// The flow of a packet.
-    pub(crate) fn of(view: &View) -> Flow {
+    pub fn of(view: &View) -> Flow {
         match view {
             View::Skip => Flow::NotIp,
             View::Short => Flow::Short,
@@ -78,7 +78,7 @@ impl Flow {
     }
 
     /// The same whichever way its packets go.
-    pub(crate) fn either_way(self) -> Flow {
+    pub fn either_way(self) -> Flow {
         match self {
             Flow::Between(protocol, first, second) if second < first => {
                 Flow::Between(protocol, second, first)
@@ -88,7 +88,7 @@ impl Flow {
     }
 
     /// Appends `PROTO SOURCE > DESTINATION`, or what the packets are.
-    pub(crate) fn append(self, text: &mut Vec<u8>) -> Result<(), AllocError> {
+    pub fn append(self, text: &mut Vec<u8>) -> Result<(), AllocError> {
         match self {
             Flow::NotIp => text.extend_from_slice(b"not-ip"),
             Flow::Short => text.extend_from_slice(b"short"),
